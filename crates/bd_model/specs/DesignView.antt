@@ -1,0 +1,73 @@
+-- A design as clauses see it: its expressions as terms.
+use Rattle.std.specs.Prelude.{ℕ, List, map}
+use Rattle.bd_model.specs.Term.{Term, term_of, terms_of, list_of_terms}
+use Rattle.bd_model.specs.declared.design.Sort.{Sort}
+use Rattle.bd_model.specs.declared.design.Symbol.{Symbol}
+use Rattle.bd_model.specs.declared.design.Entry.{Entry}
+use Rattle.bd_model.specs.declared.design.Port.{Port}
+use Rattle.bd_model.specs.declared.design.Local.{Local}
+use Rattle.bd_model.specs.declared.design.Exact.{Exact}
+use Rattle.bd_model.specs.declared.design.Machine.{Machine}
+use Rattle.bd_model.specs.declared.design.Design.{Design}
+
+pub record LocalView : Type 0 where
+  pub sort : Sort
+  pub value : Term
+
+pub record PortView : Type 0 where
+  pub name : List ℕ
+  pub sort : Sort
+  pub idle : Term
+
+pub record ExactView : Type 0 where
+  pub count : ℕ
+  pub when : Term
+
+pub record MachineView : Type 0 where
+  pub entries : List Entry
+  pub ports : List PortView
+  pub locals : List LocalView
+  pub nexts : List Term
+
+pub record DesignView : Type 0 where
+  pub pipe : MachineView
+  pub spec : MachineView
+  pub symbols : List Symbol
+  pub visible : List ℕ
+  pub flush : ℕ
+  pub steps : ℕ
+  pub inv_locals : List LocalView
+  pub inv : Term
+  pub exact : List ExactView
+  pub distinct : List (List ℕ)
+
+abbrev pub local_view : Local → LocalView
+local_view l = record { sort = l.sort; value = term_of l.value }
+
+abbrev pub port_view : Port → PortView
+port_view p = record { name = p.name; sort = p.sort; idle = term_of p.idle }
+
+abbrev pub exact_view : Exact → ExactView
+exact_view e = record { count = e.count; when = term_of e.when }
+
+abbrev pub machine_view : Machine → MachineView
+machine_view m = record {
+  entries = m.entries;
+  ports = map port_view m.ports;
+  locals = map local_view m.locals;
+  nexts = list_of_terms (terms_of m.nexts);
+}
+
+abbrev pub design_view : Design → DesignView
+design_view d = record {
+  pipe = machine_view d.pipe;
+  spec = machine_view d.spec;
+  symbols = d.symbols;
+  visible = d.visible;
+  flush = d.flush;
+  steps = d.steps;
+  inv_locals = map local_view d.inv_locals;
+  inv = term_of d.inv;
+  exact = map exact_view d.exact;
+  distinct = d.distinct;
+}

@@ -1,0 +1,9 @@
+pub mod Term
+pub mod Table
+pub mod DesignView
+pub mod Value
+pub mod Cycle
+pub mod Fits
+pub mod Name
+pub mod Lawful
+pub mod Right

@@ -1,0 +1,41 @@
+//! Interpretations, states and inputs, and what a case of them shows.
+use crate::list::Sequence;
+use crate::table::{Scalar, Table, Value};
+
+/// A table for each symbol, by its number.
+pub type Interp = Sequence<Table>;
+
+/// A value for each entry, in the order of declaration.
+pub type State = Sequence<Value>;
+
+/// A list of states.
+pub type States = Sequence<State>;
+
+/// A value for each input, in the order of declaration.
+pub type Inputs = Sequence<Scalar>;
+
+/// The values of the first lets.
+pub type LetValues = Sequence<Value>;
+
+/// An interpretation, a state and inputs.
+#[derive(Debug, Drop)]
+pub struct Case {
+    pub interp: Interp,
+    pub state: State,
+    pub inputs: Inputs,
+}
+
+/// What a cycle has to keep: the invariant, and the step that commutes with the specification's.
+#[derive(Clone, Copy, Debug, PartialEq, Eq)]
+pub enum Condition {
+    Invariant,
+    Commute,
+}
+
+/// What a case shows: both conditions hold, its state doesn't meet the invariant, or a condition is broken.
+#[derive(Clone, Copy, Debug, PartialEq, Eq)]
+pub enum Judged {
+    Holds,
+    Outside,
+    Broken(Condition),
+}

@@ -1,0 +1,17 @@
+//! Values, machines, designs and cases, and what it means that a pipeline is right.
+#![tactic(auto)]
+
+mod case;
+mod design;
+mod expr;
+mod list;
+mod table;
+
+pub use case::{Case, Condition, Inputs, Interp, Judged, LetValues, State, States};
+pub use design::{
+    Design, Distinct, Entries, Entry, Exact, Exacts, Local, Locals, Machine, Name, Places, Port,
+    Ports, Sort, Symbol, Symbols,
+};
+pub use expr::{Expr, Exprs};
+pub use list::Sequence;
+pub use table::{Memory, Row, Rows, Scalar, Slot, Slots, Table, Value, Words};
