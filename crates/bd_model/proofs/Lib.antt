@@ -1,0 +1,5 @@
+pub mod Pairs
+pub mod SameLemmas
+pub mod SameDecided
+pub mod SortLemmas
+pub mod Compose

@@ -5,6 +5,7 @@ mod case;
 mod design;
 mod expr;
 mod list;
+mod right;
 mod table;
 
 pub use case::{Case, Condition, Inputs, Interp, Judged, LetValues, State, States};
@@ -14,4 +15,5 @@ pub use design::{
 };
 pub use expr::{Expr, Exprs};
 pub use list::Sequence;
+pub use right::cycles_compose;
 pub use table::{Memory, Row, Rows, Scalar, Slot, Slots, Table, Value, Words};
