@@ -1,0 +1,58 @@
+-- What a collection of files holds and a sink has taken, and how their faults are counted.
+-- Source: this project's own interface to the files and streams of the system that runs it.
+use Rattle.std.specs.Prelude.{◌≡◌, ◌≢◌, ℕ, ◌+◌, ◌-◌, ◌^◌, ◌<◌, List, ◌++◌, take, ◌==◌, if◌then◌else◌, Option, Some, None}
+use Rattle.std.specs.Option.{option_map}
+use Rattle.bd_files.specs.declared.devices.FileCall.{FileCall}
+
+-- what is held under each name, a name being the bytes of its text: the bytes of the file, or nothing
+abbrev pub Held : Type 0
+Held = List ℕ → Option (List ℕ)
+
+-- a call that answered `Failed`: its kind and the name that it was given
+abbrev pub Blame : Type 0
+Blame = FileCall × List ℕ
+
+-- the largest 64-bit number, where a count of faults stays
+abbrev pub last_count : ℕ
+last_count = 2 ^ 64 - 1
+
+-- the count of faults rose, unless it stood at its last value
+abbrev pub Rose : ℕ → ℕ → Type 0
+Rose old new = old ≢ last_count → old < new
+
+-- `bytes` are what is held under the name, or of more than `most` bytes the first `most + 1`
+abbrev pub IsLoaded : Option Held → List ℕ → ℕ → List ℕ → Type 0
+IsLoaded None name most bytes = Unit {0}
+IsLoaded (Some held) name most bytes = option_map (take (most + 1)) (held name) ≡ Some bytes
+
+-- these bytes are held under the name
+abbrev pub Holds : Option Held → List ℕ → List ℕ → Type 0
+Holds None name bytes = Unit {0}
+Holds (Some held) name bytes = held name ≡ Some bytes
+
+-- what is held under every other name stands as it was
+abbrev pub KeepsOthers : Option Held → Option Held → List ℕ → Type 0
+KeepsOthers None after name = after ≡ None
+KeepsOthers (Some held) None name = ⊥
+KeepsOthers (Some held) (Some after) name = (other : List ℕ) → other ≢ name → after other ≡ held other
+
+-- all the bytes were appended to what was written
+abbrev pub Appends : Option (List ℕ) → Option (List ℕ) → List ℕ → Type 0
+Appends old new bytes = new ≡ option_map (λ written. written ++ bytes) old
+
+-- some of the first bytes, maybe none or all, were appended to what was written
+abbrev pub AppendsPrefix : Option (List ℕ) → Option (List ℕ) → List ℕ → Type 0
+AppendsPrefix old new bytes = (kept : ℕ) × Appends old new (take kept bytes)
+
+-- a count after one more fault
+abbrev pub count_after : ℕ → ℕ
+count_after count = if count == last_count then count else count + 1
+
+-- how many faults came, and the call that the last one came from
+pub record FaultRecord : Type 0 where
+  pub count : ℕ
+  pub blame : Option Blame
+
+-- the record after a fault of this call
+abbrev pub faulted : FaultRecord → FileCall → List ℕ → FaultRecord
+faulted faults call name = record { count = count_after faults.count; blame = Some (call, name) }

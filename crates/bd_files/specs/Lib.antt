@@ -1,0 +1,4 @@
+pub mod Devices
+pub mod Numbers
+pub mod Shelf
+pub mod Page
