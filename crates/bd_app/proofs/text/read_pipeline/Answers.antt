@@ -1,0 +1,18 @@
+use Rattle.std.proofs.Common.{subst}
+use Rattle.bd_text.specs.Nodes.{Node}
+use Rattle.bd_app.specs.Form.{IsPipelineTree}
+use Rattle.bd_app.proofs.Reading.{passed_on, no_single_tree, single_tree}
+use Rattle.bd_app.proofs.text.read_pipeline.Goals as goal
+
+pub returns-in_err-trees-clause-other : goal.returns-in_err-trees-clause-other
+returns-in_err-trees-clause-other c = λ is a b e read.
+    c.in_err-trees.ensures.other (passed_on c.from_residual.result _ _ c.from_residual.ensures.1 is) read.0 read.1
+
+pub returns-in_default-clause-other : goal.returns-in_default-clause-other
+returns-in_default-clause-other c = λ is a b e read.
+    no_single_tree c.one_reading.ensures _ _ c.in_ok-trees.ensures.read.2 c.in_default.ensures.none read.0 read.1
+
+pub returns-clause-other : goal.returns-clause-other
+returns-clause-other c = λ is a b e read.
+    c.pipeline_of.ensures.other is a b e
+    (subst (λ (t : Node). IsPipelineTree t a b e) (single_tree c.one_reading.ensures _ _ _ c.in_ok-trees.ensures.read.2 c.in-Some.ensures.some read.0 read.1) read.2)

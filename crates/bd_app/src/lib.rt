@@ -1,0 +1,15 @@
+//! The program's one call.
+#![tactic(auto)]
+
+mod ended;
+mod form;
+mod machines;
+mod name;
+mod run;
+mod text;
+mod truth;
+mod verdict;
+mod words;
+
+pub use ended::{Ended, Text, Which};
+pub use run::run;

@@ -1,0 +1,123 @@
+//! The program's one call.
+ghost use Rattle.std.specs.Prelude.{◌≡◌, ◌≢◌, ◌≤◌, ◌⊎◌, ◌↔◌, Some, None, IfSome, IfOk, IfErr};
+ghost use Rattle.bd_files.specs.Devices.{Rose, IsLoaded, Appends, AppendsPrefix};
+ghost use Rattle.bd_model.specs.DesignView.{DesignView};
+ghost use Rattle.bd_model.specs.Fits.{Fits};
+ghost use Rattle.bd_model.specs.Right.{IsRight, IsJudged};
+ghost use Rattle.bd_app.specs.Answer.{Asks, IsTrueVerdict, IsVerdict, IsUnreadPipe, IsUnreadSpec, IsTold, BlamesLoad, report_of, fault_line_of};
+ghost use Rattle.bd_app.specs.Words.{taken, texts_of};
+
+use crate::ended::{Ended, Text, Which};
+use crate::text::MAX_FILE;
+use crate::verdict::verdict;
+use crate::words::{Command, command_of};
+use bd_files::{FileCall, Files, LoadError, Sink};
+use bd_model::{Case, Condition, Judged};
+use std::alloc::Global;
+
+/// Loads a file, of more than the most bytes one byte more than that.
+fn load<F: Files>(files: &mut F, name: &str) -> Result<Vec<u8>, Ended>
+    ensures loaded { IfOk result (λ bytes. IsLoaded (F.held files.old) name.now 1048576 bytes.items) }
+    ensures failed { IfErr result (λ e. (e ≡ Ended.Memory) ⊎ ((e ≡ Ended.Device Which.Load)
+        × Rose (F.faults files.old) (F.faults files.new) × (F.blame files.new ≡ Some (FileCall.Load, name.now)))) }
+    ensures held { F.held files.new ≡ F.held files.old }
+    ensures never_falls { F.faults files.old ≤ F.faults files.new }
+{
+    match files.load(name, MAX_FILE) {
+        Ok(bytes) => Ok(bytes),
+        Err(LoadError::Failed) => Err(Ended::Device(Which::Load)),
+        Err(LoadError::Memory) => Err(Ended::Memory),
+    }
+}
+
+/// The answer, before anything is printed.
+fn answer<F: Files>(alloc: Global, words: &[String], files: &mut F) -> Ended
+    ensures told { IfSome (F.held files.old) (λ held. IsTold held (texts_of words.now) result) }
+    ensures usage { (result ≡ Ended.Usage) ↔ (taken (texts_of words.now) ≡ None) }
+    ensures load { result ≡ Ended.Device Which.Load → Rose (F.faults files.old) (F.faults files.new) × BlamesLoad (F.blame files.new) (texts_of words.now) }
+    ensures out { result ≢ Ended.Device Which.Out }
+    ensures commute { (k : Condition) (c : Case) → result ≡ Ended.Wrong k c → k ≡ Condition.Commute }
+    ensures held { F.held files.new ≡ F.held files.old }
+    ensures never_falls { F.faults files.old ≤ F.faults files.new }
+{
+    let Some(Command { pipe, spec }) = command_of(words) else {
+        return Ended::Usage;
+    };
+    let pipe = match load(files, pipe) {
+        Ok(pipe) => pipe,
+        Err(ended) => return ended,
+    };
+    let spec = match load(files, spec) {
+        Ok(spec) => spec,
+        Err(ended) => return ended,
+    };
+    verdict(alloc, pipe.as_slice(), spec.as_slice())
+}
+
+/// Puts the report of a verdict on the output.
+fn put_report<O: Sink>(ended: Ended, out: &mut O) -> Ended
+    requires { ended ≢ Ended.Device Which.Out }
+    ensures fault { ¬ IsVerdict ended → (result ≡ ended) × (O.written out.new ≡ O.written out.old) }
+    ensures verdict { IsVerdict ended → ((result ≡ ended) × Appends (O.written out.old) (O.written out.new) (report_of ended))
+        ⊎ ((result ≡ Ended.Device Which.Out) × Rose (O.faults out.old) (O.faults out.new)
+        × AppendsPrefix (O.written out.old) (O.written out.new) (report_of ended)) }
+    ensures never_falls { O.faults out.old ≤ O.faults out.new }
+{
+    if !ended.is_verdict() {
+        return ended;
+    }
+    match out.put(ended.report()) {
+        Ok(()) => ended,
+        Err(_) => Ended::Device(Which::Out),
+    }
+}
+
+/// Puts the line of a fault on the error output.
+fn put_fault_line<E: Sink>(ended: &Ended, err: &mut E)
+    ensures line { Appends (E.written err.old) (E.written err.new) (fault_line_of ended.now)
+        ⊎ (Rose (E.faults err.old) (E.faults err.new) × AppendsPrefix (E.written err.old) (E.written err.new) (fault_line_of ended.now)) }
+    ensures never_falls { E.faults err.old ≤ E.faults err.new }
+{
+    if !ended.is_verdict() {
+        let _ = err.put(ended.fault_line());
+    }
+}
+
+/// All that the program does. `words` are the command line, the program's name first. The answer says how the
+/// program ends: with a verdict on the two files that the words name, which is printed on `out`, or with a
+/// fault, whose line is printed on `err`.
+pub fn run<F: Files, O: Sink, E: Sink>(
+    alloc: Global,
+    words: &[String],
+    files: &mut F,
+    out: &mut O,
+    err: &mut E,
+) -> Ended
+    // The headline: under every interpretation, from every state and for every list of inputs.
+    ensures correct { result ≡ Ended.Correct → IfSome (F.held files.old) (λ held. (d : DesignView) × Asks held (texts_of words.now) d × IsRight d) }
+    ensures wrong { (k : Condition) (c : Case) → result ≡ Ended.Wrong k c →
+        IfSome (F.held files.old) (λ held. (d : DesignView) × Asks held (texts_of words.now) d × Fits d c × IsJudged d c (Judged.Broken k)) }
+    ensures commute { (k : Condition) (c : Case) → result ≡ Ended.Wrong k c → k ≡ Condition.Commute }
+
+    // Every other answer has its stated cause.
+    ensures usage { (result ≡ Ended.Usage) ↔ (taken (texts_of words.now) ≡ None) }
+    ensures unread_pipe { result ≡ Ended.Unread Text.Pipe → IfSome (F.held files.old) (λ held. IsUnreadPipe held (texts_of words.now)) }
+    ensures unread_spec { result ≡ Ended.Unread Text.Spec → IfSome (F.held files.old) (λ held. IsUnreadSpec held (texts_of words.now)) }
+    ensures load { result ≡ Ended.Device Which.Load → Rose (F.faults files.old) (F.faults files.new) × BlamesLoad (F.blame files.new) (texts_of words.now) }
+    ensures out { result ≡ Ended.Device Which.Out → Rose (O.faults out.old) (O.faults out.new) }
+
+    // What is printed, and what the files hold.
+    ensures printed { IsVerdict result → Appends (O.written out.old) (O.written out.new) (report_of result) }
+    ensures cut { result ≡ Ended.Device Which.Out → (e : Ended) × IsVerdict e × AppendsPrefix (O.written out.old) (O.written out.new) (report_of e)
+        × IfSome (F.held files.old) (λ held. IsTrueVerdict held (texts_of words.now) e) }
+    ensures silent { ¬ IsVerdict result → result ≢ Ended.Device Which.Out → O.written out.new ≡ O.written out.old }
+    ensures line { Appends (E.written err.old) (E.written err.new) (fault_line_of result)
+        ⊎ (Rose (E.faults err.old) (E.faults err.new) × AppendsPrefix (E.written err.old) (E.written err.new) (fault_line_of result)) }
+    ensures held { F.held files.new ≡ F.held files.old }
+    ensures counts { (F.faults files.old ≤ F.faults files.new) × (O.faults out.old ≤ O.faults out.new) × (E.faults err.old ≤ E.faults err.new) }
+{
+    let ended = answer(alloc, words, files);
+    let ended = put_report(ended, out);
+    put_fault_line(&ended, err);
+    ended
+}

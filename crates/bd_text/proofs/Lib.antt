@@ -1,0 +1,12 @@
+pub mod Comments
+pub mod Counting
+pub mod FirstFaults
+pub mod Joining
+pub mod Openings
+pub mod Placing
+pub mod Readable
+pub mod Rereading
+pub mod Steps
+pub mod Unique
+pub mod Views
+pub mod Writing

@@ -1,0 +1,5 @@
+use Rattle.bd_text.proofs.Writing.{written_reads}
+use Rattle.bd_text.proofs.laws.reads_back.Goals as goal
+
+pub returns : goal.returns
+returns c = written_reads

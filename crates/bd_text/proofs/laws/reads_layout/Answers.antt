@@ -1,0 +1,5 @@
+use Rattle.bd_text.proofs.Rereading.{laid_reads}
+use Rattle.bd_text.proofs.laws.reads_layout.Goals as goal
+
+pub returns : goal.returns
+returns c = laid_reads

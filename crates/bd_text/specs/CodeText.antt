@@ -1,0 +1,48 @@
+-- The printed names and texts of the codes, which are this project's own.
+use Rattle.std.specs.Prelude.{ℕ, List, codes}
+use Rattle.bd_text.specs.declared.code.Code.{Code}
+use Rattle.bd_text.specs.declared.code.Code.TheVariants.{E00, E01, E02, E03, E04, E05, E06, E07, E08, E09, E10, E11, E12, E13, E14, E15, E16, E17, E18, E19}
+
+abbrev pub code_name : Code → List ℕ
+code_name E00 = codes "E00"
+code_name E01 = codes "E01"
+code_name E02 = codes "E02"
+code_name E03 = codes "E03"
+code_name E04 = codes "E04"
+code_name E05 = codes "E05"
+code_name E06 = codes "E06"
+code_name E07 = codes "E07"
+code_name E08 = codes "E08"
+code_name E09 = codes "E09"
+code_name E10 = codes "E10"
+code_name E11 = codes "E11"
+code_name E12 = codes "E12"
+code_name E13 = codes "E13"
+code_name E14 = codes "E14"
+code_name E15 = codes "E15"
+code_name E16 = codes "E16"
+code_name E17 = codes "E17"
+code_name E18 = codes "E18"
+code_name E19 = codes "E19"
+
+abbrev pub code_text : Code → List ℕ
+code_text E00 = codes "file too long"
+code_text E01 = codes "byte not allowed"
+code_text E02 = codes "unbalanced parenthesis"
+code_text E03 = codes "nested too deep"
+code_text E04 = codes "wrong or missing head"
+code_text E05 = codes "malformed form"
+code_text E06 = codes "not a name"
+code_text E07 = codes "declared twice"
+code_text E08 = codes "unknown name"
+code_text E09 = codes "wrong sort"
+code_text E10 = codes "wrong number of arguments"
+code_text E11 = codes "not a number in range"
+code_text E12 = codes "missing or given twice"
+code_text E13 = codes "flush or steps missing or given twice"
+code_text E14 = codes "item not of this file"
+code_text E15 = codes "not in the pipeline"
+code_text E16 = codes "function differs between the files"
+code_text E17 = codes "input not allowed here"
+code_text E18 = codes "not a constant"
+code_text E19 = codes "constants not distinct"

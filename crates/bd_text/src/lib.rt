@@ -1,0 +1,20 @@
+//! Texts of nested parentheses (S-expressions): reading them into trees with offsets, and writing them.
+#![tactic(auto)]
+
+pub mod bytes;
+pub mod code;
+pub mod fault;
+pub mod laws;
+pub mod read;
+pub mod tree;
+pub mod write;
+
+pub use bytes::Bytes;
+pub use code::Code;
+pub use fault::TextFault;
+pub use read::read_trees;
+pub use tree::{Tree, Trees};
+pub use write::write_tree;
+
+#[cfg(test)]
+mod tests;
