@@ -5,11 +5,11 @@ mod ended;
 mod form;
 mod machines;
 mod name;
-mod run;
+mod program;
 mod text;
 mod truth;
 mod verdict;
 mod words;
 
 pub use ended::{Ended, Text, Which};
-pub use run::run;
+pub use program::run;

@@ -1,6 +1,6 @@
 use Rattle.std.proofs.Common.{sym}
 use Rattle.bd_app.proofs.HeldLemmas.{told}
-use Rattle.bd_app.proofs.run.answer.Goals as goal
+use Rattle.bd_app.proofs.program.answer.Goals as goal
 
 pub returns-clause-told : goal.returns-clause-told
 returns-clause-told g c =

@@ -3,7 +3,7 @@ use Rattle.std.specs.Prelude.{IfSome}
 use Rattle.bd_app.specs.Answer.{IsTold}
 use Rattle.bd_app.specs.Words.{texts_of}
 use Rattle.bd_app.proofs.Printing.{wrong_before}
-use Rattle.bd_app.proofs.run.run.Goals as goal
+use Rattle.bd_app.proofs.program.run.Goals as goal
 
 pub returns-clause-wrong : goal.returns-clause-wrong
 returns-clause-wrong g c = λ k case is.
