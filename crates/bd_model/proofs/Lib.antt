@@ -1,3 +1,6 @@
+pub mod Terms
+mod Memories
+pub mod Zips
 pub mod Pairs
 pub mod SameLemmas
 pub mod SameDecided

@@ -7,3 +7,4 @@ pub mod Fits
 pub mod Name
 pub mod Lawful
 pub mod Right
+pub mod Judged

@@ -1,6 +1,7 @@
 //! Interpretations, states and inputs, and what a case of them shows.
 use crate::list::Sequence;
 use crate::table::{Scalar, Table, Value};
+use std::alloc::AllocError;
 
 /// A table for each symbol, by its number.
 pub type Interp = Sequence<Table>;
@@ -18,11 +19,25 @@ pub type Inputs = Sequence<Scalar>;
 pub type LetValues = Sequence<Value>;
 
 /// An interpretation, a state and inputs.
-#[derive(Debug, Drop)]
+#[derive(Debug, PartialEq, Drop)]
 pub struct Case {
     pub interp: Interp,
     pub state: State,
     pub inputs: Inputs,
+}
+
+impl Clone for Case {
+    ghost use Rattle.std.specs.Prelude.{◌≡◌};
+
+    ghost is_clone = { λ c d. d ≡ c };
+
+    fn clone(&self) -> Result<Case, AllocError> {
+        Ok(Case {
+            interp: self.interp.clone()?,
+            state: self.state.clone()?,
+            inputs: self.inputs.clone()?,
+        })
+    }
 }
 
 /// What a cycle has to keep: the invariant, and the step that commutes with the specification's.

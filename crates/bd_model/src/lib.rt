@@ -4,6 +4,8 @@
 mod case;
 mod design;
 mod expr;
+mod fits;
+mod judged;
 mod list;
 mod right;
 mod table;
@@ -14,6 +16,10 @@ pub use design::{
     Ports, Sort, Symbol, Symbols,
 };
 pub use expr::{Expr, Exprs};
+pub use judged::judged_once;
 pub use list::Sequence;
 pub use right::cycles_compose;
 pub use table::{Memory, Row, Rows, Scalar, Slot, Slots, Table, Value, Words};
+
+#[cfg(test)]
+mod tests;

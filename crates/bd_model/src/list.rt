@@ -1,6 +1,7 @@
 //! A list as clauses see it.
-ghost use Rattle.std.specs.Prelude.{◌≡◌, ◌==◌, length};
+ghost use Rattle.std.specs.Prelude.{◌≡◌, ◌==◌, ◌<◌, length, slice_get};
 
+use std::alloc::AllocError;
 use std::marker::Model;
 
 /// A `Vec` that clauses see as the list of its items.
@@ -15,6 +16,31 @@ impl<T> Model for Sequence<T> {
     ghost Value = { List T };
 
     ghost view = { λ s. s.items.items };
+}
+
+impl<T: Clone + Drop> Clone for Sequence<T> {
+    ghost use Rattle.std.specs.List.{AllZip};
+
+    ghost is_clone = { λ a b. AllZip T.is_clone a b };
+
+    fn clone(&self) -> Result<Self, AllocError> {
+        Ok(Sequence {
+            items: self.items.clone()?,
+        })
+    }
+}
+
+impl<T: PartialEq> PartialEq for Sequence<T> {
+    ghost use lib.Pointwise.{pointwise};
+    ghost use Rattle.std.specs.Cmp.Lexicographic.{lists_per};
+
+    ghost eq = { λ a b. pointwise T.eq a b };
+
+    ghost laws = { lists_per T.laws };
+
+    fn eq(&self, other: &Self) -> bool {
+        self.items == other.items
+    }
 }
 
 impl<T> Sequence<T> {
@@ -38,6 +64,14 @@ impl<T> Sequence<T> {
         ensures { result.now ≡ self.now }
     {
         self.items.as_slice()
+    }
+
+    /// The item at this place, from 0.
+    pub fn get(&self, i: u32) -> &T
+        requires { i < length self.now }
+        ensures { slice_get self.now i ≡ Some result.now }
+    {
+        &self.items[i as usize]
     }
 
     /// How many items.

@@ -1,5 +1,9 @@
 //! Words and truth values, and tables and memories of them.
+ghost use Rattle.std.specs.Prelude.{◌≡◌, ◌≤◌, ◌-◌, length, drop};
+
+use crate::design::Sort;
 use crate::list::Sequence;
+use std::alloc::AllocError;
 
 /// A truth value or a word.
 #[derive(Clone, Copy, Debug, PartialEq, Eq)]
@@ -8,24 +12,81 @@ pub enum Scalar {
     Word(u64),
 }
 
+impl Scalar {
+    ghost use Rattle.bd_model.specs.Fits.{scalar_sort};
+
+    /// Its sort.
+    pub fn sort(self) -> Sort
+        ensures { result ≡ scalar_sort self }
+    {
+        match self {
+            Scalar::Bool(_) => Sort::Bool,
+            Scalar::Word(_) => Sort::Word,
+        }
+    }
+}
+
 /// A list of words.
 pub type Words = Sequence<u64>;
 
 /// The value of a table at some arguments.
-#[derive(Debug, Drop)]
+#[derive(Debug, PartialEq, Drop)]
 pub struct Row {
     pub args: Words,
     pub value: Scalar,
+}
+
+impl Clone for Row {
+    ghost use Rattle.std.specs.Prelude.{◌≡◌};
+
+    ghost is_clone = { λ old new. new ≡ old };
+
+    fn clone(&self) -> Result<Row, AllocError> {
+        Ok(Row {
+            args: self.args.clone()?,
+            value: self.value,
+        })
+    }
 }
 
 /// A list of rows.
 pub type Rows = Sequence<Row>;
 
 /// What a function or predicate symbol stands for: the first row with the arguments counts, else the default.
-#[derive(Debug, Drop)]
+#[derive(Debug, PartialEq, Drop)]
 pub struct Table {
     pub default: Scalar,
     pub rows: Rows,
+}
+
+impl Clone for Table {
+    ghost use Rattle.std.specs.Prelude.{◌≡◌};
+
+    ghost is_clone = { λ old new. new ≡ old };
+
+    fn clone(&self) -> Result<Table, AllocError> {
+        Ok(Table {
+            default: self.default,
+            rows: self.rows.clone()?,
+        })
+    }
+}
+
+impl Table {
+    ghost use Rattle.std.specs.Prelude.{◌≡◌};
+    ghost use Rattle.bd_model.specs.Table.{at};
+
+    /// The value at these arguments.
+    pub fn at(&self, args: &[u64]) -> Scalar
+        ensures { result ≡ at self.now args.now }
+    {
+        for row in self.rows.as_slice() {
+            if row.args.as_slice() == args {
+                return row.value;
+            }
+        }
+        self.default
+    }
 }
 
 /// The word that a memory has at an address.
@@ -39,15 +100,108 @@ pub struct Slot {
 pub type Slots = Sequence<Slot>;
 
 /// A machine's memory: the first row with the address counts, else the default.
-#[derive(Debug, Drop)]
+#[derive(Debug, PartialEq, Drop)]
 pub struct Memory {
     pub default: u64,
     pub rows: Slots,
 }
 
+impl Clone for Memory {
+    ghost use Rattle.std.specs.Prelude.{◌≡◌};
+
+    ghost is_clone = { λ old new. new ≡ old };
+
+    fn clone(&self) -> Result<Memory, AllocError> {
+        Ok(Memory {
+            default: self.default,
+            rows: self.rows.clone()?,
+        })
+    }
+}
+
+impl Memory {
+    ghost use Rattle.std.specs.Prelude.{◌≡◌, ◌↔◌, IsTrue, All};
+    ghost use Rattle.bd_model.specs.Table.{read, ReadSame};
+
+    /// The word at this address.
+    pub fn at(&self, addr: u64) -> u64
+        ensures { result ≡ read self.now addr }
+    {
+        for slot in self.rows.as_slice() {
+            if slot.address == addr {
+                return slot.value;
+            }
+        }
+        self.default
+    }
+
+    /// Whether both read equal at every address.
+    pub fn same(&self, other: &Memory) -> bool
+        ensures { IsTrue result ↔ ReadSame self.now other.now }
+    {
+        let mine = self.rows.as_slice();
+        let others = other.rows.as_slice();
+        let common = common_end(mine, others);
+        self.default == other.default
+            && self.agrees(other, &mine[..mine.len() - common])
+            && self.agrees(other, &others[..others.len() - common])
+    }
+
+    fn agrees(&self, other: &Memory, slots: &[Slot]) -> bool
+        ensures { IsTrue result ↔ All (λ s. read self.now s.address ≡ read other.now s.address) slots.now }
+    {
+        slots
+            .iter()
+            .all(|slot| self.at(slot.address) == other.at(slot.address))
+    }
+}
+
+// How many slots the two lists have in common at their ends.
+fn common_end(a: &[Slot], b: &[Slot]) -> usize
+    ensures first { result ≤ length a.now }
+    ensures second { result ≤ length b.now }
+    ensures same { drop (length a.now - result) a.now ≡ drop (length b.now - result) b.now }
+{
+    let mut common = 0;
+    while common < a.len()
+        && common < b.len()
+        && a[a.len() - 1 - common] == b[b.len() - 1 - common]
+    {
+        common += 1;
+    }
+    common
+}
+
 /// What an entry of a state holds.
-#[derive(Debug, Drop)]
+#[derive(Debug, PartialEq, Drop)]
 pub enum Value {
     Scalar(Scalar),
     Memory(Memory),
+}
+
+impl Clone for Value {
+    ghost use Rattle.std.specs.Prelude.{◌≡◌};
+
+    ghost is_clone = { λ old new. new ≡ old };
+
+    fn clone(&self) -> Result<Value, AllocError> {
+        match self {
+            Value::Scalar(scalar) => Ok(Value::Scalar(*scalar)),
+            Value::Memory(memory) => Ok(Value::Memory(memory.clone()?)),
+        }
+    }
+}
+
+impl Value {
+    ghost use Rattle.bd_model.specs.Fits.{value_sort};
+
+    /// Its sort.
+    pub fn sort(&self) -> Sort
+        ensures { result ≡ value_sort self.now }
+    {
+        match self {
+            Value::Scalar(scalar) => scalar.sort(),
+            Value::Memory(_) => Sort::Memory,
+        }
+    }
 }

@@ -1,0 +1,4 @@
+pub mod ValueMap
+pub mod Literals
+pub mod Rising
+pub mod Made

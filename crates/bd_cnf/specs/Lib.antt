@@ -1,0 +1,4 @@
+pub mod Literal
+pub mod Clause
+pub mod Assignment
+pub mod Problem

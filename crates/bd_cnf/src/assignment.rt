@@ -1,0 +1,61 @@
+ghost use Rattle.std.specs.Prelude.{◌≡◌, OnOk, OnErr};
+ghost use Rattle.std.specs.Ordering.{nat_cmp};
+ghost use Rattle.std.specs.FinMap as map;
+ghost use Rattle.bd_cnf.specs.Assignment.{value_of};
+
+use std::alloc::{AllocError, Global};
+use std::collections::BTreeMap;
+use std::marker::Model;
+
+/// A finite map from variables to truth values. A variable that it doesn't hold is false.
+#[derive(Debug, Drop)]
+pub struct Assignment {
+    values: BTreeMap<u64, bool>,
+}
+
+impl Model for Assignment {
+    ghost use Rattle.std.specs.Prelude.{Bool};
+    ghost use Rattle.std.specs.Ordering.{nat_cmp};
+    ghost use Rattle.std.specs.FinMap as map;
+    ghost use Rattle.std.specs.Coded.{coded_ℕ, coded_bool};
+
+    ghost Value = { map.FinMap nat_cmp Bool };
+
+    ghost coded = { map.code coded_ℕ coded_bool };
+
+    ghost view = { λ a. map.from_entries a.values.entries };
+}
+
+impl Assignment {
+    /// The assignment that holds no variable.
+    pub fn new(alloc: Global) -> Assignment
+        ensures { result ≡ map.empty }
+    {
+        Assignment {
+            values: BTreeMap::new(alloc),
+        }
+    }
+
+    /// Gives a variable a value, in place of the one that it had.
+    pub fn set(&mut self, var: u64, value: bool) -> Result<(), AllocError>
+        ensures ok { OnOk result (self.new ≡ map.insert self.old var value) }
+        ensures err { OnErr result (self.new ≡ self.old) }
+    {
+        self.values.insert(var, value)?;
+        Ok(())
+    }
+
+    /// The value that is held, or `None`.
+    pub fn get(&self, var: u64) -> Option<bool>
+        ensures { result ≡ map.get self.now var }
+    {
+        self.values.get(&var).copied()
+    }
+
+    /// The value of a variable: false where none is held. Takes no memory.
+    pub fn value(&self, var: u64) -> bool
+        ensures { result ≡ value_of self.now var }
+    {
+        self.get(var).unwrap_or(false)
+    }
+}

@@ -1,0 +1,37 @@
+use Rattle.std.proofs.Common.{◌≡◌, ◌+◌, ◌<◌, ◌∙◌, sym, ap, subst, arith, length, take}
+use Rattle.std.specs.List.{All}
+use Rattle.std.proofs.lemmas.List.{length-take-le, take_all}
+use Rattle.std.proofs.lemmas.List.Elements.{All-weaker}
+use Rattle.std.specs.FinMap.{insert}
+use Rattle.bd_cnf.specs.Clause.{IsWithin}
+use Rattle.bd_lrat.specs.Database.{numbered, IsBelow, StandsBelow}
+use Rattle.bd_lrat.proofs.Standings.{each_numbered, numbered_more}
+use Rattle.bd_lrat.proofs.Answering.{below_from_within}
+use Rattle.bd_lrat.proofs.checker.Checker.new.Goals as goal
+
+pub loop-clause-preserved : goal.loop-clause-preserved
+loop-clause-preserved c =
+    let i = c.loop-clause.clause-index in
+    let clauses = c.clauses-clause-items.result.now in
+    let here : i < length clauses = omega arith in
+    let next = numbered_more clauses i c.clause-item.result here c.clause-item.is (length-take-le i clauses (omega arith)) in
+    record {
+      last = omega arith;
+      clauses =
+          c.in_ok-insert.ensures.ok ∙ ap (λ m. insert m (c.loop-clause.last + 1) c.clause-item.result) c.loop-clause.invariant.clauses
+          ∙ ap (λ k. insert (numbered (take i clauses)) (k + 1) c.clause-item.result) c.loop-clause.invariant.last ∙ sym next;
+    }
+
+pub invariant_of-result : goal.invariant_of-result
+invariant_of-result c =
+    let i = c.loop-clause.clause-index in
+    let clauses = c.clauses-clause-items.result.now in
+    let vars = c.vars-vars.result in
+    let all : numbered (take i clauses) ≡ numbered clauses = ap numbered (take_all i clauses (omega arith)) in
+    let within : All (IsWithin c.args.cnf.now.vars) clauses = subst (λ cs. All (IsWithin c.args.cnf.now.vars) cs) (sym c.clauses-clause-items.ensures.value) c.clauses-clause-items.ensures.within in
+    let same : c.args.cnf.now.vars ≡ vars = sym c.vars-vars.ensures in
+    let low : All (IsBelow (vars + 1)) clauses = All-weaker (IsWithin c.args.cnf.now.vars) (IsBelow (vars + 1)) (λ x h. below_from_within vars x (subst (λ n. IsWithin n x) same h)) clauses within in
+    record {
+      none = c.in_ok-taken.ensures;
+      below = subst (StandsBelow (vars + 1)) (sym (c.loop-clause.invariant.clauses ∙ all)) (each_numbered (IsBelow (vars + 1)) clauses low);
+    }

@@ -1,0 +1,125 @@
+ghost use Rattle.std.specs.Prelude.{◌≡◌, ◌↔◌, ℕ, Bool, IfOk, IfErr, OnOk, OnErr, IsOk};
+ghost use Rattle.bd_cnf.specs.Clause.{IsRising};
+ghost use Rattle.bd_lrat.specs.Database.{database_of, addition_answer, line_answer, variable_past, after, IsAccepted, IsRefusal, Models};
+
+use crate::clause_map::ClauseMap;
+use crate::line::{Hint, Line};
+use crate::propagation::follow;
+use crate::refused::{AddError, Refused};
+use crate::taken::Taken;
+use bd_cnf::{Cnf, Lit};
+use std::alloc::{AllocError, Global};
+use std::marker::Model;
+
+/// The clauses of a formula and of the lines that were added, by their ids, each of which follows
+/// from the formula.
+#[derive(Debug, Drop)]
+pub struct Checker {
+    vars: u64,
+    /// The greatest id that the formula or an addition has given.
+    last: u64,
+    clauses: ClauseMap,
+    /// No literal between two calls.
+    taken: Taken,
+}
+
+impl Model for Checker {
+    ghost use Rattle.bd_lrat.specs.Database.{Database, coded_database, database};
+    ghost use Rattle.bd_lrat.specs.Trail.{IsReady};
+
+    ghost Value = { Database };
+
+    ghost coded = { coded_database };
+
+    ghost view = { λ a. database a.vars a.last a.clauses };
+
+    ghost invariant = { λ a. IsReady a.vars a.clauses a.taken };
+}
+
+impl Checker {
+    /// Holds the formula's clauses, with the ids from 1.
+    pub fn new(alloc: Global, cnf: &Cnf) -> Result<Checker, AllocError>
+        ensures { IfOk result (λ checker. checker ≡ database_of cnf.now) }
+    {
+        let vars = cnf.vars();
+        let taken = Taken::new(alloc, vars)?;
+        let mut clauses = ClauseMap::new(alloc);
+        let mut last = 0;
+        for clause in cnf.clauses() {
+            last += 1;
+            clauses.insert(last, clause)?;
+        }
+        Ok(Checker {
+            vars,
+            last,
+            clauses,
+            taken,
+        })
+    }
+
+    /// Tests a line on what stands, which it leaves. Takes no memory, and as many steps as the
+    /// line's clause and the clauses that its hints name have literals.
+    pub fn check_line(&mut self, line: &Line) -> Result<(), Refused>
+        ensures accepted { IsOk result ↔ IsAccepted self.old line.now }
+        ensures answer { result ≡ line_answer self.old line.now }
+        ensures unchanged { self.new ≡ self.old }
+        ensures sound { OnOk result ((v : ℕ → Bool) → Models v self.old.standing → Models v (after self.old line.now).standing) }
+    {
+        match line {
+            Line::Add { id, clause, hints } => {
+                self.check_addition(*id, clause.lits(), hints.as_slice())
+            }
+            Line::Delete { .. } => Ok(()),
+        }
+    }
+
+    fn check_addition(&mut self, id: u64, clause: &[Lit], hints: &[Hint]) -> Result<(), Refused>
+        requires { IsRising clause.now }
+        ensures answer { result ≡ addition_answer self.old id clause.now hints.now }
+        ensures unchanged { self.new ≡ self.old }
+    {
+        if id <= self.last {
+            return Err(Refused::NotRising);
+        }
+        if let Some(var) = variable_past(clause, self.vars) {
+            return Err(Refused::NoVariable(var));
+        }
+        self.taken.take_negations(clause);
+        let answer = follow(&self.clauses, &mut self.taken, hints);
+        self.taken.clear();
+        answer
+    }
+
+    /// Tests a line, and then adds its clause or takes out the clauses of its ids. An error leaves
+    /// what stands.
+    pub fn add_line(&mut self, line: &Line) -> Result<(), AddError>
+        ensures ok { OnOk result (self.new ≡ after self.old line.now) }
+        ensures accepted { OnOk result (IsAccepted self.old line.now) }
+        ensures refused { IfErr result (IsRefusal self.old line.now) }
+        ensures err { OnErr result (self.new ≡ self.old) }
+        ensures sound { OnOk result ((v : ℕ → Bool) → Models v self.old.standing → Models v self.new.standing) }
+    {
+        self.check_line(line)?;
+        match line {
+            Line::Add { id, clause, .. } => {
+                self.clauses.insert(*id, clause)?;
+                self.last = *id;
+            }
+            Line::Delete { ids, .. } => self.clauses.remove_all(ids.as_slice()),
+        }
+        Ok(())
+    }
+}
+
+/// The first variable of a clause that is above `vars`.
+fn variable_past(clause: &[Lit], vars: u64) -> Option<u64>
+    ensures { result ≡ variable_past vars clause.now }
+{
+    for lit in clause {
+        let var = lit.var();
+        if var > vars {
+            return Some(var);
+        }
+    }
+    None
+}

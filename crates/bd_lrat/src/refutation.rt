@@ -1,0 +1,36 @@
+ghost use Rattle.std.specs.Prelude.{◌↔◌, ℕ, Bool, List, IsTrue, IfOk};
+ghost use Rattle.bd_cnf.specs.Clause.{Satisfies};
+ghost use Rattle.bd_cnf.specs.Problem.{Problem};
+ghost use Rattle.bd_lrat.specs.declared.line.Line.{Line as AnyLine};
+ghost use Rattle.bd_lrat.specs.Log.{IsRefutation};
+
+use crate::checker::Checker;
+use crate::line::Line;
+use crate::lists::Log;
+use crate::refused::AddError;
+use bd_cnf::Cnf;
+use std::alloc::{AllocError, Global};
+
+/// Whether the log's lines are accepted and one of them adds the empty clause. Then no assignment
+/// satisfies the formula.
+pub fn refutes(alloc: Global, cnf: &Cnf, log: &Log) -> Result<bool, AllocError>
+    ensures refutation { IfOk result (λ yes. IsTrue yes ↔ IsRefutation cnf.now log.now) }
+    ensures sound { IfOk result (λ yes. IsTrue yes → (v : ℕ → Bool) → Satisfies v cnf.now.clauses → ⊥) }
+{
+    let mut checker = Checker::new(alloc, cnf)?;
+    let mut empty = false;
+    for line in log.as_slice() {
+        match checker.add_line(line) {
+            Ok(()) => empty |= line.adds_empty(),
+            Err(AddError::Refused(_)) => return Ok(false),
+            Err(AddError::Memory) => return Err(AllocError),
+        }
+    }
+    Ok(empty)
+}
+
+/// The law of logs: over a formula with an accepted log that adds the empty clause, no assignment
+/// makes every clause true. It does nothing.
+pub fn refutation_law()
+    ensures { (p : Problem) (lines : List AnyLine) → IsRefutation p lines → (v : ℕ → Bool) → Satisfies v p.clauses → ⊥ }
+{}

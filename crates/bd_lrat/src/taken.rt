@@ -1,0 +1,98 @@
+ghost use Rattle.std.specs.Prelude.{◌≡◌, ◌<◌, ◌+◌, ◌++◌, ◌∷◌, [], length, map, false, IfOk};
+ghost use Rattle.std.specs.List.{All};
+ghost use Rattle.bd_cnf.specs.Literal.{Literal, has_literal, negate};
+ghost use Rattle.bd_cnf.specs.Clause.{IsRising};
+ghost use Rattle.bd_lrat.specs.Propagation.{is_false};
+ghost use Rattle.bd_lrat.specs.Trail.{IsLeft, trail_of};
+
+use bd_cnf::Lit;
+use std::alloc::{AllocError, Global};
+use std::marker::Model;
+
+/// The literals that a check takes as true.
+#[derive(Debug, Drop)]
+pub(crate) struct Taken {
+    /// By variable, its value where it has one.
+    values: Vec<Option<bool>>,
+    /// The literals, in the order in which they were taken.
+    trail: Vec<Lit>,
+}
+
+impl Model for Taken {
+    ghost use Rattle.std.specs.Prelude.{length, vec_capacity};
+    ghost use Rattle.bd_lrat.specs.Trail.{Trail, IsTrail, trail_of};
+
+    ghost Value = { Trail };
+
+    ghost view = { λ a. trail_of (length a.values.items) a.trail.items };
+
+    ghost invariant = { λ a. IsTrail a.values.items a.trail.items (vec_capacity a.trail) };
+}
+
+impl Taken {
+    /// No literal, with room for those of the variables up to `vars`.
+    pub(crate) fn new(alloc: Global, vars: u64) -> Result<Taken, AllocError>
+        ensures { IfOk result (λ t. t ≡ trail_of (vars + 1) []) }
+    {
+        let limit = vars.checked_add(1).ok_or(AllocError)? as usize;
+        let values = vec![in alloc; None; limit]?;
+        let trail = Vec::with_capacity(alloc, limit)?;
+        Ok(Taken { values, trail })
+    }
+
+    pub(crate) fn is_true(&self, lit: Lit) -> bool
+        requires { lit.var < self.now.limit }
+        ensures { result ≡ has_literal self.now.taken lit }
+    {
+        self.values[lit.var() as usize] == Some(lit.is_positive())
+    }
+
+    pub(crate) fn is_false(&self, lit: Lit) -> bool
+        requires { lit.var < self.now.limit }
+        ensures { result ≡ is_false self.now.taken lit }
+    {
+        self.is_true(lit.negated())
+    }
+
+    /// Takes a literal whose variable has no value yet. Takes no memory.
+    pub(crate) fn take(&mut self, lit: Lit)
+        requires within { lit.var < self.old.limit }
+        requires not_true { has_literal self.old.taken lit ≡ false }
+        requires not_false { is_false self.old.taken lit ≡ false }
+        ensures { self.new ≡ trail_of self.old.limit (self.old.taken ++ lit ∷ []) }
+    {
+        self.values[lit.var() as usize] = Some(lit.is_positive());
+        self.trail.push_reserved(lit);
+    }
+
+    /// Takes the negations of a clause's literals. Takes no memory.
+    pub(crate) fn take_negations(&mut self, clause: &[Lit])
+        requires none { self.old.taken ≡ [] }
+        requires rising { IsRising clause.now }
+        requires within { All (λ l. l.var < self.old.limit) clause.now }
+        ensures { self.new ≡ trail_of self.old.limit (map negate clause.now) }
+    {
+        for lit in clause {
+            self.take(lit.negated());
+        }
+    }
+
+    /// Takes all back, in the time of as many steps as there are literals.
+    pub(crate) fn clear(&mut self)
+        ensures { self.new ≡ trail_of self.old.limit [] }
+    {
+        unset(&mut self.values, &self.trail);
+        self.trail.clear();
+    }
+}
+
+/// Takes the values of those literals' variables out.
+fn unset(values: &mut [Option<bool>], lits: &[Lit])
+    requires within { All (λ l. l.var < length values.old) lits.now }
+    requires left { IsLeft values.old lits.now }
+    ensures { IsLeft values.new [] }
+{
+    for lit in lits {
+        values[lit.var() as usize] = None;
+    }
+}

@@ -1,0 +1,3 @@
+mod Cycles
+mod ExactItems
+mod Steps

@@ -1,0 +1,165 @@
+//! Cycles of the two machines.
+ghost use Rattle.std.specs.Prelude.{◌≡◌, [], IfOk, map};
+ghost use Rattle.bd_model.specs.DesignView.{design_view, machine_view, local_view};
+ghost use Rattle.bd_model.specs.Value.{let_values};
+ghost use Rattle.bd_model.specs.Cycle.{step, idle_inputs, flush, look, flushed};
+
+use crate::value::{Env, scalar, value, value_at, values};
+use bd_model::{Design, Inputs, Interp, Local, Machine, Scalar, Sequence, State, Table, Value};
+use std::alloc::{AllocError, Global};
+
+/// One cycle of the pipeline: each entry takes the value of its next expression in this state, with these
+/// inputs, all at once.
+pub fn step(
+    alloc: Global,
+    design: &Design,
+    interp: &Interp,
+    state: &State,
+    inputs: &Inputs,
+) -> Result<State, AllocError>
+    ensures { IfOk result (λ s. s ≡ step (design_view design.now).pipe interp.now state.now inputs.now) }
+{
+    cycle(
+        alloc,
+        &design.pipe,
+        interp.as_slice(),
+        state.as_slice(),
+        inputs.as_slice(),
+    )
+}
+
+/// One step of the specification from these visible entries.
+pub fn spec_step(
+    alloc: Global,
+    design: &Design,
+    interp: &Interp,
+    visible: &State,
+) -> Result<State, AllocError>
+    ensures { IfOk result (λ s. s ≡ step (design_view design.now).spec interp.now visible.now []) }
+{
+    cycle(
+        alloc,
+        &design.spec,
+        interp.as_slice(),
+        visible.as_slice(),
+        &[],
+    )
+}
+
+/// The pipeline after its flush cycles, in each of which every input has the value of its flush expression.
+pub fn flush(
+    alloc: Global,
+    design: &Design,
+    interp: &Interp,
+    state: &State,
+) -> Result<State, AllocError>
+    ensures { IfOk result (λ s. s ≡ flush (design_view design.now) interp.now state.now) }
+{
+    let interp = interp.as_slice();
+    let mut flushed = state.clone()?;
+    for _cycle in 0..design.flush {
+        let inputs = idle_inputs(alloc, &design.pipe, interp, flushed.as_slice())?;
+        flushed = cycle(
+            alloc,
+            &design.pipe,
+            interp,
+            flushed.as_slice(),
+            inputs.as_slice(),
+        )?;
+    }
+    Ok(flushed)
+}
+
+/// The visible entries, in the specification's order.
+pub fn look(alloc: Global, design: &Design, state: &State) -> Result<State, AllocError>
+    ensures { IfOk result (λ s. s ≡ look (design_view design.now) state.now) }
+{
+    let mut visible = Vec::new(alloc);
+    for place in design.visible.as_slice() {
+        visible.push(value_at(state.as_slice(), *place)?)?;
+    }
+    Ok(Sequence::from_vec(visible))
+}
+
+/// Where the specification would stand if the pipeline were flushed now.
+pub fn flushed(
+    alloc: Global,
+    design: &Design,
+    interp: &Interp,
+    state: &State,
+) -> Result<State, AllocError>
+    ensures { IfOk result (λ s. s ≡ flushed (design_view design.now) interp.now state.now) }
+{
+    let end = flush(alloc, design, interp, state)?;
+    look(alloc, design, &end)
+}
+
+// One cycle of a machine.
+fn cycle(
+    alloc: Global,
+    machine: &Machine,
+    interp: &[Table],
+    state: &[Value],
+    inputs: &[Scalar],
+) -> Result<State, AllocError>
+    ensures { IfOk result (λ s. s ≡ step (machine_view machine.now) interp.now state.now inputs.now) }
+{
+    let lets = let_values(alloc, machine.locals.as_slice(), interp, state, inputs)?;
+    let env = Env {
+        alloc,
+        interp,
+        state,
+        inputs,
+        lets: lets.as_slice(),
+    };
+    Ok(Sequence::from_vec(values(&env, &machine.nexts)?))
+}
+
+// The values of the flush expressions.
+fn idle_inputs(
+    alloc: Global,
+    machine: &Machine,
+    interp: &[Table],
+    state: &[Value],
+) -> Result<Vec<Scalar>, AllocError>
+    ensures { IfOk result (λ v. v.items ≡ idle_inputs (machine_view machine.now) interp.now state.now) }
+{
+    let lets = let_values(alloc, machine.locals.as_slice(), interp, state, &[])?;
+    let env = Env {
+        alloc,
+        interp,
+        state,
+        inputs: &[],
+        lets: lets.as_slice(),
+    };
+    let mut inputs = Vec::new(alloc);
+    for port in machine.ports.as_slice() {
+        inputs.push(scalar(&env, &port.idle)?)?;
+    }
+    Ok(inputs)
+}
+
+/// The values of lets, each valued once.
+pub fn let_values(
+    alloc: Global,
+    locals: &[Local],
+    interp: &[Table],
+    state: &[Value],
+    inputs: &[Scalar],
+) -> Result<Vec<Value>, AllocError>
+    ensures { IfOk result (λ v. v.items ≡ let_values interp.now state.now inputs.now [] (map local_view locals.now)) }
+{
+    let mut lets = Vec::new(alloc);
+    for local in locals {
+        let env = Env {
+            alloc,
+            interp,
+            state,
+            inputs,
+            lets: lets.as_slice(),
+        };
+        let next = value(&env, &local.value)?;
+        lets.push(next)?;
+    }
+    Ok(lets)
+}

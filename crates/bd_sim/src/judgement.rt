@@ -1,0 +1,135 @@
+//! What a case shows.
+ghost use Rattle.std.specs.Prelude.{◌≡◌, ◌↔◌, ◌≤◌, ℕ, IfOk, IsTrue, map};
+ghost use Rattle.std.specs.List.{AllZip, AllByRecursion};
+ghost use Rattle.bd_model.specs.DesignView.{design_view, exact_view};
+ghost use Rattle.bd_model.specs.Cycle.{invariant, flushed, spec_steps};
+ghost use Rattle.bd_model.specs.Right.{SameValue, Same, IsAllowed, IsJudged};
+ghost use Rattle.bd_sim.specs.Env.{env_of};
+ghost use Rattle.bd_sim.specs.Counts.{AllowsCount};
+
+use crate::cycle::{flushed, let_values, spec_step, step};
+use crate::value::{Env, truth};
+use bd_model::{Case, Condition, Design, Exact, Interp, Judged, State, Value};
+use std::alloc::{AllocError, Global};
+
+/// What the case shows of the design; where both conditions are false, the invariant is named.
+pub fn judge(alloc: Global, design: &Design, case: &Case) -> Result<Judged, AllocError>
+    ensures { IfOk result (λ j. IsJudged (design_view design.now) case.now j) }
+{
+    if !meets_invariant(alloc, design, &case.interp, &case.state)? {
+        return Ok(Judged::Outside);
+    }
+    let next = step(alloc, design, &case.interp, &case.state, &case.inputs)?;
+    if !meets_invariant(alloc, design, &case.interp, &next)? {
+        return Ok(Judged::Broken(Condition::Invariant));
+    }
+    if commutes(alloc, design, case, &next)? {
+        Ok(Judged::Holds)
+    } else {
+        Ok(Judged::Broken(Condition::Commute))
+    }
+}
+
+fn meets_invariant(
+    alloc: Global,
+    design: &Design,
+    interp: &Interp,
+    state: &State,
+) -> Result<bool, AllocError>
+    ensures { IfOk result (λ b. b ≡ invariant (design_view design.now) interp.now state.now) }
+{
+    let (interp, state) = (interp.as_slice(), state.as_slice());
+    let lets = let_values(alloc, design.inv_locals.as_slice(), interp, state, &[])?;
+    let env = Env {
+        alloc,
+        interp,
+        state,
+        inputs: &[],
+        lets: lets.as_slice(),
+    };
+    truth(&env, &design.inv)
+}
+
+// Whether the flushed pipeline stands, after the cycle that ends in `next`, where an allowed number of steps
+// of the specification lead from where it stood before.
+fn commutes(alloc: Global, design: &Design, case: &Case, next: &State) -> Result<bool, AllocError>
+    ensures { IfOk result (λ b. IsTrue b ↔ ((j : ℕ) × (j ≤ design.now.steps)
+        × IsAllowed (design_view design.now) case.now.interp case.now.state case.now.inputs j
+        × Same (flushed (design_view design.now) case.now.interp next.now)
+        (spec_steps j (design_view design.now) case.now.interp
+        (flushed (design_view design.now) case.now.interp case.now.state)))) }
+{
+    let counts = exact_counts(alloc, design, case)?;
+    let after = flushed(alloc, design, &case.interp, next)?;
+    let mut reached = flushed(alloc, design, &case.interp, &case.state)?;
+    for count in 0..design.steps {
+        if stands(counts.as_slice(), count, &after, &reached) {
+            return Ok(true);
+        }
+        reached = spec_step(alloc, design, &case.interp, &reached)?;
+    }
+    Ok(stands(counts.as_slice(), design.steps, &after, &reached))
+}
+
+// The counts of the exact items whose condition is true: each must be the number of steps.
+fn exact_counts(alloc: Global, design: &Design, case: &Case) -> Result<Vec<u32>, AllocError>
+    ensures { IfOk result (λ v. (j : ℕ) → AllByRecursion (λ n. n ≡ j) v.items
+        ↔ IsAllowed (design_view design.now) case.now.interp case.now.state case.now.inputs j) }
+{
+    let interp = case.interp.as_slice();
+    let state = case.state.as_slice();
+    let inputs = case.inputs.as_slice();
+    let lets = let_values(alloc, design.pipe.locals.as_slice(), interp, state, inputs)?;
+    let env = Env {
+        alloc,
+        interp,
+        state,
+        inputs,
+        lets: lets.as_slice(),
+    };
+    true_counts(&env, design.exact.as_slice())
+}
+
+fn true_counts(env: &Env, items: &[Exact]) -> Result<Vec<u32>, AllocError>
+    ensures { IfOk result (λ v. (j : ℕ) → AllByRecursion (λ n. n ≡ j) v.items
+        ↔ AllByRecursion (AllowsCount (env_of env.now) j) (map exact_view items.now)) }
+{
+    let mut counts = Vec::new(env.alloc);
+    for item in items {
+        if truth(env, &item.when)? {
+            counts.push(item.count)?;
+        }
+    }
+    Ok(counts)
+}
+
+fn stands(counts: &[u32], count: u32, after: &State, reached: &State) -> bool
+    ensures { IsTrue result ↔ (AllByRecursion (λ n. n ≡ count) counts.now × Same after.now reached.now) }
+{
+    counts.iter().all(|n| *n == count) && same(after.as_slice(), reached.as_slice())
+}
+
+// Whether two states can't be told apart.
+fn same(first: &[Value], second: &[Value]) -> bool
+    ensures { IsTrue result ↔ AllZip SameValue first.now second.now }
+{
+    if first.len() != second.len() {
+        return false;
+    }
+    for (value, other) in first.iter().zip(second) {
+        if !same_value(value, other) {
+            return false;
+        }
+    }
+    true
+}
+
+fn same_value(value: &Value, other: &Value) -> bool
+    ensures { IsTrue result ↔ SameValue value.now other.now }
+{
+    match (value, other) {
+        (Value::Scalar(x), Value::Scalar(y)) => x == y,
+        (Value::Memory(m), Value::Memory(n)) => m.same(n),
+        _ => false,
+    }
+}

@@ -1,0 +1,15 @@
+//! A concrete simulator: cycles, flushing and judgement of cases by running the two machines.
+#![tactic(auto)]
+
+mod cycle;
+mod judgement;
+mod run;
+mod value;
+
+pub use cycle::{flush, look, spec_step, step};
+pub use judgement::judge;
+pub use run::trace;
+pub use value::eval;
+
+#[cfg(test)]
+mod tests;

@@ -1,0 +1,280 @@
+//! Values of expressions.
+ghost use Rattle.std.specs.Prelude.{◌≡◌, IfOk, map, slice_index_or};
+ghost use Rattle.std.specs.List.{list_all, list_any};
+ghost use Rattle.bd_model.specs.Table.{at, read, write};
+ghost use Rattle.bd_model.specs.Term.{term_of, terms_of, list_of_terms};
+ghost use Rattle.bd_model.specs.Value.{value_of, values_of, scalar_of, scalar_truth, scalar_word, memory_of, is_true, word_of, table_of, truth as truth_value};
+ghost use Rattle.std.specs.Prelude.{false};
+ghost use Rattle.bd_sim.specs.Env.{env_of};
+
+use bd_model::{
+    Design, Expr, Exprs, Inputs, Interp, LetValues, Memory, Scalar, Sequence, Slot, State, Table,
+    Value,
+};
+use std::alloc::{AllocError, Global};
+
+/// What names stand for where an expression is valued.
+#[derive(Drop)]
+pub struct Env<'a> {
+    pub alloc: Global,
+    pub interp: &'a [Table],
+    pub state: &'a [Value],
+    pub inputs: &'a [Scalar],
+    pub lets: &'a [Value],
+}
+
+/// The value of an expression of the design, where the lets that it names have these values. What no sorted
+/// expression names gives false, 0 or the memory of zeros.
+pub fn eval(
+    alloc: Global,
+    _design: &Design,
+    expr: &Expr,
+    interp: &Interp,
+    state: &State,
+    inputs: &Inputs,
+    lets: &LetValues,
+) -> Result<Value, AllocError>
+    ensures { IfOk result (λ v. v ≡ value_of
+        (record { interp = interp.now; state = state.now; inputs = inputs.now; locals = lets.now })
+        (term_of expr.now)) }
+{
+    let env = Env {
+        alloc,
+        interp: interp.as_slice(),
+        state: state.as_slice(),
+        inputs: inputs.as_slice(),
+        lets: lets.as_slice(),
+    };
+    value(&env, expr)
+}
+
+/// The values of expressions, in order.
+pub fn values(env: &Env, exprs: &Exprs) -> Result<Vec<Value>, AllocError>
+    ensures { IfOk result (λ v. v.items ≡ map (value_of (env_of env.now)) (list_of_terms (terms_of exprs.now))) }
+{
+    let mut values = Vec::new(env.alloc);
+    for expr in &exprs.items {
+        values.push(value(env, expr)?)?;
+    }
+    Ok(values)
+}
+
+/// The value of an expression.
+pub fn value(env: &Env, expr: &Expr) -> Result<Value, AllocError>
+    ensures { IfOk result (λ v. v ≡ value_of (env_of env.now) (term_of expr.now)) }
+{
+    match expr {
+        Expr::Entry(i) => value_at(env.state, *i),
+        Expr::Local(i) => value_at(env.lets, *i),
+        Expr::Ite(p, a, b) => {
+            if truth(env, p)? {
+                value(env, a)
+            } else {
+                value(env, b)
+            }
+        }
+        Expr::Write(m, a, d) => {
+            let old = value(env, m)?;
+            let address = word(env, a)?;
+            let word = word(env, d)?;
+            Ok(Value::Memory(written(env.alloc, old, address, word)?))
+        }
+        _ => Ok(Value::Scalar(scalar(env, expr)?)),
+    }
+}
+
+/// The value of an expression, false where it's a memory.
+#[cycle(scalar)]
+pub fn scalar(env: &Env, expr: &Expr) -> Result<Scalar, AllocError>
+    ensures { IfOk result (λ x. x ≡ scalar_of (value_of (env_of env.now) (term_of expr.now))) }
+{
+    match expr {
+        Expr::Bool(b) => Ok(Scalar::Bool(*b)),
+        Expr::Entry(i) => Ok(scalar_at(env.state, *i)),
+        Expr::Input(i) => Ok(input_at(env.inputs, *i)),
+        Expr::Local(i) => Ok(scalar_at(env.lets, *i)),
+        Expr::Not(a) => Ok(Scalar::Bool(!truth(env, a)?)),
+        Expr::And(parts) => Ok(Scalar::Bool(all_true(env, parts)?)),
+        Expr::Or(parts) => Ok(Scalar::Bool(any_true(env, parts)?)),
+        Expr::Implies(a, b) => Ok(Scalar::Bool(!truth(env, a)? || truth(env, b)?)),
+        Expr::Iff(a, b) => Ok(Scalar::Bool(truth(env, a)? == truth(env, b)?)),
+        Expr::Equal(a, b) => Ok(Scalar::Bool(word(env, a)? == word(env, b)?)),
+        Expr::Ite(p, a, b) => {
+            if truth(env, p)? {
+                scalar(env, a)
+            } else {
+                scalar(env, b)
+            }
+        }
+        Expr::Read(m, a) => {
+            let address = word(env, a)?;
+            Ok(Scalar::Word(read_at(env, m, address)?))
+        }
+        Expr::Write(_, _, _) => Ok(Scalar::Bool(false)),
+        Expr::Apply(f, args) => {
+            let args = words(env, args)?;
+            Ok(table_at(env.interp, *f, args.as_slice()))
+        }
+    }
+}
+
+#[cycle(scalar)]
+pub fn truth(env: &Env, expr: &Expr) -> Result<bool, AllocError>
+    ensures { IfOk result (λ b. b ≡ is_true (value_of (env_of env.now) (term_of expr.now))) }
+{
+    let value = scalar(env, expr)?;
+    Ok(truth_of(value))
+}
+
+#[cycle(scalar)]
+fn word(env: &Env, expr: &Expr) -> Result<u64, AllocError>
+    ensures { IfOk result (λ n. n ≡ word_of (value_of (env_of env.now) (term_of expr.now))) }
+{
+    let value = scalar(env, expr)?;
+    Ok(word_in(value))
+}
+
+// What a memory has at an address, without copying the memory.
+#[cycle(scalar)]
+fn read_at(env: &Env, memory: &Expr, address: u64) -> Result<u64, AllocError>
+    ensures { IfOk result (λ n. n ≡ read (memory_of (value_of (env_of env.now) (term_of memory.now))) address) }
+{
+    match memory {
+        Expr::Entry(i) => Ok(word_at(env.state, *i, address)),
+        Expr::Local(i) => Ok(word_at(env.lets, *i, address)),
+        Expr::Ite(p, a, b) => {
+            if truth(env, p)? {
+                read_at(env, a, address)
+            } else {
+                read_at(env, b, address)
+            }
+        }
+        Expr::Write(m, a, d) => {
+            if word(env, a)? == address {
+                word(env, d)
+            } else {
+                read_at(env, m, address)
+            }
+        }
+        _ => Ok(0),
+    }
+}
+
+#[cycle(scalar)]
+fn all_true(env: &Env, parts: &Exprs) -> Result<bool, AllocError>
+    ensures { IfOk result (λ b. b ≡ list_all is_true (values_of (env_of env.now) (terms_of parts.now))) }
+{
+    for part in &parts.items {
+        if !truth(env, part)? {
+            return Ok(false);
+        }
+    }
+    Ok(true)
+}
+
+#[cycle(scalar)]
+fn any_true(env: &Env, parts: &Exprs) -> Result<bool, AllocError>
+    ensures { IfOk result (λ b. b ≡ list_any is_true (values_of (env_of env.now) (terms_of parts.now))) }
+{
+    for part in &parts.items {
+        if truth(env, part)? {
+            return Ok(true);
+        }
+    }
+    Ok(false)
+}
+
+#[cycle(scalar)]
+fn words(env: &Env, parts: &Exprs) -> Result<Vec<u64>, AllocError>
+    ensures { IfOk result (λ v. v.items ≡ map word_of (values_of (env_of env.now) (terms_of parts.now))) }
+{
+    let mut words = Vec::new(env.alloc);
+    for part in &parts.items {
+        words.push(word(env, part)?)?;
+    }
+    Ok(words)
+}
+
+fn truth_of(scalar: Scalar) -> bool
+    ensures { result ≡ scalar_truth scalar }
+{
+    match scalar {
+        Scalar::Bool(b) => b,
+        Scalar::Word(_) => false,
+    }
+}
+
+fn word_in(scalar: Scalar) -> u64
+    ensures { result ≡ scalar_word scalar }
+{
+    match scalar {
+        Scalar::Bool(_) => 0,
+        Scalar::Word(n) => n,
+    }
+}
+
+pub fn value_at(values: &[Value], i: u32) -> Result<Value, AllocError>
+    ensures { IfOk result (λ v. v ≡ slice_index_or values.now i (truth_value false)) }
+{
+    match values.get(i as usize) {
+        Some(value) => value.clone(),
+        None => Ok(Value::Scalar(Scalar::Bool(false))),
+    }
+}
+
+fn scalar_at(values: &[Value], i: u32) -> Scalar
+    ensures { result ≡ scalar_of (slice_index_or values.now i (truth_value false)) }
+{
+    match values.get(i as usize) {
+        Some(Value::Scalar(scalar)) => *scalar,
+        _ => Scalar::Bool(false),
+    }
+}
+
+fn word_at(values: &[Value], i: u32, address: u64) -> u64
+    ensures { result ≡ read (memory_of (slice_index_or values.now i (truth_value false))) address }
+{
+    match values.get(i as usize) {
+        Some(Value::Memory(memory)) => memory.at(address),
+        _ => 0,
+    }
+}
+
+fn input_at(inputs: &[Scalar], i: u32) -> Scalar
+    ensures { result ≡ slice_index_or inputs.now i (Scalar.Bool false) }
+{
+    match inputs.get(i as usize) {
+        Some(scalar) => *scalar,
+        None => Scalar::Bool(false),
+    }
+}
+
+fn table_at(interp: &[Table], f: u32, args: &[u64]) -> Scalar
+    ensures { result ≡ at (table_of interp.now f) args.now }
+{
+    match interp.get(f as usize) {
+        Some(table) => table.at(args),
+        None => Scalar::Bool(false),
+    }
+}
+
+// The memory with the word at the address; where the old value is no memory, that of zeros.
+fn written(alloc: Global, old: Value, address: u64, word: u64) -> Result<Memory, AllocError>
+    ensures { IfOk result (λ m. m ≡ write (memory_of old) address word) }
+{
+    let (default, mut rows) = match old {
+        Value::Memory(Memory { default, rows }) => (default, rows.into_vec()),
+        Value::Scalar(_) => (0, Vec::new(alloc)),
+    };
+    rows.insert(
+        0,
+        Slot {
+            address,
+            value: word,
+        },
+    )?;
+    Ok(Memory {
+        default,
+        rows: Sequence::from_vec(rows),
+    })
+}
