@@ -13,3 +13,6 @@ mod words;
 
 pub use ended::{Ended, Text, Which};
 pub use program::run;
+
+#[cfg(test)]
+mod tests;

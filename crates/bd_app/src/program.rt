@@ -1,5 +1,5 @@
 //! The program's one call.
-ghost use Rattle.std.specs.Prelude.{◌≡◌, ◌≢◌, ◌≤◌, ◌⊎◌, ◌↔◌, Some, None, IfSome, IfOk, IfErr};
+ghost use Rattle.std.specs.Prelude.{◌≡◌, ◌≢◌, ◌≤◌, ◌⊎◌, ◌↔◌, Some, None, IfSome, IfOk, IfErr, IsErrOf};
 ghost use Rattle.bd_files.specs.Devices.{Rose, IsLoaded, Appends, AppendsPrefix};
 ghost use Rattle.bd_model.specs.DesignView.{DesignView};
 ghost use Rattle.bd_model.specs.Fits.{Fits};
@@ -20,6 +20,7 @@ fn load<F: Files>(files: &mut F, name: &str) -> Result<Vec<u8>, Ended>
     ensures loaded { IfOk result (λ bytes. IsLoaded (F.held files.old) name.now 1048576 bytes.items) }
     ensures failed { IfErr result (λ e. (e ≡ Ended.Memory) ⊎ ((e ≡ Ended.Device Which.Load)
         × Rose (F.faults files.old) (F.faults files.new) × (F.blame files.new ≡ Some (FileCall.Load, name.now)))) }
+    ensures else_keeps_blame { ¬ IsErrOf result (Ended.Device Which.Load) → F.blame files.new ≡ F.blame files.old }
     ensures held { F.held files.new ≡ F.held files.old }
     ensures never_falls { F.faults files.old ≤ F.faults files.new }
 {
@@ -35,6 +36,8 @@ fn answer<F: Files>(alloc: Global, words: &[String], files: &mut F) -> Ended
     ensures told { IfSome (F.held files.old) (λ held. IsTold held (texts_of words.now) result) }
     ensures usage { (result ≡ Ended.Usage) ↔ (taken (texts_of words.now) ≡ None) }
     ensures load { result ≡ Ended.Device Which.Load → Rose (F.faults files.old) (F.faults files.new) × BlamesLoad (F.blame files.new) (texts_of words.now) }
+    ensures else_keeps_blame { result ≢ Ended.Device Which.Load → F.blame files.new ≡ F.blame files.old }
+    ensures untouched { result ≡ Ended.Usage → files.new ≡ files.old }
     ensures out { result ≢ Ended.Device Which.Out }
     ensures commute { (k : Condition) (c : Case) → result ≡ Ended.Wrong k c → k ≡ Condition.Commute }
     ensures held { F.held files.new ≡ F.held files.old }
@@ -57,7 +60,7 @@ fn answer<F: Files>(alloc: Global, words: &[String], files: &mut F) -> Ended
 /// Puts the report of a verdict on the output.
 fn put_report<O: Sink>(ended: Ended, out: &mut O) -> Ended
     requires { ended ≢ Ended.Device Which.Out }
-    ensures fault { ¬ IsVerdict ended → (result ≡ ended) × (O.written out.new ≡ O.written out.old) }
+    ensures fault { ¬ IsVerdict ended → (result ≡ ended) × (out.new ≡ out.old) }
     ensures verdict { IsVerdict ended → ((result ≡ ended) × Appends (O.written out.old) (O.written out.new) (report_of ended))
         ⊎ ((result ≡ Ended.Device Which.Out) × Rose (O.faults out.old) (O.faults out.new)
         × AppendsPrefix (O.written out.old) (O.written out.new) (report_of ended)) }
@@ -76,6 +79,7 @@ fn put_report<O: Sink>(ended: Ended, out: &mut O) -> Ended
 fn put_fault_line<E: Sink>(ended: &Ended, err: &mut E)
     ensures line { Appends (E.written err.old) (E.written err.new) (fault_line_of ended.now)
         ⊎ (Rose (E.faults err.old) (E.faults err.new) × AppendsPrefix (E.written err.old) (E.written err.new) (fault_line_of ended.now)) }
+    ensures verdict { IsVerdict ended.now → err.new ≡ err.old }
     ensures never_falls { E.faults err.old ≤ E.faults err.new }
 {
     if !ended.is_verdict() {
@@ -104,15 +108,19 @@ pub fn run<F: Files, O: Sink, E: Sink>(
     ensures unread_pipe { result ≡ Ended.Unread Text.Pipe → IfSome (F.held files.old) (λ held. IsUnreadPipe held (texts_of words.now)) }
     ensures unread_spec { result ≡ Ended.Unread Text.Spec → IfSome (F.held files.old) (λ held. IsUnreadSpec held (texts_of words.now)) }
     ensures load { result ≡ Ended.Device Which.Load → Rose (F.faults files.old) (F.faults files.new) × BlamesLoad (F.blame files.new) (texts_of words.now) }
+    // A load that fails, and so takes the blame, isn't passed over; other words load nothing.
+    ensures else_keeps_blame { result ≢ Ended.Device Which.Load → F.blame files.new ≡ F.blame files.old }
+    ensures untouched { result ≡ Ended.Usage → files.new ≡ files.old }
     ensures out { result ≡ Ended.Device Which.Out → Rose (O.faults out.old) (O.faults out.new) }
 
     // What is printed, and what the files hold.
     ensures printed { IsVerdict result → Appends (O.written out.old) (O.written out.new) (report_of result) }
     ensures cut { result ≡ Ended.Device Which.Out → (e : Ended) × IsVerdict e × AppendsPrefix (O.written out.old) (O.written out.new) (report_of e)
         × IfSome (F.held files.old) (λ held. IsTrueVerdict held (texts_of words.now) e) }
-    ensures silent { ¬ IsVerdict result → result ≢ Ended.Device Which.Out → O.written out.new ≡ O.written out.old }
+    ensures silent { ¬ IsVerdict result → result ≢ Ended.Device Which.Out → out.new ≡ out.old }
     ensures line { Appends (E.written err.old) (E.written err.new) (fault_line_of result)
         ⊎ (Rose (E.faults err.old) (E.faults err.new) × AppendsPrefix (E.written err.old) (E.written err.new) (fault_line_of result)) }
+    ensures no_line { IsVerdict result → err.new ≡ err.old }
     ensures held { F.held files.new ≡ F.held files.old }
     ensures counts { (F.faults files.old ≤ F.faults files.new) × (O.faults out.old ≤ O.faults out.new) × (E.faults err.old ≤ E.faults err.new) }
 {
