@@ -64,8 +64,10 @@ fn shelf(alloc: Global, setup: Setup) -> Result<Shelf, AllocError> {
     Shelf::new(alloc, held, fails)
 }
 
+/// A page whose second put fails, so that what is printed whole went out in one.
 fn page(alloc: Global, room: usize, kept: Option<usize>) -> Result<Page, AllocError> {
     let mut fails = Vec::new(alloc);
+    fails.push((2, 0))?;
     if let Some(kept) = kept {
         fails.push((1, kept))?;
     }
