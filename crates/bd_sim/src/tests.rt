@@ -1,182 +1,131 @@
-//! Designs and cases worked by hand.
+//! A bit that turns, worked by hand: the pipeline turns it in each cycle, its specification leaves it as it
+//! is, and the invariant claims that it's true.
 use crate::{eval, flush, judge, look, spec_step, step, trace};
-use bd_model::{Condition, Expr, Judged, Places};
+use bd_model::{
+    Case, Condition, Design, Entry, Expr, Exprs, Judged, Machine, Scalar, Sequence, Sort, State,
+    Value,
+};
+use std::alloc::{AllocError, Global};
 use std::test::Fail;
 
-mod build;
-mod designs;
-
-use build::{bits, case, increment, nothing, words};
-use designs::{
-    double_increment, pending_increment, sinking_bit, stalling_bit, swapped_writes, two_stage,
-    write_back,
-};
-
-const BROKEN: Judged = Judged::Broken(Condition::Commute);
-
-#[test]
-fn first_row_counts(rt: HostRuntime) -> Result<(), Fail> {
-    let alloc = rt.alloc();
-    let design = double_increment(alloc)?;
-    let twice = case(
-        increment(alloc, &[(1, 2), (1, 1), (2, 3)])?,
-        words(alloc, &[1])?,
-        nothing(alloc),
-    );
-    assert_eq!(rt; judge(alloc, &design, &twice)?, BROKEN);
-    let second = case(
-        increment(alloc, &[(1, 1), (2, 3)])?,
-        words(alloc, &[1])?,
-        nothing(alloc),
-    );
-    assert_eq!(rt; judge(alloc, &design, &second)?, Judged::Holds);
-    Ok(())
+fn nothing<T>(alloc: Global) -> Sequence<T> {
+    Sequence::from_vec(Vec::new(alloc))
 }
 
-#[test]
-fn largest_word(rt: HostRuntime) -> Result<(), Fail> {
-    let alloc = rt.alloc();
-    let design = double_increment(alloc)?;
-    let largest = case(
-        increment(alloc, &[(1, u64::MAX)])?,
-        words(alloc, &[1])?,
-        nothing(alloc),
-    );
-    assert_eq!(rt; judge(alloc, &design, &largest)?, BROKEN);
-    Ok(())
+fn state(alloc: Global, b: bool) -> Result<State, AllocError> {
+    let mut values = Vec::new(alloc);
+    values.push(Value::Scalar(Scalar::Bool(b)))?;
+    Ok(Sequence::from_vec(values))
 }
 
-#[test]
-fn stalling_bit_turns(rt: HostRuntime) -> Result<(), Fail> {
-    let alloc = rt.alloc();
-    let going = case(
-        nothing(alloc),
-        bits(alloc, &[false])?,
-        build::inputs(alloc, &[true])?,
-    );
-    let states = trace(alloc, &stalling_bit(alloc, 1)?, &going, 2)?;
-    assert_eq!(rt; states.len(), 3);
-    assert!(rt; states.as_slice()[1] != going.state);
-    assert!(rt; states.as_slice()[2] == going.state);
-    Ok(())
+fn case(alloc: Global, b: bool) -> Result<Case, AllocError> {
+    Ok(Case {
+        interp: nothing(alloc),
+        state: state(alloc, b)?,
+        inputs: nothing(alloc),
+    })
 }
 
-#[test]
-fn count_is_forced(rt: HostRuntime) -> Result<(), Fail> {
-    let alloc = rt.alloc();
-    let going = case(
-        nothing(alloc),
-        bits(alloc, &[false])?,
-        build::inputs(alloc, &[true])?,
-    );
-    assert_eq!(rt;
-        judge(alloc, &stalling_bit(alloc, 1)?, &going)?,
-        Judged::Holds
-    );
-    assert_eq!(rt; judge(alloc, &stalling_bit(alloc, 0)?, &going)?, BROKEN);
-    Ok(())
+fn machine(alloc: Global, next: Expr) -> Result<Machine, AllocError> {
+    let mut entries = Vec::new(alloc);
+    entries.push(Entry {
+        name: nothing(alloc),
+        sort: Sort::Bool,
+    })?;
+    let mut items = Vec::new(alloc);
+    items.push(next)?;
+    Ok(Machine {
+        entries: Sequence::from_vec(entries),
+        ports: nothing(alloc),
+        locals: nothing(alloc),
+        nexts: Exprs { items },
+    })
+}
+
+fn turning(alloc: Global) -> Result<Design, AllocError> {
+    let turned = Expr::Not(Box::new(alloc, Expr::Entry(0))?);
+    let pipe = machine(alloc, turned)?;
+    let spec = machine(alloc, Expr::Entry(0))?;
+    let mut visible = Vec::new(alloc);
+    visible.push(0)?;
+    Ok(Design {
+        pipe,
+        spec,
+        symbols: nothing(alloc),
+        visible: Sequence::from_vec(visible),
+        flush: 1,
+        steps: 0,
+        inv_locals: nothing(alloc),
+        inv: Expr::Entry(0),
+        exact: nothing(alloc),
+        distinct: nothing(alloc),
+    })
 }
 
 #[test]
 fn invariant_is_named(rt: HostRuntime) -> Result<(), Fail> {
     let alloc = rt.alloc();
-    let design = sinking_bit(alloc)?;
-    let inside = case(nothing(alloc), bits(alloc, &[true])?, nothing(alloc));
+    let design = turning(alloc)?;
+    let inside = case(alloc, true)?;
     assert_eq!(rt;
         judge(alloc, &design, &inside)?,
         Judged::Broken(Condition::Invariant)
     );
-    let outside = case(nothing(alloc), bits(alloc, &[false])?, nothing(alloc));
+    let outside = case(alloc, false)?;
     assert_eq!(rt; judge(alloc, &design, &outside)?, Judged::Outside);
     Ok(())
 }
 
 #[test]
-fn what_was_read_is_written_back(rt: HostRuntime) -> Result<(), Fail> {
+fn bit_turns_twice(rt: HostRuntime) -> Result<(), Fail> {
     let alloc = rt.alloc();
-    let design = write_back(alloc)?;
-    let kept = case(
-        nothing(alloc),
-        build::memory_and_word(alloc, &[(5, 7)], 5)?,
-        nothing(alloc),
-    );
-    assert_eq!(rt; judge(alloc, &design, &kept)?, Judged::Holds);
-    let states = trace(alloc, &design, &kept, 1)?;
-    assert_eq!(rt; states.len(), 2);
-    assert!(rt; states.as_slice()[1] == build::memory_and_word(alloc, &[(5, 7), (5, 7)], 5)?);
-    Ok(())
-}
-
-// The increment is made in the cycle behind its fetch, and no fetch comes in flush cycles.
-#[test]
-fn pending_increment_ends(rt: HostRuntime) -> Result<(), Fail> {
-    let alloc = rt.alloc();
-    let design = pending_increment(alloc)?;
-    let fetching = case(
-        increment(alloc, &[(1, 2), (2, 3)])?,
-        build::word_and_bit(alloc, 1, true)?,
-        build::inputs(alloc, &[false])?,
-    );
-    assert_eq!(rt; judge(alloc, &design, &fetching)?, Judged::Holds);
-    let next = step(
-        alloc,
-        &design,
-        &fetching.interp,
-        &fetching.state,
-        &fetching.inputs,
-    )?;
-    assert!(rt; next == build::word_and_bit(alloc, 2, true)?);
-    let end = flush(alloc, &design, &fetching.interp, &next)?;
-    assert!(rt; end == build::word_and_bit(alloc, 3, false)?);
+    let design = turning(alloc)?;
+    let start = case(alloc, true)?;
+    let states = trace(alloc, &design, &start, 2)?;
+    assert_eq!(rt; states.len(), 3);
+    assert!(rt; states.as_slice()[1] != start.state);
+    assert!(rt; states.as_slice()[2] == start.state);
     Ok(())
 }
 
 #[test]
-fn specification_increments(rt: HostRuntime) -> Result<(), Fail> {
+fn one_cycle(rt: HostRuntime) -> Result<(), Fail> {
     let alloc = rt.alloc();
-    let design = pending_increment(alloc)?;
-    let tables = increment(alloc, &[(1, 2), (2, 3)])?;
-    let seen = look(alloc, &design, &build::word_and_bit(alloc, 2, false)?)?;
-    assert!(rt; seen == words(alloc, &[2])?);
-    assert!(rt; spec_step(alloc, &design, &tables, &seen)? == words(alloc, &[3])?);
+    let design = turning(alloc)?;
+    let start = case(alloc, true)?;
+    let next = step(alloc, &design, &start.interp, &start.state, &start.inputs)?;
+    assert!(rt; next != start.state);
+    let end = flush(alloc, &design, &start.interp, &next)?;
+    assert!(rt; end == start.state);
+    Ok(())
+}
+
+#[test]
+fn specification_stays(rt: HostRuntime) -> Result<(), Fail> {
+    let alloc = rt.alloc();
+    let design = turning(alloc)?;
+    let start = case(alloc, true)?;
+    let seen = look(alloc, &design, &start.state)?;
+    let kept = spec_step(alloc, &design, &start.interp, &seen)?;
+    assert!(rt; kept == start.state);
+    Ok(())
+}
+
+#[test]
+fn entry_has_its_value(rt: HostRuntime) -> Result<(), Fail> {
+    let alloc = rt.alloc();
+    let design = turning(alloc)?;
+    let start = case(alloc, true)?;
+    let lets = nothing(alloc);
     let value = eval(
         alloc,
         &design,
         &Expr::Entry(0),
-        &tables,
-        &seen,
-        &nothing(alloc),
-        &nothing(alloc),
+        &start.interp,
+        &start.state,
+        &start.inputs,
+        &lets,
     )?;
-    assert!(rt; value == build::word(2));
-    Ok(())
-}
-
-#[test]
-fn swapped_writes_differ_at_one_address(rt: HostRuntime) -> Result<(), Fail> {
-    let alloc = rt.alloc();
-    let mut design = swapped_writes(alloc)?;
-    design.visible = Places::from_vec(vec![in alloc; 0, 1, 2, 3, 4]?);
-    for (addresses, judged) in [((7, 7), BROKEN), ((7, 8), Judged::Holds)] {
-        let state = build::memory_and_words(alloc, addresses, (1, 2))?;
-        let writes = case(nothing(alloc), state, nothing(alloc));
-        assert_eq!(rt; judge(alloc, &design, &writes)?, judged);
-    }
-    Ok(())
-}
-
-#[test]
-fn two_stages_hold_unless_outside(rt: HostRuntime) -> Result<(), Fail> {
-    let alloc = rt.alloc();
-    let mut design = two_stage(alloc)?;
-    let tables = increment(alloc, &[(1, 2), (2, 3)])?;
-    let pending = case(
-        tables,
-        build::stages(alloc, 1, true, (2, 2))?,
-        build::inputs(alloc, &[false])?,
-    );
-    assert_eq!(rt; judge(alloc, &design, &pending)?, Judged::Outside);
-    design.inv = Expr::Bool(true);
-    assert_eq!(rt; judge(alloc, &design, &pending)?, Judged::Holds);
+    assert!(rt; value == Value::Scalar(Scalar::Bool(true)));
     Ok(())
 }
