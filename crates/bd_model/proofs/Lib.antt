@@ -5,4 +5,5 @@ pub mod Pairs
 pub mod SameLemmas
 pub mod SameDecided
 pub mod SortLemmas
+pub mod Settled
 pub mod Compose

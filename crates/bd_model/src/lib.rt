@@ -16,7 +16,7 @@ pub use design::{
     Ports, Sort, Symbol, Symbols,
 };
 pub use expr::{Expr, Exprs};
-pub use judged::judged_once;
+pub use judged::{always_judged, judged_once};
 pub use list::Sequence;
 pub use right::cycles_compose;
 pub use table::{Memory, Row, Rows, Scalar, Slot, Slots, Table, Value, Words};

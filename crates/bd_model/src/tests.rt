@@ -117,3 +117,22 @@ fn equal_constants_do_not_fit(rt: HostRuntime) -> Result<(), Fail> {
     }
     Ok(())
 }
+
+// Whether two copies compare as equal, and as different once one may take a step.
+fn compares(alloc: Global) -> Result<bool, AllocError> {
+    let first = apart(alloc)?;
+    let mut second = apart(alloc)?;
+    let equal = first == second;
+    second.steps = 1;
+    Ok(equal && first != second)
+}
+
+#[test]
+fn designs_are_compared(rt: HostRuntime) -> Result<(), Fail> {
+    let alloc = rt.alloc();
+    let same = Expr::Not(Box::new(alloc, Expr::Entry(0))?);
+    let other = Expr::Not(Box::new(alloc, Expr::Entry(1))?);
+    assert!(rt; same != other);
+    assert!(rt; compares(alloc)?);
+    Ok(())
+}
