@@ -1,131 +1,194 @@
-//! A bit that turns, worked by hand: the pipeline turns it in each cycle, its specification leaves it as it
-//! is, and the invariant claims that it's true.
+//! Designs and cases worked by hand.
 use crate::{eval, flush, judge, look, spec_step, step, trace};
-use bd_model::{
-    Case, Condition, Design, Entry, Expr, Exprs, Judged, Machine, Scalar, Sequence, Sort, State,
-    Value,
-};
+use bd_model::{Case, Condition, Design, Judged, Scalar, Value};
 use std::alloc::{AllocError, Global};
+use std::process::Abort;
 use std::test::Fail;
 
-fn nothing<T>(alloc: Global) -> Sequence<T> {
-    Sequence::from_vec(Vec::new(alloc))
-}
+mod cases;
+mod designs;
+mod draft;
+mod two_stage;
 
-fn state(alloc: Global, b: bool) -> Result<State, AllocError> {
-    let mut values = Vec::new(alloc);
-    values.push(Value::Scalar(Scalar::Bool(b)))?;
-    Ok(Sequence::from_vec(values))
-}
+use cases::{
+    GOING, LARGEST_WORD, ONE_PLACE, ONE_WORD, PENDING, RAISED, REPLAYED, SECOND_ROW, SEVEN_AT_FIVE,
+    STALLED, SUNK, TWO_PLACES, ZEROS,
+};
+use designs::{
+    DOUBLE_INCREMENT, NO_STEP_A_TURN, ONE_STEP_A_TURN, SINKING_BIT, STALLING_BIT, SWAPPED_WRITES,
+    TWO_STEPS, WRITE_BACK,
+};
+use draft::Held::{Bit, Memory, Word};
+use draft::{CaseDraft, DesignDraft, Held, case, design, expr, state};
+use two_stage::{NOTHING_PENDING, OPERAND, STALE_OPERAND, TWO_STAGE};
 
-fn case(alloc: Global, b: bool) -> Result<Case, AllocError> {
-    Ok(Case {
-        interp: nothing(alloc),
-        state: state(alloc, b)?,
-        inputs: nothing(alloc),
-    })
-}
+const COMMUTE: Judged = Judged::Broken(Condition::Commute);
 
-fn machine(alloc: Global, next: Expr) -> Result<Machine, AllocError> {
-    let mut entries = Vec::new(alloc);
-    entries.push(Entry {
-        name: nothing(alloc),
-        sort: Sort::Bool,
-    })?;
-    let mut items = Vec::new(alloc);
-    items.push(next)?;
-    Ok(Machine {
-        entries: Sequence::from_vec(entries),
-        ports: nothing(alloc),
-        locals: nothing(alloc),
-        nexts: Exprs { items },
-    })
-}
+const INVARIANT: Judged = Judged::Broken(Condition::Invariant);
 
-fn turning(alloc: Global) -> Result<Design, AllocError> {
-    let turned = Expr::Not(Box::new(alloc, Expr::Entry(0))?);
-    let pipe = machine(alloc, turned)?;
-    let spec = machine(alloc, Expr::Entry(0))?;
-    let mut visible = Vec::new(alloc);
-    visible.push(0)?;
-    Ok(Design {
-        pipe,
-        spec,
-        symbols: nothing(alloc),
-        visible: Sequence::from_vec(visible),
-        flush: 1,
-        steps: 0,
-        inv_locals: nothing(alloc),
-        inv: Expr::Entry(0),
-        exact: nothing(alloc),
-        distinct: nothing(alloc),
-    })
+// What a case shows of a design; nothing where it doesn't fit.
+fn shown(alloc: Global, of: &DesignDraft, by: &CaseDraft) -> Result<Option<Judged>, AllocError> {
+    let design = design(alloc, of)?;
+    let case = case(alloc, by)?;
+    if !design.fits(&case) {
+        return Ok(None);
+    }
+    Ok(Some(judge(alloc, &design, &case)?))
 }
 
 #[test]
-fn invariant_is_named(rt: HostRuntime) -> Result<(), Fail> {
+fn cases_are_judged(rt: HostRuntime) -> Result<(), Fail> {
     let alloc = rt.alloc();
-    let design = turning(alloc)?;
-    let inside = case(alloc, true)?;
-    assert_eq!(rt;
-        judge(alloc, &design, &inside)?,
-        Judged::Broken(Condition::Invariant)
-    );
-    let outside = case(alloc, false)?;
-    assert_eq!(rt; judge(alloc, &design, &outside)?, Judged::Outside);
+    for (name, design, case, judged) in [
+        ("replayed increment", &DOUBLE_INCREMENT, &REPLAYED, COMMUTE),
+        ("second row", &DOUBLE_INCREMENT, &SECOND_ROW, Judged::Holds),
+        ("largest word", &DOUBLE_INCREMENT, &LARGEST_WORD, COMMUTE),
+        ("two steps", &TWO_STEPS, &REPLAYED, Judged::Holds),
+        ("turn", &STALLING_BIT, &GOING, Judged::Holds),
+        ("stall", &STALLING_BIT, &STALLED, Judged::Holds),
+        ("one step a turn", &ONE_STEP_A_TURN, &GOING, Judged::Holds),
+        ("no step a stall", &ONE_STEP_A_TURN, &STALLED, Judged::Holds),
+        ("no step a turn", &NO_STEP_A_TURN, &GOING, COMMUTE),
+        ("both conditions false", &SINKING_BIT, &RAISED, INVARIANT),
+        ("invariant false", &SINKING_BIT, &SUNK, Judged::Outside),
+        ("write back", &WRITE_BACK, &SEVEN_AT_FIVE, Judged::Holds),
+        ("swapped writes", &SWAPPED_WRITES, &ONE_PLACE, COMMUTE),
+        ("two places", &SWAPPED_WRITES, &TWO_PLACES, Judged::Holds),
+        ("one word", &SWAPPED_WRITES, &ONE_WORD, Judged::Holds),
+        ("two stages", &TWO_STAGE, &PENDING, Judged::Holds),
+        ("stale operand", &STALE_OPERAND, &PENDING, COMMUTE),
+        ("pending write", &NOTHING_PENDING, &PENDING, Judged::Outside),
+        ("write of 0", &NOTHING_PENDING, &ZEROS, Judged::Outside),
+    ] {
+        assert_eq!(rt; shown(alloc, design, case)?, Some(judged), "{name}");
+    }
+    Ok(())
+}
+
+// That the design goes through these states, the case's first.
+fn goes_through(
+    rt: &impl Abort,
+    alloc: Global,
+    of: &DesignDraft,
+    from: &CaseDraft,
+    states: &[&[Held]],
+) -> Result<(), AllocError> {
+    let design = design(alloc, of)?;
+    let case = case(alloc, from)?;
+    traced(rt, alloc, (&design, &case), states)
+}
+
+fn traced(
+    rt: &impl Abort,
+    alloc: Global,
+    (design, case): (&Design, &Case),
+    states: &[&[Held]],
+) -> Result<(), AllocError> {
+    let reached = trace(alloc, design, case, 2)?;
+    assert_eq!(rt; reached.len(), states.len());
+    for (one, wanted) in reached.as_slice().iter().zip(states) {
+        assert!(rt; *one == state(alloc, wanted)?);
+    }
     Ok(())
 }
 
 #[test]
-fn bit_turns_twice(rt: HostRuntime) -> Result<(), Fail> {
+fn runs_are_traced(rt: HostRuntime) -> Result<(), Fail> {
     let alloc = rt.alloc();
-    let design = turning(alloc)?;
-    let start = case(alloc, true)?;
-    let states = trace(alloc, &design, &start, 2)?;
-    assert_eq!(rt; states.len(), 3);
-    assert!(rt; states.as_slice()[1] != start.state);
-    assert!(rt; states.as_slice()[2] == start.state);
+    let bits: [&[Held]; 3] = [&[Bit(false)], &[Bit(true)], &[Bit(false)]];
+    goes_through(&rt, alloc, &STALLING_BIT, &GOING, &bits)?;
+    let written: [&[Held]; 3] = [
+        &[Memory(0, &[(5, 7)]), Word(5)],
+        &[Memory(0, &[(5, 7), (5, 7)]), Word(5)],
+        &[Memory(0, &[(5, 7), (5, 7), (5, 7)]), Word(5)],
+    ];
+    goes_through(&rt, alloc, &WRITE_BACK, &SEVEN_AT_FIVE, &written)?;
     Ok(())
 }
 
-#[test]
-fn one_cycle(rt: HostRuntime) -> Result<(), Fail> {
-    let alloc = rt.alloc();
-    let design = turning(alloc)?;
-    let start = case(alloc, true)?;
-    let next = step(alloc, &design, &start.interp, &start.state, &start.inputs)?;
-    assert!(rt; next != start.state);
-    let end = flush(alloc, &design, &start.interp, &next)?;
-    assert!(rt; end == start.state);
+// One cycle and the flush behind it.
+fn write_ends(
+    rt: &impl Abort,
+    alloc: Global,
+    design: &Design,
+    start: &Case,
+) -> Result<(), AllocError> {
+    let next = step(alloc, design, &start.interp, &start.state, &start.inputs)?;
+    let after_a_cycle = [
+        Word(2),
+        Memory(0, &[(7, 50), (7, 40)]),
+        Bit(true),
+        Word(8),
+        Word(9),
+        Word(50),
+    ];
+    assert!(rt; next == state(alloc, &after_a_cycle)?);
+    let end = flush(alloc, design, &start.interp, &next)?;
+    let flushed = [
+        Word(2),
+        Memory(0, &[(8, 60), (7, 50), (7, 40)]),
+        Bit(false),
+        Word(0),
+        Word(0),
+        Word(0),
+    ];
+    assert!(rt; end == state(alloc, &flushed)?);
     Ok(())
 }
 
-#[test]
-fn specification_stays(rt: HostRuntime) -> Result<(), Fail> {
-    let alloc = rt.alloc();
-    let design = turning(alloc)?;
-    let start = case(alloc, true)?;
-    let seen = look(alloc, &design, &start.state)?;
-    let kept = spec_step(alloc, &design, &start.interp, &seen)?;
-    assert!(rt; kept == start.state);
+// What is seen before the cycle, and a step of the specification from there once the write is made.
+fn specification_follows(
+    rt: &impl Abort,
+    alloc: Global,
+    design: &Design,
+    start: &Case,
+) -> Result<(), AllocError> {
+    let seen = look(alloc, design, &start.state)?;
+    assert!(rt; seen == state(alloc, &[Word(1), Memory(0, &[(7, 40)])])?);
+    let written = state(alloc, &[Word(1), Memory(0, &[(7, 50), (7, 40)])])?;
+    let next = spec_step(alloc, design, &start.interp, &written)?;
+    let stepped = [Word(2), Memory(0, &[(8, 60), (7, 50), (7, 40)])];
+    assert!(rt; next == state(alloc, &stepped)?);
     Ok(())
 }
 
-#[test]
-fn entry_has_its_value(rt: HostRuntime) -> Result<(), Fail> {
-    let alloc = rt.alloc();
-    let design = turning(alloc)?;
-    let start = case(alloc, true)?;
-    let lets = nothing(alloc);
-    let value = eval(
+// The operand's next value, by a let that holds the memory behind the write.
+fn operand(alloc: Global, design: &Design, start: &Case) -> Result<Value, AllocError> {
+    let expr = expr(alloc, &OPERAND)?;
+    let lets = state(alloc, &[Memory(0, &[(7, 50)])])?;
+    eval(
         alloc,
-        &design,
-        &Expr::Entry(0),
+        design,
+        &expr,
         &start.interp,
         &start.state,
         &start.inputs,
         &lets,
-    )?;
-    assert!(rt; value == Value::Scalar(Scalar::Bool(true)));
+    )
+}
+
+// The cycle, the specification's step and the operand.
+fn each_call(
+    rt: &impl Abort,
+    alloc: Global,
+    design: &Design,
+    start: &Case,
+) -> Result<(), AllocError> {
+    write_ends(rt, alloc, design, start)?;
+    specification_follows(rt, alloc, design, start)?;
+    let operand = operand(alloc, design, start)?;
+    assert!(rt; operand == Value::Scalar(Scalar::Word(50)));
+    Ok(())
+}
+
+fn on_two_stages(rt: &impl Abort, alloc: Global) -> Result<(), AllocError> {
+    let design = design(alloc, &TWO_STAGE)?;
+    let start = case(alloc, &PENDING)?;
+    each_call(rt, alloc, &design, &start)
+}
+
+#[test]
+fn pending_write_is_made(rt: HostRuntime) -> Result<(), Fail> {
+    on_two_stages(&rt, rt.alloc())?;
     Ok(())
 }
