@@ -162,9 +162,6 @@ two_different a b h (suc i) (suc (suc j)) d i<j j<n = absurd (omega (arith, j<n)
 one_only : {X : Type 0} (R : X → X → Type 0) (x : X) → AllPairs R (x ∷ [])
 one_only R x i j d i<j j<n = absurd (omega (arith, i<j, j<n))
 
-none_only : {X : Type 0} (R : X → X → Type 0) → AllPairs {X = X} R []
-none_only R i j d i<j j<n = absurd (omega (arith, i<j, j<n))
-
 within : (e : Bit) → bit_depth e ≤ 200 → (term.depth (term_of_bit e) ≤ 200) × (term.width (term_of_bit e) ≤ 2097152)
 within e h = (omega (arith, h, depth-bit e), omega (arith, width-bit e))
 

@@ -41,13 +41,6 @@ IsOver-part : (b : Option (List ℕ)) (e : Bit) → IsOver b (negation e) → Is
 IsOver-part None e h = h
 IsOver-part (Some w) e h = tt
 
-IsOver-negation : (b : Option (List ℕ)) (e : Bit) → IsOver b e → IsOver b (negation e)
-IsOver-negation None e h = h
-IsOver-negation (Some w) e h = tt
-
-pub IsBitTree-negation : (a : List ℕ) (b : Option (List ℕ)) (t x : Node) (e : Bit) → t ≡ form (word (codes "not") ∷ x ∷ []) → IsBitTree a b x e → IsBitTree a b t (negation e)
-IsBitTree-negation a b t x e is h = record { tree = rw (is, h.tree) refl; over = IsOver-negation b e h.over }
-
 -- a negation whose part is no expression is none
 pub no_negation : (a : List ℕ) (b : Option (List ℕ)) (t x : Node) → t ≡ form (word (codes "not") ∷ x ∷ []) → ((e : Bit) → ¬ IsBitTree a b x e) → (e : Bit) → ¬ IsBitTree a b t e
 no_negation a b t x is none latch h = absurd (cc (is, h.tree))

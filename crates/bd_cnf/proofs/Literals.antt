@@ -39,9 +39,6 @@ not-not : (p : Bool) → not (not p) ≡ p
 not-not true = refl
 not-not false = refl
 
-pub negate-negate : (l : Literal) → negate (negate l) ≡ l
-negate-negate l = let e : not (not l.positive) ≡ l.positive = not-not l.positive in λ i. record { var = l.var; positive = e i }
-
 -- a literal of the same variable with another sign is the negation
 pub negate_from_apart : (a b : Literal) → a.var ≡ b.var → (a.positive ≡ b.positive → ⊥) → a ≡ negate b
 negate_from_apart a b vars apart =

@@ -28,15 +28,3 @@ pub enum Expr {
 pub struct Exprs {
     pub items: Vec<Expr>,
 }
-
-impl Expr {
-    ghost use Rattle.std.specs.Prelude.{◌≡◌};
-    ghost use Rattle.bd_model.specs.Term.{Truth, term_of};
-
-    /// Whether it's the constant.
-    pub fn truth(b: bool) -> Expr
-        ensures { term_of result ≡ Truth b }
-    {
-        Expr::Bool(b)
-    }
-}

@@ -19,9 +19,6 @@ AllByRecursion-push P (x ∷ xs) y =
     let rest = AllByRecursion-push P xs y in
     (λ h. let r = rest.0 h.1 in ((h.0, r.0), r.1), λ h. (h.0.0, rest.1 (h.0.1, h.1)))
 
-pub counted_none : (P : ℕ → ExactView → Type 0) (all : List ExactView) → IsCounted P [] all all
-counted_none P all = record { decides = λ j. (λ h. h.1, λ h. (tt, h)) }
-
 counted_skip : (P : ℕ → ExactView → Type 0) (counts : List ℕ) (x : ExactView) (rest all : List ExactView) → IsCounted P counts (x ∷ rest) all → ((j : ℕ) → P j x) → IsCounted P counts rest all
 counted_skip P counts x rest all before here =
     record { decides = λ j. (λ h. (before.decides j).0 (h.0, (here j, h.1)), λ h. let b = (before.decides j).1 h in (b.0, b.1.1)) }

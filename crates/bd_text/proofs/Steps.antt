@@ -165,9 +165,6 @@ pub fault_in_comment : (s : List ℕ) (at o : ℕ) (parts : Nodes) (ls : List (�
     → o < length s → ¬ IsAllowed (get_or s o 0) → IsFirstFault s o E01
 fault_in_comment s at o parts ls r is w lt bad = first_fault s o E01 (comment_skip s at o parts ls r is w).0 (lt, bad)
 
-pub fault_byte : (s : List ℕ) (at : ℕ) (parts : Nodes) (ls : List (ℕ × Nodes)) → IsReadTo s at parts ls → at < length s → ¬ IsAllowed (get_or s at 0) → IsFirstFault s at E01
-fault_byte s at parts ls r lt bad = first_fault s at E01 r.faultless (lt, bad)
-
 pub step_open : (s : List ℕ) (at : ℕ) (parts : Nodes) (ls : List (ℕ × Nodes)) → IsReadTo s at parts ls → at < length s → get_or s at 0 ≡ 40
     → length ls < 200 → IsReadTo s (at + 1) no_nodes ((at, parts) ∷ ls)
 step_open s at parts ls r lt is room =
@@ -184,12 +181,6 @@ step_open s at parts ls r lt is room =
       trees = open_then_open s at parts ls r.trees opens;
     }
 
-pub fault_open : (s : List ℕ) (at : ℕ) (parts : Nodes) (ls : List (ℕ × Nodes)) → IsReadTo s at parts ls → at < length s → get_or s at 0 ≡ 40
-    → 200 ≤ length ls → IsFirstFault s at E03
-fault_open s at parts ls r lt is full =
-    let reads = read_outside s at lt (omega arith) r.outside_comment in
-    first_fault s at E03 r.faultless (reads.0 ∙ is, omega (arith, r.depth, r.shallow))
-
 pub step_close : (s : List ℕ) (at : ℕ) (parts : Nodes) (l : ℕ × Nodes) (ls : List (ℕ × Nodes)) → IsReadTo s at parts (l ∷ ls) → at < length s → get_or s at 0 ≡ 41
     → IsReadTo s (at + 1) (add_node l.1 (list l.0 parts)) ls
 step_close s at parts l ls r lt is =
@@ -205,14 +196,6 @@ step_close s at parts l ls r lt is =
       shallow = omega (arith, r.shallow);
       trees = open_then_close s at parts l ls r.trees closes;
     }
-
-pub fault_close : (s : List ℕ) (at : ℕ) (parts : Nodes) → IsReadTo s at parts [] → at < length s → get_or s at 0 ≡ 41 → IsFirstFault s at E02
-fault_close s at parts r lt is =
-    let reads = read_outside s at lt (omega arith) r.outside_comment in
-    first_fault s at E02 r.faultless (inl (reads.0 ∙ is, r.depth))
-
-pub fault_end : (s : List ℕ) (parts : Nodes) (ls : List (ℕ × Nodes)) → IsReadTo s (length s) parts ls → 0 < length ls → IsFirstFault s (length s) E02
-fault_end s parts ls r open_lists = first_fault s (length s) E02 r.faultless (inr (refl, omega (arith, r.depth)))
 
 pub no_fault_past : (s : List ℕ) (o : ℕ) (code : Code) → length s ≤ o → HasDepth s (length s) 0 → ¬ IsFault s o code
 no_fault_past s o E01 past depth h = absurd (omega (arith, h.0))
