@@ -1,4 +1,4 @@
--- Designs that the reader gives, point by point.
+-- Designs such as the reader gives, point by point.
 use Rattle.std.specs.Prelude.{◌≡◌, ◌≢◌, ◌≤◌, ℕ, Bool, true, false, ◌||◌, List, [], ◌∷◌, ◌++◌, map, length, slice_get, slice_index_or, Some}
 use Rattle.std.specs.List.{AllZip, AllByRecursion, AllPairs}
 use Rattle.bd_model.specs.Term.{Term, Terms, Truth, Entry, Input, Local, Not, And, Or, Implies, Iff, Equal, Ite, Read, Write, Apply, no_terms, term, count_of, depth, width}

@@ -38,8 +38,8 @@ IsAllowed d interp state inputs j =
 abbrev pub KeepsInvariant : DesignView → List Table → List Value → List Scalar → Type 0
 KeepsInvariant d interp state inputs = IsTrue (invariant d interp (step d.pipe interp state inputs))
 
--- the condition `commute`: flushing after the cycle gives what an allowed number of steps of the
--- specification give after flushing before it
+-- the condition `commute`: flushing after the cycle gives what some number of steps of the specification, at
+-- most k and allowed, give after flushing before it
 abbrev pub Commutes : DesignView → List Table → List Value → List Scalar → Type 0
 Commutes d interp state inputs =
     (j : ℕ) × (j ≤ d.steps) × IsAllowed d interp state inputs j

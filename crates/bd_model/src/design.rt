@@ -58,7 +58,8 @@ pub struct Local {
 /// A list of lets, in which each may use the earlier ones.
 pub type Locals = Sequence<Local>;
 
-/// Where the condition is true, the pipeline takes exactly this many steps of the specification.
+/// Where the condition is true before a cycle, that cycle has to stand for exactly this many steps of the
+/// specification.
 #[derive(Debug, PartialEq, Drop)]
 pub struct Exact {
     pub count: u32,

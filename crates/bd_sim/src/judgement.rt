@@ -50,8 +50,8 @@ fn meets_invariant(
     truth(&env, &design.inv)
 }
 
-// Whether the flushed pipeline stands, after the cycle that ends in `next`, where an allowed number of steps
-// of the specification lead from where it stood before.
+// Whether the flushed pipeline stands, after the cycle that ends in `next`, where some number of steps of the
+// specification, at most the design's and allowed, lead from where it stood before.
 fn commutes(alloc: Global, design: &Design, case: &Case, next: &State) -> Result<bool, AllocError>
     ensures { IfOk result (λ b. IsTrue b ↔ ((j : ℕ) × (j ≤ design.now.steps)
         × IsAllowed (design_view design.now) case.now.interp case.now.state case.now.inputs j

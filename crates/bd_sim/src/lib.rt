@@ -6,6 +6,7 @@ mod judgement;
 mod run;
 mod value;
 
+pub use bd_model::{Condition, Judged};
 pub use cycle::{flush, look, spec_step, step};
 pub use judgement::judge;
 pub use run::trace;

@@ -23,8 +23,8 @@ pub struct Env<'a> {
     pub lets: &'a [Value],
 }
 
-/// The value of an expression of the design, where the lets that it names have these values. What no sorted
-/// expression names gives false, 0 or the memory of zeros.
+/// The value of an expression of the design, where the lets that it names have these values. A place past the
+/// end or a part of another sort has the value false, 0 or the memory of zeros.
 pub fn eval(
     alloc: Global,
     _design: &Design,

@@ -20,7 +20,7 @@ pub enum Draft {
     Apply(u32, &'static [Draft]),
 }
 
-/// A machine: its entries, lets and next expressions.
+/// A machine: its entries, its inputs with their flush expressions, its lets and its next expressions.
 #[derive(Clone, Copy)]
 pub struct MachineDraft {
     pub entries: &'static [(&'static str, Sort)],
