@@ -1,4 +1,5 @@
-//! A list as clauses see it.
+//! A list as clauses see it: the one list type of this project. Its model is the list of its items,
+//! so that `≡` in a clause compares contents, and every plural name is an alias of it at one type.
 ghost use Rattle.std.specs.Prelude.{◌≡◌, ◌==◌, ◌<◌, ◌∷◌, [], ◌++◌, length, slice_get, OnOk, OnErr};
 
 use std::alloc::{AllocError, Global};
@@ -41,6 +42,12 @@ impl<T: PartialEq> PartialEq for Sequence<T> {
     fn eq(&self, other: &Self) -> bool {
         self.items == other.items
     }
+}
+
+impl<T: Eq> Eq for Sequence<T> {
+    ghost use Rattle.std.specs.Cmp.Lexicographic.{lists_equiv};
+
+    ghost laws = { lists_equiv T.Eq.laws };
 }
 
 impl<T: Drop> Sequence<T> {
