@@ -6,7 +6,7 @@ use Rattle.bd_text.specs.Layout.{IsAllowed, without_comments, read_at}
 use Rattle.bd_text.specs.Faults.{HasDepth, IsFault}
 use Rattle.bd_text.proofs.Comments.{length-without_comments}
 use Rattle.bd_text.specs.declared.code.Code.{Code}
-use Rattle.bd_text.specs.declared.code.Code.TheVariants.{E01, E02, E03}
+use Rattle.bd_text.specs.declared.code.Code.TheVariants.{ByteNotAllowed, Unbalanced, TooDeep}
 
 differs : (b c : ℕ) → b ≢ c → eqb b c ≡ false
 differs b c ne = grind arith
@@ -35,9 +35,9 @@ IsFaultless s i = (o : ℕ) (code : Code) → o < i → ¬ IsFault s o code
 -- what shows that no fault stands at an offset inside the text
 pub no_fault_at : (s : List ℕ) (i : ℕ) (code : Code) → i < length s → IsAllowed (get_or s i 0)
     → (read_at s i ≡ 41 → HasDepth s i 0 → ⊥) → (read_at s i ≡ 40 → HasDepth s i 200 → ⊥) → ¬ IsFault s i code
-no_fault_at s i E01 lt allowed no_close no_open h = h.1 allowed
-no_fault_at s i E02 lt allowed no_close no_open h = elim h [ inl w ↦ no_close w.0 w.1 | inr w ↦ absurd (omega (arith, w.0)) ]
-no_fault_at s i E03 lt allowed no_close no_open h = no_open h.0 h.1
+no_fault_at s i ByteNotAllowed lt allowed no_close no_open h = h.1 allowed
+no_fault_at s i Unbalanced lt allowed no_close no_open h = elim h [ inl w ↦ no_close w.0 w.1 | inr w ↦ absurd (omega (arith, w.0)) ]
+no_fault_at s i TooDeep lt allowed no_close no_open h = no_open h.0 h.1
 no_fault_at s i _ lt allowed no_close no_open h = h
 
 pub faultless_next : (s : List ℕ) (i : ℕ) → IsFaultless s i → ((code : Code) → ¬ IsFault s i code) → IsFaultless s (i + 1)

@@ -5,7 +5,7 @@ use Rattle.bd_text.specs.Layout.{without_comments, blank_comment, read_at}
 use Rattle.bd_text.specs.Faults.{IsBadByte, IsUnbalanced, IsTooDeep, IsFault, IsFirstFault}
 use Rattle.bd_text.proofs.Steps.{past_end}
 use Rattle.bd_text.specs.declared.code.Code.{Code}
-use Rattle.bd_text.specs.declared.code.Code.TheVariants.{E01, E02, E03}
+use Rattle.bd_text.specs.declared.code.Code.TheVariants.{ByteNotAllowed, Unbalanced, TooDeep}
 
 differs : (b : ℕ) → b ≢ 10 → eqb b 10 ≡ false
 differs b ne = grind arith
@@ -38,12 +38,12 @@ read_is s k ne = elim (read_or_space s k) [ inl e ↦ e | inr e ↦ absurd (ne e
 
 -- which codes a fault may have
 abbrev IsOneFault : List ℕ → ℕ → Code → Type 0
-IsOneFault s o code = ((code ≡ E01) × IsBadByte s o) ⊎ (((code ≡ E02) × IsUnbalanced s o) ⊎ ((code ≡ E03) × IsTooDeep s o))
+IsOneFault s o code = ((code ≡ ByteNotAllowed) × IsBadByte s o) ⊎ (((code ≡ Unbalanced) × IsUnbalanced s o) ⊎ ((code ≡ TooDeep) × IsTooDeep s o))
 
 one_fault_of : (s : List ℕ) (o : ℕ) (code : Code) → IsFault s o code → IsOneFault s o code
-one_fault_of s o E01 h = inl (refl, h)
-one_fault_of s o E02 h = inr (inl (refl, h))
-one_fault_of s o E03 h = inr (inr (refl, h))
+one_fault_of s o ByteNotAllowed h = inl (refl, h)
+one_fault_of s o Unbalanced h = inr (inl (refl, h))
+one_fault_of s o TooDeep h = inr (inr (refl, h))
 one_fault_of s o _ h = absurd h
 
 bad_no_parenthesis : (s : List ℕ) (o b : ℕ) → IsBadByte s o → (b ≡ 40) ⊎ (b ≡ 41) → read_at s o ≡ b → ⊥

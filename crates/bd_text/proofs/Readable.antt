@@ -13,7 +13,7 @@ use Rattle.bd_text.proofs.Comments.{up_from}
 use Rattle.bd_text.proofs.Counting.{depth_open, depth_close, depth_other}
 use Rattle.bd_text.proofs.FirstFaults.{read_is}
 use Rattle.bd_text.proofs.Steps.{past_end, separator_allowed}
-use Rattle.bd_text.specs.declared.code.Code.TheVariants.{E03}
+use Rattle.bd_text.specs.declared.code.Code.TheVariants.{TooDeep}
 
 inside_text : (s : List ℕ) (k : ℕ) → read_at s k ≢ 0 → k < length s
 inside_text s k ne = elim (cases_lt k (length s)) [ inl lt ↦ lt | inr past ↦ absurd (ne (past_end s k past)) ]
@@ -53,7 +53,7 @@ mutual
   )
   tree_readable s i j d (list o parts) fine depth room h =
       let k = h.2.0 in
-      let below : d < 200 = elim (cases_lt d 200) [ inl lt ↦ lt | inr le ↦ let full : d ≡ 200 = omega arith in absurd (fine i E03 (h.1, subst (λ n. HasDepth s i n) full depth)) ] in
+      let below : d < 200 = elim (cases_lt d 200) [ inl lt ↦ lt | inr le ↦ let full : d ≡ 200 = omega arith in absurd (fine i TooDeep (h.1, subst (λ n. HasDepth s i n) full depth)) ] in
       let opened = depth_open s i d (inside_text s i (λ e. absurd (omega (arith, h.1)))) h.1 depth in
       let inner = trees_readable s (i + 1) k (d + 1) parts fine opened (omega arith) h.2.1 in
       let closed = depth_close s k d (inside_text s k (λ e. absurd (omega (arith, h.2.2)))) h.2.2 inner.2 in

@@ -8,7 +8,7 @@ use Rattle.bd_text.specs.Faults.{HasDepth, IsFault, HasNoFault, IsFirstFault}
 use Rattle.bd_text.specs.Nodes.{atom, list, Nodes, no_nodes, add_node}
 use Rattle.bd_text.specs.Progress.{IsReadTo, IsWord, IsComment}
 use Rattle.bd_text.specs.declared.code.Code.{Code}
-use Rattle.bd_text.specs.declared.code.Code.TheVariants.{E01, E02, E03}
+use Rattle.bd_text.specs.declared.code.Code.TheVariants.{ByteNotAllowed, Unbalanced, TooDeep}
 use Rattle.bd_text.proofs.Comments.{up_from, length-without_comments, IsOutside, IsInside, read_outside, read_semicolon, read_inside, leave_comment}
 use Rattle.bd_text.proofs.Counting.{IsFaultless, depth_open, depth_close, depth_other, no_fault_at, faultless_next}
 use Rattle.bd_text.proofs.Joining.{open_then_blank, open_then_tree, open_then_open, open_then_close}
@@ -162,8 +162,8 @@ step_comment s at end parts ls r is w ends =
     }
 
 pub fault_in_comment : (s : List ℕ) (at o : ℕ) (parts : Nodes) (ls : List (ℕ × Nodes)) → IsReadTo s at parts ls → get_or s at 0 ≡ 59 → IsComment s at o
-    → o < length s → ¬ IsAllowed (get_or s o 0) → IsFirstFault s o E01
-fault_in_comment s at o parts ls r is w lt bad = first_fault s o E01 (comment_skip s at o parts ls r is w).0 (lt, bad)
+    → o < length s → ¬ IsAllowed (get_or s o 0) → IsFirstFault s o ByteNotAllowed
+fault_in_comment s at o parts ls r is w lt bad = first_fault s o ByteNotAllowed (comment_skip s at o parts ls r is w).0 (lt, bad)
 
 pub step_open : (s : List ℕ) (at : ℕ) (parts : Nodes) (ls : List (ℕ × Nodes)) → IsReadTo s at parts ls → at < length s → get_or s at 0 ≡ 40
     → length ls < 200 → IsReadTo s (at + 1) no_nodes ((at, parts) ∷ ls)
@@ -198,12 +198,12 @@ step_close s at parts l ls r lt is =
     }
 
 pub no_fault_past : (s : List ℕ) (o : ℕ) (code : Code) → length s ≤ o → HasDepth s (length s) 0 → ¬ IsFault s o code
-no_fault_past s o E01 past depth h = absurd (omega (arith, h.0))
-no_fault_past s o E02 past depth h = elim h [
+no_fault_past s o ByteNotAllowed past depth h = absurd (omega (arith, h.0))
+no_fault_past s o Unbalanced past depth h = elim h [
   | inl w ↦ absurd (omega (arith, w.0, past_end s o past))
   | inr w ↦ absurd (omega (arith, rw w.0 at w.1))
 ]
-no_fault_past s o E03 past depth h = absurd (omega (arith, h.0, past_end s o past))
+no_fault_past s o TooDeep past depth h = absurd (omega (arith, h.0, past_end s o past))
 no_fault_past s o _ past depth h = h
 
 pub whole_text : (s : List ℕ) (parts : Nodes) → IsReadTo s (length s) parts [] → HasNoFault s × Spells s parts

@@ -2,7 +2,7 @@
 use Rattle.std.specs.Prelude.{◌≡◌, ℕ, ◌+◌, ◌<◌, ◌≤◌, ◌==◌, ◌⊎◌, List, length, take, count_by, slice_index}
 use Rattle.bd_text.specs.Layout.{IsAllowed, without_comments, read_at}
 use Rattle.bd_text.specs.declared.code.Code.{Code}
-use Rattle.bd_text.specs.declared.code.Code.TheVariants.{E01, E02, E03}
+use Rattle.bd_text.specs.declared.code.Code.TheVariants.{ByteNotAllowed, Unbalanced, TooDeep}
 use Rattle.bd_text.specs.declared.fault.TextFault.{TextFault}
 use Rattle.bd_text.specs.declared.fault.TextFault.TheVariants.{Bad, Memory}
 
@@ -33,9 +33,9 @@ IsTooDeep source o = (read_at source o ≡ 40) × HasDepth source o 200
 
 -- the text has the fault at the offset
 abbrev pub IsFault : List ℕ → ℕ → Code → Type 0
-IsFault source o E01 = IsBadByte source o
-IsFault source o E02 = IsUnbalanced source o
-IsFault source o E03 = IsTooDeep source o
+IsFault source o ByteNotAllowed = IsBadByte source o
+IsFault source o Unbalanced = IsUnbalanced source o
+IsFault source o TooDeep = IsTooDeep source o
 IsFault source o _ = ⊥
 
 abbrev pub HasNoFault : List ℕ → Type 0

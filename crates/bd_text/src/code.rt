@@ -9,45 +9,55 @@ use std::fmt;
 #[derive(Clone, Copy, Debug, PartialEq, Eq)]
 pub enum Code {
     /// The file has more bytes than allowed.
-    E00,
+    TooLong,
     /// A byte that may not stand in a file, in a comment neither.
-    E01,
+    ByteNotAllowed,
     /// A `)` with no list open, or a list that is open at the end.
-    E02,
+    Unbalanced,
     /// One list too many is open.
-    E03,
+    TooDeep,
     /// There is no tree, or its head isn't that of this kind of file, or a second tree follows.
-    E04,
+    WrongHead,
     /// A form with the wrong parts.
-    E05,
+    Malformed,
     /// An atom that isn't a name where a name must stand.
-    E06,
+    NotName,
     /// A name that was declared before.
-    E07,
+    DeclaredTwice,
     /// A name that isn't declared.
-    E08,
+    UnknownName,
     /// A value or expression of another sort than is wanted.
-    E09,
+    WrongSort,
     /// Too many or too few arguments.
-    E10,
+    WrongArity,
     /// An atom that isn't a number in the range.
-    E11,
+    NotNumber,
     /// What must stand once is missing or stands twice.
-    E12,
+    MissingOrTwice,
     /// `flush` or `steps` is missing or stands twice.
-    E13,
+    FlushOrSteps,
     /// An item that doesn't belong to this kind of file.
-    E14,
+    NotOfThisFile,
     /// What the specification declares isn't in the pipeline.
-    E15,
+    NotInPipeline,
     /// A function that the two files declare differently.
-    E16,
+    FunctionDiffers,
     /// An input where none may be used.
-    E17,
+    InputNotAllowed,
     /// A name that isn't that of a function of no arguments.
-    E18,
+    NotConstant,
     /// Constants that are to be distinct have equal values.
-    E19,
+    NotDistinct,
+    /// A byte that may not stand in a line of a proof.
+    ProofByte,
+    /// A number in a line of a proof that is none, or out of range.
+    ProofNumber,
+    /// A line of a proof with the wrong parts.
+    ProofLine,
+    /// A line of a proof that isn't accepted; the cause follows the text.
+    ProofNotAccepted,
+    /// A proof that ends without the empty clause.
+    NoEmptyClause,
 }
 
 impl Code {
@@ -56,26 +66,31 @@ impl Code {
         ensures { result.now ≡ code_name self }
     {
         match self {
-            Code::E00 => "E00",
-            Code::E01 => "E01",
-            Code::E02 => "E02",
-            Code::E03 => "E03",
-            Code::E04 => "E04",
-            Code::E05 => "E05",
-            Code::E06 => "E06",
-            Code::E07 => "E07",
-            Code::E08 => "E08",
-            Code::E09 => "E09",
-            Code::E10 => "E10",
-            Code::E11 => "E11",
-            Code::E12 => "E12",
-            Code::E13 => "E13",
-            Code::E14 => "E14",
-            Code::E15 => "E15",
-            Code::E16 => "E16",
-            Code::E17 => "E17",
-            Code::E18 => "E18",
-            Code::E19 => "E19",
+            Code::TooLong => "E00",
+            Code::ByteNotAllowed => "E01",
+            Code::Unbalanced => "E02",
+            Code::TooDeep => "E03",
+            Code::WrongHead => "E04",
+            Code::Malformed => "E05",
+            Code::NotName => "E06",
+            Code::DeclaredTwice => "E07",
+            Code::UnknownName => "E08",
+            Code::WrongSort => "E09",
+            Code::WrongArity => "E10",
+            Code::NotNumber => "E11",
+            Code::MissingOrTwice => "E12",
+            Code::FlushOrSteps => "E13",
+            Code::NotOfThisFile => "E14",
+            Code::NotInPipeline => "E15",
+            Code::FunctionDiffers => "E16",
+            Code::InputNotAllowed => "E17",
+            Code::NotConstant => "E18",
+            Code::NotDistinct => "E19",
+            Code::ProofByte => "E20",
+            Code::ProofNumber => "E21",
+            Code::ProofLine => "E22",
+            Code::ProofNotAccepted => "E23",
+            Code::NoEmptyClause => "E24",
         }
     }
 
@@ -84,26 +99,31 @@ impl Code {
         ensures { result.now ≡ code_text self }
     {
         match self {
-            Code::E00 => "file too long",
-            Code::E01 => "byte not allowed",
-            Code::E02 => "unbalanced parenthesis",
-            Code::E03 => "nested too deep",
-            Code::E04 => "wrong or missing head",
-            Code::E05 => "malformed form",
-            Code::E06 => "not a name",
-            Code::E07 => "declared twice",
-            Code::E08 => "unknown name",
-            Code::E09 => "wrong sort",
-            Code::E10 => "wrong number of arguments",
-            Code::E11 => "not a number in range",
-            Code::E12 => "missing or given twice",
-            Code::E13 => "flush or steps missing or given twice",
-            Code::E14 => "item not of this file",
-            Code::E15 => "not in the pipeline",
-            Code::E16 => "function differs between the files",
-            Code::E17 => "input not allowed here",
-            Code::E18 => "not a constant",
-            Code::E19 => "constants not distinct",
+            Code::TooLong => "file too long",
+            Code::ByteNotAllowed => "byte not allowed",
+            Code::Unbalanced => "unbalanced parenthesis",
+            Code::TooDeep => "nested too deep",
+            Code::WrongHead => "wrong or missing head",
+            Code::Malformed => "malformed form",
+            Code::NotName => "not a name",
+            Code::DeclaredTwice => "declared twice",
+            Code::UnknownName => "unknown name",
+            Code::WrongSort => "wrong sort",
+            Code::WrongArity => "wrong number of arguments",
+            Code::NotNumber => "not a number in range",
+            Code::MissingOrTwice => "missing or given twice",
+            Code::FlushOrSteps => "flush or steps missing or given twice",
+            Code::NotOfThisFile => "item not of this file",
+            Code::NotInPipeline => "not in the pipeline",
+            Code::FunctionDiffers => "function differs between the files",
+            Code::InputNotAllowed => "input not allowed here",
+            Code::NotConstant => "not a constant",
+            Code::NotDistinct => "constants not distinct",
+            Code::ProofByte => "byte not allowed",
+            Code::ProofNumber => "not a number in range",
+            Code::ProofLine => "malformed line",
+            Code::ProofNotAccepted => "not accepted",
+            Code::NoEmptyClause => "no empty clause",
         }
     }
 }

@@ -1,7 +1,6 @@
 //! Texts of nested parentheses (S-expressions): reading them into trees with offsets, and writing them.
 #![tactic(auto)]
 
-pub mod bytes;
 pub mod code;
 pub mod fault;
 pub mod laws;
@@ -9,11 +8,10 @@ pub mod read;
 pub mod tree;
 pub mod write;
 
-pub use bytes::Bytes;
 pub use code::Code;
 pub use fault::TextFault;
 pub use read::read_trees;
-pub use tree::{Tree, Trees};
+pub use tree::{Bytes, Tree, Trees};
 pub use write::write_tree;
 
 #[cfg(test)]

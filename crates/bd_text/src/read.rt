@@ -62,7 +62,7 @@ impl Reader {
             b'(' => self.begin_list(at),
             b')' => self.end_list(at),
             b'!'..=b'~' => self.read_atom(bytes, at),
-            _ => Err(bad(at, Code::E01)),
+            _ => Err(bad(at, Code::ByteNotAllowed)),
         }
     }
 
@@ -73,10 +73,10 @@ impl Reader {
             × (self.new.parts.items ≡ [])
             × (openings_of self.new.open_lists.items ≡ (at, nodes_of_all self.old.parts.items) ∷ openings_of self.old.open_lists.items)) }
         ensures fault { IfErr result (λ fault. OnBad fault (λ offset code.
-            (offset ≡ at) × (code ≡ Code.E03) × (200 ≤ length self.old.open_lists.items))) }
+            (offset ≡ at) × (code ≡ Code.TooDeep) × (200 ≤ length self.old.open_lists.items))) }
     {
         if self.open_lists.len() >= MAX_DEPTH {
-            return Err(bad(at, Code::E03));
+            return Err(bad(at, Code::TooDeep));
         }
         let before = mem::replace(&mut self.parts, Vec::new(self.alloc));
         self.open_lists.push(OpenList { offset: at, before })?;
@@ -90,10 +90,10 @@ impl Reader {
             × ClosesList (nodes_of_all self.old.parts.items) (openings_of self.old.open_lists.items)
             (nodes_of_all self.new.parts.items) (openings_of self.new.open_lists.items)) }
         ensures fault { IfErr result (λ fault. OnBad fault (λ offset code.
-            (offset ≡ at) × (code ≡ Code.E02) × (self.old.open_lists.items ≡ []))) }
+            (offset ≡ at) × (code ≡ Code.Unbalanced) × (self.old.open_lists.items ≡ []))) }
     {
         let Some(inner) = self.open_lists.pop() else {
-            return Err(bad(at, Code::E02));
+            return Err(bad(at, Code::Unbalanced));
         };
         let parts = mem::replace(&mut self.parts, inner.before);
         self.parts.push(Tree::List {
@@ -122,7 +122,7 @@ impl Reader {
     fn finish(self, end: usize) -> Result<Trees, TextFault>
         ensures ok { IfOk result (λ trees. (self.open_lists.items ≡ []) × (nodes_of trees ≡ nodes_of_all self.parts.items)) }
         ensures fault { IfErr result (λ fault. OnBad fault (λ offset code.
-            (offset ≡ end) × (code ≡ Code.E02) × (0 < length self.open_lists.items))) }
+            (offset ≡ end) × (code ≡ Code.Unbalanced) × (0 < length self.open_lists.items))) }
     {
         let Reader {
             alloc: _,
@@ -130,7 +130,7 @@ impl Reader {
             open_lists,
         } = self;
         if !open_lists.is_empty() {
-            return Err(bad(end, Code::E02));
+            return Err(bad(end, Code::Unbalanced));
         }
         Ok(Trees::from_vec(parts))
     }
@@ -177,12 +177,12 @@ fn comment_end(bytes: &[u8], at: usize) -> Result<usize, TextFault>
     ensures ok { IfOk result (λ end. IsComment bytes.now at end
         × ((end ≡ length bytes.now) ⊎ (slice_index bytes.now end ≡ 10))) }
     ensures fault { IfErr result (λ fault. OnBad fault (λ offset code. IsComment bytes.now at offset
-        × (offset < length bytes.now) × (code ≡ Code.E01) × (¬ IsAllowed (slice_index bytes.now offset)))) }
+        × (offset < length bytes.now) × (code ≡ Code.ByteNotAllowed) × (¬ IsAllowed (slice_index bytes.now offset)))) }
 {
     for end in at + 1..bytes.len() {
         let byte = bytes[end];
         if !is_allowed(byte) {
-            return Err(bad(end, Code::E01));
+            return Err(bad(end, Code::ByteNotAllowed));
         }
         if byte == b'\n' {
             return Ok(end);

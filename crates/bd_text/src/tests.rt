@@ -22,16 +22,16 @@ fn reads_texts(rt: HostRuntime) {
         (b"; no line feed", Ok(0)),
         (b"a;b\n(c)d", Ok(3)),
         (b"((a)(b))()", Ok(2)),
-        (b"; (\n)", bad(4, Code::E02)),
-        (b"(a) ) (", bad(4, Code::E02)),
-        (b"(a) (b ; )", bad(10, Code::E02)),
-        (b"a ;\x00", bad(3, Code::E01)),
-        (b") \x80", bad(0, Code::E02)),
-        (b"( \x7f )", bad(2, Code::E01)),
-        (b"(a (b", bad(5, Code::E02)),
-        (b"(a (", bad(4, Code::E02)),
-        (b"(a", bad(2, Code::E02)),
-        (b"(", bad(1, Code::E02)),
+        (b"; (\n)", bad(4, Code::Unbalanced)),
+        (b"(a) ) (", bad(4, Code::Unbalanced)),
+        (b"(a) (b ; )", bad(10, Code::Unbalanced)),
+        (b"a ;\x00", bad(3, Code::ByteNotAllowed)),
+        (b") \x80", bad(0, Code::Unbalanced)),
+        (b"( \x7f )", bad(2, Code::ByteNotAllowed)),
+        (b"(a (b", bad(5, Code::Unbalanced)),
+        (b"(a (", bad(4, Code::Unbalanced)),
+        (b"(a", bad(2, Code::Unbalanced)),
+        (b"(", bad(1, Code::Unbalanced)),
     ];
     for (text, want) in &cases {
         let got = count(rt.alloc(), text);
@@ -42,19 +42,19 @@ fn reads_texts(rt: HostRuntime) {
 #[test]
 fn reads_each_byte(rt: HostRuntime) {
     let ranges: [(u8, u8, Result<usize, TextFault>); 13] = [
-        (0, 8, bad(0, Code::E01)),
+        (0, 8, bad(0, Code::ByteNotAllowed)),
         (9, 10, Ok(0)),
-        (11, 12, bad(0, Code::E01)),
+        (11, 12, bad(0, Code::ByteNotAllowed)),
         (13, 13, Ok(0)),
-        (14, 31, bad(0, Code::E01)),
+        (14, 31, bad(0, Code::ByteNotAllowed)),
         (32, 32, Ok(0)),
         (33, 39, Ok(1)),
-        (40, 40, bad(1, Code::E02)),
-        (41, 41, bad(0, Code::E02)),
+        (40, 40, bad(1, Code::Unbalanced)),
+        (41, 41, bad(0, Code::Unbalanced)),
         (42, 58, Ok(1)),
         (59, 59, Ok(0)),
         (60, 126, Ok(1)),
-        (127, 255, bad(0, Code::E01)),
+        (127, 255, bad(0, Code::ByteNotAllowed)),
     ];
     for (first, last, want) in &ranges {
         for byte in *first..=*last {
@@ -75,9 +75,9 @@ fn nested(alloc: Global, depth: usize) -> Result<usize, TextFault> {
 #[test]
 fn limits_nesting(rt: HostRuntime) -> Result<(), Fail> {
     assert_eq!(rt; nested(rt.alloc(), 200), Ok(1));
-    assert_eq!(rt; nested(rt.alloc(), 201), bad(200, Code::E03));
+    assert_eq!(rt; nested(rt.alloc(), 201), bad(200, Code::TooDeep));
     let brackets = vec![in rt.alloc(); b'('; 1048576]?;
-    assert_eq!(rt; count(rt.alloc(), &brackets), bad(200, Code::E03));
+    assert_eq!(rt; count(rt.alloc(), &brackets), bad(200, Code::TooDeep));
     Ok(())
 }
 
@@ -94,7 +94,7 @@ fn written_tree(rt: HostRuntime) -> Result<(), Fail> {
 
 #[test]
 fn names_codes(rt: HostRuntime) {
-    assert_eq!(rt; Code::E01.name(), "E01");
-    assert_eq!(rt; Code::E18.text(), "not a constant");
-    assert_eq!(rt; Code::E19.text(), "constants not distinct");
+    assert_eq!(rt; Code::ByteNotAllowed.name(), "E01");
+    assert_eq!(rt; Code::NotConstant.text(), "not a constant");
+    assert_eq!(rt; Code::NotDistinct.text(), "constants not distinct");
 }

@@ -5,7 +5,10 @@ ghost use Rattle.std.specs.Option.{option_copied};
 ghost use Rattle.bd_text.specs.Nodes.{node_at, node_count};
 ghost use Rattle.bd_text.specs.View.{node_of, nodes_of, nodes_of_all};
 
-use crate::Bytes;
+use bd_list::Sequence;
+
+/// The bytes of an atom.
+pub type Bytes = Sequence<u8>;
 
 /// A tree: an atom, or a list of trees.
 #[derive(Debug, PartialEq, Eq, Drop)]
