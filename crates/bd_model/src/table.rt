@@ -2,7 +2,7 @@
 ghost use Rattle.std.specs.Prelude.{◌≡◌, ◌≤◌, ◌-◌, length, drop};
 
 use crate::design::Sort;
-use crate::list::Sequence;
+use bd_list::Sequence;
 use std::alloc::AllocError;
 
 /// A truth value or a word.
