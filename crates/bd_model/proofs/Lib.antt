@@ -7,3 +7,4 @@ pub mod SortLemmas
 pub mod NoInput
 pub mod Settled
 pub mod Compose
+mod LawfulExample

@@ -17,7 +17,8 @@ use Rattle.bd_model.specs.declared.table.Value.{Value}
 use Rattle.bd_model.specs.declared.table.Value.TheVariants as value
 use Rattle.bd_model.proofs.Memories.{alike_by_rows, same_default}
 
-Decides-each : {X : Type 0} (P : X → Type 0) (test : X → Bool) → ((x : X) → Decides (test x) (P x)) → (xs : List X) → Decides (list_all test xs) (AllByRecursion P xs)
+-- a test of each item
+pub Decides-each : {X : Type 0} (P : X → Type 0) (test : X → Bool) → ((x : X) → Decides (test x) (P x)) → (xs : List X) → Decides (list_all test xs) (AllByRecursion P xs)
 Decides-each P test h [] = (λ _. tt, λ _. refl)
 Decides-each P test h (x ∷ xs) = Decides-and _ _ (h x) (Decides-each P test h xs)
 

@@ -33,7 +33,8 @@ IsAllowed d interp state inputs j =
 
 -- the cycle stands for j steps of the specification: so many are allowed, and they lead from what the state
 -- before the cycle stands for to what the state behind it stands for
-abbrev pub StandsForBy : DesignView → Abstraction → List Table → List Value → List Scalar → ℕ → Type 0
+abbrev pub StandsForBy :
+    DesignView → Abstraction → List Table → List Value → List Scalar → ℕ → Type 0
 StandsForBy d abs interp state inputs j =
     IsAllowed d interp state inputs j
     × Same (abs interp (step d.pipe interp state inputs)) (spec_steps j d interp (abs interp state))
@@ -56,7 +57,8 @@ ConditionHoldsBy d abs c condition.Invariant = KeepsInvariant d c.interp c.state
 ConditionHoldsBy d abs c condition.Commute = CommutesBy d abs c.interp c.state c.inputs
 
 -- a case breaks a condition: it fits, the invariant is true in its state, and the condition is false
-pub record BreaksBy (d : DesignView) (abs : Abstraction) (c : Case) (which : Condition) : Type 0 where
+pub record BreaksBy (d : DesignView) (abs : Abstraction) (c : Case) (which : Condition) :
+    Type 0 where
   pub fits : Fits d c
   pub inside : MeetsInvariant d c.interp c.state
   pub broken : ¬ ConditionHoldsBy d abs c which

@@ -20,7 +20,8 @@ idle_inputs m interp state =
 -- n flush cycles
 abbrev pub flush_cycles : ℕ → MachineView → List Table → List Value → List Value
 flush_cycles zero m interp state = state
-flush_cycles (suc n) m interp state = flush_cycles n m interp (step m interp state (idle_inputs m interp state))
+flush_cycles (suc n) m interp state =
+    flush_cycles n m interp (step m interp state (idle_inputs m interp state))
 
 abbrev pub flush : DesignView → List Table → List Value → List Value
 flush d interp state = flush_cycles d.flush d.pipe interp state

@@ -36,10 +36,14 @@ pub record TableFits (s : Symbol) (t : Table) : Type 0 where
   pub default : scalar_sort t.default ≡ result_sort s
   pub rows : AllByRecursion (RowFits s) t.rows
 
+-- two constants have different values
+abbrev pub DefaultsDiffer : List Table → ℕ → ℕ → Type 0
+DefaultsDiffer interp f g = (table_of interp f).default ≢ (table_of interp g).default
+
 -- the constants of a group have tables without rows, and different values
 pub record KeepsApart (interp : List Table) (group : List ℕ) : Type 0 where
   pub no_rows : AllByRecursion (λ f. (table_of interp f).rows ≡ []) group
-  pub different : AllPairs (λ f g. (table_of interp f).default ≢ (table_of interp g).default) group
+  pub different : AllPairs (DefaultsDiffer interp) group
 
 -- an interpretation: a table for each symbol, of its arity and sort, that keeps the constants apart
 pub record InterpFits (d : DesignView) (interp : List Table) : Type 0 where

@@ -18,6 +18,11 @@ pub record Context : Type 0 where
   pub inputs : List Sort
   pub locals : List Sort
 
+-- the symbol f takes so many arguments and gives a value of this sort
+abbrev pub Applies : Context → ℕ → ℕ → Sort → Type 0
+Applies c f arguments s =
+    (y : Symbol) × (slice_get c.symbols f ≡ Some y) × (s ≡ result_sort y) × (arguments ≡ y.arity)
+
 abbrev mutual
   -- an expression has a sort
   pub HasSort : Context → ExprView → Sort → Type 0
@@ -33,8 +38,9 @@ abbrev mutual
   HasSort c (Equal a b) s = (s ≡ sort.Bool) × HasSort c a sort.Word × HasSort c b sort.Word
   HasSort c (Ite p a b) s = HasSort c p sort.Bool × HasSort c a s × HasSort c b s
   HasSort c (Read m a) s = (s ≡ sort.Word) × HasSort c m sort.Memory × HasSort c a sort.Word
-  HasSort c (Write m a d) s = (s ≡ sort.Memory) × HasSort c m sort.Memory × HasSort c a sort.Word × HasSort c d sort.Word
-  HasSort c (Apply f es) s = ((y : Symbol) × (slice_get c.symbols f ≡ Some y) × (s ≡ result_sort y) × (count_of es ≡ y.arity)) × HaveSort c es sort.Word
+  HasSort c (Write m a d) s =
+      (s ≡ sort.Memory) × HasSort c m sort.Memory × HasSort c a sort.Word × HasSort c d sort.Word
+  HasSort c (Apply f es) s = Applies c f (count_of es) s × HaveSort c es sort.Word
 
   pub HaveSort : Context → ExprViews → Sort → Type 0
   HaveSort c no_exprs s = Unit {0}
@@ -43,7 +49,8 @@ abbrev mutual
 -- each let has its sort, and uses earlier lets alone
 abbrev pub LetsHaveSorts : Context → List LocalView → Type 0
 LetsHaveSorts c [] = Unit {0}
-LetsHaveSorts c (l ∷ ls) = HasSort c l.value l.sort × LetsHaveSorts (record c { locals = c.locals ++ l.sort ∷ [] }) ls
+LetsHaveSorts c (l ∷ ls) =
+    HasSort c l.value l.sort × LetsHaveSorts (record c { locals = c.locals ++ l.sort ∷ [] }) ls
 
 -- whether an expression uses an input, also through lets, of which flags says whether they do
 abbrev mutual
@@ -79,7 +86,7 @@ abbrev pub IsShort : {X : Type 0} → List X → Type 0
 IsShort xs = length xs ≤ 2097152
 
 abbrev pub entry_sorts : MachineView → List Sort
-entry_sorts m = map (λ (e : entry.Entry). e.sort) m.entries
+entry_sorts m = map (λ (x : entry.Entry). x.sort) m.entries
 
 -- the sorts in force in a machine's expressions behind its lets
 abbrev pub context_of : DesignView → MachineView → Context
@@ -120,15 +127,26 @@ pub record IsLawfulExact (d : DesignView) (e : ExactView) : Type 0 where
   pub when : HasSort (context_of d d.pipe) e.when sort.Bool
   pub limits : IsWithinLimits e.when
 
--- two or more different constants: functions of arity 0
+-- a function of arity 0
+abbrev pub IsConstant : DesignView → ℕ → Type 0
+IsConstant d f =
+    (y : Symbol) × (slice_get d.symbols f ≡ Some y) × (y.arity ≡ 0) × (y.predicate ≡ false)
+
+-- two or more different constants
 pub record IsLawfulGroup (d : DesignView) (group : List ℕ) : Type 0 where
   pub two : 2 ≤ length group
   pub different : AllPairs ◌≢◌ group
-  pub constants : AllByRecursion (λ f. (y : Symbol) × (slice_get d.symbols f ≡ Some y) × (y.arity ≡ 0) × (y.predicate ≡ false)) group
+  pub constants : AllByRecursion (IsConstant d) group
   pub short : IsShort group
 
 abbrev pub all_names : DesignView → List (List ℕ)
-all_names d = (map (λ (y : Symbol). y.name) d.symbols ++ map (λ (e : entry.Entry). e.name) d.pipe.entries) ++ map (λ (p : PortView). p.name) d.pipe.ports
+all_names d =
+    (map (λ (y : Symbol). y.name) d.symbols ++ map (λ (x : entry.Entry). x.name) d.pipe.entries)
+    ++ map (λ (p : PortView). p.name) d.pipe.ports
+
+-- a machine has this entry, with its name and sort, at a place
+abbrev pub IsEntryAt : MachineView → entry.Entry → ℕ → Type 0
+IsEntryAt m x i = slice_get m.entries i ≡ Some x
 
 pub record IsLawful (d : DesignView) : Type 0 where
   pub pipe : IsLawfulMachine d d.pipe
@@ -137,12 +155,13 @@ pub record IsLawful (d : DesignView) : Type 0 where
   pub no_spec_inputs : d.spec.ports ≡ []
   pub inv_locals : LetsHaveSorts (without_lets (inv_context d)) d.inv_locals
   pub inv : HasSort (inv_context d) d.inv sort.Bool
-  pub inv_limits : AllByRecursion (λ (l : LocalView). IsWithinLimits l.value) d.inv_locals × IsWithinLimits d.inv
+  pub inv_local_limits : AllByRecursion (λ (l : LocalView). IsWithinLimits l.value) d.inv_locals
+  pub inv_limits : IsWithinLimits d.inv
   pub exact : AllByRecursion (IsLawfulExact d) d.exact
   pub distinct : AllByRecursion (IsLawfulGroup d) d.distinct
   pub names : AllByRecursion IsName (all_names d)
   pub different_names : AllPairs ◌≢◌ (all_names d)
-  pub visible : AllZip (λ (e : entry.Entry) i. slice_get d.pipe.entries i ≡ Some e) d.spec.entries d.visible
+  pub visible : AllZip (IsEntryAt d.pipe) d.spec.entries d.visible
   pub visible_once : AllPairs ◌≢◌ d.visible
   pub arities : AllByRecursion (λ (y : Symbol). y.arity ≤ 8) d.symbols
   pub flush : d.flush ≤ 64

@@ -24,19 +24,24 @@ CyclesCompose = (d : DesignView) → IsLawful d → NoCaseBreaks d ↔ IsRight d
 
 -- the same of any abstraction
 abbrev pub CyclesComposeBy : Type 0
-CyclesComposeBy = (d : DesignView) (abs : Abstraction) → IsLawful d → NoCaseBreaksBy d abs ↔ RightBy d abs
+CyclesComposeBy =
+    (d : DesignView) (abs : Abstraction) → IsLawful d → NoCaseBreaksBy d abs ↔ RightBy d abs
 
 -- a right pipeline is right by each abstraction that agrees with flushing
 abbrev pub AgreementKeepsRight : Type 0
-AgreementKeepsRight = (d : DesignView) (abs : Abstraction) → IsLawful d → Agrees d abs → IsRight d → RightBy d abs
+AgreementKeepsRight =
+    (d : DesignView) (abs : Abstraction) → IsLawful d → Agrees d abs → IsRight d → RightBy d abs
 
 -- no case is judged in two ways
 abbrev pub JudgedOnce : Type 0
-JudgedOnce = (d : DesignView) (abs : Abstraction) (c : Case) (i j : Judged) → JudgedBy d abs c i → JudgedBy d abs c j → i ≡ j
+JudgedOnce =
+    (d : DesignView) (abs : Abstraction) (c : Case) (i j : Judged) →
+    JudgedBy d abs c i → JudgedBy d abs c j → i ≡ j
 
 -- each case is judged in some way
 abbrev pub AlwaysJudged : Type 0
-AlwaysJudged = (d : DesignView) (abs : Abstraction) (c : Case) → (j : Judged) × JudgedBy d abs c j
+AlwaysJudged =
+    (d : DesignView) (abs : Abstraction) (c : Case) → (j : Judged) × JudgedBy d abs c j
 
 -- a fitting case that is judged to break a condition breaks it
 abbrev pub BrokenBreaks : Type 0

@@ -13,13 +13,15 @@ use Rattle.bd_model.specs.declared.case.Trail.{Trail}
 -- A number of steps of the specification for each cycle of a trail follows it: each is at most the design's and
 -- allowed in its cycle, and behind the first n cycles the pipeline's state stands for the one in which the
 -- specification is after the first n numbers of steps.
-pub record FollowsBy (d : DesignView) (abs : Abstraction) (t : Trail) (counts : List ℕ) : Type 0 where
+pub record FollowsBy (d : DesignView) (abs : Abstraction) (t : Trail) (counts : List ℕ) :
+    Type 0 where
   pub each : length counts ≡ length t.inputs
   pub few : (n : ℕ) → n < length t.inputs → slice_index counts n ≤ d.steps
   pub allowed : (n : ℕ) → n < length t.inputs →
       IsAllowed d t.interp (state_after d t n) (inputs_at t n) (slice_index counts n)
   pub stands : (n : ℕ) → n ≤ length t.inputs →
-      Same (abs t.interp (state_after d t n)) (spec_steps (sum (take n counts)) d t.interp (abs t.interp t.state))
+      Same (abs t.interp (state_after d t n))
+      (spec_steps (sum (take n counts)) d t.interp (abs t.interp t.state))
 
 -- the invariant is true in each state of a trail
 abbrev pub StaysInside : DesignView → Trail → Type 0

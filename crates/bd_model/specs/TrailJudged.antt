@@ -23,4 +23,5 @@ abbrev pub IsTrailJudged : DesignView → Trail → TrailJudged → Type 0
 IsTrailJudged d t judged.Outside = ¬ MeetsInvariant d t.interp t.state
 IsTrailJudged d t (judged.Broken n) = MeetsInvariant d t.interp t.state × BreaksFirst d t n
 IsTrailJudged d t judged.Holds =
-    MeetsInvariant d t.interp t.state × ((n : ℕ) → 1 ≤ n → n ≤ length t.inputs → CycleCommutes d t n)
+    MeetsInvariant d t.interp t.state
+    × ((n : ℕ) → 1 ≤ n → n ≤ length t.inputs → CycleCommutes d t n)

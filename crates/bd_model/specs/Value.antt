@@ -72,8 +72,10 @@ abbrev mutual
   value_of env (Ite p a b) = if is_true (value_of env p) then value_of env a else value_of env b
   value_of env (Read m a) = word (read (memory_of (value_of env m)) (word_of (value_of env a)))
   value_of env (Write m a d) =
-      value.Memory (write (memory_of (value_of env m)) (word_of (value_of env a)) (word_of (value_of env d)))
-  value_of env (Apply f es) = value.Scalar (at (table_of env.interp f) (map word_of (values_of env es)))
+      let address = word_of (value_of env a) in
+      value.Memory (write (memory_of (value_of env m)) address (word_of (value_of env d)))
+  value_of env (Apply f es) =
+      value.Scalar (at (table_of env.interp f) (map word_of (values_of env es)))
 
   -- the values of expressions, in order
   pub values_of : Env → ExprViews → List Value
@@ -92,4 +94,5 @@ let_values interp state inputs locals = grown (let_value interp state inputs) []
 -- where a machine's expressions are valued
 abbrev pub env_of : List LocalView → List Table → List Value → List Scalar → Env
 env_of locals interp state inputs =
-    record { interp = interp; state = state; inputs = inputs; locals = let_values interp state inputs locals }
+    let values = let_values interp state inputs locals in
+    record { interp = interp; state = state; inputs = inputs; locals = values }

@@ -106,7 +106,8 @@ fn cycle(
     state: &[Value],
     inputs: &[Scalar],
 ) -> Result<State, AllocError>
-    ensures { IfOk result (λ s. s ≡ step (machine_view machine.now) interp.now state.now inputs.now) }
+    ensures { IfOk result (λ s. s
+        ≡ step (machine_view machine.now) interp.now state.now inputs.now) }
 {
     let env = Env::new(alloc, machine.locals.as_slice(), interp, state, inputs)?;
     Ok(Sequence::from_vec(values(&env, &machine.nexts)?))
@@ -119,7 +120,8 @@ fn idle_inputs(
     interp: &[Table],
     state: &[Value],
 ) -> Result<Vec<Scalar>, AllocError>
-    ensures { IfOk result (λ v. v.items ≡ idle_inputs (machine_view machine.now) interp.now state.now) }
+    ensures { IfOk result (λ v. v.items
+        ≡ idle_inputs (machine_view machine.now) interp.now state.now) }
 {
     let env = Env::new(alloc, machine.locals.as_slice(), interp, state, &[])?;
     let mut inputs = Vec::new(alloc);

@@ -95,7 +95,8 @@ fn true_counts(env: &Env, items: &[Exact]) -> Result<Vec<u32>, AllocError>
 }
 
 fn stands(counts: &[u32], count: u32, after: &State, reached: &State) -> bool
-    ensures { IsTrue result ↔ (AllByRecursion (λ n. n ≡ count) counts.now × Same after.now reached.now) }
+    ensures { IsTrue result
+        ↔ (AllByRecursion (λ n. n ≡ count) counts.now × Same after.now reached.now) }
 {
     counts.iter().all(|n| *n == count) && same(after.as_slice(), reached.as_slice())
 }

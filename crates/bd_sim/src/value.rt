@@ -197,7 +197,8 @@ fn read_at(env: &Env, memory: &Expr, address: u64) -> Result<u64, AllocError>
 
 #[cycle(scalar)]
 fn all_true(env: &Env, parts: &Exprs) -> Result<bool, AllocError>
-    ensures { IfOk result (λ b. b ≡ list_all is_true (values_of (env_view env.now) (expr_views parts.now))) }
+    ensures { IfOk result (λ b. b
+        ≡ list_all is_true (values_of (env_view env.now) (expr_views parts.now))) }
 {
     for part in &parts.items {
         if !truth(env, part)? {
@@ -209,7 +210,8 @@ fn all_true(env: &Env, parts: &Exprs) -> Result<bool, AllocError>
 
 #[cycle(scalar)]
 fn any_true(env: &Env, parts: &Exprs) -> Result<bool, AllocError>
-    ensures { IfOk result (λ b. b ≡ list_any is_true (values_of (env_view env.now) (expr_views parts.now))) }
+    ensures { IfOk result (λ b. b
+        ≡ list_any is_true (values_of (env_view env.now) (expr_views parts.now))) }
 {
     for part in &parts.items {
         if truth(env, part)? {
@@ -221,7 +223,8 @@ fn any_true(env: &Env, parts: &Exprs) -> Result<bool, AllocError>
 
 #[cycle(scalar)]
 fn words(env: &Env, parts: &Exprs) -> Result<Vec<u64>, AllocError>
-    ensures { IfOk result (λ v. v.items ≡ map word_of (values_of (env_view env.now) (expr_views parts.now))) }
+    ensures { IfOk result (λ v. v.items
+        ≡ map word_of (values_of (env_view env.now) (expr_views parts.now))) }
 {
     let mut words = Vec::new(env.alloc);
     for part in &parts.items {
