@@ -4,13 +4,15 @@ use Rattle.std.specs.Prelude.{max, Some, slice_get, not, ◌&&◌, if◌then◌e
 use Rattle.std.specs.List.{AllPairs}
 use Rattle.std.specs.Cmp.{booleans_Decides}
 use mathlib.Core.Bool.{beq}
-use Rattle.bd_model.specs.Term as term
+use Rattle.bd_model.specs.ExprView as term
 use Rattle.bd_model.specs.Value.{Env, value_of, truth, is_true}
 use Rattle.bd_model.specs.Cycle.{step, flushed, spec_steps}
 use Rattle.bd_model.specs.Fits.{Fits, StateFits, InputsFit}
 use Rattle.bd_model.specs.Name.{IsName}
 use Rattle.bd_model.specs.Lawful.{Context, HasSort, context_of, IsLawful}
-use Rattle.bd_model.specs.Right.{Same, Commutes, ConditionHolds, NoCaseBreaks, IsJudged}
+use Rattle.bd_model.specs.Same.{Same}
+use Rattle.bd_model.specs.Conditions.{Commutes, ConditionHolds, IsJudged}
+use Rattle.bd_model.specs.Laws.{NoCaseBreaks}
 use Rattle.bd_model.specs.declared.table.Scalar.{Scalar}
 use Rattle.bd_model.specs.declared.table.Scalar.TheVariants as scalar
 use Rattle.bd_model.specs.declared.table.Table.{Table}
@@ -67,12 +69,12 @@ module _ (a b : List ℕ) (e f : Bit) (alone : uses_no_input f ≡ true) where
   commutes_if interp x y h =
       cases (beq (bit_value x y e) x) refl (beq (bit_value x y e) (bit_value x y f)) refl h where
         cases : (p : Bool) → beq (bit_value x y e) x ≡ p → (q : Bool) → beq (bit_value x y e) (bit_value x y f) ≡ q → (not p && not q) ≡ false → Commutes (design_of a b e f) interp (truth x ∷ []) (scalar.Bool y ∷ [])
-        cases true u q v k = (0, omega arith, tt, stands_still interp x y ((booleans_Decides _ _).0 u))
-        cases false u true v k = (1, omega arith, tt, steps_once interp x y ((booleans_Decides _ _).0 v))
+        cases true u q v k = (0, omega arith, (tt, stands_still interp x y ((booleans_Decides _ _).0 u)))
+        cases false u true v k = (1, omega arith, (tt, steps_once interp x y ((booleans_Decides _ _).0 v)))
         cases false u false v k = absurd (cc k)
 
   commutes_only_if : (interp : List Table) (x y : Bool) → Commutes (design_of a b e f) interp (truth x ∷ []) (scalar.Bool y ∷ []) → is_broken e f x y ≡ false
-  commutes_only_if interp x y w = cases w.0 w.1 w.3 where
+  commutes_only_if interp x y w = cases w.0 w.1 w.2.1 where
     cases : (j : ℕ) → j ≤ 1
         → Same (flushed (design_of a b e f) interp (step (design_of a b e f).pipe interp (truth x ∷ []) (scalar.Bool y ∷ []))) (spec_steps j (design_of a b e f) interp (flushed (design_of a b e f) interp (truth x ∷ [])))
         → is_broken e f x y ≡ false
@@ -103,7 +105,7 @@ module _ (a b : List ℕ) (e f : Bit) (alone : uses_no_input f ≡ true) where
   -- where no values make the negated condition true, no fitting case breaks a condition
   pub no_case_breaks : IsUnbroken e f → NoCaseBreaks (design_of a b e f)
   no_case_breaks unbroken c k breaks = breaks.broken (holds k) where
-    holds : (k : Condition) → ConditionHolds k (design_of a b e f) c
+    holds : (k : Condition) → ConditionHolds (design_of a b e f) c k
     holds condition.Invariant = refl
     holds condition.Commute =
         let x = one_latch c.state breaks.fits.state in
@@ -186,7 +188,8 @@ one_bit_lawful a b e f name_a name_b different deep_e deep_f alone = record {
   no_spec_inputs = refl;
   inv_locals = tt;
   inv = refl;
-  inv_limits = (tt, (omega arith, omega arith));
+  inv_local_limits = tt;
+  inv_limits = (omega arith, omega arith);
   exact = tt;
   distinct = tt;
   names = (name_a, (name_b, tt));

@@ -4,7 +4,8 @@ use Rattle.bd_text.specs.Nodes.{Node, no_nodes, node}
 use Rattle.bd_text.specs.Written.{without_offsets}
 use Rattle.bd_model.specs.DesignView.{DesignView}
 use Rattle.bd_model.specs.Fits.{Fits}
-use Rattle.bd_model.specs.Right.{IsJudged, CyclesCompose}
+use Rattle.bd_model.specs.Conditions.{IsJudged}
+use Rattle.bd_model.specs.Laws.{CyclesCompose}
 use Rattle.bd_model.specs.Lawful.{IsLawful}
 use Rattle.bd_model.specs.declared.case.Condition.TheVariants as condition
 use Rattle.bd_model.specs.declared.case.Judged.TheVariants as judged

@@ -2,7 +2,8 @@
 use Rattle.std.specs.Prelude.{◌≡◌, ◌⊎◌, ℕ, List, [], ◌∷◌, ◌++◌, codes, Option, Some}
 use Rattle.bd_model.specs.DesignView.{DesignView}
 use Rattle.bd_model.specs.Fits.{Fits}
-use Rattle.bd_model.specs.Right.{IsRight, IsJudged}
+use Rattle.bd_model.specs.Conditions.{IsJudged}
+use Rattle.bd_model.specs.Right.{IsRight}
 use Rattle.bd_model.specs.declared.case.Condition.TheVariants as condition
 use Rattle.bd_model.specs.declared.case.Judged.TheVariants as judged
 use Rattle.bd_files.specs.Devices.{Held, Blame}

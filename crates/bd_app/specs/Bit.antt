@@ -2,7 +2,7 @@
 use Rattle.std.specs.Prelude.{Bool, true, false, not, ◌&&◌, if◌then◌else◌}
 use Rattle.bd_app.specs.declared.truth.Truth.{Truth, fold-Truth}
 use Rattle.bd_app.specs.declared.truth.Truth.TheOpen.{Truth-F}
-use Rattle.bd_model.specs.Term as term
+use Rattle.bd_model.specs.ExprView as term
 
 pub data Bit : Type 0 where
   latch : Bit
@@ -25,7 +25,7 @@ uses_no_input (negation e) = uses_no_input e
 uses_no_input (choice p e f) = (uses_no_input p && uses_no_input e) && uses_no_input f
 
 -- the expression of the machine that it stands for
-abbrev pub term_of_bit : Bit → term.Term
+abbrev pub term_of_bit : Bit → term.ExprView
 term_of_bit latch = term.Entry 0
 term_of_bit input = term.Input 0
 term_of_bit (negation e) = term.Not (term_of_bit e)

@@ -1,7 +1,7 @@
 -- The design of a one-bit pipeline that may stall, and of a machine over the same bit.
 use Rattle.std.specs.Prelude.{◌≡◌, ℕ, Bool, true, false, not, ◌&&◌, List, [], ◌∷◌}
 use mathlib.Core.Bool.{beq}
-use Rattle.bd_model.specs.Term.{Truth}
+use Rattle.bd_model.specs.ExprView.{Truth}
 use Rattle.bd_model.specs.DesignView.{DesignView}
 use Rattle.bd_model.specs.declared.design.Sort.TheVariants as sort
 use Rattle.bd_model.specs.Value.{truth}

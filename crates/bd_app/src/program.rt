@@ -3,7 +3,8 @@ ghost use Rattle.std.specs.Prelude.{◌≡◌, ◌≢◌, ◌≤◌, ◌⊎◌, 
 ghost use Rattle.bd_files.specs.Devices.{Rose, IsLoaded, Appends, AppendsPrefix};
 ghost use Rattle.bd_model.specs.DesignView.{DesignView};
 ghost use Rattle.bd_model.specs.Fits.{Fits};
-ghost use Rattle.bd_model.specs.Right.{IsRight, IsJudged};
+ghost use Rattle.bd_model.specs.Conditions.{IsJudged};
+ghost use Rattle.bd_model.specs.Right.{IsRight};
 ghost use Rattle.bd_app.specs.Answer.{Asks, IsTrueVerdict, IsVerdict, IsUnreadPipe, IsUnreadSpec, IsTold, BlamesLoad, report_of, fault_line_of};
 ghost use Rattle.bd_app.specs.Words.{taken, texts_of};
 

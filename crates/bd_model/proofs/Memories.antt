@@ -1,8 +1,8 @@
 -- Memories read alike.
-use Rattle.std.proofs.Common.{◌≡◌, ℕ, ◌+◌, ◌≤◌, max, ◌⊎◌, inl, inr, true, false, List, [], ◌∷◌, ◌++◌, ⊎_elim, refl, sym, ◌∙◌, ap, subst, eqb, take, drop, arith}
+use Rattle.std.proofs.Common.{◌≡◌, ℕ, ◌+◌, ◌≤◌, max, ◌⊎◌, inl, inr, true, false, List, [], ◌∷◌, ◌++◌, ⊎_elim, refl, sym, ◌∙◌, ap, subst, eqb, length, take, drop, arith}
 use Rattle.std.proofs.lemmas.Bool.{cases_Bool, eqb-true, ne_eqb, cond-false}
-use Rattle.std.proofs.lemmas.List.{take-append-drop}
-use Rattle.std.proofs.lemmas.List.Elements.{recursion_from_All}
+use Rattle.std.proofs.lemmas.List.{take-append-drop, take_all, drop_all}
+use Rattle.std.proofs.lemmas.List.Elements.{All-from_recursion, recursion_from_All}
 use Rattle.std.specs.List.{All, AllByRecursion}
 use Rattle.bd_model.specs.Table.{slot_value, read, ReadSame}
 use Rattle.bd_model.specs.declared.table.Slot.{Slot}
@@ -34,19 +34,29 @@ alike m n xs ys i j rows_m rows_n defaults mine others same a =
     (found_or_behind P (take j ys) (drop j ys) a n.default (recursion_from_All _ _ others)))
     (found_or_behind P (take i xs) (drop i xs) a m.default (recursion_from_All _ _ mine))
 
+-- two memories with equal defaults that agree at the addresses of all their rows read alike
+pub alike_by_rows : (m n : Memory) → m.default ≡ n.default → AllByRecursion (λ (r : Slot). read m r.address ≡ read n r.address) m.rows → AllByRecursion (λ (r : Slot). read m r.address ≡ read n r.address) n.rows → ReadSame m n
+alike_by_rows m n defaults mine others =
+    let P : Slot → Type 0 = λ r. read m r.address ≡ read n r.address in
+    alike m n m.rows n.rows (length m.rows) (length n.rows) refl refl defaults
+    (rw (take_all (length m.rows) m.rows (omega arith)) (All-from_recursion P m.rows mine))
+    (rw (take_all (length n.rows) n.rows (omega arith)) (All-from_recursion P n.rows others))
+    (rw (drop_all (length m.rows) m.rows (omega arith), drop_all (length n.rows) n.rows (omega arith)) refl)
+
 -- an address above all of the rows
 abbrev beyond : List Slot → ℕ
 beyond [] = 0
 beyond (r ∷ rs) = max (r.address + 1) (beyond rs)
 
-above : (rs : List Slot) (a d : ℕ) → beyond rs ≤ a → slot_value rs a d ≡ d
-above [] a d h = refl
-above (r ∷ rs) a d h =
+-- past all rows there is the default
+slot_value-beyond : (rs : List Slot) (a d : ℕ) → beyond rs ≤ a → slot_value rs a d ≡ d
+slot_value-beyond [] a d h = refl
+slot_value-beyond (r ∷ rs) a d h =
     let apart = ne_eqb r.address a (λ e. omega arith) in
-    cond-false _ _ _ apart ∙ above rs a d (omega arith)
+    cond-false _ _ _ apart ∙ slot_value-beyond rs a d (omega arith)
 
 -- words have no bound: some address is in no row
 pub same_default : (m n : Memory) → ReadSame m n → m.default ≡ n.default
 same_default m n h =
     let a = max (beyond m.rows) (beyond n.rows) in
-    sym (above m.rows a m.default (omega arith)) ∙ h a ∙ above n.rows a n.default (omega arith)
+    sym (slot_value-beyond m.rows a m.default (omega arith)) ∙ h a ∙ slot_value-beyond n.rows a n.default (omega arith)

@@ -1,5 +1,5 @@
 -- Facts about two lists, place by place.
-use Rattle.std.proofs.Common.{◌≡◌, ℕ, zero, suc, List, [], ◌∷◌, ◌++◌, get_or, map, subst}
+use Rattle.std.proofs.Common.{◌≡◌, ◌↔◌, ℕ, zero, suc, List, [], ◌∷◌, ◌++◌, get_or, map, length, subst}
 use Rattle.std.specs.Prelude.{Some, slice_get}
 use Rattle.std.specs.List.{AllZip}
 
@@ -18,6 +18,7 @@ AllZip-at R (x' ∷ xs) [] e h i x q = absurd h
 AllZip-at R (x' ∷ xs) (y ∷ ys) e h zero x q = let same : x' ≡ x = cc q in subst (λ z. R z y) same h.0
 AllZip-at R (x' ∷ xs) (y ∷ ys) e h (suc i) x q = AllZip-at R xs ys e h.1 i x q
 
+-- one pair more
 pub AllZip-append : {A B : Type 0} (R : A → B → Type 0) (xs : List A) (ys : List B) (x : A) (y : B) → AllZip R xs ys → R x y → AllZip R (xs ++ x ∷ []) (ys ++ y ∷ [])
 AllZip-append R [] [] x y h r = (r, tt)
 AllZip-append R [] (y' ∷ ys) x y h r = absurd h
@@ -37,8 +38,14 @@ AllZip-map_right R S f h (x ∷ xs) [] all = absurd all
 AllZip-map_right R S f h (x ∷ xs) (y ∷ ys) all = (h x y all.0, AllZip-map_right R S f h xs ys all.1)
 
 -- a function of the left items
-pub AllZip-map_left : {A B C : Type 0} (R : A → B → Type 0) (f : C → A) (xs : List C) (ys : List B) → AllZip (λ x y. R (f x) y) xs ys → AllZip R (map f xs) ys
-AllZip-map_left R f [] [] h = tt
-AllZip-map_left R f [] (y ∷ ys) h = absurd h
-AllZip-map_left R f (x ∷ xs) [] h = absurd h
-AllZip-map_left R f (x ∷ xs) (y ∷ ys) h = (h.0, AllZip-map_left R f xs ys h.1)
+pub AllZip-map_first : {A B C : Type 0} (R : B → C → Type 0) (f : A → B) (xs : List A) (ys : List C) → AllZip R (map f xs) ys ↔ AllZip (λ x y. R (f x) y) xs ys
+AllZip-map_first R f [] [] = (λ h. h, λ h. h)
+AllZip-map_first R f [] (y ∷ ys) = (λ h. h, λ h. h)
+AllZip-map_first R f (x ∷ xs) [] = (λ h. h, λ h. h)
+AllZip-map_first R f (x ∷ xs) (y ∷ ys) =
+    let rest = AllZip-map_first R f xs ys in (λ h. (h.0, rest.0 h.1), λ h. (h.0, rest.1 h.1))
+
+-- what is left of two lists, which decides whether R holds of both
+pub record IsLeft {A B : Type 0} (R : A → B → Type 0) (all xs : List A) (others ys : List B) : Type 0 where
+  pub lengths : length xs ≡ length ys
+  pub decides : AllZip R xs ys ↔ AllZip R all others

@@ -1,57 +1,37 @@
 -- Whether two states can be told apart is decided by the rows of their memories.
-use Rattle.std.proofs.Common.{◌≡◌, ℕ, suc, ◌≤◌, Bool, true, false, List, [], ◌∷◌, refl, ap, sym, ◌∙◌, subst, arith, inl, inr, max}
-use Rattle.std.specs.Prelude.{◌&&◌, ◌==◌, ◌⊎◌, if◌then◌else◌}
+use Rattle.std.proofs.Common.{◌≡◌, Bool, true, false, List, [], ◌∷◌, refl, ap}
+use Rattle.std.specs.Prelude.{◌&&◌, ◌==◌}
 use Rattle.std.specs.Bool.{Decides}
+use Rattle.std.specs.List.{list_all, AllByRecursion}
 use mathlib.Core.Bool.{beq}
 use Rattle.std.specs.Cmp.{booleans_Decides}
 use Rattle.std.proofs.lemmas.Bool.{eqb-true, eq-eqb}
-use Rattle.std.proofs.lemmas.Bool.Decides.{nat_tests, Decides-and}
-use Rattle.bd_model.specs.Table.{read, slot_value, ReadSame}
-use Rattle.bd_model.specs.Right.{SameValue, Same}
+use Rattle.std.proofs.lemmas.Bool.Decides.{Decides-and, Decides-eqb}
+use Rattle.bd_model.specs.Table.{read, ReadSame}
+use Rattle.bd_model.specs.Same.{SameValue, Same}
 use Rattle.bd_model.specs.declared.table.Scalar.{Scalar}
 use Rattle.bd_model.specs.declared.table.Scalar.TheVariants as scalar
 use Rattle.bd_model.specs.declared.table.Slot.{Slot}
 use Rattle.bd_model.specs.declared.table.Memory.{Memory}
 use Rattle.bd_model.specs.declared.table.Value.{Value}
 use Rattle.bd_model.specs.declared.table.Value.TheVariants as value
+use Rattle.bd_model.proofs.Memories.{alike_by_rows, same_default}
+
+-- a test of each item
+pub Decides-each : {X : Type 0} (P : X → Type 0) (test : X → Bool) → ((x : X) → Decides (test x) (P x)) → (xs : List X) → Decides (list_all test xs) (AllByRecursion P xs)
+Decides-each P test h [] = (λ _. tt, λ _. refl)
+Decides-each P test h (x ∷ xs) = Decides-and _ _ (h x) (Decides-each P test h xs)
 
 -- the two read equal at the address of each row
 abbrev pub agree_at : Memory → Memory → List Slot → Bool
-agree_at m n [] = true
-agree_at m n (s ∷ ss) = (read m s.address == read n s.address) && agree_at m n ss
+agree_at m n rows = list_all (λ (r : Slot). read m r.address == read n r.address) rows
 
--- a word above each address
-abbrev above : List Slot → ℕ
-above [] = 0
-above (s ∷ ss) = suc (max s.address (above ss))
+agree_at-Decides : (m n : Memory) (rows : List Slot) → Decides (agree_at m n rows) (AllByRecursion (λ (r : Slot). read m r.address ≡ read n r.address) rows)
+agree_at-Decides m n rows = Decides-each _ _ (λ r. Decides-eqb _ _) rows
 
--- an address past all rows reads as the default
-slot_value-above : (ss : List Slot) (a default : ℕ) → above ss ≤ a → slot_value ss a default ≡ default
-slot_value-above [] a default h = refl
-slot_value-above (s ∷ ss) a default h =
-    let rest : slot_value ss a default ≡ default = slot_value-above ss a default (omega arith) in
-    let other : (s.address == a) ≡ false = grind (arith, nat_tests) in
-    rw other rest
-
-slot_value-cases_step : (m n : Memory) (s : Slot) (ss : List Slot) (a default : ℕ)
-    → (agree_at m n ss ≡ true → (read m a ≡ read n a) ⊎ (slot_value ss a default ≡ default))
-    → (b : Bool) → (s.address == a) ≡ b → (c : Bool) → (read m s.address == read n s.address) ≡ c → (c && agree_at m n ss) ≡ true
-    → (read m a ≡ read n a) ⊎ ((if b then s.value else slot_value ss a default) ≡ default)
-slot_value-cases_step m n s ss a default rest true e true f k =
-    let same : s.address ≡ a = eqb-true _ _ e in inl (subst (λ x. read m x ≡ read n x) same (eqb-true _ _ f))
-slot_value-cases_step m n s ss a default rest true e false f k = absurd (cc k)
-slot_value-cases_step m n s ss a default rest false e true f k = rest k
-slot_value-cases_step m n s ss a default rest false e false f k = absurd (cc k)
-
--- an address in no row reads as the default, or one of the rows has it
-slot_value-cases : (m n : Memory) (ss : List Slot) (a default : ℕ) → agree_at m n ss ≡ true → (read m a ≡ read n a) ⊎ (slot_value ss a default ≡ default)
-slot_value-cases m n [] a default h = inr refl
-slot_value-cases m n (s ∷ ss) a default h =
-    slot_value-cases_step m n s ss a default (slot_value-cases m n ss a default) (s.address == a) refl (read m s.address == read n s.address) refl h
-
-agree_at-from : (m n : Memory) (ss : List Slot) → ReadSame m n → agree_at m n ss ≡ true
-agree_at-from m n [] h = refl
-agree_at-from m n (s ∷ ss) h = rw (eq-eqb (read m s.address) (read n s.address) (h s.address), agree_at-from m n ss h) refl
+read_alike : (m n : Memory) → ReadSame m n → (rows : List Slot) → AllByRecursion (λ (r : Slot). read m r.address ≡ read n r.address) rows
+read_alike m n h [] = tt
+read_alike m n h (r ∷ rows) = (h r.address, read_alike m n h rows)
 
 -- equal defaults, and agreement at the address of each row of either
 abbrev pub same_memory : Memory → Memory → Bool
@@ -59,25 +39,11 @@ same_memory m n = (m.default == n.default) && (agree_at m n m.rows && agree_at m
 
 -- the rows and defaults decide whether two memories read equal at every word: some word is in no row
 pub same_memory-Decides : (m n : Memory) → Decides (same_memory m n) (ReadSame m n)
-same_memory-Decides m n = (to, from) where
-  to : same_memory m n ≡ true → ReadSame m n
-  to h a =
-      let parts : ((m.default == n.default) ≡ true) × (agree_at m n m.rows ≡ true) × (agree_at m n n.rows ≡ true) = grind arith in
-      elim (slot_value-cases m n m.rows a m.default parts.1) [
-        | inl e ↦ e
-        | inr e ↦ elim (slot_value-cases m n n.rows a n.default parts.2) [
-          | inl f ↦ f
-          | inr f ↦ e ∙ eqb-true _ _ parts.0 ∙ sym f
-        ]
-      ]
-
-  from : ReadSame m n → same_memory m n ≡ true
-  from h =
-      let a = max (above m.rows) (above n.rows) in
-      let left : read m a ≡ m.default = slot_value-above m.rows a m.default (omega arith) in
-      let right : read n a ≡ n.default = slot_value-above n.rows a n.default (omega arith) in
-      let defaults : m.default ≡ n.default = sym left ∙ h a ∙ right in
-      rw (eq-eqb m.default n.default defaults, agree_at-from m n m.rows h, agree_at-from m n n.rows h) refl
+same_memory-Decides m n =
+    let parts = Decides-and _ _ (Decides-eqb m.default n.default) (Decides-and _ _ (agree_at-Decides m n m.rows) (agree_at-Decides m n n.rows)) in (
+      λ t. let h = parts.0 t in alike_by_rows m n h.0 h.1.0 h.1.1,
+      λ h. parts.1 (same_default m n h, (read_alike m n h m.rows, read_alike m n h n.rows)),
+    )
 
 abbrev pub same_scalar : Scalar → Scalar → Bool
 same_scalar (scalar.Bool b) (scalar.Bool c) = beq b c

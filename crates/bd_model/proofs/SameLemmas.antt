@@ -1,13 +1,14 @@
 -- States that can't be told apart are taken to such states by each step of the specification.
-use Rattle.std.proofs.Common.{add-zero, add-suc, ◌≡◌, ℕ, zero, suc, ◌+◌, Bool, true, false, List, [], ◌∷◌, map, refl, ap, ◌∙◌}
+use Rattle.std.proofs.Common.{add-zero, add-suc, ◌≡◌, ℕ, zero, suc, ◌+◌, Bool, true, false, List, [], ◌∷◌, map, refl, ap, sym, ◌∙◌}
 use Rattle.std.specs.Prelude.{if◌then◌else◌}
 use Rattle.std.specs.List.{list_all, list_any}
-use Rattle.bd_model.specs.Term.{Term, Terms, Truth, Entry, Input, Local, Not, And, Or, Implies, Iff, Equal, Ite, Read, Write, Apply, no_terms, term}
+use Rattle.bd_model.specs.ExprView.{ExprView, ExprViews, Truth, Entry, Input, Local, Not, And, Or, Implies, Iff, Equal, Ite, Read, Write, Apply, no_exprs, expr}
+use Rattle.bd_list.specs.Grown.{grown}
 use Rattle.bd_model.specs.Table.{write, ReadSame}
 use Rattle.bd_model.specs.DesignView.{LocalView, MachineView, DesignView}
-use Rattle.bd_model.specs.Value.{Env, value_of, values_of, truth, is_true, word_of, memory_of, scalar_of, let_values}
+use Rattle.bd_model.specs.Value.{Env, value_of, values_of, truth, is_true, word_of, memory_of, scalar_of, let_value}
 use Rattle.bd_model.specs.Cycle.{step, spec_steps}
-use Rattle.bd_model.specs.Right.{SameValue, Same}
+use Rattle.bd_model.specs.Same.{SameValue, Same}
 use Rattle.bd_model.specs.declared.table.Scalar.{Scalar}
 use Rattle.bd_model.specs.declared.table.Scalar.TheVariants as scalar
 use Rattle.bd_model.specs.declared.table.Table.{Table}
@@ -31,6 +32,18 @@ SameValue-trans (value.Memory m) (value.Memory n) (value.Memory o) p q = λ a. p
 pub Same-refl : (a : List Value) → Same a a
 Same-refl [] = tt
 Same-refl (v ∷ vs) = (SameValue-refl v, Same-refl vs)
+
+SameValue-sym : (v w : Value) → SameValue v w → SameValue w v
+SameValue-sym (value.Scalar x) (value.Scalar y) p = sym p
+SameValue-sym (value.Scalar x) (value.Memory n) p = absurd p
+SameValue-sym (value.Memory m) (value.Scalar y) p = absurd p
+SameValue-sym (value.Memory m) (value.Memory n) p = λ a. sym (p a)
+
+pub Same-sym : (a b : List Value) → Same a b → Same b a
+Same-sym [] [] p = tt
+Same-sym [] (w ∷ b) p = absurd p
+Same-sym (v ∷ a) [] p = absurd p
+Same-sym (v ∷ a) (w ∷ b) p = (SameValue-sym v w p.0, Same-sym a b p.1)
 
 pub Same-trans : (a b c : List Value) → Same a b → Same b c → Same a c
 Same-trans [] [] [] p q = tt
@@ -95,7 +108,7 @@ pub record SameEnv (e f : Env) : Type 0 where
 
 mutual
   -- any expression takes states that can't be told apart to such values
-  pub SameValue-value_of : (e f : Env) → SameEnv e f → (t : Term) → SameValue (value_of e t) (value_of f t)
+  pub SameValue-value_of : (e f : Env) → SameEnv e f → (t : ExprView) → SameValue (value_of e t) (value_of f t)
   SameValue-value_of e f h (Truth b) = refl
   SameValue-value_of e f h (Entry i) = AllZip-at_any SameValue e.state f.state (truth false) (truth false) refl h.state i
   SameValue-value_of e f h (Input i) = rw h.inputs refl
@@ -118,11 +131,13 @@ mutual
       (SameValue-word_of _ _ (SameValue-value_of e f h a)) (SameValue-word_of _ _ (SameValue-value_of e f h d))
   SameValue-value_of e f h (Apply g ts) = rw (words-same _ _ (Same-values_of e f h ts), h.interp) refl
 
-  Same-values_of : (e f : Env) → SameEnv e f → (ts : Terms) → Same (values_of e ts) (values_of f ts)
-  Same-values_of e f h no_terms = tt
-  Same-values_of e f h (term t ts) = (SameValue-value_of e f h t, Same-values_of e f h ts)
+  Same-values_of : (e f : Env) → SameEnv e f → (ts : ExprViews) → Same (values_of e ts) (values_of f ts)
+  Same-values_of e f h no_exprs = tt
+  Same-values_of e f h (expr t ts) = (SameValue-value_of e f h t, Same-values_of e f h ts)
 
-Same-let_values : (interp : List Table) (a b : List Value) (inputs : List Scalar) → Same a b → (ls : List LocalView) (done more : List Value) → Same done more → Same (let_values interp a inputs done ls) (let_values interp b inputs more ls)
+-- the values of lets, behind those done
+Same-let_values : (interp : List Table) (a b : List Value) (inputs : List Scalar) → Same a b → (ls : List LocalView) (done more : List Value) → Same done more
+    → Same (grown (let_value interp a inputs) done ls) (grown (let_value interp b inputs) more ls)
 Same-let_values interp a b inputs h [] done more k = k
 Same-let_values interp a b inputs h (l ∷ ls) done more k =
     Same-let_values interp a b inputs h ls _ _

@@ -4,8 +4,8 @@ use Rattle.std.specs.Prelude.{◌⊎◌, IsTrue, ◌==◌}
 use Rattle.std.specs.List.{AllByRecursion}
 use Rattle.std.proofs.lemmas.Bool.{eqb-true, eq-eqb}
 use Rattle.bd_model.specs.DesignView.{DesignView, ExactView}
-use Rattle.bd_model.specs.Cycle.{step, flushed, spec_steps}
-use Rattle.bd_model.specs.Right.{Same, IsAllowed, Commutes}
+use Rattle.bd_model.specs.Same.{Same}
+use Rattle.bd_model.specs.Conditions.{Abstraction, StandsForBy, CommutesBy}
 use Rattle.bd_model.specs.declared.table.Scalar.{Scalar}
 use Rattle.bd_model.specs.declared.table.Table.{Table}
 use Rattle.bd_model.specs.declared.table.Value.{Value}
@@ -61,16 +61,10 @@ some-settled P h zero = elim (h 0) [
 ]
 some-settled P h (suc n) = some_step {P = P} n (h (suc n)) (some-settled P h n)
 
-pub Commutes-settled : (d : DesignView) (interp : List Table) (state : List Value) (inputs : List Scalar) → Settled (Commutes d interp state inputs)
-Commutes-settled d interp state inputs =
-    let P : ℕ → Type 0 = λ j. IsAllowed d interp state inputs j
-    × Same (flushed d interp (step d.pipe interp state inputs)) (spec_steps j d interp (flushed d interp state)) in
-    elim (some-settled P (λ j. both-settled
-    (each-settled _ (λ (e : ExactView). implies-settled (IsTrue-settled _) (equal-settled e.count j)) d.exact)
-    (Same-settled _ _)) d.steps) [
-      | inl w ↦ inl (w.0, w.1, w.2.0, w.2.1)
-      | inr none ↦ inr (λ w. none (w.0, w.1, (w.2, w.3)))
-    ]
+pub Commutes-settled : (d : DesignView) (abs : Abstraction) (interp : List Table) (state : List Value) (inputs : List Scalar) → Settled (CommutesBy d abs interp state inputs)
+Commutes-settled d abs interp state inputs =
+    some-settled (StandsForBy d abs interp state inputs)
+    (λ j. both-settled (each-settled _ (λ (e : ExactView). implies-settled (IsTrue-settled _) (equal-settled e.count j)) d.exact) (Same-settled _ _)) d.steps
 
 -- what can't be denied holds
 pub settled_holds : {P : Type 0} → Settled P → ¬ (¬ P) → P

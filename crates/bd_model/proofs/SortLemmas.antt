@@ -1,15 +1,16 @@
--- A cycle of a lawful pipeline takes a fitting state to a fitting state.
-use Rattle.std.proofs.Common.{append-nil, append_assoc, ◌≡◌, ℕ, Bool, true, false, List, [], ◌∷◌, ◌++◌, map, sym, ◌∙◌, subst}
-use Rattle.std.specs.Prelude.{Some, slice_get, if◌then◌else◌, nat_eq}
+-- Sorts are kept: by the value of an expression, by a cycle of either machine, by looking, and along a run.
+use Rattle.std.proofs.Common.{append-nil, append_assoc, ◌≡◌, ℕ, zero, suc, Bool, true, false, List, [], ◌∷◌, ◌++◌, map, sym, ◌∙◌, subst}
+use Rattle.std.specs.Prelude.{Some, slice_get, slice_index_or, if◌then◌else◌, nat_eq}
 use Rattle.std.specs.List.{AllZip, AllByRecursion}
 use lib.Pointwise.{pointwise}
-use Rattle.bd_model.specs.Term.{Term, Truth, Entry, Input, Local, Not, And, Or, Implies, Iff, Equal, Ite, Read, Write, Apply}
+use Rattle.bd_list.specs.Grown.{grown}
+use Rattle.bd_model.specs.ExprView.{ExprView, Truth, Entry, Input, Local, Not, And, Or, Implies, Iff, Equal, Ite, Read, Write, Apply}
 use Rattle.bd_model.specs.Table.{row_value, at}
-use Rattle.bd_model.specs.DesignView.{LocalView, DesignView, PortView}
-use Rattle.bd_model.specs.Value.{Env, value_of, truth, table_of, no_table, let_values, env_of}
-use Rattle.bd_model.specs.Cycle.{step}
-use Rattle.bd_model.specs.Fits.{scalar_sort, value_sort, result_sort, RowFits, TableFits, InterpFits, StateFits, InputsFit}
-use Rattle.bd_model.specs.Lawful.{Context, HasSort, LetsHaveSorts, context_of, IsLawful}
+use Rattle.bd_model.specs.DesignView.{LocalView, MachineView, DesignView, PortView}
+use Rattle.bd_model.specs.Value.{Env, value_of, truth, table_of, no_table, let_value, env_of}
+use Rattle.bd_model.specs.Cycle.{step, look, spec_steps, after}
+use Rattle.bd_model.specs.Fits.{scalar_sort, value_sort, result_sort, RowFits, TableFits, InterpFits, ValuesFit, ScalarsFit, StateFits, VisibleFits, InputsFit}
+use Rattle.bd_model.specs.Lawful.{Context, HasSort, LetsHaveSorts, context_of, IsLawfulMachine, IsLawful}
 use Rattle.bd_model.specs.declared.table.Scalar.{Scalar}
 use Rattle.bd_model.specs.declared.table.Scalar.TheVariants as scalar
 use Rattle.bd_model.specs.declared.table.Row.{Row}
@@ -18,7 +19,7 @@ use Rattle.bd_model.specs.declared.table.Value.{Value}
 use Rattle.bd_model.specs.declared.design.Sort.{Sort}
 use Rattle.bd_model.specs.declared.design.Symbol.{Symbol}
 use Rattle.bd_model.specs.declared.design.Entry as entry
-use Rattle.bd_model.proofs.Pairs.{AllZip-at, AllZip-append, AllZip-map_right, AllZip-map_left}
+use Rattle.bd_model.proofs.Pairs.{AllZip-at, AllZip-append, AllZip-map_first, AllZip-map_right}
 
 -- the names stand for values of their sorts
 pub record EnvFits (c : Context) (e : Env) : Type 0 where
@@ -41,7 +42,7 @@ value_sort-ite true v w s p q = p
 value_sort-ite false v w s p q = q
 
 -- an expression that has a sort has a value of it
-pub value_sort-value_of : (c : Context) (e : Env) → EnvFits c e → (t : Term) (s : Sort) → HasSort c t s → value_sort (value_of e t) ≡ s
+pub value_sort-value_of : (c : Context) (e : Env) → EnvFits c e → (t : ExprView) (s : Sort) → HasSort c t s → value_sort (value_of e t) ≡ s
 value_sort-value_of c e h (Truth b) s p = sym p
 value_sort-value_of c e h (Entry i) s p = AllZip-at (λ s v. value_sort v ≡ s) c.entries e.state (truth false) h.state i s p
 value_sort-value_of c e h (Input i) s p = AllZip-at (λ s x. scalar_sort x ≡ s) c.inputs e.inputs (scalar.Bool false) h.inputs i s p
@@ -59,46 +60,67 @@ value_sort-value_of c e h (Write m a d) s p = sym p.0
 value_sort-value_of c e h (Apply f ts) s p =
     let (y, there, is, count) = p.0 in h.tables f y there _ ∙ sym is
 
--- the sorts of lets, behind those of the earlier ones
-abbrev pub let_sorts : List Sort → List LocalView → List Sort
-let_sorts done [] = done
-let_sorts done (l ∷ ls) = let_sorts (done ++ l.sort ∷ []) ls
-
--- the values of lets have the lets' sorts
+-- the values of lets have the lets' sorts, behind those done
 let_values-sort : (c : Context) (interp : List Table) (state : List Value) (inputs : List Scalar) → (ls : List LocalView) (sorts : List Sort) (done : List Value)
     → ((sorts : List Sort) (done : List Value) → AllZip (λ s v. value_sort v ≡ s) sorts done → EnvFits (record c { locals = sorts }) (record { interp = interp; state = state; inputs = inputs; locals = done }))
     → LetsHaveSorts (record c { locals = sorts }) ls → AllZip (λ s v. value_sort v ≡ s) sorts done
-    → AllZip (λ s v. value_sort v ≡ s) (let_sorts sorts ls) (let_values interp state inputs done ls)
-let_values-sort c interp state inputs [] sorts done fits lawful h = h
+    → AllZip (λ s v. value_sort v ≡ s) (sorts ++ map (λ (l : LocalView). l.sort) ls) (grown (let_value interp state inputs) done ls)
+let_values-sort c interp state inputs [] sorts done fits lawful h = rw append-nil h
 let_values-sort c interp state inputs (l ∷ ls) sorts done fits lawful h =
-    let_values-sort c interp state inputs ls (sorts ++ l.sort ∷ []) _ fits lawful.1
-    (AllZip-append (λ s v. value_sort v ≡ s) sorts done _ _ h (value_sort-value_of _ _ (fits sorts done h) l.value l.sort lawful.0))
-
-let_sorts-map : (done : List Sort) (ls : List LocalView) → let_sorts done ls ≡ done ++ map (λ (l : LocalView). l.sort) ls
-let_sorts-map done [] = sym (append-nil done)
-let_sorts-map done (l ∷ ls) = let_sorts-map (done ++ l.sort ∷ []) ls ∙ append_assoc done (l.sort ∷ []) (map (λ (l : LocalView). l.sort) ls)
+    let rest = let_values-sort c interp state inputs ls (sorts ++ l.sort ∷ []) _ fits lawful.1
+    (AllZip-append (λ s v. value_sort v ≡ s) sorts done _ _ h (value_sort-value_of _ _ (fits sorts done h) l.value l.sort lawful.0)) in
+    rw append_assoc at rest
 
 -- a machine's expressions are valued where their names have their sorts
-EnvFits-env_of : (d : DesignView) (interp : List Table) (state : List Value) (inputs : List Scalar) → IsLawful d → InterpFits d interp → StateFits d state → InputsFit d inputs → EnvFits (context_of d d.pipe) (env_of d.pipe.locals interp state inputs)
-EnvFits-env_of d interp state inputs lawful fits state_fits inputs_fit =
+pub EnvFits-env_of : (d : DesignView) (m : MachineView) (interp : List Table) (state : List Value) (inputs : List Scalar) → IsLawfulMachine d m → InterpFits d interp → ValuesFit m.entries state → ScalarsFit m.ports inputs
+    → EnvFits (context_of d m) (env_of m.locals interp state inputs)
+EnvFits-env_of d m interp state inputs lawful fits state_fits inputs_fit =
     let tables : (f : ℕ) (y : Symbol) → slice_get d.symbols f ≡ Some y → (args : List ℕ) → scalar_sort (at (table_of interp f) args) ≡ result_sort y =
     λ f y there args. at-sort y (table_of interp f) (AllZip-at TableFits d.symbols interp no_table fits.tables f y there) args in
-    let states : AllZip (λ s v. value_sort v ≡ s) (context_of d d.pipe).entries state =
-    AllZip-map_left (λ s v. value_sort v ≡ s) (λ (e : entry.Entry). e.sort) d.pipe.entries state state_fits in
-    let ins : AllZip (λ s x. scalar_sort x ≡ s) (context_of d d.pipe).inputs inputs =
-    AllZip-map_left (λ s x. scalar_sort x ≡ s) (λ (p : PortView). p.sort) d.pipe.ports inputs inputs_fit in
-    let locals = let_values-sort (context_of d d.pipe) interp state inputs d.pipe.locals [] []
-    (λ sorts done h. record { tables = tables; state = states; inputs = ins; locals = h }) lawful.pipe.locals tt in
+    let states : AllZip (λ s v. value_sort v ≡ s) (context_of d m).entries state =
+    (AllZip-map_first (λ s v. value_sort v ≡ s) (λ (e : entry.Entry). e.sort) m.entries state).1 state_fits in
+    let ins : AllZip (λ s x. scalar_sort x ≡ s) (context_of d m).inputs inputs =
+    (AllZip-map_first (λ s x. scalar_sort x ≡ s) (λ (p : PortView). p.sort) m.ports inputs).1 inputs_fit in
     record {
       tables = tables;
       state = states;
       inputs = ins;
-      locals = subst (λ sorts. AllZip (λ s v. value_sort v ≡ s) sorts (let_values interp state inputs [] d.pipe.locals)) (let_sorts-map [] d.pipe.locals) locals;
+      locals = let_values-sort (context_of d m) interp state inputs m.locals [] []
+          (λ sorts done h. record { tables = tables; state = states; inputs = ins; locals = h }) lawful.locals tt;
     }
 
--- a cycle takes a fitting state to a fitting state
+-- a cycle of a lawful machine takes values of its entries' sorts to such values
+pub ValuesFit-step : (d : DesignView) (m : MachineView) (interp : List Table) (state : List Value) (inputs : List Scalar) → IsLawfulMachine d m → InterpFits d interp → ValuesFit m.entries state → ScalarsFit m.ports inputs
+    → ValuesFit m.entries (step m interp state inputs)
+ValuesFit-step d m interp state inputs lawful fits state_fits inputs_fit =
+    let env = EnvFits-env_of d m interp state inputs lawful fits state_fits inputs_fit in
+    AllZip-map_right (λ (x : entry.Entry) e. HasSort (context_of d m) e x.sort) (λ (x : entry.Entry) v. value_sort v ≡ x.sort) (value_of (env_of m.locals interp state inputs))
+    (λ x e p. value_sort-value_of (context_of d m) _ env e x.sort p) m.entries m.nexts lawful.nexts
+
+-- a cycle of the pipeline takes a fitting state to a fitting state
 pub StateFits-step : (d : DesignView) (interp : List Table) (state : List Value) (inputs : List Scalar) → IsLawful d → InterpFits d interp → StateFits d state → InputsFit d inputs → StateFits d (step d.pipe interp state inputs)
 StateFits-step d interp state inputs lawful fits state_fits inputs_fit =
-    let env = EnvFits-env_of d interp state inputs lawful fits state_fits inputs_fit in
-    AllZip-map_right (λ (e : entry.Entry) t. HasSort (context_of d d.pipe) t e.sort) (λ (e : entry.Entry) v. value_sort v ≡ e.sort) (value_of (env_of d.pipe.locals interp state inputs))
-    (λ e t p. value_sort-value_of (context_of d d.pipe) _ env t e.sort p) d.pipe.entries d.pipe.nexts lawful.pipe.nexts
+    ValuesFit-step d d.pipe interp state inputs lawful.pipe fits state_fits inputs_fit
+
+-- steps of the specification take its fitting states to such states
+pub VisibleFits-spec_steps : (j : ℕ) (d : DesignView) (interp : List Table) (a : List Value) → IsLawful d → InterpFits d interp → VisibleFits d a → VisibleFits d (spec_steps j d interp a)
+VisibleFits-spec_steps zero d interp a lawful fits h = h
+VisibleFits-spec_steps (suc j) d interp a lawful fits h =
+    ValuesFit-step d d.spec interp _ [] lawful.spec fits (VisibleFits-spec_steps j d interp a lawful fits h)
+    (subst (λ ports. ScalarsFit ports []) (sym lawful.no_spec_inputs) tt)
+
+visible_fits : (entries : List entry.Entry) (places : List ℕ) (all : List entry.Entry) (state : List Value) → AllZip (λ (x : entry.Entry) i. slice_get all i ≡ Some x) entries places → ValuesFit all state
+    → ValuesFit entries (map (λ i. slice_index_or state i (truth false)) places)
+visible_fits entries places all state there h =
+    AllZip-map_right (λ (x : entry.Entry) i. slice_get all i ≡ Some x) (λ (x : entry.Entry) v. value_sort v ≡ x.sort) (λ i. slice_index_or state i (truth false))
+    (λ x i is. AllZip-at (λ (x : entry.Entry) v. value_sort v ≡ x.sort) all state (truth false) h i x is) entries places there
+
+-- what is visible of a fitting state is a fitting state of the specification
+pub VisibleFits-look : (d : DesignView) (state : List Value) → IsLawful d → StateFits d state → VisibleFits d (look d state)
+VisibleFits-look d state lawful h = visible_fits d.spec.entries d.visible d.pipe.entries state lawful.visible h
+
+-- a run with fitting inputs stays at fitting states
+pub StateFits-after : (d : DesignView) (interp : List Table) → IsLawful d → InterpFits d interp → (inputs : List (List Scalar)) (state : List Value) → StateFits d state → AllByRecursion (InputsFit d) inputs → StateFits d (after d interp state inputs)
+StateFits-after d interp lawful fits [] state h k = h
+StateFits-after d interp lawful fits (x ∷ xs) state h k =
+    StateFits-after d interp lawful fits xs (step d.pipe interp state x) (StateFits-step d interp state x lawful fits h k.0) k.1

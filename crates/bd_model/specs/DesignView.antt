@@ -1,6 +1,6 @@
--- A design as clauses see it: its expressions as terms.
+-- A design as clauses see it, without pointers and capacities.
 use Rattle.std.specs.Prelude.{ℕ, List, map}
-use Rattle.bd_model.specs.Term.{Term, term_of, terms_of, list_of_terms}
+use Rattle.bd_model.specs.ExprView.{ExprView, expr_view, expr_views, list_of_views}
 use Rattle.bd_model.specs.declared.design.Sort.{Sort}
 use Rattle.bd_model.specs.declared.design.Symbol.{Symbol}
 use Rattle.bd_model.specs.declared.design.Entry.{Entry}
@@ -12,22 +12,22 @@ use Rattle.bd_model.specs.declared.design.Design.{Design}
 
 pub record LocalView : Type 0 where
   pub sort : Sort
-  pub value : Term
+  pub value : ExprView
 
 pub record PortView : Type 0 where
   pub name : List ℕ
   pub sort : Sort
-  pub idle : Term
+  pub idle : ExprView
 
 pub record ExactView : Type 0 where
   pub count : ℕ
-  pub when : Term
+  pub when : ExprView
 
 pub record MachineView : Type 0 where
   pub entries : List Entry
   pub ports : List PortView
   pub locals : List LocalView
-  pub nexts : List Term
+  pub nexts : List ExprView
 
 pub record DesignView : Type 0 where
   pub pipe : MachineView
@@ -37,25 +37,25 @@ pub record DesignView : Type 0 where
   pub flush : ℕ
   pub steps : ℕ
   pub inv_locals : List LocalView
-  pub inv : Term
+  pub inv : ExprView
   pub exact : List ExactView
   pub distinct : List (List ℕ)
 
 abbrev pub local_view : Local → LocalView
-local_view l = record { sort = l.sort; value = term_of l.value }
+local_view l = record { sort = l.sort; value = expr_view l.value }
 
 abbrev pub port_view : Port → PortView
-port_view p = record { name = p.name; sort = p.sort; idle = term_of p.idle }
+port_view p = record { name = p.name; sort = p.sort; idle = expr_view p.idle }
 
 abbrev pub exact_view : Exact → ExactView
-exact_view e = record { count = e.count; when = term_of e.when }
+exact_view e = record { count = e.count; when = expr_view e.when }
 
 abbrev pub machine_view : Machine → MachineView
 machine_view m = record {
   entries = m.entries;
   ports = map port_view m.ports;
   locals = map local_view m.locals;
-  nexts = list_of_terms (terms_of m.nexts);
+  nexts = list_of_views (expr_views m.nexts);
 }
 
 abbrev pub design_view : Design → DesignView
@@ -67,7 +67,7 @@ design_view d = record {
   flush = d.flush;
   steps = d.steps;
   inv_locals = map local_view d.inv_locals;
-  inv = term_of d.inv;
+  inv = expr_view d.inv;
   exact = map exact_view d.exact;
   distinct = d.distinct;
 }

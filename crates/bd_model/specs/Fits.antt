@@ -1,4 +1,4 @@
--- Cases that fit a design.
+-- Interpretations, states, inputs, cases and trails that fit a design.
 use Rattle.std.specs.Prelude.{◌≡◌, ◌≢◌, ℕ, List, [], length, if◌then◌else◌}
 use Rattle.std.specs.List.{AllZip, AllByRecursion, AllPairs}
 use Rattle.bd_model.specs.DesignView.{DesignView, PortView}
@@ -14,6 +14,7 @@ use Rattle.bd_model.specs.declared.design.Sort.TheVariants as sort
 use Rattle.bd_model.specs.declared.design.Symbol.{Symbol}
 use Rattle.bd_model.specs.declared.design.Entry.{Entry}
 use Rattle.bd_model.specs.declared.case.Case.{Case}
+use Rattle.bd_model.specs.declared.case.Trail.{Trail}
 
 abbrev pub scalar_sort : Scalar → Sort
 scalar_sort (scalar.Bool b) = sort.Bool
@@ -35,23 +36,44 @@ pub record TableFits (s : Symbol) (t : Table) : Type 0 where
   pub default : scalar_sort t.default ≡ result_sort s
   pub rows : AllByRecursion (RowFits s) t.rows
 
+-- two constants have different values
+abbrev pub DefaultsDiffer : List Table → ℕ → ℕ → Type 0
+DefaultsDiffer interp f g = (table_of interp f).default ≢ (table_of interp g).default
+
 -- the constants of a group have tables without rows, and different values
 pub record KeepsApart (interp : List Table) (group : List ℕ) : Type 0 where
   pub no_rows : AllByRecursion (λ f. (table_of interp f).rows ≡ []) group
-  pub different : AllPairs (λ f g. (table_of interp f).default ≢ (table_of interp g).default) group
+  pub different : AllPairs (DefaultsDiffer interp) group
 
 -- an interpretation: a table for each symbol, of its arity and sort, that keeps the constants apart
 pub record InterpFits (d : DesignView) (interp : List Table) : Type 0 where
   pub tables : AllZip TableFits d.symbols interp
   pub apart : AllByRecursion (KeepsApart interp) d.distinct
 
+-- values of the entries' sorts
+abbrev pub ValuesFit : List Entry → List Value → Type 0
+ValuesFit entries values = AllZip (λ (e : Entry) v. value_sort v ≡ e.sort) entries values
+
+-- scalars of the inputs' sorts
+abbrev pub ScalarsFit : List PortView → List Scalar → Type 0
+ScalarsFit ports scalars = AllZip (λ (p : PortView) x. scalar_sort x ≡ p.sort) ports scalars
+
 abbrev pub StateFits : DesignView → List Value → Type 0
-StateFits d state = AllZip (λ (e : Entry) v. value_sort v ≡ e.sort) d.pipe.entries state
+StateFits d state = ValuesFit d.pipe.entries state
+
+-- a state of the specification
+abbrev pub VisibleFits : DesignView → List Value → Type 0
+VisibleFits d visible = ValuesFit d.spec.entries visible
 
 abbrev pub InputsFit : DesignView → List Scalar → Type 0
-InputsFit d inputs = AllZip (λ (p : PortView) x. scalar_sort x ≡ p.sort) d.pipe.ports inputs
+InputsFit d inputs = ScalarsFit d.pipe.ports inputs
 
 pub record Fits (d : DesignView) (c : Case) : Type 0 where
   pub interp : InterpFits d c.interp
   pub state : StateFits d c.state
   pub inputs : InputsFit d c.inputs
+
+pub record TrailFits (d : DesignView) (t : Trail) : Type 0 where
+  pub interp : InterpFits d t.interp
+  pub state : StateFits d t.state
+  pub inputs : AllByRecursion (InputsFit d) t.inputs

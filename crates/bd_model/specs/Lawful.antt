@@ -1,7 +1,8 @@
 -- Designs such as the reader gives, point by point.
 use Rattle.std.specs.Prelude.{◌≡◌, ◌≢◌, ◌≤◌, ℕ, Bool, true, false, ◌||◌, List, [], ◌∷◌, ◌++◌, map, length, slice_get, slice_index_or, Some}
 use Rattle.std.specs.List.{AllZip, AllByRecursion, AllPairs}
-use Rattle.bd_model.specs.Term.{Term, Terms, Truth, Entry, Input, Local, Not, And, Or, Implies, Iff, Equal, Ite, Read, Write, Apply, no_terms, term, count_of, depth, width}
+use Rattle.bd_list.specs.Grown.{grown}
+use Rattle.bd_model.specs.ExprView.{ExprView, ExprViews, Truth, Entry, Input, Local, Not, And, Or, Implies, Iff, Equal, Ite, Read, Write, Apply, no_exprs, expr, count_of, depth, width}
 use Rattle.bd_model.specs.DesignView.{DesignView, MachineView, LocalView, PortView, ExactView}
 use Rattle.bd_model.specs.Fits.{result_sort}
 use Rattle.bd_model.specs.Name.{IsName}
@@ -17,69 +18,75 @@ pub record Context : Type 0 where
   pub inputs : List Sort
   pub locals : List Sort
 
+-- the symbol f takes so many arguments and gives a value of this sort
+abbrev pub Applies : Context → ℕ → ℕ → Sort → Type 0
+Applies c f arguments s =
+    (y : Symbol) × (slice_get c.symbols f ≡ Some y) × (s ≡ result_sort y) × (arguments ≡ y.arity)
+
 abbrev mutual
   -- an expression has a sort
-  pub HasSort : Context → Term → Sort → Type 0
+  pub HasSort : Context → ExprView → Sort → Type 0
   HasSort c (Truth b) s = s ≡ sort.Bool
   HasSort c (Entry i) s = slice_get c.entries i ≡ Some s
   HasSort c (Input i) s = slice_get c.inputs i ≡ Some s
   HasSort c (Local i) s = slice_get c.locals i ≡ Some s
-  HasSort c (Not t) s = (s ≡ sort.Bool) × HasSort c t sort.Bool
-  HasSort c (And ts) s = (s ≡ sort.Bool) × (2 ≤ count_of ts) × HaveSort c ts sort.Bool
-  HasSort c (Or ts) s = (s ≡ sort.Bool) × (2 ≤ count_of ts) × HaveSort c ts sort.Bool
+  HasSort c (Not e) s = (s ≡ sort.Bool) × HasSort c e sort.Bool
+  HasSort c (And es) s = (s ≡ sort.Bool) × (2 ≤ count_of es) × HaveSort c es sort.Bool
+  HasSort c (Or es) s = (s ≡ sort.Bool) × (2 ≤ count_of es) × HaveSort c es sort.Bool
   HasSort c (Implies a b) s = (s ≡ sort.Bool) × HasSort c a sort.Bool × HasSort c b sort.Bool
   HasSort c (Iff a b) s = (s ≡ sort.Bool) × HasSort c a sort.Bool × HasSort c b sort.Bool
   HasSort c (Equal a b) s = (s ≡ sort.Bool) × HasSort c a sort.Word × HasSort c b sort.Word
   HasSort c (Ite p a b) s = HasSort c p sort.Bool × HasSort c a s × HasSort c b s
   HasSort c (Read m a) s = (s ≡ sort.Word) × HasSort c m sort.Memory × HasSort c a sort.Word
-  HasSort c (Write m a d) s = (s ≡ sort.Memory) × HasSort c m sort.Memory × HasSort c a sort.Word × HasSort c d sort.Word
-  HasSort c (Apply f ts) s = ((y : Symbol) × (slice_get c.symbols f ≡ Some y) × (s ≡ result_sort y) × (count_of ts ≡ y.arity)) × HaveSort c ts sort.Word
+  HasSort c (Write m a d) s =
+      (s ≡ sort.Memory) × HasSort c m sort.Memory × HasSort c a sort.Word × HasSort c d sort.Word
+  HasSort c (Apply f es) s = Applies c f (count_of es) s × HaveSort c es sort.Word
 
-  pub HaveSort : Context → Terms → Sort → Type 0
-  HaveSort c no_terms s = Unit {0}
-  HaveSort c (term t ts) s = HasSort c t s × HaveSort c ts s
+  pub HaveSort : Context → ExprViews → Sort → Type 0
+  HaveSort c no_exprs s = Unit {0}
+  HaveSort c (expr e es) s = HasSort c e s × HaveSort c es s
 
 -- each let has its sort, and uses earlier lets alone
 abbrev pub LetsHaveSorts : Context → List LocalView → Type 0
 LetsHaveSorts c [] = Unit {0}
-LetsHaveSorts c (l ∷ ls) = HasSort c l.value l.sort × LetsHaveSorts (record c { locals = c.locals ++ l.sort ∷ [] }) ls
+LetsHaveSorts c (l ∷ ls) =
+    HasSort c l.value l.sort × LetsHaveSorts (record c { locals = c.locals ++ l.sort ∷ [] }) ls
 
 -- whether an expression uses an input, also through lets, of which flags says whether they do
 abbrev mutual
-  pub uses_input : List Bool → Term → Bool
+  pub uses_input : List Bool → ExprView → Bool
   uses_input flags (Truth b) = false
   uses_input flags (Entry i) = false
   uses_input flags (Input i) = true
   uses_input flags (Local i) = slice_index_or flags i false
-  uses_input flags (Not t) = uses_input flags t
-  uses_input flags (And ts) = any_uses_input flags ts
-  uses_input flags (Or ts) = any_uses_input flags ts
+  uses_input flags (Not e) = uses_input flags e
+  uses_input flags (And es) = any_uses_input flags es
+  uses_input flags (Or es) = any_uses_input flags es
   uses_input flags (Implies a b) = uses_input flags a || uses_input flags b
   uses_input flags (Iff a b) = uses_input flags a || uses_input flags b
   uses_input flags (Equal a b) = uses_input flags a || uses_input flags b
   uses_input flags (Ite p a b) = (uses_input flags p || uses_input flags a) || uses_input flags b
   uses_input flags (Read m a) = uses_input flags m || uses_input flags a
   uses_input flags (Write m a d) = (uses_input flags m || uses_input flags a) || uses_input flags d
-  uses_input flags (Apply f ts) = any_uses_input flags ts
+  uses_input flags (Apply f es) = any_uses_input flags es
 
-  pub any_uses_input : List Bool → Terms → Bool
-  any_uses_input flags no_terms = false
-  any_uses_input flags (term t ts) = uses_input flags t || any_uses_input flags ts
+  pub any_uses_input : List Bool → ExprViews → Bool
+  any_uses_input flags no_exprs = false
+  any_uses_input flags (expr e es) = uses_input flags e || any_uses_input flags es
 
--- whether each let uses an input, behind those of the earlier lets
-abbrev pub input_flags : List Bool → List LocalView → List Bool
-input_flags flags [] = flags
-input_flags flags (l ∷ ls) = input_flags (flags ++ uses_input flags l.value ∷ []) ls
+-- whether each let uses an input, also through the earlier ones
+abbrev pub input_flags : List LocalView → List Bool
+input_flags locals = grown (λ earlier (l : LocalView). uses_input earlier l.value) [] locals
 
 -- the most parts of any list, and the deepest nesting
-abbrev pub IsWithinLimits : Term → Type 0
-IsWithinLimits t = (depth t ≤ 200) × (width t ≤ 2097152)
+abbrev pub IsWithinLimits : ExprView → Type 0
+IsWithinLimits e = (depth e ≤ 200) × (width e ≤ 2097152)
 
 abbrev pub IsShort : {X : Type 0} → List X → Type 0
 IsShort xs = length xs ≤ 2097152
 
 abbrev pub entry_sorts : MachineView → List Sort
-entry_sorts m = map (λ (e : entry.Entry). e.sort) m.entries
+entry_sorts m = map (λ (x : entry.Entry). x.sort) m.entries
 
 -- the sorts in force in a machine's expressions behind its lets
 abbrev pub context_of : DesignView → MachineView → Context
@@ -104,7 +111,7 @@ without_lets c = record c { locals = [] }
 
 pub record IsLawfulMachine (d : DesignView) (m : MachineView) : Type 0 where
   pub locals : LetsHaveSorts (without_lets (context_of d m)) m.locals
-  pub nexts : AllZip (λ (e : entry.Entry) t. HasSort (context_of d m) t e.sort) m.entries m.nexts
+  pub nexts : AllZip (λ (x : entry.Entry) e. HasSort (context_of d m) e x.sort) m.entries m.nexts
   pub local_limits : AllByRecursion (λ (l : LocalView). IsWithinLimits l.value) m.locals
   pub next_limits : AllByRecursion IsWithinLimits m.nexts
   pub short : IsShort m.entries × IsShort m.ports × IsShort m.locals
@@ -112,7 +119,7 @@ pub record IsLawfulMachine (d : DesignView) (m : MachineView) : Type 0 where
 pub record IsLawfulPort (d : DesignView) (p : PortView) : Type 0 where
   pub sort : p.sort ≢ sort.Memory
   pub idle : HasSort (context_of d d.pipe) p.idle p.sort
-  pub no_input : uses_input (input_flags [] d.pipe.locals) p.idle ≡ false
+  pub no_input : uses_input (input_flags d.pipe.locals) p.idle ≡ false
   pub limits : IsWithinLimits p.idle
 
 pub record IsLawfulExact (d : DesignView) (e : ExactView) : Type 0 where
@@ -120,15 +127,26 @@ pub record IsLawfulExact (d : DesignView) (e : ExactView) : Type 0 where
   pub when : HasSort (context_of d d.pipe) e.when sort.Bool
   pub limits : IsWithinLimits e.when
 
--- two or more different constants: functions of arity 0
+-- a function of arity 0
+abbrev pub IsConstant : DesignView → ℕ → Type 0
+IsConstant d f =
+    (y : Symbol) × (slice_get d.symbols f ≡ Some y) × (y.arity ≡ 0) × (y.predicate ≡ false)
+
+-- two or more different constants
 pub record IsLawfulGroup (d : DesignView) (group : List ℕ) : Type 0 where
   pub two : 2 ≤ length group
   pub different : AllPairs ◌≢◌ group
-  pub constants : AllByRecursion (λ f. (y : Symbol) × (slice_get d.symbols f ≡ Some y) × (y.arity ≡ 0) × (y.predicate ≡ false)) group
+  pub constants : AllByRecursion (IsConstant d) group
   pub short : IsShort group
 
 abbrev pub all_names : DesignView → List (List ℕ)
-all_names d = (map (λ (y : Symbol). y.name) d.symbols ++ map (λ (e : entry.Entry). e.name) d.pipe.entries) ++ map (λ (p : PortView). p.name) d.pipe.ports
+all_names d =
+    (map (λ (y : Symbol). y.name) d.symbols ++ map (λ (x : entry.Entry). x.name) d.pipe.entries)
+    ++ map (λ (p : PortView). p.name) d.pipe.ports
+
+-- a machine has this entry, with its name and sort, at a place
+abbrev pub IsEntryAt : MachineView → entry.Entry → ℕ → Type 0
+IsEntryAt m x i = slice_get m.entries i ≡ Some x
 
 pub record IsLawful (d : DesignView) : Type 0 where
   pub pipe : IsLawfulMachine d d.pipe
@@ -137,12 +155,13 @@ pub record IsLawful (d : DesignView) : Type 0 where
   pub no_spec_inputs : d.spec.ports ≡ []
   pub inv_locals : LetsHaveSorts (without_lets (inv_context d)) d.inv_locals
   pub inv : HasSort (inv_context d) d.inv sort.Bool
-  pub inv_limits : AllByRecursion (λ (l : LocalView). IsWithinLimits l.value) d.inv_locals × IsWithinLimits d.inv
+  pub inv_local_limits : AllByRecursion (λ (l : LocalView). IsWithinLimits l.value) d.inv_locals
+  pub inv_limits : IsWithinLimits d.inv
   pub exact : AllByRecursion (IsLawfulExact d) d.exact
   pub distinct : AllByRecursion (IsLawfulGroup d) d.distinct
   pub names : AllByRecursion IsName (all_names d)
   pub different_names : AllPairs ◌≢◌ (all_names d)
-  pub visible : AllZip (λ (e : entry.Entry) i. slice_get d.pipe.entries i ≡ Some e) d.spec.entries d.visible
+  pub visible : AllZip (IsEntryAt d.pipe) d.spec.entries d.visible
   pub visible_once : AllPairs ◌≢◌ d.visible
   pub arities : AllByRecursion (λ (y : Symbol). y.arity ≤ 8) d.symbols
   pub flush : d.flush ≤ 64

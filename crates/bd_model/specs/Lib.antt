@@ -1,4 +1,4 @@
-pub mod Term
+pub mod ExprView
 pub mod Table
 pub mod DesignView
 pub mod Value
@@ -6,5 +6,8 @@ pub mod Cycle
 pub mod Fits
 pub mod Name
 pub mod Lawful
+pub mod Same
+pub mod Conditions
 pub mod Right
-pub mod Judged
+pub mod TrailJudged
+pub mod Laws

@@ -21,8 +21,8 @@ continues_name b = ((begins_name b || is_digit b) || b == 46) || b == 45
 -- the words that expressions are written with
 abbrev pub words : List (List ℕ)
 words =
-    codes "true" ∷ codes "false" ∷ codes "not" ∷ codes "and" ∷ codes "or" ∷ codes "implies" ∷ codes "iff"
-    ∷ codes "ite" ∷ codes "read" ∷ codes "write" ∷ codes "let" ∷ []
+    codes "true" ∷ codes "false" ∷ codes "not" ∷ codes "and" ∷ codes "or" ∷ codes "implies"
+    ∷ codes "iff" ∷ codes "ite" ∷ codes "read" ∷ codes "write" ∷ codes "let" ∷ []
 
 abbrev pub spells_name : List ℕ → Bool
 spells_name [] = false

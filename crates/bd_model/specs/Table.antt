@@ -11,7 +11,8 @@ use Rattle.bd_model.specs.declared.table.Memory.{Memory}
 -- the value of the first row with these arguments, or the default
 abbrev pub row_value : List Row → List ℕ → Scalar → Scalar
 row_value [] args default = default
-row_value (r ∷ rs) args default = if pointwise nat_eq r.args args then r.value else row_value rs args default
+row_value (r ∷ rs) args default =
+    if pointwise nat_eq r.args args then r.value else row_value rs args default
 
 -- a table's value at arguments
 abbrev pub at : Table → List ℕ → Scalar

@@ -1,10 +1,11 @@
 -- The value of an expression: the logic of equality with uninterpreted functions and memories
 -- (Burch and Dill 1994), over finite tables. The cases that no lawful design has give false, 0 or the memory
 -- of zeros.
-use Rattle.std.specs.Prelude.{ℕ, Bool, false, not, ◌||◌, ◌==◌, List, [], ◌∷◌, ◌++◌, map, slice_index_or, if◌then◌else◌}
+use Rattle.std.specs.Prelude.{ℕ, Bool, false, not, ◌||◌, ◌==◌, List, [], ◌∷◌, map, slice_index_or, if◌then◌else◌}
 use Rattle.std.specs.List.{list_all, list_any}
 use mathlib.Core.Bool.{beq}
-use Rattle.bd_model.specs.Term.{Term, Terms, Truth, Entry, Input, Local, Not, And, Or, Implies, Iff, Equal, Ite, Read, Write, Apply, no_terms, term}
+use Rattle.bd_list.specs.Grown.{grown}
+use Rattle.bd_model.specs.ExprView.{ExprView, ExprViews, Truth, Entry, Input, Local, Not, And, Or, Implies, Iff, Equal, Ite, Read, Write, Apply, no_exprs, expr}
 use Rattle.bd_model.specs.Table.{at, read, write}
 use Rattle.bd_model.specs.DesignView.{LocalView}
 use Rattle.bd_model.specs.declared.table.Scalar.{Scalar}
@@ -57,35 +58,41 @@ table_of interp f = slice_index_or interp f no_table
 
 abbrev mutual
   -- the value of an expression
-  pub value_of : Env → Term → Value
-  value_of e (Truth b) = truth b
-  value_of e (Entry i) = slice_index_or e.state i (truth false)
-  value_of e (Input i) = value.Scalar (slice_index_or e.inputs i (scalar.Bool false))
-  value_of e (Local i) = slice_index_or e.locals i (truth false)
-  value_of e (Not t) = truth (not (is_true (value_of e t)))
-  value_of e (And ts) = truth (list_all is_true (values_of e ts))
-  value_of e (Or ts) = truth (list_any is_true (values_of e ts))
-  value_of e (Implies a b) = truth (not (is_true (value_of e a)) || is_true (value_of e b))
-  value_of e (Iff a b) = truth (beq (is_true (value_of e a)) (is_true (value_of e b)))
-  value_of e (Equal a b) = truth (word_of (value_of e a) == word_of (value_of e b))
-  value_of e (Ite p a b) = if is_true (value_of e p) then value_of e a else value_of e b
-  value_of e (Read m a) = word (read (memory_of (value_of e m)) (word_of (value_of e a)))
-  value_of e (Write m a d) = value.Memory (write (memory_of (value_of e m)) (word_of (value_of e a)) (word_of (value_of e d)))
-  value_of e (Apply f ts) = value.Scalar (at (table_of e.interp f) (map word_of (values_of e ts)))
+  pub value_of : Env → ExprView → Value
+  value_of env (Truth b) = truth b
+  value_of env (Entry i) = slice_index_or env.state i (truth false)
+  value_of env (Input i) = value.Scalar (slice_index_or env.inputs i (scalar.Bool false))
+  value_of env (Local i) = slice_index_or env.locals i (truth false)
+  value_of env (Not e) = truth (not (is_true (value_of env e)))
+  value_of env (And es) = truth (list_all is_true (values_of env es))
+  value_of env (Or es) = truth (list_any is_true (values_of env es))
+  value_of env (Implies a b) = truth (not (is_true (value_of env a)) || is_true (value_of env b))
+  value_of env (Iff a b) = truth (beq (is_true (value_of env a)) (is_true (value_of env b)))
+  value_of env (Equal a b) = truth (word_of (value_of env a) == word_of (value_of env b))
+  value_of env (Ite p a b) = if is_true (value_of env p) then value_of env a else value_of env b
+  value_of env (Read m a) = word (read (memory_of (value_of env m)) (word_of (value_of env a)))
+  value_of env (Write m a d) =
+      let address = word_of (value_of env a) in
+      value.Memory (write (memory_of (value_of env m)) address (word_of (value_of env d)))
+  value_of env (Apply f es) =
+      value.Scalar (at (table_of env.interp f) (map word_of (values_of env es)))
 
   -- the values of expressions, in order
-  pub values_of : Env → Terms → List Value
-  values_of e no_terms = []
-  values_of e (term t ts) = value_of e t ∷ values_of e ts
+  pub values_of : Env → ExprViews → List Value
+  values_of env no_exprs = []
+  values_of env (expr e es) = value_of env e ∷ values_of env es
 
--- the values of lets behind those of the earlier ones: each has its expression's value in the same
--- interpretation, state and inputs
-abbrev pub let_values : List Table → List Value → List Scalar → List Value → List LocalView → List Value
-let_values interp state inputs done [] = done
-let_values interp state inputs done (l ∷ ls) =
-    let_values interp state inputs (done ++ value_of (record { interp = interp; state = state; inputs = inputs; locals = done }) l.value ∷ []) ls
+-- the value of a let where the earlier ones have these values
+abbrev pub let_value : List Table → List Value → List Scalar → List Value → LocalView → Value
+let_value interp state inputs earlier l =
+    value_of (record { interp = interp; state = state; inputs = inputs; locals = earlier }) l.value
+
+-- the values of lets, each from the values of the earlier ones, in the same interpretation, state and inputs
+abbrev pub let_values : List Table → List Value → List Scalar → List LocalView → List Value
+let_values interp state inputs locals = grown (let_value interp state inputs) [] locals
 
 -- where a machine's expressions are valued
 abbrev pub env_of : List LocalView → List Table → List Value → List Scalar → Env
 env_of locals interp state inputs =
-    record { interp = interp; state = state; inputs = inputs; locals = let_values interp state inputs [] locals }
+    let values = let_values interp state inputs locals in
+    record { interp = interp; state = state; inputs = inputs; locals = values }

@@ -1,6 +1,6 @@
 //! Interpretations, states and inputs, and what a case of them shows.
-use crate::list::Sequence;
 use crate::table::{Scalar, Table, Value};
+use bd_list::Sequence;
 use std::alloc::AllocError;
 
 /// A table for each symbol, by its number.
@@ -40,6 +40,31 @@ impl Clone for Case {
     }
 }
 
+/// Inputs for each of several cycles.
+pub type InputLists = Sequence<Inputs>;
+
+/// A run of several cycles: an interpretation, the first state, and the inputs of each cycle.
+#[derive(Debug, PartialEq, Drop)]
+pub struct Trail {
+    pub interp: Interp,
+    pub state: State,
+    pub inputs: InputLists,
+}
+
+impl Clone for Trail {
+    ghost use Rattle.std.specs.Prelude.{◌≡◌};
+
+    ghost is_clone = { λ t u. u ≡ t };
+
+    fn clone(&self) -> Result<Trail, AllocError> {
+        Ok(Trail {
+            interp: self.interp.clone()?,
+            state: self.state.clone()?,
+            inputs: self.inputs.clone()?,
+        })
+    }
+}
+
 /// What a cycle has to keep: the invariant, and the step that commutes with the specification's.
 #[derive(Clone, Copy, Debug, PartialEq, Eq)]
 pub enum Condition {
@@ -53,4 +78,13 @@ pub enum Judged {
     Holds,
     Outside,
     Broken(Condition),
+}
+
+/// What a trail shows: each cycle commutes, its first state doesn't meet the invariant, or the cycle of this number,
+/// from 1, is the first that doesn't commute.
+#[derive(Clone, Copy, Debug, PartialEq, Eq)]
+pub enum TrailJudged {
+    Holds,
+    Outside,
+    Broken(u32),
 }

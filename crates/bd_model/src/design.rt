@@ -1,6 +1,6 @@
 //! A pipeline and its instruction set machine.
 use crate::expr::{Expr, Exprs};
-use crate::list::Sequence;
+use bd_list::Sequence;
 
 /// The sort of an expression or an entry.
 #[derive(Clone, Copy, Debug, PartialEq, Eq)]

@@ -1,8 +1,11 @@
 //! Whether a case is one of a design.
-ghost use Rattle.std.specs.Prelude.{◌≡◌, ◌≢◌, ◌↔◌, ◌≤◌, IsTrue, length, All, AllPairs, []};
+//!
+//! Each list is compared with the design's place by place, once their lengths are equal. Constants that are kept apart
+//! are tables without rows, so their values are their defaults; each is compared with those before it in its group.
+ghost use Rattle.std.specs.Prelude.{◌≡◌, ◌≢◌, ◌↔◌, IsTrue, length, All, AllPairs, []};
 ghost use Rattle.std.specs.List.{AllZip, AllByRecursion};
 ghost use Rattle.bd_model.specs.DesignView.{design_view};
-ghost use Rattle.bd_model.specs.Fits.{result_sort, RowFits, TableFits, KeepsApart, InterpFits, StateFits, InputsFit, Fits, value_sort, scalar_sort};
+ghost use Rattle.bd_model.specs.Fits.{result_sort, RowFits, TableFits, DefaultsDiffer, KeepsApart, InterpFits, ValuesFit, StateFits, InputsFit, Fits, scalar_sort};
 ghost use Rattle.bd_model.specs.Value.{table_of};
 
 use crate::case::{Case, Inputs, Interp, State};
@@ -94,7 +97,7 @@ fn tables_fit(symbols: &[Symbol], tables: &[Table]) -> bool
 }
 
 fn values_fit(entries: &[Entry], values: &[Value]) -> bool
-    ensures { IsTrue result ↔ AllZip (λ e v. value_sort v ≡ e.sort) entries.now values.now }
+    ensures { IsTrue result ↔ ValuesFit entries.now values.now }
 {
     if entries.len() != values.len() {
         return false;
@@ -129,7 +132,7 @@ fn group_differs(interp: &Interp, group: &Places) -> bool
 }
 
 fn defaults_differ(interp: &Interp, constants: &[u32]) -> bool
-    ensures { IsTrue result ↔ AllPairs (λ f g. (table_of interp.now f).default ≢ (table_of interp.now g).default) constants.now }
+    ensures { IsTrue result ↔ AllPairs (DefaultsDiffer interp.now) constants.now }
 {
     for (i, f) in constants.iter().enumerate() {
         if !differs(interp, default_of(interp, *f), &constants[..i]) {

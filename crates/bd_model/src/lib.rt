@@ -5,20 +5,23 @@ mod case;
 mod design;
 mod expr;
 mod fits;
-mod judged;
-mod list;
-mod right;
+mod laws;
 mod table;
 
-pub use case::{Case, Condition, Inputs, Interp, Judged, LetValues, State, States};
+pub use bd_list::Sequence;
+pub use case::{
+    Case, Condition, InputLists, Inputs, Interp, Judged, LetValues, State, States, Trail,
+    TrailJudged,
+};
 pub use design::{
     Design, Distinct, Entries, Entry, Exact, Exacts, Local, Locals, Machine, Name, Places, Port,
     Ports, Sort, Symbol, Symbols,
 };
 pub use expr::{Expr, Exprs};
-pub use judged::{always_judged, judged_once};
-pub use list::Sequence;
-pub use right::cycles_compose;
+pub use laws::{
+    agreement_keeps_right, always_judged, broken_breaks, cycles_compose, cycles_compose_by,
+    judged_once,
+};
 pub use table::{Memory, Row, Rows, Scalar, Slot, Slots, Table, Value, Words};
 
 #[cfg(test)]

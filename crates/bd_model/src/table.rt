@@ -1,8 +1,14 @@
 //! Words and truth values, and tables and memories of them.
+//!
+//! The first row that matches counts, so a write is a row put in front, and a memory's rows may name one address more
+//! than once. Two memories read equal at every word exactly where their defaults are equal and they agree at the
+//! address of each of their rows: words have no bound, so some address is in no row. Rows that two memories have in
+//! common at their ends, as those of a memory and of what was written over it, need no comparison: behind an address
+//! that no earlier row has, both read the same.
 ghost use Rattle.std.specs.Prelude.{◌≡◌, ◌≤◌, ◌-◌, length, drop};
 
 use crate::design::Sort;
-use crate::list::Sequence;
+use bd_list::Sequence;
 use std::alloc::AllocError;
 
 /// A truth value or a word.
@@ -148,7 +154,8 @@ impl Memory {
     }
 
     fn agrees(&self, other: &Memory, slots: &[Slot]) -> bool
-        ensures { IsTrue result ↔ All (λ s. read self.now s.address ≡ read other.now s.address) slots.now }
+        ensures { IsTrue result
+            ↔ All (λ s. read self.now s.address ≡ read other.now s.address) slots.now }
     {
         slots
             .iter()

@@ -4,10 +4,10 @@ use Rattle.std.proofs.lemmas.Bool.{both_ways}
 use Rattle.std.proofs.lemmas.List.{drop_all}
 use Rattle.std.specs.List.{AllByRecursion}
 use Rattle.bd_model.specs.DesignView.{ExactView, exact_view}
-use Rattle.bd_model.specs.Term.{term_of}
+use Rattle.bd_model.specs.ExprView.{expr_view}
 use Rattle.bd_model.specs.Value.{Env, value_of, is_true}
 use Rattle.bd_model.specs.declared.design.Exact.{Exact}
-use Rattle.bd_sim.specs.Counts.{AllowsCount}
+use Rattle.bd_model.specs.Conditions.{AllowsCount}
 
 -- the counts so far and the items that are left decide which numbers are allowed
 pub record IsCounted (P : ℕ → ExactView → Type 0) (counts : List ℕ) (rest all : List ExactView) : Type 0 where
@@ -42,7 +42,7 @@ front items i x within is = rw (add-one, drop-cons items i x) (ap (λ y. y ∷ d
 
 -- an item whose condition is true adds its count
 pub counted_true : (env : Env) (items : List Exact) (i : ℕ) (x : Exact) (counts new : List ℕ) (all : List ExactView) → i < length items → x ≡ get_or items i x
-    → IsCounted (AllowsCount env) counts (map exact_view (drop i items)) all → is_true (value_of env (term_of x.when)) ≡ true → new ≡ counts ++ x.count ∷ []
+    → IsCounted (AllowsCount env) counts (map exact_view (drop i items)) all → is_true (value_of env (expr_view x.when)) ≡ true → new ≡ counts ++ x.count ∷ []
     → IsCounted (AllowsCount env) new (map exact_view (drop (i + 1) items)) all
 counted_true env items i x counts new all within is before holds put =
     let here = subst (λ es. IsCounted (AllowsCount env) counts (map exact_view es) all) (front items i x within is) before in
@@ -51,7 +51,7 @@ counted_true env items i x counts new all within is before holds put =
 
 -- an item whose condition is false forbids nothing
 pub counted_false : (env : Env) (items : List Exact) (i : ℕ) (x : Exact) (counts new : List ℕ) (all : List ExactView) → i < length items → x ≡ get_or items i x
-    → IsCounted (AllowsCount env) counts (map exact_view (drop i items)) all → is_true (value_of env (term_of x.when)) ≡ false → new ≡ counts
+    → IsCounted (AllowsCount env) counts (map exact_view (drop i items)) all → is_true (value_of env (expr_view x.when)) ≡ false → new ≡ counts
     → IsCounted (AllowsCount env) new (map exact_view (drop (i + 1) items)) all
 counted_false env items i x counts new all within is before fails same =
     let here = subst (λ es. IsCounted (AllowsCount env) counts (map exact_view es) all) (front items i x within is) before in

@@ -1,3 +1,2 @@
-pub mod Env
 pub mod Trace
-pub mod Counts
+pub mod inner

@@ -1,11 +1,14 @@
 //! Cycles of the two machines.
-ghost use Rattle.std.specs.Prelude.{◌≡◌, [], IfOk, map};
-ghost use Rattle.bd_model.specs.DesignView.{design_view, machine_view, local_view};
-ghost use Rattle.bd_model.specs.Value.{let_values};
+//!
+//! A cycle values the lets once and then each next expression in the old state, so all entries change at once. A flush
+//! cycle is a cycle whose inputs are valued first, in the state before it, and anew for each. The specification has no
+//! inputs, so its step is a cycle with none.
+ghost use Rattle.std.specs.Prelude.{◌≡◌, [], IfOk};
+ghost use Rattle.bd_model.specs.DesignView.{design_view, machine_view};
 ghost use Rattle.bd_model.specs.Cycle.{step, idle_inputs, flush, look, flushed};
 
 use crate::value::{Env, scalar, value, value_at, values};
-use bd_model::{Design, Inputs, Interp, Local, Machine, Scalar, Sequence, State, Table, Value};
+use bd_model::{Design, Inputs, Interp, Machine, Scalar, Sequence, State, Table, Value};
 use std::alloc::{AllocError, Global};
 
 /// One cycle of the pipeline: each entry takes the value of its next expression in this state, with these
@@ -17,7 +20,8 @@ pub fn step(
     state: &State,
     inputs: &Inputs,
 ) -> Result<State, AllocError>
-    ensures { IfOk result (λ s. s ≡ step (design_view design.now).pipe interp.now state.now inputs.now) }
+    ensures { IfOk result (λ s. s
+        ≡ step (design_view design.now).pipe interp.now state.now inputs.now) }
 {
     cycle(
         alloc,
@@ -102,16 +106,10 @@ fn cycle(
     state: &[Value],
     inputs: &[Scalar],
 ) -> Result<State, AllocError>
-    ensures { IfOk result (λ s. s ≡ step (machine_view machine.now) interp.now state.now inputs.now) }
+    ensures { IfOk result (λ s. s
+        ≡ step (machine_view machine.now) interp.now state.now inputs.now) }
 {
-    let lets = let_values(alloc, machine.locals.as_slice(), interp, state, inputs)?;
-    let env = Env {
-        alloc,
-        interp,
-        state,
-        inputs,
-        lets: lets.as_slice(),
-    };
+    let env = Env::new(alloc, machine.locals.as_slice(), interp, state, inputs)?;
     Ok(Sequence::from_vec(values(&env, &machine.nexts)?))
 }
 
@@ -122,44 +120,13 @@ fn idle_inputs(
     interp: &[Table],
     state: &[Value],
 ) -> Result<Vec<Scalar>, AllocError>
-    ensures { IfOk result (λ v. v.items ≡ idle_inputs (machine_view machine.now) interp.now state.now) }
+    ensures { IfOk result (λ v. v.items
+        ≡ idle_inputs (machine_view machine.now) interp.now state.now) }
 {
-    let lets = let_values(alloc, machine.locals.as_slice(), interp, state, &[])?;
-    let env = Env {
-        alloc,
-        interp,
-        state,
-        inputs: &[],
-        lets: lets.as_slice(),
-    };
+    let env = Env::new(alloc, machine.locals.as_slice(), interp, state, &[])?;
     let mut inputs = Vec::new(alloc);
     for port in machine.ports.as_slice() {
         inputs.push(scalar(&env, &port.idle)?)?;
     }
     Ok(inputs)
-}
-
-/// The values of lets, each valued once.
-pub fn let_values(
-    alloc: Global,
-    locals: &[Local],
-    interp: &[Table],
-    state: &[Value],
-    inputs: &[Scalar],
-) -> Result<Vec<Value>, AllocError>
-    ensures { IfOk result (λ v. v.items ≡ let_values interp.now state.now inputs.now [] (map local_view locals.now)) }
-{
-    let mut lets = Vec::new(alloc);
-    for local in locals {
-        let env = Env {
-            alloc,
-            interp,
-            state,
-            inputs,
-            lets: lets.as_slice(),
-        };
-        let next = value(&env, &local.value)?;
-        lets.push(next)?;
-    }
-    Ok(lets)
 }

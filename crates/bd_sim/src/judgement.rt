@@ -1,13 +1,19 @@
 //! What a case shows.
-ghost use Rattle.std.specs.Prelude.{◌≡◌, ◌↔◌, ◌≤◌, ℕ, IfOk, IsTrue, map};
+//!
+//! The conditions are tested by running both machines. For `commute` the pipeline is flushed once before the cycle
+//! and once behind it; then the specification is led on a step at a time, and each state that it reaches is compared,
+//! from no step to the design's most. Which numbers of steps are allowed rests on the cycle alone, so the counts of
+//! the exact items that are true are found once. Memories are compared by their rows and defaults, which decides
+//! whether they read equal at every word.
+ghost use Rattle.std.specs.Prelude.{◌≡◌, ◌↔◌, ℕ, IfOk, IsTrue, map};
 ghost use Rattle.std.specs.List.{AllZip, AllByRecursion};
 ghost use Rattle.bd_model.specs.DesignView.{design_view, exact_view};
-ghost use Rattle.bd_model.specs.Cycle.{invariant, flushed, spec_steps};
-ghost use Rattle.bd_model.specs.Right.{SameValue, Same, IsAllowed, IsJudged};
-ghost use Rattle.bd_sim.specs.Env.{env_of};
-ghost use Rattle.bd_sim.specs.Counts.{AllowsCount};
+ghost use Rattle.bd_model.specs.Cycle.{step, invariant};
+ghost use Rattle.bd_model.specs.Same.{SameValue, Same};
+ghost use Rattle.bd_model.specs.Conditions.{AllowsCount, IsAllowed, Commutes, IsJudged};
+ghost use Rattle.bd_sim.specs.inner.Env.{env_view};
 
-use crate::cycle::{flushed, let_values, spec_step, step};
+use crate::cycle::{flushed, spec_step, step};
 use crate::value::{Env, truth};
 use bd_model::{Case, Condition, Design, Exact, Interp, Judged, State, Value};
 use std::alloc::{AllocError, Global};
@@ -39,25 +45,17 @@ fn meets_invariant(
     ensures { IfOk result (λ b. b ≡ invariant (design_view design.now) interp.now state.now) }
 {
     let (interp, state) = (interp.as_slice(), state.as_slice());
-    let lets = let_values(alloc, design.inv_locals.as_slice(), interp, state, &[])?;
-    let env = Env {
-        alloc,
-        interp,
-        state,
-        inputs: &[],
-        lets: lets.as_slice(),
-    };
+    let env = Env::new(alloc, design.inv_locals.as_slice(), interp, state, &[])?;
     truth(&env, &design.inv)
 }
 
 // Whether the flushed pipeline stands, after the cycle that ends in `next`, where some number of steps of the
 // specification, at most the design's and allowed, lead from where it stood before.
 fn commutes(alloc: Global, design: &Design, case: &Case, next: &State) -> Result<bool, AllocError>
-    ensures { IfOk result (λ b. IsTrue b ↔ ((j : ℕ) × (j ≤ design.now.steps)
-        × IsAllowed (design_view design.now) case.now.interp case.now.state case.now.inputs j
-        × Same (flushed (design_view design.now) case.now.interp next.now)
-        (spec_steps j (design_view design.now) case.now.interp
-        (flushed (design_view design.now) case.now.interp case.now.state)))) }
+    requires { next.now
+        ≡ step (design_view design.now).pipe case.now.interp case.now.state case.now.inputs }
+    ensures { IfOk result (λ b. IsTrue b
+        ↔ Commutes (design_view design.now) case.now.interp case.now.state case.now.inputs) }
 {
     let counts = exact_counts(alloc, design, case)?;
     let after = flushed(alloc, design, &case.interp, next)?;
@@ -79,20 +77,13 @@ fn exact_counts(alloc: Global, design: &Design, case: &Case) -> Result<Vec<u32>,
     let interp = case.interp.as_slice();
     let state = case.state.as_slice();
     let inputs = case.inputs.as_slice();
-    let lets = let_values(alloc, design.pipe.locals.as_slice(), interp, state, inputs)?;
-    let env = Env {
-        alloc,
-        interp,
-        state,
-        inputs,
-        lets: lets.as_slice(),
-    };
+    let env = Env::new(alloc, design.pipe.locals.as_slice(), interp, state, inputs)?;
     true_counts(&env, design.exact.as_slice())
 }
 
 fn true_counts(env: &Env, items: &[Exact]) -> Result<Vec<u32>, AllocError>
     ensures { IfOk result (λ v. (j : ℕ) → AllByRecursion (λ n. n ≡ j) v.items
-        ↔ AllByRecursion (AllowsCount (env_of env.now) j) (map exact_view items.now)) }
+        ↔ AllByRecursion (AllowsCount (env_view env.now) j) (map exact_view items.now)) }
 {
     let mut counts = Vec::new(env.alloc);
     for item in items {
@@ -104,7 +95,8 @@ fn true_counts(env: &Env, items: &[Exact]) -> Result<Vec<u32>, AllocError>
 }
 
 fn stands(counts: &[u32], count: u32, after: &State, reached: &State) -> bool
-    ensures { IsTrue result ↔ (AllByRecursion (λ n. n ≡ count) counts.now × Same after.now reached.now) }
+    ensures { IsTrue result
+        ↔ (AllByRecursion (λ n. n ≡ count) counts.now × Same after.now reached.now) }
 {
     counts.iter().all(|n| *n == count) && same(after.as_slice(), reached.as_slice())
 }

@@ -9,7 +9,7 @@ mod value;
 pub use bd_model::{Condition, Judged};
 pub use cycle::{flush, look, spec_step, step};
 pub use judgement::judge;
-pub use run::trace;
+pub use run::{trace, trace_is_run};
 pub use value::eval;
 
 #[cfg(test)]

@@ -1,15 +1,21 @@
 //! Values of expressions.
+//!
+//! A value is found form by form. What gives a scalar is valued as a scalar, and a read goes down the writes of its
+//! memory to the first with its address, so no memory is copied but where one is the value. The lets of a machine are
+//! valued once, in order, and kept where the expressions behind them name them. What no lawful design has is false, 0
+//! or the memory of zeros, so no call has a condition on sorts. Recursion goes down the expression alone.
 ghost use Rattle.std.specs.Prelude.{◌≡◌, IfOk, map, slice_index_or};
 ghost use Rattle.std.specs.List.{list_all, list_any};
 ghost use Rattle.bd_model.specs.Table.{at, read, write};
-ghost use Rattle.bd_model.specs.Term.{term_of, terms_of, list_of_terms};
-ghost use Rattle.bd_model.specs.Value.{value_of, values_of, scalar_of, scalar_truth, scalar_word, memory_of, is_true, word_of, table_of, truth as truth_value};
+ghost use Rattle.bd_model.specs.ExprView.{expr_view, expr_views, list_of_views};
+ghost use Rattle.bd_model.specs.Value.{value_of, values_of, scalar_of, scalar_truth, scalar_word, memory_of, is_true, word_of, table_of, env_of, truth as truth_value};
+ghost use Rattle.bd_model.specs.DesignView.{local_view};
 ghost use Rattle.std.specs.Prelude.{false};
-ghost use Rattle.bd_sim.specs.Env.{env_of};
+ghost use Rattle.bd_sim.specs.inner.Env.{env_view};
 
 use bd_model::{
-    Design, Expr, Exprs, Inputs, Interp, LetValues, Memory, Scalar, Sequence, Slot, State, Table,
-    Value,
+    Design, Expr, Exprs, Inputs, Interp, LetValues, Local, Memory, Scalar, Sequence, Slot, State,
+    Table, Value,
 };
 use std::alloc::{AllocError, Global};
 
@@ -20,7 +26,34 @@ pub struct Env<'a> {
     pub interp: &'a [Table],
     pub state: &'a [Value],
     pub inputs: &'a [Scalar],
-    pub lets: &'a [Value],
+    pub lets: Vec<Value>,
+}
+
+impl<'a> Env<'a> {
+    /// What names stand for behind these lets, each of which is valued once.
+    pub fn new(
+        alloc: Global,
+        locals: &[Local],
+        interp: &'a [Table],
+        state: &'a [Value],
+        inputs: &'a [Scalar],
+    ) -> Result<Env<'a>, AllocError>
+        ensures { IfOk result (λ env. env_view env
+            ≡ env_of (map local_view locals.now) interp.now state.now inputs.now) }
+    {
+        let mut env = Env {
+            alloc,
+            interp,
+            state,
+            inputs,
+            lets: Vec::new(alloc),
+        };
+        for local in locals {
+            let next = value(&env, &local.value)?;
+            env.lets.push(next)?;
+        }
+        Ok(env)
+    }
 }
 
 /// The value of an expression of the design, where the lets that it names have these values. A place past the
@@ -36,21 +69,22 @@ pub fn eval(
 ) -> Result<Value, AllocError>
     ensures { IfOk result (λ v. v ≡ value_of
         (record { interp = interp.now; state = state.now; inputs = inputs.now; locals = lets.now })
-        (term_of expr.now)) }
+        (expr_view expr.now)) }
 {
     let env = Env {
         alloc,
         interp: interp.as_slice(),
         state: state.as_slice(),
         inputs: inputs.as_slice(),
-        lets: lets.as_slice(),
+        lets: lets.clone()?.into_vec(),
     };
     value(&env, expr)
 }
 
 /// The values of expressions, in order.
 pub fn values(env: &Env, exprs: &Exprs) -> Result<Vec<Value>, AllocError>
-    ensures { IfOk result (λ v. v.items ≡ map (value_of (env_of env.now)) (list_of_terms (terms_of exprs.now))) }
+    ensures { IfOk result (λ v. v.items
+        ≡ map (value_of (env_view env.now)) (list_of_views (expr_views exprs.now))) }
 {
     let mut values = Vec::new(env.alloc);
     for expr in &exprs.items {
@@ -61,11 +95,11 @@ pub fn values(env: &Env, exprs: &Exprs) -> Result<Vec<Value>, AllocError>
 
 /// The value of an expression.
 pub fn value(env: &Env, expr: &Expr) -> Result<Value, AllocError>
-    ensures { IfOk result (λ v. v ≡ value_of (env_of env.now) (term_of expr.now)) }
+    ensures { IfOk result (λ v. v ≡ value_of (env_view env.now) (expr_view expr.now)) }
 {
     match expr {
         Expr::Entry(i) => value_at(env.state, *i),
-        Expr::Local(i) => value_at(env.lets, *i),
+        Expr::Local(i) => value_at(env.lets.as_slice(), *i),
         Expr::Ite(p, a, b) => {
             if truth(env, p)? {
                 value(env, a)
@@ -86,13 +120,13 @@ pub fn value(env: &Env, expr: &Expr) -> Result<Value, AllocError>
 /// The value of an expression, false where it's a memory.
 #[cycle(scalar)]
 pub fn scalar(env: &Env, expr: &Expr) -> Result<Scalar, AllocError>
-    ensures { IfOk result (λ x. x ≡ scalar_of (value_of (env_of env.now) (term_of expr.now))) }
+    ensures { IfOk result (λ x. x ≡ scalar_of (value_of (env_view env.now) (expr_view expr.now))) }
 {
     match expr {
         Expr::Bool(b) => Ok(Scalar::Bool(*b)),
         Expr::Entry(i) => Ok(scalar_at(env.state, *i)),
         Expr::Input(i) => Ok(input_at(env.inputs, *i)),
-        Expr::Local(i) => Ok(scalar_at(env.lets, *i)),
+        Expr::Local(i) => Ok(scalar_at(env.lets.as_slice(), *i)),
         Expr::Not(a) => Ok(Scalar::Bool(!truth(env, a)?)),
         Expr::And(parts) => Ok(Scalar::Bool(all_true(env, parts)?)),
         Expr::Or(parts) => Ok(Scalar::Bool(any_true(env, parts)?)),
@@ -120,7 +154,7 @@ pub fn scalar(env: &Env, expr: &Expr) -> Result<Scalar, AllocError>
 
 #[cycle(scalar)]
 pub fn truth(env: &Env, expr: &Expr) -> Result<bool, AllocError>
-    ensures { IfOk result (λ b. b ≡ is_true (value_of (env_of env.now) (term_of expr.now))) }
+    ensures { IfOk result (λ b. b ≡ is_true (value_of (env_view env.now) (expr_view expr.now))) }
 {
     let value = scalar(env, expr)?;
     Ok(truth_of(value))
@@ -128,7 +162,7 @@ pub fn truth(env: &Env, expr: &Expr) -> Result<bool, AllocError>
 
 #[cycle(scalar)]
 fn word(env: &Env, expr: &Expr) -> Result<u64, AllocError>
-    ensures { IfOk result (λ n. n ≡ word_of (value_of (env_of env.now) (term_of expr.now))) }
+    ensures { IfOk result (λ n. n ≡ word_of (value_of (env_view env.now) (expr_view expr.now))) }
 {
     let value = scalar(env, expr)?;
     Ok(word_in(value))
@@ -137,11 +171,12 @@ fn word(env: &Env, expr: &Expr) -> Result<u64, AllocError>
 // What a memory has at an address, without copying the memory.
 #[cycle(scalar)]
 fn read_at(env: &Env, memory: &Expr, address: u64) -> Result<u64, AllocError>
-    ensures { IfOk result (λ n. n ≡ read (memory_of (value_of (env_of env.now) (term_of memory.now))) address) }
+    ensures { IfOk result (λ n. n
+        ≡ read (memory_of (value_of (env_view env.now) (expr_view memory.now))) address) }
 {
     match memory {
         Expr::Entry(i) => Ok(word_at(env.state, *i, address)),
-        Expr::Local(i) => Ok(word_at(env.lets, *i, address)),
+        Expr::Local(i) => Ok(word_at(env.lets.as_slice(), *i, address)),
         Expr::Ite(p, a, b) => {
             if truth(env, p)? {
                 read_at(env, a, address)
@@ -162,7 +197,8 @@ fn read_at(env: &Env, memory: &Expr, address: u64) -> Result<u64, AllocError>
 
 #[cycle(scalar)]
 fn all_true(env: &Env, parts: &Exprs) -> Result<bool, AllocError>
-    ensures { IfOk result (λ b. b ≡ list_all is_true (values_of (env_of env.now) (terms_of parts.now))) }
+    ensures { IfOk result (λ b. b
+        ≡ list_all is_true (values_of (env_view env.now) (expr_views parts.now))) }
 {
     for part in &parts.items {
         if !truth(env, part)? {
@@ -174,7 +210,8 @@ fn all_true(env: &Env, parts: &Exprs) -> Result<bool, AllocError>
 
 #[cycle(scalar)]
 fn any_true(env: &Env, parts: &Exprs) -> Result<bool, AllocError>
-    ensures { IfOk result (λ b. b ≡ list_any is_true (values_of (env_of env.now) (terms_of parts.now))) }
+    ensures { IfOk result (λ b. b
+        ≡ list_any is_true (values_of (env_view env.now) (expr_views parts.now))) }
 {
     for part in &parts.items {
         if truth(env, part)? {
@@ -186,7 +223,8 @@ fn any_true(env: &Env, parts: &Exprs) -> Result<bool, AllocError>
 
 #[cycle(scalar)]
 fn words(env: &Env, parts: &Exprs) -> Result<Vec<u64>, AllocError>
-    ensures { IfOk result (λ v. v.items ≡ map word_of (values_of (env_of env.now) (terms_of parts.now))) }
+    ensures { IfOk result (λ v. v.items
+        ≡ map word_of (values_of (env_view env.now) (expr_views parts.now))) }
 {
     let mut words = Vec::new(env.alloc);
     for part in &parts.items {

@@ -3,7 +3,7 @@ use Rattle.std.specs.Slice.Iter.{iter_rest}
 use Rattle.std.proofs.Common.{◌≡◌}
 use Rattle.bd_model.specs.Fits.{scalar_sort}
 use Rattle.bd_model.specs.declared.design.Port.{Port}
-use Rattle.bd_model.proofs.Zips.{IsLeft}
+use Rattle.bd_model.proofs.Pairs.{IsLeft}
 use Rattle.bd_model.proofs.fits.scalars_fit.Given as goal
 
 abbrev pub invariant-loop-port : goal.invariant-loop-port

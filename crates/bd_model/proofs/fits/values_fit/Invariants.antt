@@ -3,7 +3,7 @@ use Rattle.std.specs.Slice.Iter.{iter_rest}
 use Rattle.std.proofs.Common.{◌≡◌}
 use Rattle.bd_model.specs.Fits.{value_sort}
 use Rattle.bd_model.specs.declared.design.Entry.{Entry}
-use Rattle.bd_model.proofs.Zips.{IsLeft}
+use Rattle.bd_model.proofs.Pairs.{IsLeft}
 use Rattle.bd_model.proofs.fits.values_fit.Given as goal
 
 abbrev pub invariant-loop-entry : goal.invariant-loop-entry

@@ -1,7 +1,7 @@
 use Rattle.std.specs.Iterator.Adapters.{zip_first, zip_second}
 use Rattle.std.specs.Slice.Iter.{iter_rest}
-use Rattle.bd_model.specs.Right.{SameValue}
-use Rattle.bd_model.proofs.Zips.{IsLeft}
+use Rattle.bd_model.specs.Same.{SameValue}
+use Rattle.bd_model.proofs.Pairs.{IsLeft}
 use Rattle.bd_sim.proofs.judgement.same.Given as goal
 
 abbrev pub invariant-loop-value : goal.invariant-loop-value

@@ -1,5 +1,5 @@
 use Rattle.std.proofs.Common.{sym, ap, ◌∙◌}
-use Rattle.bd_sim.specs.Env.{env_of}
+use Rattle.bd_sim.specs.inner.Env.{env_view}
 use Rattle.bd_sim.proofs.ExactItems.{counted_true, counted_false, counted_end}
 use Rattle.bd_sim.proofs.judgement.true_counts.Goals as goal
 use Rattle.bd_sim.proofs.judgement.true_counts.Goals.{then-branch+in_ok-push, else-branch}
@@ -8,12 +8,12 @@ pub loop-item-preserved : goal.loop-item-preserved
 loop-item-preserved c =
     elim c.if-branch.branch [
       | then-branch+in_ok-push w ↦
-          counted_true (env_of c.args.env.now) c.args.items.now c.loop-item.item-index c.item-item.result _ _ _ c.loop-item-test.true c.item-item.is c.loop-item.invariant
+          counted_true (env_view c.args.env.now) c.args.items.now c.loop-item.item-index c.item-item.result _ _ _ c.loop-item-test.true c.item-item.is c.loop-item.invariant
           (sym c.in_ok-truth.ensures ∙ w.if-branch.true) (ap (λ v. v.items) w.counts-is ∙ w.in_ok-push.ensures.items)
       | else-branch w ↦
-          counted_false (env_of c.args.env.now) c.args.items.now c.loop-item.item-index c.item-item.result _ _ _ c.loop-item-test.true c.item-item.is c.loop-item.invariant
+          counted_false (env_view c.args.env.now) c.args.items.now c.loop-item.item-index c.item-item.result _ _ _ c.loop-item-test.true c.item-item.is c.loop-item.invariant
           (sym c.in_ok-truth.ensures ∙ w.if-branch.false) (ap (λ v. v.items) w.counts-is)
     ]
 
 pub returns : goal.returns
-returns c = counted_end (env_of c.args.env.now) c.args.items.now c.loop-item.item-index _ _ c.loop-item-test.false c.loop-item.invariant
+returns c = counted_end (env_view c.args.env.now) c.args.items.now c.loop-item.item-index _ _ c.loop-item-test.false c.loop-item.invariant

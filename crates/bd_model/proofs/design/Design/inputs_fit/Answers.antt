@@ -1,7 +1,7 @@
 use Rattle.std.proofs.Common.{◌≡◌}
 use Rattle.bd_model.specs.DesignView.{PortView, port_view}
 use Rattle.bd_model.specs.Fits.{scalar_sort}
-use Rattle.bd_model.proofs.Zips.{AllZip-map_first}
+use Rattle.bd_model.proofs.Pairs.{AllZip-map_first}
 use Rattle.bd_model.proofs.design.Design.inputs_fit.Goals as goal
 
 pub returns : goal.returns

@@ -2,5 +2,10 @@
 use Rattle.bd_model.specs.Value.{Env}
 use Rattle.bd_sim.specs.declared.value.Env as concrete
 
-abbrev pub env_of : concrete.Env → Env
-env_of e = record { interp = e.interp.now; state = e.state.now; inputs = e.inputs.now; locals = e.lets.now }
+abbrev pub env_view : concrete.Env → Env
+env_view e = record {
+  interp = e.interp.now;
+  state = e.state.now;
+  inputs = e.inputs.now;
+  locals = e.lets.items;
+}
