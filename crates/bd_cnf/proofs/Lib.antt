@@ -1,4 +1,7 @@
-pub mod ValueMap
 pub mod Literals
 pub mod Rising
 pub mod Made
+pub mod ValueMap
+pub mod Opens
+pub mod Trails
+pub mod Standings

@@ -1,6 +1,4 @@
 pub mod StandingMap
-pub mod Trails
-pub mod Opens
 pub mod Standings
 pub mod Answering
 pub mod Soundness

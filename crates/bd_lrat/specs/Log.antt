@@ -7,7 +7,8 @@ use Rattle.std.specs.Prelude.{map}
 use Rattle.bd_lrat.specs.declared.line.Hint.{Hint}
 use Rattle.bd_lrat.specs.declared.line.Line.{Line}
 use Rattle.bd_lrat.specs.declared.line.Line.TheVariants.{Add, Delete}
-use Rattle.bd_lrat.specs.Propagation.{Standing, Conflict, propagate, reaches}
+use Rattle.bd_cnf.specs.Standing.{Standing}
+use Rattle.bd_lrat.specs.Propagation.{Conflict, propagate, reaches}
 use Rattle.bd_lrat.specs.Database.{Database, database_of, IsAccepted, after}
 
 -- each line is accepted on what stands before it
@@ -46,7 +47,7 @@ others clause l = filter (λ m. not (literal_eq l m)) clause
 
 -- no propagation from the literals ends in a conflict or gives the variable a value
 abbrev pub NeverReaches : Standing → List Literal → ℕ → Type 0
-NeverReaches standing taken var = (hints : List Hint) → reaches (propagate standing taken hints) var ≡ false
+NeverReaches standing trail var = (hints : List Hint) → reaches (propagate standing trail hints) var ≡ false
 
 -- a clause is fresh where it includes no earlier one, and some literal of it isn't reached from the negations of the others
 pub record IsFreshClause (standing : Standing) (earlier : List (List Literal)) (clause : List Literal) : Type 0 where
@@ -58,7 +59,7 @@ pub record IsFreshClause (standing : Standing) (earlier : List (List Literal)) (
 -- each clause that is added, the empty one aside, is fresh: over what stands before its line, and against the clauses of the formula and of all earlier lines, deleted ones included
 abbrev pub AddsFresh : Database → List (List Literal) → List Line → Type 0
 AddsFresh db earlier [] = Unit {0}
-AddsFresh db earlier ((Add id clause hints) ∷ lines) = (clause ≢ [] → IsFreshClause db.standing earlier clause) × AddsFresh (after db (Add id clause hints)) (clause ∷ earlier) lines
+AddsFresh db earlier ((Add id clause hints) ∷ lines) = (clause ≢ [] → IsFreshClause db.clauses earlier clause) × AddsFresh (after db (Add id clause hints)) (clause ∷ earlier) lines
 AddsFresh db earlier ((Delete id ids) ∷ lines) = AddsFresh (after db (Delete id ids)) earlier lines
 
 -- a log is fresh over a formula

@@ -3,17 +3,19 @@
 
 mod checker;
 mod clause_map;
+mod hints;
 mod line;
-mod lists;
+mod log;
 mod propagation;
 mod refused;
 mod refutation;
-mod taken;
 mod text;
+mod trail;
 
 pub use checker::Checker;
+pub use hints::Hints;
 pub use line::{Hint, Line};
-pub use lists::{Hints, Log};
+pub use log::Log;
 pub use refused::{AddError, Refused};
 pub use refutation::{refutation_law, refutes};
 pub use text::lrat_text;

@@ -6,7 +6,7 @@ ghost use Rattle.bd_lrat.specs.Log.{IsRefutation};
 
 use crate::checker::Checker;
 use crate::line::Line;
-use crate::lists::Log;
+use crate::log::Log;
 use crate::refused::AddError;
 use bd_cnf::Cnf;
 use std::alloc::{AllocError, Global};

@@ -2,7 +2,7 @@ ghost use Rattle.std.specs.Prelude.{◌≡◌, ◌++◌, OnOk, IfOk, string_byte
 ghost use Rattle.bd_lrat.specs.Text.{hints_text, ids_text, line_text, lrat};
 
 use crate::line::{Hint, Line};
-use crate::lists::Log;
+use crate::log::Log;
 use bd_cnf::push_literals;
 use std::alloc::{AllocError, Global};
 use std::fmt;

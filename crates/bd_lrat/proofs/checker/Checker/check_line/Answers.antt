@@ -1,7 +1,8 @@
 use Rattle.std.proofs.Common.{sym, ◌∙◌, subst}
 use Rattle.bd_lrat.specs.declared.line.Line.{Line}
 use Rattle.bd_lrat.specs.declared.line.Line.TheVariants.{Delete}
-use Rattle.bd_lrat.specs.Database.{after, Models}
+use Rattle.bd_cnf.specs.Standing.{Models}
+use Rattle.bd_lrat.specs.Database.{after}
 use Rattle.bd_lrat.proofs.Answering.{addition_is_line, accepted_is_ok}
 use Rattle.bd_lrat.proofs.Soundness.{ok_sound, accepted_sound}
 use Rattle.bd_lrat.proofs.checker.Checker.check_line.Goals as goal
@@ -21,4 +22,4 @@ returns-in-Add-clause-sound c =
 pub returns-in-Delete-clause-sound : goal.returns-in-Delete-clause-sound
 returns-in-Delete-clause-sound c v holds =
     let db = c.args.self.now in
-    subst (λ (l : Line). Models v (after db l).standing) (sym c.in-Delete.is) (accepted_sound db (Delete c.in-Delete.id c.in-Delete.ids) tt v holds)
+    subst (λ (l : Line). Models v (after db l).clauses) (sym c.in-Delete.is) (accepted_sound db (Delete c.in-Delete.id c.in-Delete.ids) tt v holds)

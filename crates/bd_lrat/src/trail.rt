@@ -2,8 +2,7 @@ ghost use Rattle.std.specs.Prelude.{◌≡◌, ◌<◌, ◌+◌, ◌++◌, ◌�
 ghost use Rattle.std.specs.List.{All};
 ghost use Rattle.bd_cnf.specs.Literal.{Literal, has_literal, negate};
 ghost use Rattle.bd_cnf.specs.Clause.{IsRising};
-ghost use Rattle.bd_lrat.specs.Propagation.{is_false};
-ghost use Rattle.bd_lrat.specs.Trail.{IsLeft, trail_of};
+ghost use Rattle.bd_cnf.specs.Trail.{is_false, trail_of, IsLeft};
 
 use bd_cnf::Lit;
 use std::alloc::{AllocError, Global};
@@ -11,69 +10,69 @@ use std::marker::Model;
 
 /// The literals that a check takes as true.
 #[derive(Debug, Drop)]
-pub(crate) struct Taken {
+pub(crate) struct Trail {
     /// By variable, its value where it has one.
     values: Vec<Option<bool>>,
-    /// The literals, in the order in which they were taken.
-    trail: Vec<Lit>,
+    /// The literals, in the order in which they were taken as true.
+    literals: Vec<Lit>,
 }
 
-impl Model for Taken {
+impl Model for Trail {
     ghost use Rattle.std.specs.Prelude.{length, vec_capacity};
-    ghost use Rattle.bd_lrat.specs.Trail.{Trail, IsTrail, trail_of};
+    ghost use Rattle.bd_cnf.specs.Trail.{TrailView, IsTrail, trail_of};
 
-    ghost Value = { Trail };
+    ghost Value = { TrailView };
 
-    ghost view = { λ a. trail_of (length a.values.items) a.trail.items };
+    ghost view = { λ a. trail_of (length a.values.items) a.literals.items };
 
-    ghost invariant = { λ a. IsTrail a.values.items a.trail.items (vec_capacity a.trail) };
+    ghost invariant = { λ a. IsTrail a.values.items a.literals.items (vec_capacity a.literals) };
 }
 
-impl Taken {
+impl Trail {
     /// No literal, with room for those of the variables up to `vars`.
-    pub(crate) fn new(alloc: Global, vars: u64) -> Result<Taken, AllocError>
+    pub(crate) fn new(alloc: Global, vars: u64) -> Result<Trail, AllocError>
         ensures { IfOk result (λ t. t ≡ trail_of (vars + 1) []) }
     {
         let limit = vars.checked_add(1).ok_or(AllocError)? as usize;
         let values = vec![in alloc; None; limit]?;
-        let trail = Vec::with_capacity(alloc, limit)?;
-        Ok(Taken { values, trail })
+        let literals = Vec::with_capacity(alloc, limit)?;
+        Ok(Trail { values, literals })
     }
 
     pub(crate) fn is_true(&self, lit: Lit) -> bool
         requires { lit.var < self.now.limit }
-        ensures { result ≡ has_literal self.now.taken lit }
+        ensures { result ≡ has_literal self.now.literals lit }
     {
         self.values[lit.var() as usize] == Some(lit.is_positive())
     }
 
     pub(crate) fn is_false(&self, lit: Lit) -> bool
         requires { lit.var < self.now.limit }
-        ensures { result ≡ is_false self.now.taken lit }
+        ensures { result ≡ is_false self.now.literals lit }
     {
         self.is_true(lit.negated())
     }
 
     /// Takes a literal whose variable has no value yet. Takes no memory.
-    pub(crate) fn take(&mut self, lit: Lit)
+    pub(crate) fn assign(&mut self, lit: Lit)
         requires within { lit.var < self.old.limit }
-        requires not_true { has_literal self.old.taken lit ≡ false }
-        requires not_false { is_false self.old.taken lit ≡ false }
-        ensures { self.new ≡ trail_of self.old.limit (self.old.taken ++ lit ∷ []) }
+        requires not_true { has_literal self.old.literals lit ≡ false }
+        requires not_false { is_false self.old.literals lit ≡ false }
+        ensures { self.new ≡ trail_of self.old.limit (self.old.literals ++ lit ∷ []) }
     {
         self.values[lit.var() as usize] = Some(lit.is_positive());
-        self.trail.push_reserved(lit);
+        self.literals.push_reserved(lit);
     }
 
     /// Takes the negations of a clause's literals. Takes no memory.
-    pub(crate) fn take_negations(&mut self, clause: &[Lit])
-        requires none { self.old.taken ≡ [] }
+    pub(crate) fn assign_negations(&mut self, clause: &[Lit])
+        requires none { self.old.literals ≡ [] }
         requires rising { IsRising clause.now }
         requires within { All (λ l. l.var < self.old.limit) clause.now }
         ensures { self.new ≡ trail_of self.old.limit (map negate clause.now) }
     {
         for lit in clause {
-            self.take(lit.negated());
+            self.assign(lit.negated());
         }
     }
 
@@ -81,8 +80,8 @@ impl Taken {
     pub(crate) fn clear(&mut self)
         ensures { self.new ≡ trail_of self.old.limit [] }
     {
-        unset(&mut self.values, &self.trail);
-        self.trail.clear();
+        unset(&mut self.values, &self.literals);
+        self.literals.clear();
     }
 }
 
