@@ -5,3 +5,4 @@ pub mod ValueMap
 pub mod Opens
 pub mod Trails
 pub mod Standings
+pub mod Closed

@@ -16,6 +16,10 @@ open_literals trail clause = filter (λ l. not (is_false trail l)) clause
 abbrev pub IsConsistent : List Literal → Type 0
 IsConsistent trail = (l : Literal) → IsTrue (has_literal trail l) → is_false trail l ≡ false
 
+-- each literal of the one stands on the other
+abbrev pub IsPartOf : List Literal → List Literal → Type 0
+IsPartOf part whole = (l : Literal) → IsTrue (has_literal part l) → IsTrue (has_literal whole l)
+
 -- some literal of the clause is true, or two or more are open: the clause is neither false nor unit
 abbrev pub IsClosed : List Literal → List Literal → Type 0
 IsClosed trail clause = IsTrue (list_any (has_literal trail) clause) ⊎ (2 ≤ length (open_literals trail clause))

@@ -7,7 +7,7 @@ use Rattle.std.proofs.lemmas.List.Elements.{All-nil, All-cons}
 use Rattle.bd_cnf.specs.Literal.{Literal, negate, literal_eq, has_literal, literal_value}
 use Rattle.bd_cnf.specs.Clause.{clause_value, clauses_value, Satisfies}
 use Rattle.bd_cnf.specs.Problem.{Problem}
-use Rattle.bd_cnf.proofs.Literals.{literal_eq-true, negate-value, has-push, has_from_value}
+use Rattle.bd_cnf.proofs.Literals.{literal_eq-true, has-filter, negate-value, has-push, has_from_value}
 use Rattle.bd_lrat.specs.declared.line.Hint.{Hint}
 use Rattle.bd_lrat.specs.declared.line.Hint.TheVariants as hint
 use Rattle.bd_lrat.specs.declared.line.Line.{Line}
@@ -17,7 +17,7 @@ use Rattle.bd_cnf.specs.Standing.{Standing, Models}
 use Rattle.bd_cnf.specs.Trail.{is_false, open_literals}
 use Rattle.bd_cnf.proofs.Standings.{each_insert}
 use Rattle.bd_lrat.specs.Database.{Database, database_of, IsAccepted, after}
-use Rattle.bd_lrat.specs.Log.{IsAcceptedLog, IsRefutation, adds_empty}
+use Rattle.bd_lrat.specs.Log.{IsAcceptedLog, IsRefutation, after_all, adds_empty}
 use Rattle.std.proofs.Common.{Result, Ok, Err, OnOk, is_ok}
 use Rattle.bd_lrat.specs.declared.refused.Refused.{Refused}
 use Rattle.bd_lrat.specs.Database.{line_answer}
@@ -33,20 +33,6 @@ abbrev pub IsTrueOutcome : (ℕ → Bool) → Outcome → Type 0
 IsTrueOutcome v Conflict = ⊥
 IsTrueOutcome v (Reached trail) = AllTrue v trail
 IsTrueOutcome v (Stopped r) = Unit {0}
-
-has-filter : (p : Literal → Bool) (ls : List Literal) (l : Literal) → has_literal ls l ≡ true → p l ≡ true → has_literal (filter p ls) l ≡ true
-has-filter p [] l here passes = here
-has-filter p (m ∷ ms) l here passes =
-    elim (or_cases (literal_eq l m) _ here) [
-      | inl e ↦
-          let kept : p m ≡ true = subst (λ (k : Literal). p k ≡ true) (literal_eq-true l m e) passes in
-          subst (λ b. has_literal (cond b (m ∷ filter p ms) (filter p ms)) l ≡ true) (sym kept) (or_left _ _ e)
-      | inr e ↦ first (p m) (has-filter p ms l e passes)
-    ]
-  where
-    first : (b : Bool) → has_literal (filter p ms) l ≡ true → has_literal (cond b (m ∷ filter p ms) (filter p ms)) l ≡ true
-    first true h = or_right (literal_eq l m) _ h
-    first false h = h
 
 -- a true literal of the clause is open
 true_is_open : (v : ℕ → Bool) (trail clause : List Literal) (l : Literal) → AllTrue v trail → has_literal clause l ≡ true → literal_value v l ≡ true → has_literal (open_literals trail clause) l ≡ true
@@ -134,6 +120,11 @@ log_refutes (line ∷ lines) db so adds v holds =
       | inr e ↦ log_refutes lines (after db line) so.1 e v (accepted_sound db line so.0 v holds)
     ]
 
+-- what stands after an accepted log is true where what stood before it is
+pub log_sound : (lines : List Line) (db : Database) → IsAcceptedLog db lines → (v : ℕ → Bool) → Models v db.clauses → Models v (after_all db lines).clauses
+log_sound [] db so v holds = holds
+log_sound (line ∷ lines) db so v holds = log_sound lines (after db line) so.1 v (accepted_sound db line so.0 v holds)
+
 all_true : (v : ℕ → Bool) (cs : List (List Literal)) → clauses_value v cs ≡ true → All (λ c. clause_value v c ≡ true) cs
 all_true v [] h = All-nil (λ c. clause_value v c ≡ true)
 all_true v (c ∷ cs) h =
@@ -149,3 +140,7 @@ refutation_sound p lines so v h = log_refutes lines (database_of p) so.0 so.1 v 
 pub ok_sound : (db : Database) (line : Line) (r : Result (Unit {0}) Refused) → r ≡ line_answer db line → OnOk r ((v : ℕ → Bool) → Models v db.clauses → Models v (after db line).clauses)
 ok_sound db line (Ok x) e = accepted_sound db line (accepted_from_ok db line (ap is_ok (sym e)))
 ok_sound db line (Err x) e = tt
+
+-- each model of a formula is one of what stands after an accepted log
+pub models_after : (p : Problem) (lines : List Line) → IsAcceptedLog (database_of p) lines → (v : ℕ → Bool) → Satisfies v p.clauses → Models v (after_all (database_of p) lines).clauses
+models_after p lines so v h = log_sound lines (database_of p) so v (models_formula v p h)

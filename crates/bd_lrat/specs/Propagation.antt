@@ -1,8 +1,7 @@
 -- Unit propagation along hints: the check of a clause by reverse unit propagation, as textual LRAT reads its hints.
-use Rattle.std.specs.Prelude.{ℕ, Bool, true, false, ◌==◌, List, [], ◌∷◌, ◌++◌, Option, None, Some, if◌then◌else◌}
-use Rattle.std.specs.List.{list_any}
+use Rattle.std.specs.Prelude.{ℕ, Bool, true, false, List, [], ◌∷◌, ◌++◌, Option, None, Some, if◌then◌else◌}
 use Rattle.std.specs.FinMap.{get}
-use Rattle.bd_cnf.specs.Literal.{Literal, has_literal}
+use Rattle.bd_cnf.specs.Literal.{Literal, has_literal, has_variable}
 use Rattle.bd_cnf.specs.Standing.{Standing}
 use Rattle.bd_cnf.specs.Trail.{open_literals}
 use Rattle.bd_lrat.specs.declared.line.Hint.{Hint}
@@ -50,5 +49,5 @@ propagate standing trail (h ∷ hs) = and_then (hint_outcome standing trail h) (
 -- whether propagation ended in a conflict or gave the variable a value
 abbrev pub reaches : Outcome → ℕ → Bool
 reaches Conflict var = true
-reaches (Reached trail) var = list_any (λ l. l.var == var) trail
+reaches (Reached trail) var = has_variable trail var
 reaches (Stopped r) var = false
