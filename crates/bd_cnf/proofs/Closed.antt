@@ -5,7 +5,7 @@ use Rattle.std.proofs.lemmas.Bool.{false≢true, true≢false, cases_Bool, or_ca
 use Rattle.bd_cnf.specs.Literal.{Literal, negate, literal_eq, has_literal, has_variable}
 use Rattle.bd_cnf.specs.Clause.{RisesAbove, IsRising}
 use Rattle.bd_cnf.specs.Trail.{is_false, open_literals, IsConsistent, IsPartOf, IsClosed}
-use Rattle.bd_cnf.proofs.Literals.{literal_eq-true, literal_eq-refl, has-filter, has-push, any_has, any_from_has, filter_has}
+use Rattle.bd_cnf.proofs.Literals.{literal_eq-true, literal_eq-refl, negate_apart, negate_twice, has-filter, has-push, any_has, any_from_has, filter_has}
 use Rattle.bd_cnf.proofs.Rising.{above_floor}
 
 -- what a clause's open literals come to within a trail: none is no case, one is on the trail
@@ -128,4 +128,27 @@ closed_not_false trail clause u consistent rising (inr two) free all =
           | inr e ↦
               let apart : l ≡ u → ⊥ = λ s. true≢false (sym (subst (λ (k : Literal). literal_eq l k ≡ true) s (literal_eq-refl l)) ∙ e) in
               absurd (false≢true (sym (ap not (all l h.0 apart)) ∙ h.1))
+        ]
+
+-- a trail is consistent where no literal stands there with its negation
+pub consistent_from : (trail : List Literal) → ((l : Literal) → has_literal trail l ≡ true → has_literal trail (negate l) ≡ true → ⊥) → IsConsistent trail
+consistent_from trail apart l here = elim (cases_Bool (is_false trail l)) [ inl e ↦ absurd (apart l here e) | inr e ↦ e ]
+
+-- a literal that isn't false keeps a trail consistent
+pub consistent_push : (trail : List Literal) (l : Literal) → IsConsistent trail → is_false trail l ≡ false → IsConsistent (trail ++ l ∷ [])
+consistent_push trail l consistent not_false = consistent_from (trail ++ l ∷ []) apart
+  where
+    apart : (m : Literal) → has_literal (trail ++ l ∷ []) m ≡ true → has_literal (trail ++ l ∷ []) (negate m) ≡ true → ⊥
+    apart m here there =
+        elim (or_cases (has_literal trail m) _ (sym (has-push trail l m) ∙ here)) [
+          | inl e ↦ elim (or_cases (has_literal trail (negate m)) _ (sym (has-push trail l (negate m)) ∙ there)) [
+            | inl f ↦ true≢false (sym f ∙ consistent m e)
+            | inr f ↦
+                let same : m ≡ negate l = sym (negate_twice m) ∙ ap negate (literal_eq-true (negate m) l f) in
+                true≢false (sym (subst (λ (k : Literal). has_literal trail k ≡ true) same e) ∙ not_false)
+          ]
+          | inr e ↦ elim (or_cases (has_literal trail (negate m)) _ (sym (has-push trail l (negate m)) ∙ there)) [
+            | inl f ↦ true≢false (sym (subst (λ (k : Literal). has_literal trail (negate k) ≡ true) (literal_eq-true m l e) f) ∙ not_false)
+            | inr f ↦ negate_apart m (literal_eq-true m l e ∙ sym (literal_eq-true (negate m) l f))
+          ]
         ]

@@ -4,6 +4,7 @@ use Rattle.std.proofs.lemmas.Bool.{false≢true, true≢false, eqb-true, eq-eqb,
 use Rattle.std.specs.List.{filter, list_any}
 use Rattle.std.proofs.lemmas.List.Folds.{list_any-append, list_any_at}
 use Rattle.std.proofs.Math.Bool.{or-false}
+use mathlib.Core.Bool.{not-not}
 use Rattle.bd_cnf.specs.Literal.{Literal, negate, literal_eq, has_literal, literal_value}
 use Rattle.std.proofs.lemmas.List.Elements.{All-head, All-tail}
 use Rattle.bd_cnf.specs.Clause.{SameLiterals, IsTautology, IsWithin, clause_value}
@@ -36,9 +37,9 @@ not_own false h = false≢true h
 pub negate_apart : (l : Literal) → l ≡ negate l → ⊥
 negate_apart l h = not_own l.positive (ap (λ (m : Literal). m.positive) h)
 
-not-not : (p : Bool) → not (not p) ≡ p
-not-not true = refl
-not-not false = refl
+-- a literal is the negation of its negation
+pub negate_twice : (l : Literal) → negate (negate l) ≡ l
+negate_twice l = λ i. record { var = l.var; positive = not-not l.positive i }
 
 -- a literal of the same variable with another sign is the negation
 pub negate_from_apart : (a b : Literal) → a.var ≡ b.var → (a.positive ≡ b.positive → ⊥) → a ≡ negate b

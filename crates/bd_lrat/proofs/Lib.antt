@@ -6,3 +6,4 @@ pub mod Refuting
 pub mod Ends
 pub mod Ids
 pub mod Closed
+pub mod Examples

@@ -25,6 +25,10 @@ module _ (P : List Literal → Type 0) where
   pub each_numbered : (cs : List (List Literal)) → All P cs → EachStanding P (numbered cs)
   each_numbered cs all q = subst (λ o. IfSome o P) (sym (get-from_entries nat_cmp_total (enumerate_from 1 cs) q)) (each_found 1 cs all q)
 
+-- what a formula's clauses have under an id
+pub get-numbered : (cs : List (List Literal)) (q : ℕ) → get (numbered cs) q ≡ find nat_cmp q (enumerate_from 1 cs)
+get-numbered cs q = get-from_entries nat_cmp_total (enumerate_from 1 cs) q
+
 enumerate-push : (n : ℕ) (cs : List (List Literal)) (c : List Literal) → enumerate_from n (cs ++ c ∷ []) ≡ enumerate_from n cs ++ (n + length cs, c) ∷ []
 enumerate-push n [] c = ap (λ k. (k, c) ∷ []) (omega arith)
 enumerate-push n (x ∷ xs) c = ap (λ es. (n, x) ∷ es) (enumerate-push (n + 1) xs c ∙ ap (λ k. enumerate_from (n + 1) xs ++ (k, c) ∷ []) (omega arith))
