@@ -7,3 +7,4 @@ pub mod Ends
 pub mod Ids
 pub mod Closed
 pub mod Examples
+pub mod HintLists

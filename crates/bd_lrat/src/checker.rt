@@ -4,7 +4,8 @@ ghost use Rattle.bd_cnf.specs.Standing.{Models};
 ghost use Rattle.bd_lrat.specs.Database.{database_of, addition_answer, line_answer, variable_past, after, IsAccepted, IsAddError};
 
 use crate::clause_map::ClauseMap;
-use crate::line::{Hint, Line};
+use crate::hints::Hints;
+use crate::line::Line;
 use crate::propagation::propagate;
 use crate::refused::{AddError, Refused};
 use crate::trail::Trail;
@@ -67,14 +68,12 @@ impl Checker {
         ensures sound { OnOk result ((v : ℕ → Bool) → Models v self.old.clauses → Models v (after self.old line.now).clauses) }
     {
         match line {
-            Line::Add { id, clause, hints } => {
-                self.check_addition(*id, clause.lits(), hints.as_slice())
-            }
+            Line::Add { id, clause, hints } => { self.check_addition(*id, clause.lits(), hints) }
             Line::Delete { .. } => Ok(()),
         }
     }
 
-    fn check_addition(&mut self, id: u64, clause: &[Lit], hints: &[Hint]) -> Result<(), Refused>
+    fn check_addition(&mut self, id: u64, clause: &[Lit], hints: &Hints) -> Result<(), Refused>
         requires { IsRising clause.now }
         ensures answer { result ≡ addition_answer self.old id clause.now hints.now }
         ensures unchanged { self.new ≡ self.old }

@@ -14,7 +14,7 @@ mod text;
 mod trail;
 
 pub use checker::Checker;
-pub use hints::Hints;
+pub use hints::{Hints, HintsIter};
 pub use laws::{
     reached_decision_settles, refutation_law, square_is_unsettled, square_line_is_fresh,
     two_decisions_unsettle, weakened_line_is_not_fresh,

@@ -6,6 +6,7 @@ ghost use Rattle.bd_lrat.specs.Database.{outcome_answer};
 ghost use Rattle.bd_lrat.specs.inner.Steps.{IsOpen, IsStep};
 
 use crate::clause_map::ClauseMap;
+use crate::hints::Hints;
 use crate::line::Hint;
 use crate::refused::Refused;
 use crate::trail::Trail;
@@ -66,14 +67,14 @@ fn step(clauses: &ClauseMap, trail: &mut Trail, hint: Hint) -> Result<bool, Refu
 pub(crate) fn propagate(
     clauses: &ClauseMap,
     trail: &mut Trail,
-    hints: &[Hint],
+    hints: &Hints,
 ) -> Result<(), Refused>
     requires { StandsBelow trail.old.limit clauses.now }
     ensures limit { trail.new.limit ≡ trail.old.limit }
     ensures answer { result ≡ outcome_answer (propagate clauses.now trail.old.literals hints.now) }
 {
-    for hint in hints {
-        if step(clauses, trail, *hint)? {
+    for hint in hints.iter() {
+        if step(clauses, trail, hint)? {
             return Ok(());
         }
     }
