@@ -1,12 +1,11 @@
 -- A trail that is closed under unit propagation, and what its parts leave of each clause that stands.
-use Rattle.std.proofs.Common.{◌≡◌, ℕ, ◌+◌, ◌<◌, ◌≤◌, Bool, true, false, not, ◌||◌, cond, eqb, List, [], ◌∷◌, ◌++◌, length, refl, sym, ap, ◌∙◌, subst, inl, inr, arith, map}
-use Rattle.std.specs.List.{filter, list_any}
+use Rattle.std.proofs.Common.{◌≡◌, ℕ, ◌<◌, ◌≤◌, Bool, true, false, not, ◌||◌, cond, eqb, List, [], ◌∷◌, ◌++◌, length, refl, sym, ap, ◌∙◌, subst, inl, inr, arith}
+use Rattle.std.specs.List.{filter}
 use Rattle.std.proofs.lemmas.Bool.{false≢true, true≢false, cases_Bool, or_cases, eq-eqb}
 use Rattle.bd_cnf.specs.Literal.{Literal, negate, literal_eq, has_literal, has_variable}
 use Rattle.bd_cnf.specs.Clause.{RisesAbove, IsRising}
 use Rattle.bd_cnf.specs.Trail.{is_false, open_literals, IsConsistent, IsPartOf, IsClosed}
 use Rattle.bd_cnf.proofs.Literals.{literal_eq-true, literal_eq-refl, negate_apart, negate_twice, has-filter, has-push, any_has, any_from_has, filter_has}
-use Rattle.bd_cnf.proofs.Rising.{above_floor}
 
 -- what a clause's open literals come to within a trail: none is no case, one is on the trail
 abbrev pub IsOpenWithin : List Literal → List Literal → Type 0

@@ -1,7 +1,7 @@
 pub mod Literals
 pub mod Rising
 pub mod Made
-pub mod ValueMap
+pub mod Maps
 pub mod Opens
 pub mod Trails
 pub mod Standings

@@ -1,5 +1,5 @@
 -- What holds of each clause that stands, through additions and deletions.
-use Rattle.std.proofs.Common.{◌≡◌, ℕ, Bool, true, false, cond, List, Option, None, Some, IfSome, sym, subst}
+use Rattle.std.proofs.Common.{ℕ, Bool, true, false, cond, List, Option, None, Some, IfSome, sym, subst}
 use Rattle.std.specs.Ordering.{nat_cmp, eq_by_cmp}
 use Rattle.std.specs.Cmp.{nat_cmp_total}
 use Rattle.std.specs.FinMap.{get, insert, remove, get-insert, get-remove}

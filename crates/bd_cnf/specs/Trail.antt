@@ -1,5 +1,5 @@
 -- Trails of unit propagation: the literals that are taken as true, in order, and what they leave of a clause (conflict-driven solvers).
-use Rattle.std.specs.Prelude.{◌≡◌, ℕ, ◌+◌, ◌<◌, ◌≤◌, Bool, not, true, false, List, length, Option, None, Some, is_none, [], slice_index_or, if◌then◌else◌, count_by, IsTrue, ◌⊎◌}
+use Rattle.std.specs.Prelude.{◌≡◌, ℕ, ◌+◌, ◌<◌, ◌≤◌, Bool, not, true, false, List, length, Option, None, Some, is_none, slice_index_or, if◌then◌else◌, count_by, IsTrue, ◌⊎◌}
 use Rattle.std.specs.List.{All, filter, list_any}
 use Rattle.bd_cnf.specs.Literal.{Literal, negate, has_literal}
 use Rattle.bd_cnf.specs.Standing.{Standing, EachStanding}
