@@ -1,4 +1,8 @@
-pub mod ValueMap
 pub mod Literals
 pub mod Rising
 pub mod Made
+pub mod Maps
+pub mod Opens
+pub mod Trails
+pub mod Standings
+pub mod Closed

@@ -1,8 +1,10 @@
 -- Literals in lists, and the values of clauses.
 use Rattle.std.proofs.Common.{◌≡◌, ℕ, Bool, true, false, not, ◌||◌, cond, List, [], ◌∷◌, ◌++◌, refl, sym, ap, ◌∙◌, subst, inl, inr, eqb, ◌<◌, ◌≤◌, length, get_or}
 use Rattle.std.proofs.lemmas.Bool.{false≢true, true≢false, eqb-true, eq-eqb, and_parts, and_from, or_cases, or_left, or_right, cases_Bool}
+use Rattle.std.specs.List.{filter, list_any}
 use Rattle.std.proofs.lemmas.List.Folds.{list_any-append, list_any_at}
 use Rattle.std.proofs.Math.Bool.{or-false}
+use mathlib.Core.Bool.{not-not}
 use Rattle.bd_cnf.specs.Literal.{Literal, negate, literal_eq, has_literal, literal_value}
 use Rattle.std.proofs.lemmas.List.Elements.{All-head, All-tail}
 use Rattle.bd_cnf.specs.Clause.{SameLiterals, IsTautology, IsWithin, clause_value}
@@ -35,9 +37,9 @@ not_own false h = false≢true h
 pub negate_apart : (l : Literal) → l ≡ negate l → ⊥
 negate_apart l h = not_own l.positive (ap (λ (m : Literal). m.positive) h)
 
-not-not : (p : Bool) → not (not p) ≡ p
-not-not true = refl
-not-not false = refl
+-- a literal is the negation of its negation
+pub negate_twice : (l : Literal) → negate (negate l) ≡ l
+negate_twice l = λ i. record { var = l.var; positive = not-not l.positive i }
 
 -- a literal of the same variable with another sign is the negation
 pub negate_from_apart : (a b : Literal) → a.var ≡ b.var → (a.positive ≡ b.positive → ⊥) → a ≡ negate b
@@ -130,3 +132,49 @@ has_within vars (m ∷ ms) l low h =
 -- clauses of the same literals are within the same variables
 pub within_of_same : (vars : ℕ) (c d : List Literal) → SameLiterals c d → IsWithin vars d → IsWithin vars c
 within_of_same vars c d same low k e h = has_within vars d (get_or c k e) low (sym (same (get_or c k e)) ∙ has_at k c e (get_or c k e) h refl)
+
+-- a literal that passes a test stays in what the test keeps
+pub has-filter : (p : Literal → Bool) (ls : List Literal) (l : Literal) → has_literal ls l ≡ true → p l ≡ true → has_literal (filter p ls) l ≡ true
+has-filter p [] l here passes = here
+has-filter p (m ∷ ms) l here passes =
+    elim (or_cases (literal_eq l m) _ here) [
+      | inl e ↦
+          let kept : p m ≡ true = subst (λ (k : Literal). p k ≡ true) (literal_eq-true l m e) passes in
+          subst (λ b. has_literal (cond b (m ∷ filter p ms) (filter p ms)) l ≡ true) (sym kept) (or_left _ _ e)
+      | inr e ↦ first (p m) (has-filter p ms l e passes)
+    ]
+  where
+    first : (b : Bool) → has_literal (filter p ms) l ≡ true → has_literal (cond b (m ∷ filter p ms) (filter p ms)) l ≡ true
+    first true h = or_right (literal_eq l m) _ h
+    first false h = h
+
+-- where some literal passes a test, one of the list does
+pub any_has : (p : Literal → Bool) (ls : List Literal) → list_any p ls ≡ true → (l : Literal) × (has_literal ls l ≡ true) × (p l ≡ true)
+any_has p [] h = absurd (false≢true h)
+any_has p (m ∷ ms) h =
+    elim (or_cases (p m) _ h) [
+      | inl e ↦ (m, or_left _ _ (literal_eq-refl m), e)
+      | inr e ↦ let rest = any_has p ms e in (rest.0, or_right (literal_eq rest.0 m) _ rest.1, rest.2)
+    ]
+
+-- a literal of the list that passes a test makes it pass
+pub any_from_has : (p : Literal → Bool) (ls : List Literal) (l : Literal) → has_literal ls l ≡ true → p l ≡ true → list_any p ls ≡ true
+any_from_has p [] l here passes = here
+any_from_has p (m ∷ ms) l here passes =
+    elim (or_cases (literal_eq l m) _ here) [
+      | inl e ↦ or_left _ _ (subst (λ (k : Literal). p k ≡ true) (literal_eq-true l m e) passes)
+      | inr e ↦ or_right (p m) _ (any_from_has p ms l e passes)
+    ]
+
+-- what a test keeps are literals of the list that pass it
+pub filter_has : (p : Literal → Bool) (ls : List Literal) (l : Literal) → has_literal (filter p ls) l ≡ true → (has_literal ls l ≡ true) × (p l ≡ true)
+filter_has p [] l h = absurd (false≢true h)
+filter_has p (m ∷ ms) l h = first (p m) (filter_has p ms l) refl h
+  where
+    first : (b : Bool) → (has_literal (filter p ms) l ≡ true → (has_literal ms l ≡ true) × (p l ≡ true)) → p m ≡ b → has_literal (cond b (m ∷ filter p ms) (filter p ms)) l ≡ true → (has_literal (m ∷ ms) l ≡ true) × (p l ≡ true)
+    first true more e k =
+        elim (or_cases (literal_eq l m) _ k) [
+          | inl s ↦ (or_left _ _ s, subst (λ (x : Literal). p x ≡ true) (sym (literal_eq-true l m s)) e)
+          | inr r ↦ let rest = more r in (or_right (literal_eq l m) _ rest.0, rest.1)
+        ]
+    first false more e k = let rest = more k in (or_right (literal_eq l m) _ rest.0, rest.1)

@@ -35,3 +35,15 @@ Satisfies v cs = clauses_value v cs ≡ true
 -- each variable of the clause is at most vars
 abbrev pub IsWithin : ℕ → List Literal → Type 0
 IsWithin vars c = All (λ l. l.var ≤ vars) c
+
+-- within whatever variables c is, d is too
+abbrev pub KeepsWithin : List Literal → List Literal → Type 0
+KeepsWithin c d = (vars : ℕ) → IsWithin vars c → IsWithin vars d
+
+-- two clauses have the same value at every assignment (equivalence, propositional logic)
+abbrev pub HasSameValue : List Literal → List Literal → Type 0
+HasSameValue c d = (v : ℕ → Bool) → clause_value v d ≡ clause_value v c
+
+-- a clause is true at every assignment (validity, propositional logic)
+abbrev pub IsAlwaysTrue : List Literal → Type 0
+IsAlwaysTrue c = (v : ℕ → Bool) → clause_value v c ≡ true

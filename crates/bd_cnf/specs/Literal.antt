@@ -24,6 +24,10 @@ literal_eq a b = (a.var == b.var) && (if a.positive then b.positive else not b.p
 abbrev pub has_literal : List Literal → Literal → Bool
 has_literal ls l = list_any (literal_eq l) ls
 
+-- whether some literal of a list has the variable
+abbrev pub has_variable : List Literal → ℕ → Bool
+has_variable ls var = list_any (λ l. l.var == var) ls
+
 -- the value of a literal where v gives the values of the variables (propositional logic)
 abbrev pub literal_value : (ℕ → Bool) → Literal → Bool
 literal_value v l = if l.positive then v l.var else not (v l.var)

@@ -1,5 +1,5 @@
 -- Formulas in conjunctive normal form, and their text in DIMACS CNF.
-use Rattle.std.specs.Prelude.{ℕ, List, [], ◌∷◌, ◌++◌, length, codes}
+use Rattle.std.specs.Prelude.{◌≡◌, ℕ, String, string_bytes, List, [], ◌∷◌, ◌++◌, length, codes}
 use Rattle.std.specs.Fmt.{decimal}
 use Rattle.std.specs.List.{All, flat_map}
 use Rattle.bd_cnf.specs.Literal.{Literal, literal_text}
@@ -13,6 +13,10 @@ pub record Problem : Type 0 where
 -- the problem of those variables and clauses
 abbrev pub problem : ℕ → List (List Literal) → Problem
 problem vars clauses = record { vars = vars; clauses = clauses }
+
+-- the problem with one clause more, behind the others
+abbrev pub with_clause : Problem → List Literal → Problem
+with_clause p clause = problem p.vars (p.clauses ++ clause ∷ [])
 
 -- each variable of each clause is at most vars
 abbrev pub AreWithin : ℕ → List (List Literal) → Type 0
@@ -33,3 +37,7 @@ problem_line vars clauses = codes "p cnf " ++ decimal vars ++ codes " " ++ decim
 -- the problem line, and a line for each clause (DIMACS CNF)
 abbrev pub dimacs : Problem → List ℕ
 dimacs p = problem_line p.vars (length p.clauses) ++ flat_map clause_line p.clauses
+
+-- the new text is the old one with those bytes behind it
+abbrev pub Appends : {Z : Type 0} → String Z → String Z → List ℕ → Type 0
+Appends old new bytes = string_bytes new ≡ string_bytes old ++ bytes

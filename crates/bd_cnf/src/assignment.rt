@@ -1,3 +1,5 @@
+//! Assignments hold the values of some variables and give false to all others, so that each one is a
+//! value for every variable, and an assignment that a solver leaves short still satisfies or doesn't.
 ghost use Rattle.std.specs.Prelude.{◌≡◌, OnOk, OnErr};
 ghost use Rattle.std.specs.Ordering.{nat_cmp};
 ghost use Rattle.std.specs.FinMap as map;
@@ -24,6 +26,15 @@ impl Model for Assignment {
     ghost coded = { map.code coded_ℕ coded_bool };
 
     ghost view = { λ a. map.from_entries a.values.entries };
+}
+
+impl Clone for Assignment {
+    ghost is_clone = { λ a b. b ≡ a };
+
+    fn clone(&self) -> Result<Self, AllocError> {
+        let values = self.values.clone()?;
+        Ok(Assignment { values })
+    }
 }
 
 impl Assignment {

@@ -1,6 +1,6 @@
-ghost use Rattle.std.specs.Prelude.{◌≡◌, ◌∷◌, [], ◌++◌, ◌≤◌, OnOk, OnErr};
+ghost use Rattle.std.specs.Prelude.{◌≡◌, ◌≤◌, OnOk, OnErr};
 ghost use Rattle.bd_cnf.specs.Clause.{IsWithin, clauses_value};
-ghost use Rattle.bd_cnf.specs.Problem.{problem, AreWithin};
+ghost use Rattle.bd_cnf.specs.Problem.{problem, with_clause, AreWithin};
 ghost use Rattle.bd_cnf.specs.Assignment.{value_of};
 
 use crate::assignment::Assignment;
@@ -24,6 +24,18 @@ impl Model for Cnf {
     ghost view = { λ f. problem f.vars f.clauses };
 
     ghost invariant = { λ f. AreWithin f.vars f.clauses };
+}
+
+impl Clone for Cnf {
+    ghost is_clone = { λ a b. b ≡ a };
+
+    fn clone(&self) -> Result<Self, AllocError> {
+        let clauses = self.clauses.clone()?;
+        Ok(Cnf {
+            vars: self.vars,
+            clauses,
+        })
+    }
 }
 
 impl Cnf {
@@ -59,7 +71,7 @@ impl Cnf {
     /// Puts a clause behind the others.
     pub fn push(&mut self, clause: Clause) -> Result<(), AllocError>
         requires { IsWithin self.old.vars clause }
-        ensures ok { OnOk result (self.new ≡ problem self.old.vars (self.old.clauses ++ clause ∷ [])) }
+        ensures ok { OnOk result (self.new ≡ with_clause self.old clause) }
         ensures err { OnErr result (self.new ≡ self.old) }
     {
         self.clauses.push(clause)

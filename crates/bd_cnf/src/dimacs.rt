@@ -1,5 +1,7 @@
-ghost use Rattle.std.specs.Prelude.{◌≡◌, ◌++◌, OnOk, IfOk, string_bytes};
-ghost use Rattle.bd_cnf.specs.Problem.{dimacs, literals_text};
+//! The text that other solvers read. It is proved byte by byte against its definition, so a formula
+//! and what is written of it can't differ.
+ghost use Rattle.std.specs.Prelude.{◌≡◌, OnOk, IfOk};
+ghost use Rattle.bd_cnf.specs.Problem.{Appends, dimacs, literals_text};
 
 use crate::cnf::Cnf;
 use crate::lit::Lit;
@@ -22,7 +24,7 @@ pub fn dimacs_text(alloc: Global, cnf: &Cnf) -> Result<Vec<u8>, AllocError>
 
 /// Writes literals behind the text, each followed by a space.
 pub fn push_literals(text: &mut String, lits: &[Lit]) -> Result<(), AllocError>
-    ensures { OnOk result (string_bytes text.new ≡ string_bytes text.old ++ literals_text lits.now) }
+    ensures { OnOk result (Appends text.old text.new (literals_text lits.now)) }
 {
     for lit in lits {
         write!(text, "{lit} ")?;

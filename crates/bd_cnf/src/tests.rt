@@ -6,12 +6,26 @@ use std::test::Fail;
 
 type Parts = &'static [(u64, bool)];
 
-fn clause(alloc: Global, parts: &[(u64, bool)]) -> Result<Option<Clause>, AllocError> {
+fn literals(alloc: Global, parts: &[(u64, bool)]) -> Result<Vec<Lit>, AllocError> {
     let mut lits = Vec::new(alloc);
     for &(var, positive) in parts {
         lits.push(Lit::new(var.max(1), positive))?;
     }
-    Clause::of(alloc, &lits)
+    Ok(lits)
+}
+
+fn clause(alloc: Global, parts: &[(u64, bool)]) -> Result<Option<Clause>, AllocError> {
+    Clause::of(alloc, &literals(alloc, parts)?)
+}
+
+/// The clause as DIMACS CNF writes its literals, where it is no tautology.
+fn text(alloc: Global, made: Option<Clause>) -> Result<Option<String>, AllocError> {
+    let Some(clause) = made else {
+        return Ok(None);
+    };
+    let mut text = String::new(alloc);
+    push_literals(&mut text, clause.clone()?.lits())?;
+    Ok(Some(text))
 }
 
 fn push(
@@ -46,13 +60,10 @@ fn clauses_drop_repeats_and_refuse_both_signs(rt: HostRuntime) -> Result<(), Fai
         (&[(3, false), (1, true), (3, true)], None),
     ];
     for (parts, want) in table {
-        let mut text = String::new(rt.alloc());
-        let made = clause(rt.alloc(), parts)?;
-        if let Some(clause) = &made {
-            push_literals(&mut text, clause.lits())?;
-        }
-        assert_eq!(rt; made.is_some(), want.is_some());
-        assert_eq!(rt; text.as_str(), want.unwrap_or(""));
+        let of = text(rt.alloc(), clause(rt.alloc(), parts)?)?;
+        assert_eq!(rt; of.as_deref(), want);
+        let from_vec = text(rt.alloc(), Clause::from_vec(literals(rt.alloc(), parts)?))?;
+        assert_eq!(rt; from_vec.as_deref(), want);
     }
     Ok(())
 }
@@ -81,6 +92,7 @@ fn a_variable_that_is_not_held_is_false(rt: HostRuntime) -> Result<(), Fail> {
     assert!(rt; cnf.satisfied(&a));
     push(&rt, &mut cnf, &[(5, false)])?;
     assert!(rt; cnf.satisfied(&a));
+    assert!(rt; cnf.clone()?.satisfied(&a.clone()?));
     push(&rt, &mut cnf, &[(5, true)])?;
     assert!(rt; !cnf.satisfied(&a));
     Ok(())

@@ -8,9 +8,10 @@ use Rattle.bd_lrat.specs.declared.line.Hint.{Hint}
 use Rattle.bd_lrat.specs.declared.line.Line.{Line}
 use Rattle.bd_lrat.specs.declared.line.Line.TheVariants.{Add, Delete}
 use Rattle.bd_lrat.specs.declared.refused.Refused.{Refused}
-use Rattle.bd_lrat.specs.declared.refused.Refused.TheVariants as refusal
-use Rattle.bd_lrat.specs.Propagation.{Standing, Outcome, Conflict, Taken, Refusal, propagate}
-use Rattle.bd_lrat.specs.Database.{Database, IsAccepted, IsBelow, outcome_answer, variable_past, hints_answer, addition_answer, line_answer}
+use Rattle.bd_lrat.specs.declared.refused.Refused.TheVariants as refused
+use Rattle.bd_cnf.specs.Standing.{Standing, IsBelow}
+use Rattle.bd_lrat.specs.Propagation.{Outcome, Conflict, Reached, Stopped, propagate}
+use Rattle.bd_lrat.specs.Database.{Database, IsAccepted, outcome_answer, variable_past, hints_answer, addition_answer, line_answer}
 
 -- no variable is past, so each is within
 pub within_from_past : (vars : ℕ) (c : List Literal) → variable_past vars c ≡ None → IsWithin vars c
@@ -38,8 +39,8 @@ ok_of_cond false r x h = (refl, h)
 
 ok_of_outcome : (x : Outcome) → IsOk (outcome_answer x) → x ≡ Conflict
 ok_of_outcome Conflict h = refl
-ok_of_outcome (Taken taken) h = absurd (false≢true h)
-ok_of_outcome (Refusal r) h = absurd (false≢true h)
+ok_of_outcome (Reached trail) h = absurd (false≢true h)
+ok_of_outcome (Stopped r) h = absurd (false≢true h)
 
 ok_of_hints : (standing : Standing) (clause : List Literal) (hints : List Hint) (o : Option ℕ) → IsOk (hints_answer standing clause hints o) → (o ≡ None) × (propagate standing (map negate clause) hints ≡ Conflict)
 ok_of_hints standing clause hints (Some var) h = absurd (false≢true h)
@@ -47,15 +48,15 @@ ok_of_hints standing clause hints None h = (refl, ok_of_outcome (propagate stand
 
 pub accepted_from_ok : (db : Database) (line : Line) → IsOk (line_answer db line) → IsAccepted db line
 accepted_from_ok db (Add id clause hints) h =
-    let one = ok_of_cond (leb id db.last) refusal.NotRising _ h in
-    let two = ok_of_hints db.standing clause hints (variable_past db.vars clause) one.1 in
+    let one = ok_of_cond (leb id db.last) refused.NotRising _ h in
+    let two = ok_of_hints db.clauses clause hints (variable_past db.vars clause) one.1 in
     (leb-false id db.last one.0, within_from_past db.vars clause two.0, two.1)
 accepted_from_ok db (Delete id ids) h = tt
 
 pub answer_from_accepted : (db : Database) (line : Line) → IsAccepted db line → line_answer db line ≡ Ok tt
 answer_from_accepted db (Add id clause hints) (higher, within, conflict) =
-    ap (λ b. cond b (Err refusal.NotRising) (hints_answer db.standing clause hints (variable_past db.vars clause))) (lt-leb id db.last higher)
-    ∙ ap (hints_answer db.standing clause hints) (past_from_within db.vars clause within)
+    ap (λ b. cond b (Err refused.NotRising) (hints_answer db.clauses clause hints (variable_past db.vars clause))) (lt-leb id db.last higher)
+    ∙ ap (hints_answer db.clauses clause hints) (past_from_within db.vars clause within)
     ∙ ap outcome_answer conflict
 answer_from_accepted db (Delete id ids) h = refl
 

@@ -1,7 +1,10 @@
 pub mod StandingMap
-pub mod Trails
-pub mod Opens
 pub mod Standings
 pub mod Answering
 pub mod Soundness
 pub mod Refuting
+pub mod Ends
+pub mod Ids
+pub mod Closed
+pub mod Examples
+pub mod HintLists

@@ -2,6 +2,7 @@
 use Rattle.std.proofs.Common.{◌≡◌, ◌↔◌, ℕ, ◌+◌, ◌<◌, ◌≤◌, Bool, true, false, ◌||◌, List, [], ◌∷◌, Err, length, get_or, drop, refl, sym, ap, ◌∙◌, subst}
 use Rattle.std.specs.List.{list_any}
 use Rattle.std.proofs.Math.Bool.{or-false}
+use mathlib.Core.Bool.{or_assoc}
 use Rattle.std.proofs.lemmas.List.{drop_more, drop_all}
 use Rattle.bd_lrat.specs.declared.line.Line.{Line}
 use Rattle.bd_lrat.specs.declared.refused.Refused.{Refused}
@@ -27,14 +28,10 @@ refused_log P db lines i line r h is so refused p =
     let ok = answer_from_accepted db line whole.0 in
     cc
 
-or-assoc : (a b c : Bool) → (a || (b || c)) ≡ ((a || b) || c)
-or-assoc true b c = refl
-or-assoc false b c = refl
-
 pub empty_next : (lines : List Line) (i : ℕ) (line : Line) (found all new : Bool) → i < length lines → line ≡ get_or lines i line → all ≡ (found || list_any adds_empty (drop i lines)) → new ≡ (found || adds_empty line) → all ≡ (new || list_any adds_empty (drop (i + 1) lines))
 empty_next lines i line found all new h is so e =
     so ∙ ap (λ ls. found || list_any adds_empty ls) (rest_is lines i line h is)
-    ∙ or-assoc found (adds_empty line) (list_any adds_empty (drop (i + 1) lines))
+    ∙ sym (or_assoc found (adds_empty line) (list_any adds_empty (drop (i + 1) lines)))
     ∙ ap (λ b. b || list_any adds_empty (drop (i + 1) lines)) (sym e)
 
 -- at the end of the lines

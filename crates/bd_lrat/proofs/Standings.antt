@@ -8,37 +8,26 @@ use Rattle.std.proofs.lemmas.Bool.{ne_eqb}
 use Rattle.std.proofs.lemmas.List.{take_more}
 use Rattle.std.proofs.lemmas.List.Elements.{All-head, All-tail}
 use Rattle.bd_cnf.specs.Literal.{Literal}
-use Rattle.bd_lrat.specs.Propagation.{Standing}
+use Rattle.bd_cnf.specs.Standing.{Standing, EachStanding}
+use Rattle.bd_cnf.proofs.Standings.{either, each_remove}
 use Rattle.bd_lrat.specs.Database.{numbered, remove_all}
 use Rattle.bd_lrat.proofs.StandingMap.{tied}
 
 module _ (P : List Literal → Type 0) where
-  -- P holds of each clause that stands
-  abbrev pub EachStanding : Standing → Type 0
-  EachStanding standing = (id : ℕ) → IfSome (get standing id) P
-
-  either : (b : Bool) (x y : Option (List Literal)) → IfSome x P → IfSome y P → IfSome (cond b x y) P
-  either true x y h k = h
-  either false x y h k = k
-
-  pub each_insert : (standing : Standing) (id : ℕ) (clause : List Literal) → P clause → EachStanding standing → EachStanding (insert standing id clause)
-  each_insert standing id clause here each q =
-      subst (λ o. IfSome o P) (sym (get-insert nat_cmp_total standing id clause q)) (either (eq_by_cmp nat_cmp q id) (Some clause) (get standing q) here (each q))
-
-  pub each_remove : (standing : Standing) (id : ℕ) → EachStanding standing → EachStanding (remove standing id)
-  each_remove standing id each q =
-      subst (λ o. IfSome o P) (sym (get-remove nat_cmp_total standing id q)) (either (eq_by_cmp nat_cmp q id) None (get standing q) tt (each q))
-
-  pub each_remove_all : (ids : List ℕ) (standing : Standing) → EachStanding standing → EachStanding (remove_all standing ids)
+  pub each_remove_all : (ids : List ℕ) (standing : Standing) → EachStanding P standing → EachStanding P (remove_all standing ids)
   each_remove_all [] standing each = each
-  each_remove_all (id ∷ ids) standing each = each_remove_all ids (remove standing id) (each_remove standing id each)
+  each_remove_all (id ∷ ids) standing each = each_remove_all ids (remove standing id) (each_remove P standing id each)
 
   each_found : (n : ℕ) (cs : List (List Literal)) → All P cs → (q : ℕ) → IfSome (find nat_cmp q (enumerate_from n cs)) P
   each_found n [] all q = tt
-  each_found n (c ∷ cs) all q = either (eq_by_cmp nat_cmp q n) (Some c) _ (All-head P c cs all) (each_found (n + 1) cs (All-tail P c cs all) q)
+  each_found n (c ∷ cs) all q = either P (eq_by_cmp nat_cmp q n) (Some c) _ (All-head P c cs all) (each_found (n + 1) cs (All-tail P c cs all) q)
 
-  pub each_numbered : (cs : List (List Literal)) → All P cs → EachStanding (numbered cs)
+  pub each_numbered : (cs : List (List Literal)) → All P cs → EachStanding P (numbered cs)
   each_numbered cs all q = subst (λ o. IfSome o P) (sym (get-from_entries nat_cmp_total (enumerate_from 1 cs) q)) (each_found 1 cs all q)
+
+-- what a formula's clauses have under an id
+pub get-numbered : (cs : List (List Literal)) (q : ℕ) → get (numbered cs) q ≡ find nat_cmp q (enumerate_from 1 cs)
+get-numbered cs q = get-from_entries nat_cmp_total (enumerate_from 1 cs) q
 
 enumerate-push : (n : ℕ) (cs : List (List Literal)) (c : List Literal) → enumerate_from n (cs ++ c ∷ []) ≡ enumerate_from n cs ++ (n + length cs, c) ∷ []
 enumerate-push n [] c = ap (λ k. (k, c) ∷ []) (omega arith)

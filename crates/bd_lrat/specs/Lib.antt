@@ -1,6 +1,6 @@
 pub mod Propagation
 pub mod Database
-pub mod Trail
-pub mod Steps
 pub mod Log
 pub mod Text
+pub mod Examples
+pub mod inner

@@ -1,13 +1,13 @@
 -- Logs: accepted, refuting, fresh, and what a log leaves unsettled (textual LRAT; unit propagation as in conflict-driven solvers).
-use Rattle.std.specs.Prelude.{◌≡◌, ◌≢◌, ℕ, Bool, true, false, List, [], ◌∷◌, ◌++◌, not, ◌==◌, IsTrue}
+use Rattle.std.specs.Prelude.{◌≡◌, ◌≢◌, ℕ, Bool, true, false, List, [], ◌∷◌, ◌++◌, not, IsTrue, map, count_by}
 use Rattle.std.specs.List.{All, filter, list_any, list_all}
-use Rattle.bd_cnf.specs.Literal.{Literal, negate, literal_eq, has_literal}
+use Rattle.bd_cnf.specs.Literal.{Literal, negate, literal_eq, has_literal, has_variable}
 use Rattle.bd_cnf.specs.Problem.{Problem}
-use Rattle.std.specs.Prelude.{map}
+use Rattle.bd_cnf.specs.Standing.{Standing}
 use Rattle.bd_lrat.specs.declared.line.Hint.{Hint}
 use Rattle.bd_lrat.specs.declared.line.Line.{Line}
 use Rattle.bd_lrat.specs.declared.line.Line.TheVariants.{Add, Delete}
-use Rattle.bd_lrat.specs.Propagation.{Standing, Conflict, propagate, reaches}
+use Rattle.bd_lrat.specs.Propagation.{Conflict, propagate, reaches}
 use Rattle.bd_lrat.specs.Database.{Database, database_of, IsAccepted, after}
 
 -- each line is accepted on what stands before it
@@ -32,13 +32,17 @@ adds_literals (Add id [] hints) = false
 adds_literals (Add id (l ∷ ls) hints) = true
 adds_literals (Delete id ids) = false
 
+-- how many lines add a clause of one literal or more
+abbrev pub additions : List Line → ℕ
+additions lines = count_by adds_literals lines
+
 -- an accepted log that adds the empty clause
 abbrev pub IsRefutation : Problem → List Line → Type 0
 IsRefutation p lines = IsAcceptedLog (database_of p) lines × IsTrue (list_any adds_empty lines)
 
 -- whether a clause has each literal of another
 abbrev pub includes : List Literal → List Literal → Bool
-includes clause other = list_all (λ l. has_literal clause l) other
+includes clause other = list_all (has_literal clause) other
 
 -- the literals of a clause but the one
 abbrev pub others : List Literal → Literal → List Literal
@@ -46,7 +50,7 @@ others clause l = filter (λ m. not (literal_eq l m)) clause
 
 -- no propagation from the literals ends in a conflict or gives the variable a value
 abbrev pub NeverReaches : Standing → List Literal → ℕ → Type 0
-NeverReaches standing taken var = (hints : List Hint) → reaches (propagate standing taken hints) var ≡ false
+NeverReaches standing trail var = (hints : List Hint) → reaches (propagate standing trail hints) var ≡ false
 
 -- a clause is fresh where it includes no earlier one, and some literal of it isn't reached from the negations of the others
 pub record IsFreshClause (standing : Standing) (earlier : List (List Literal)) (clause : List Literal) : Type 0 where
@@ -55,10 +59,16 @@ pub record IsFreshClause (standing : Standing) (earlier : List (List Literal)) (
   pub stands : IsTrue (has_literal clause literal)
   pub unreached : NeverReaches standing (map negate (others clause literal)) literal.var
 
+-- the earlier clauses and those that the lines add, whether they are deleted or not, the latest first
+abbrev pub with_added : List (List Literal) → List Line → List (List Literal)
+with_added earlier [] = earlier
+with_added earlier ((Add id clause hints) ∷ lines) = with_added (clause ∷ earlier) lines
+with_added earlier ((Delete id ids) ∷ lines) = with_added earlier lines
+
 -- each clause that is added, the empty one aside, is fresh: over what stands before its line, and against the clauses of the formula and of all earlier lines, deleted ones included
 abbrev pub AddsFresh : Database → List (List Literal) → List Line → Type 0
 AddsFresh db earlier [] = Unit {0}
-AddsFresh db earlier ((Add id clause hints) ∷ lines) = (clause ≢ [] → IsFreshClause db.standing earlier clause) × AddsFresh (after db (Add id clause hints)) (clause ∷ earlier) lines
+AddsFresh db earlier ((Add id clause hints) ∷ lines) = (clause ≢ [] → IsFreshClause db.clauses earlier clause) × AddsFresh (after db (Add id clause hints)) (clause ∷ earlier) lines
 AddsFresh db earlier ((Delete id ids) ∷ lines) = AddsFresh (after db (Delete id ids)) earlier lines
 
 -- a log is fresh over a formula
@@ -68,7 +78,7 @@ IsFresh p lines = AddsFresh (database_of p) p.clauses lines
 -- no two literals have one variable
 abbrev pub HaveDifferentVariables : List Literal → Type 0
 HaveDifferentVariables [] = Unit {0}
-HaveDifferentVariables (l ∷ ls) = IsTrue (not (list_any (λ m. l.var == m.var) ls)) × HaveDifferentVariables ls
+HaveDifferentVariables (l ∷ ls) = (has_variable ls l.var ≡ false) × HaveDifferentVariables ls
 
 -- what stands is unsettled: propagation from nothing ends in no conflict, and some decisions, of which the last isn't reached from the others, lead to one
 pub record IsUnsettled (standing : Standing) : Type 0 where

@@ -1,12 +1,14 @@
 ghost use Rattle.std.specs.Prelude.{◌≡◌, ◌↔◌, ℕ, Bool, IfOk, IfErr, OnOk, OnErr, IsOk};
 ghost use Rattle.bd_cnf.specs.Clause.{IsRising};
-ghost use Rattle.bd_lrat.specs.Database.{database_of, addition_answer, line_answer, variable_past, after, IsAccepted, IsRefusal, Models};
+ghost use Rattle.bd_cnf.specs.Standing.{Models};
+ghost use Rattle.bd_lrat.specs.Database.{database_of, addition_answer, line_answer, variable_past, after, IsAccepted, IsAddError};
 
 use crate::clause_map::ClauseMap;
-use crate::line::{Hint, Line};
-use crate::propagation::follow;
+use crate::hints::Hints;
+use crate::line::Line;
+use crate::propagation::propagate;
 use crate::refused::{AddError, Refused};
-use crate::taken::Taken;
+use crate::trail::Trail;
 use bd_cnf::{Cnf, Lit};
 use std::alloc::{AllocError, Global};
 use std::marker::Model;
@@ -20,12 +22,12 @@ pub struct Checker {
     last: u64,
     clauses: ClauseMap,
     /// No literal between two calls.
-    taken: Taken,
+    trail: Trail,
 }
 
 impl Model for Checker {
     ghost use Rattle.bd_lrat.specs.Database.{Database, coded_database, database};
-    ghost use Rattle.bd_lrat.specs.Trail.{IsReady};
+    ghost use Rattle.bd_lrat.specs.inner.Ready.{IsReady};
 
     ghost Value = { Database };
 
@@ -33,7 +35,7 @@ impl Model for Checker {
 
     ghost view = { λ a. database a.vars a.last a.clauses };
 
-    ghost invariant = { λ a. IsReady a.vars a.clauses a.taken };
+    ghost invariant = { λ a. IsReady a.vars a.clauses a.trail };
 }
 
 impl Checker {
@@ -42,7 +44,7 @@ impl Checker {
         ensures { IfOk result (λ checker. checker ≡ database_of cnf.now) }
     {
         let vars = cnf.vars();
-        let taken = Taken::new(alloc, vars)?;
+        let trail = Trail::new(alloc, vars)?;
         let mut clauses = ClauseMap::new(alloc);
         let mut last = 0;
         for clause in cnf.clauses() {
@@ -53,7 +55,7 @@ impl Checker {
             vars,
             last,
             clauses,
-            taken,
+            trail,
         })
     }
 
@@ -63,17 +65,15 @@ impl Checker {
         ensures accepted { IsOk result ↔ IsAccepted self.old line.now }
         ensures answer { result ≡ line_answer self.old line.now }
         ensures unchanged { self.new ≡ self.old }
-        ensures sound { OnOk result ((v : ℕ → Bool) → Models v self.old.standing → Models v (after self.old line.now).standing) }
+        ensures sound { OnOk result ((v : ℕ → Bool) → Models v self.old.clauses → Models v (after self.old line.now).clauses) }
     {
         match line {
-            Line::Add { id, clause, hints } => {
-                self.check_addition(*id, clause.lits(), hints.as_slice())
-            }
+            Line::Add { id, clause, hints } => { self.check_addition(*id, clause.lits(), hints) }
             Line::Delete { .. } => Ok(()),
         }
     }
 
-    fn check_addition(&mut self, id: u64, clause: &[Lit], hints: &[Hint]) -> Result<(), Refused>
+    fn check_addition(&mut self, id: u64, clause: &[Lit], hints: &Hints) -> Result<(), Refused>
         requires { IsRising clause.now }
         ensures answer { result ≡ addition_answer self.old id clause.now hints.now }
         ensures unchanged { self.new ≡ self.old }
@@ -84,9 +84,9 @@ impl Checker {
         if let Some(var) = variable_past(clause, self.vars) {
             return Err(Refused::NoVariable(var));
         }
-        self.taken.take_negations(clause);
-        let answer = follow(&self.clauses, &mut self.taken, hints);
-        self.taken.clear();
+        self.trail.assign_negations(clause);
+        let answer = propagate(&self.clauses, &mut self.trail, hints);
+        self.trail.clear();
         answer
     }
 
@@ -95,9 +95,9 @@ impl Checker {
     pub fn add_line(&mut self, line: &Line) -> Result<(), AddError>
         ensures ok { OnOk result (self.new ≡ after self.old line.now) }
         ensures accepted { OnOk result (IsAccepted self.old line.now) }
-        ensures refused { IfErr result (IsRefusal self.old line.now) }
+        ensures refused { IfErr result (IsAddError self.old line.now) }
         ensures err { OnErr result (self.new ≡ self.old) }
-        ensures sound { OnOk result ((v : ℕ → Bool) → Models v self.old.standing → Models v self.new.standing) }
+        ensures sound { OnOk result ((v : ℕ → Bool) → Models v self.old.clauses → Models v self.new.clauses) }
     {
         self.check_line(line)?;
         match line {

@@ -17,7 +17,7 @@ pub(crate) struct ClauseMap {
 
 impl Model for ClauseMap {
     ghost use Rattle.std.specs.FinMap as map;
-    ghost use Rattle.bd_lrat.specs.Propagation.{Standing, coded_standing};
+    ghost use Rattle.bd_cnf.specs.Standing.{Standing, coded_standing};
 
     ghost Value = { Standing };
 

@@ -3,19 +3,26 @@
 
 mod checker;
 mod clause_map;
+mod hints;
+mod laws;
 mod line;
-mod lists;
+mod log;
 mod propagation;
 mod refused;
 mod refutation;
-mod taken;
 mod text;
+mod trail;
 
 pub use checker::Checker;
+pub use hints::{Hints, HintsIter};
+pub use laws::{
+    reached_decision_settles, refutation_law, square_is_unsettled, square_line_is_fresh,
+    two_decisions_unsettle, weakened_line_is_not_fresh,
+};
 pub use line::{Hint, Line};
-pub use lists::{Hints, Log};
+pub use log::Log;
 pub use refused::{AddError, Refused};
-pub use refutation::{refutation_law, refutes};
+pub use refutation::refutes;
 pub use text::lrat_text;
 
 #[cfg(test)]

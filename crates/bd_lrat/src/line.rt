@@ -1,6 +1,6 @@
 ghost use Rattle.std.specs.Prelude.{◌≡◌};
 
-use crate::lists::Hints;
+use crate::hints::Hints;
 use bd_cnf::{Clause, Words};
 
 /// A hint of an addition.
@@ -29,7 +29,7 @@ pub enum Line {
 }
 
 impl Line {
-    ghost use Rattle.bd_lrat.specs.Log.{adds_empty, adds_literals};
+    ghost use Rattle.bd_lrat.specs.Log.{adds_empty};
 
     /// Whether the line adds the empty clause.
     pub fn adds_empty(&self) -> bool
@@ -37,16 +37,6 @@ impl Line {
     {
         match self {
             Line::Add { clause, .. } => clause.lits().is_empty(),
-            Line::Delete { .. } => false,
-        }
-    }
-
-    /// Whether the line adds a clause of one literal or more.
-    pub fn adds_literals(&self) -> bool
-        ensures { result ≡ adds_literals self.now }
-    {
-        match self {
-            Line::Add { clause, .. } => !clause.lits().is_empty(),
             Line::Delete { .. } => false,
         }
     }

@@ -1,46 +1,49 @@
 ghost use Rattle.std.specs.Prelude.{◌≡◌};
-ghost use Rattle.bd_lrat.specs.Propagation.{open_literals, hint_outcome, propagate};
-ghost use Rattle.bd_lrat.specs.Database.{IsBelow, StandsBelow, outcome_answer};
-ghost use Rattle.bd_lrat.specs.Steps.{IsOpen, IsStep};
+ghost use Rattle.bd_cnf.specs.Standing.{IsBelow, StandsBelow};
+ghost use Rattle.bd_cnf.specs.Trail.{open_literals};
+ghost use Rattle.bd_lrat.specs.Propagation.{hint_outcome, propagate};
+ghost use Rattle.bd_lrat.specs.Database.{outcome_answer};
+ghost use Rattle.bd_lrat.specs.inner.Steps.{IsOpen, IsStep};
 
 use crate::clause_map::ClauseMap;
+use crate::hints::Hints;
 use crate::line::Hint;
 use crate::refused::Refused;
-use crate::taken::Taken;
+use crate::trail::Trail;
 use bd_cnf::Lit;
 
 /// How many literals of a clause aren't false.
 pub(crate) enum Open {
-    Nothing,
-    One(Lit),
-    More,
+    Falsified,
+    Unit(Lit),
+    Unresolved,
 }
 
-fn open_part(taken: &Taken, clause: &[Lit]) -> Open
-    requires { IsBelow taken.now.limit clause.now }
-    ensures { IsOpen result (open_literals taken.now.taken clause.now) }
+fn open_part(trail: &Trail, clause: &[Lit]) -> Open
+    requires { IsBelow trail.now.limit clause.now }
+    ensures { IsOpen result (open_literals trail.now.literals clause.now) }
 {
     let mut found: Option<Lit> = None;
     for &lit in clause {
-        if taken.is_false(lit) {
+        if trail.is_false(lit) {
             continue;
         }
         if found.is_some() {
-            return Open::More;
+            return Open::Unresolved;
         }
         found = Some(lit);
     }
     match found {
-        None => Open::Nothing,
-        Some(lit) => Open::One(lit),
+        None => Open::Falsified,
+        Some(lit) => Open::Unit(lit),
     }
 }
 
 /// Follows one hint, and answers whether it is a conflict.
-fn step(clauses: &ClauseMap, taken: &mut Taken, hint: Hint) -> Result<bool, Refused>
-    requires { StandsBelow taken.old.limit clauses.now }
-    ensures limit { taken.new.limit ≡ taken.old.limit }
-    ensures outcome { IsStep result (hint_outcome clauses.now taken.old.taken hint) taken.new.taken }
+fn step(clauses: &ClauseMap, trail: &mut Trail, hint: Hint) -> Result<bool, Refused>
+    requires { StandsBelow trail.old.limit clauses.now }
+    ensures limit { trail.new.limit ≡ trail.old.limit }
+    ensures outcome { IsStep result (hint_outcome clauses.now trail.old.literals hint) trail.new.literals }
 {
     let Hint::Unit(id) = hint else {
         return Err(Refused::Rat);
@@ -48,26 +51,30 @@ fn step(clauses: &ClauseMap, taken: &mut Taken, hint: Hint) -> Result<bool, Refu
     let Some(clause) = clauses.get(id) else {
         return Err(Refused::NoSuch(id));
     };
-    match open_part(taken, clause.lits()) {
-        Open::Nothing => Ok(true),
-        Open::One(lit) => {
-            if !taken.is_true(lit) {
-                taken.take(lit);
+    match open_part(trail, clause.lits()) {
+        Open::Falsified => Ok(true),
+        Open::Unit(lit) => {
+            if !trail.is_true(lit) {
+                trail.assign(lit);
             }
             Ok(false)
         }
-        Open::More => Err(Refused::NotUnit(id)),
+        Open::Unresolved => Err(Refused::NotUnit(id)),
     }
 }
 
 /// Follows the hints in order, until one is a conflict.
-pub(crate) fn follow(clauses: &ClauseMap, taken: &mut Taken, hints: &[Hint]) -> Result<(), Refused>
-    requires { StandsBelow taken.old.limit clauses.now }
-    ensures limit { taken.new.limit ≡ taken.old.limit }
-    ensures answer { result ≡ outcome_answer (propagate clauses.now taken.old.taken hints.now) }
+pub(crate) fn propagate(
+    clauses: &ClauseMap,
+    trail: &mut Trail,
+    hints: &Hints,
+) -> Result<(), Refused>
+    requires { StandsBelow trail.old.limit clauses.now }
+    ensures limit { trail.new.limit ≡ trail.old.limit }
+    ensures answer { result ≡ outcome_answer (propagate clauses.now trail.old.literals hints.now) }
 {
-    for hint in hints {
-        if step(clauses, taken, *hint)? {
+    for hint in hints.iter() {
+        if step(clauses, trail, hint)? {
             return Ok(());
         }
     }

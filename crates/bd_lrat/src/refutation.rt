@@ -1,12 +1,9 @@
-ghost use Rattle.std.specs.Prelude.{◌↔◌, ℕ, Bool, List, IsTrue, IfOk};
+ghost use Rattle.std.specs.Prelude.{◌↔◌, ℕ, Bool, IsTrue, IfOk};
 ghost use Rattle.bd_cnf.specs.Clause.{Satisfies};
-ghost use Rattle.bd_cnf.specs.Problem.{Problem};
-ghost use Rattle.bd_lrat.specs.declared.line.Line.{Line as AnyLine};
 ghost use Rattle.bd_lrat.specs.Log.{IsRefutation};
 
 use crate::checker::Checker;
-use crate::line::Line;
-use crate::lists::Log;
+use crate::log::Log;
 use crate::refused::AddError;
 use bd_cnf::Cnf;
 use std::alloc::{AllocError, Global};
@@ -28,9 +25,3 @@ pub fn refutes(alloc: Global, cnf: &Cnf, log: &Log) -> Result<bool, AllocError>
     }
     Ok(empty)
 }
-
-/// The law of logs: over a formula with an accepted log that adds the empty clause, no assignment
-/// makes every clause true. It does nothing.
-pub fn refutation_law()
-    ensures { (p : Problem) (lines : List AnyLine) → IsRefutation p lines → (v : ℕ → Bool) → Satisfies v p.clauses → ⊥ }
-{}

@@ -40,7 +40,11 @@ fn addition(
     hints: &[Hint],
 ) -> Result<Line, AllocError> {
     let clause = clause(rt, parts)?;
-    let hints = Hints::from_vec(Vec::from_slice(rt.alloc(), hints)?);
+    let mut all = Hints::new(rt.alloc());
+    for hint in hints {
+        all.push(*hint)?;
+    }
+    let hints = all;
     Ok(Line::Add { id, clause, hints })
 }
 

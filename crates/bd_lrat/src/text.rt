@@ -1,8 +1,9 @@
 ghost use Rattle.std.specs.Prelude.{◌≡◌, ◌++◌, OnOk, IfOk, string_bytes};
 ghost use Rattle.bd_lrat.specs.Text.{hints_text, ids_text, line_text, lrat};
 
+use crate::hints::Hints;
 use crate::line::{Hint, Line};
-use crate::lists::Log;
+use crate::log::Log;
 use bd_cnf::push_literals;
 use std::alloc::{AllocError, Global};
 use std::fmt;
@@ -41,7 +42,7 @@ fn push_line(text: &mut String, line: &Line) -> Result<(), AllocError>
             write!(text, "{id} ")?;
             push_literals(text, clause.lits())?;
             text.push_str("0 ")?;
-            push_hints(text, hints.as_slice())?;
+            push_hints(text, hints)?;
         }
         Line::Delete { id, ids } => {
             write!(text, "{id} d ")?;
@@ -51,10 +52,10 @@ fn push_line(text: &mut String, line: &Line) -> Result<(), AllocError>
     text.push_str("0\n")
 }
 
-fn push_hints(text: &mut String, hints: &[Hint]) -> Result<(), AllocError>
+fn push_hints(text: &mut String, hints: &Hints) -> Result<(), AllocError>
     ensures { OnOk result (string_bytes text.new ≡ string_bytes text.old ++ hints_text hints.now) }
 {
-    for hint in hints {
+    for hint in hints.iter() {
         write!(text, "{hint} ")?;
     }
     Ok(())

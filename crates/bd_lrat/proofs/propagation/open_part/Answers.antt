@@ -1,7 +1,7 @@
 use Rattle.std.proofs.Common.{arith, sym}
-use Rattle.bd_lrat.proofs.Opens.{two_open}
+use Rattle.bd_cnf.proofs.Opens.{two_open}
 use Rattle.bd_lrat.proofs.propagation.open_part.Goals as goal
 
 pub returns-then-is_some : goal.returns-then-is_some
 returns-then-is_some c =
-    two_open c.args.taken.now.taken c.args.clause.now c.loop-lit.lit-index c.lit-item.result c.loop-lit.found (omega arith) c.lit-item.is (sym c.if-is_false.ensures) c.loop-lit.invariant (sym c.if-is_some.ensures)
+    two_open c.args.trail.now.literals c.args.clause.now c.loop-lit.lit-index c.lit-item.result c.loop-lit.found (omega arith) c.lit-item.is (sym c.if-is_false.ensures) c.loop-lit.invariant (sym c.if-is_some.ensures)

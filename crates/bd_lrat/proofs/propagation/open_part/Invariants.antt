@@ -1,7 +1,7 @@
 use Rattle.std.proofs.Common.{◌≡◌, take}
 use Rattle.std.specs.Option.{option_to_list}
-use Rattle.bd_lrat.specs.Propagation.{open_literals}
+use Rattle.bd_cnf.specs.Trail.{open_literals}
 use Rattle.bd_lrat.proofs.propagation.open_part.Given as goal
 
 abbrev pub invariant-loop-lit : goal.invariant-loop-lit
-invariant-loop-lit l = open_literals l.taken.taken (take l.lit-index l.clause) ≡ option_to_list l.found
+invariant-loop-lit l = open_literals l.trail.literals (take l.lit-index l.clause) ≡ option_to_list l.found

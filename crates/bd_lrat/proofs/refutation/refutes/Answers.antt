@@ -1,7 +1,7 @@
 use Rattle.std.proofs.Common.{◌||◌, sym, ap, subst, arith}
 use Rattle.std.proofs.lemmas.Bool.{false≢true}
 use Rattle.bd_lrat.specs.Log.{IsRefutation, IsAcceptedLog}
-use Rattle.bd_lrat.specs.Database.{database_of, IsRefusal}
+use Rattle.bd_lrat.specs.Database.{database_of, IsAddError}
 use Rattle.bd_lrat.specs.declared.refused.AddError.TheVariants as add
 use Rattle.bd_lrat.proofs.Soundness.{refutation_sound}
 use Rattle.bd_lrat.proofs.Refuting.{accepted_next, refused_log, empty_next, refutation_at_end}
@@ -11,7 +11,7 @@ pub returns-in-Err-Refused-clause-refutation : goal.returns-in-Err-Refused-claus
 returns-in-Err-Refused-clause-refutation c =
     let lines = c.as_slice-line-items.result.now in
     let p = c.args.cnf.now in
-    let refused : IsRefusal c.loop-line.checker c.line-item.result (add.Refused c.in-Err-Refused.field-0-0) = subst (IsRefusal c.loop-line.checker c.line-item.result) c.in-Err-Refused.field-0-is c.in-Err-Refused.ensures.refused in
+    let refused : IsAddError c.loop-line.checker c.line-item.result (add.Refused c.in-Err-Refused.field-0-0) = subst (IsAddError c.loop-line.checker c.line-item.result) c.in-Err-Refused.field-0-is c.in-Err-Refused.ensures.refused in
     let whole = λ (is : IsRefutation p c.args.log.now). subst (IsAcceptedLog (database_of p)) (sym c.as_slice-line-items.ensures) is.0 in (
       λ no. absurd (false≢true no),
       λ is. absurd (refused_log _ c.loop-line.checker lines c.loop-line.line-index c.line-item.result c.in-Err-Refused.field-0-0 (omega arith) c.line-item.is c.loop-line.invariant.rest refused (whole is)),

@@ -1,7 +1,9 @@
 use Rattle.std.proofs.Common.{◌≡◌, ◌+◌, sym, ap, ◌∙◌, subst, is_ok}
 use Rattle.bd_lrat.specs.declared.line.Line.TheVariants.{Add}
-use Rattle.bd_lrat.specs.Database.{IsAccepted, IsBelow, StandsBelow}
-use Rattle.bd_lrat.proofs.Standings.{each_insert, each_remove_all}
+use Rattle.bd_cnf.specs.Standing.{IsBelow, StandsBelow}
+use Rattle.bd_lrat.specs.Database.{IsAccepted}
+use Rattle.bd_cnf.proofs.Standings.{each_insert}
+use Rattle.bd_lrat.proofs.Standings.{each_remove_all}
 use Rattle.bd_lrat.proofs.Answering.{below_from_within}
 use Rattle.bd_lrat.proofs.checker.Checker.add_line.Goals as goal
 

@@ -1,10 +1,10 @@
 use Rattle.std.proofs.Common.{◌+◌, sym, ap, subst}
-use Rattle.bd_lrat.specs.Database.{IsBelow}
+use Rattle.bd_cnf.specs.Standing.{IsBelow}
 use Rattle.bd_lrat.proofs.Answering.{within_from_past, below_from_within}
 use Rattle.bd_lrat.proofs.checker.Checker.check_addition.Goals as goal
 
-pub take_negations-requires-clause-within : goal.take_negations-requires-clause-within
-take_negations-requires-clause-within c =
+pub assign_negations-requires-clause-within : goal.assign_negations-requires-clause-within
+assign_negations-requires-clause-within c =
     let inside = c.self.inside in
     let h = c.in_default.ensures in
     let low : IsBelow (inside.vars + 1) c.args.clause.now = below_from_within inside.vars c.args.clause.now (within_from_past inside.vars c.args.clause.now (sym c.in_default.ensures)) in

@@ -4,7 +4,8 @@ use Rattle.std.proofs.lemmas.List.{length-take-le, take_all}
 use Rattle.std.proofs.lemmas.List.Elements.{All-weaker}
 use Rattle.std.specs.FinMap.{insert}
 use Rattle.bd_cnf.specs.Clause.{IsWithin}
-use Rattle.bd_lrat.specs.Database.{numbered, IsBelow, StandsBelow}
+use Rattle.bd_cnf.specs.Standing.{IsBelow, StandsBelow}
+use Rattle.bd_lrat.specs.Database.{numbered}
 use Rattle.bd_lrat.proofs.Standings.{each_numbered, numbered_more}
 use Rattle.bd_lrat.proofs.Answering.{below_from_within}
 use Rattle.bd_lrat.proofs.checker.Checker.new.Goals as goal
@@ -32,6 +33,6 @@ invariant_of-result c =
     let same : c.args.cnf.now.vars ≡ vars = sym c.vars-vars.ensures in
     let low : All (IsBelow (vars + 1)) clauses = All-weaker (IsWithin c.args.cnf.now.vars) (IsBelow (vars + 1)) (λ x h. below_from_within vars x (subst (λ n. IsWithin n x) same h)) clauses within in
     record {
-      none = c.in_ok-taken.ensures;
+      none = c.in_ok-trail.ensures;
       below = subst (StandsBelow (vars + 1)) (sym (c.loop-clause.invariant.clauses ∙ all)) (each_numbered (IsBelow (vars + 1)) clauses low);
     }

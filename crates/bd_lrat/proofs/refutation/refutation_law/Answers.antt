@@ -1,5 +1,0 @@
-use Rattle.bd_lrat.proofs.Soundness.{refutation_sound}
-use Rattle.bd_lrat.proofs.refutation.refutation_law.Goals as goal
-
-pub returns : goal.returns
-returns c = refutation_sound

@@ -1,0 +1,40 @@
+//! Laws of logs, each the contract of a function that does nothing: what a refutation means, and at
+//! small examples what *fresh* and *unsettled* take and what they don't.
+ghost use Rattle.std.specs.Prelude.{ℕ, Bool, List, [], ◌∷◌};
+ghost use Rattle.bd_cnf.specs.Clause.{Satisfies};
+ghost use Rattle.bd_cnf.specs.Problem.{Problem, problem};
+ghost use Rattle.bd_lrat.specs.declared.line.Line.{Line};
+ghost use Rattle.bd_lrat.specs.Database.{numbered};
+ghost use Rattle.bd_lrat.specs.Log.{IsRefutation, IsFresh, IsUnsettled};
+ghost use Rattle.bd_lrat.specs.Examples.{square, square_line, weakened_line, forced_apart, not_both};
+
+/// Over a formula with an accepted log that adds the empty clause, no assignment makes every clause
+/// true.
+pub fn refutation_law()
+    ensures { (p : Problem) (lines : List Line) → IsRefutation p lines → (v : ℕ → Bool) → Satisfies v p.clauses → ⊥ }
+{}
+
+/// Propagation from nothing finds no conflict in the square, and one decision leads to one.
+pub fn square_is_unsettled()
+    ensures { IsUnsettled (numbered square) }
+{}
+
+/// The first line of the square's refutation is fresh.
+pub fn square_line_is_fresh()
+    ensures { IsFresh (problem 2 square) (square_line ∷ []) }
+{}
+
+/// A clause of the formula with a literal more isn't fresh.
+pub fn weakened_line_is_not_fresh()
+    ensures { ¬ IsFresh (problem 3 square) (weakened_line ∷ []) }
+{}
+
+/// Two decisions, and no single one, lead to a conflict here.
+pub fn two_decisions_unsettle()
+    ensures { IsUnsettled (numbered forced_apart) }
+{}
+
+/// Where the first decision gives the second variable the other value, nothing is unsettled.
+pub fn reached_decision_settles()
+    ensures { ¬ IsUnsettled (numbered not_both) }
+{}
