@@ -1,0 +1,6 @@
+pub mod Same
+pub mod Values
+pub mod Marking
+pub mod Truths
+pub mod Forms
+pub mod Reaching

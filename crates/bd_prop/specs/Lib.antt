@@ -1,0 +1,5 @@
+pub mod Node
+pub mod Truth
+pub mod Graph
+pub mod Form
+pub mod Values

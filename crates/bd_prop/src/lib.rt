@@ -1,0 +1,16 @@
+//! Propositional formulas as a graph in which equal nodes have one id, and their denotations.
+#![tactic(auto)]
+
+mod atom;
+mod form;
+mod node;
+mod prop;
+mod reach;
+
+pub use atom::{Atom, AtomValues};
+pub use node::PropNode;
+pub use prop::Prop;
+pub use reach::{Marks, reached};
+
+#[cfg(test)]
+mod tests;
