@@ -1,0 +1,3 @@
+pub mod Places
+pub mod Graphs
+pub mod Denotations

@@ -1,0 +1,10 @@
+//! Terms of the logic of equality with uninterpreted functions and memories, each kept once in a graph.
+#![tactic(auto)]
+
+mod graph;
+mod id;
+mod node;
+
+pub use graph::Graph;
+pub use id::{Id, Ids};
+pub use node::{Node, Sym};
