@@ -1,3 +1,5 @@
 pub mod Places
 pub mod Graphs
 pub mod Denotations
+pub mod Simplifying
+pub mod Building

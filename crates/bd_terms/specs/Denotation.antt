@@ -3,6 +3,8 @@
 -- a child of another sort counts as false, 0 or the memory of zeros.
 use Rattle.std.specs.Prelude.{◌≡◌, ℕ, Bool, true, false, not, ◌&&◌, ◌||◌, ◌==◌, List, [], ◌∷◌, map, slice_index_or, if◌then◌else◌}
 use Rattle.bd_list.specs.Grown.{grown}
+use Rattle.bd_model.specs.declared.design.Sort.{Sort}
+use Rattle.bd_model.specs.declared.design.Sort.TheVariants as sort
 use Rattle.bd_model.specs.declared.table.Table.{Table}
 use Rattle.bd_model.specs.Table.{at}
 use Rattle.bd_model.specs.Value.{scalar_truth, scalar_word}
@@ -20,6 +22,11 @@ pub data Denoted : Type 0 where
   Truth : Bool → Denoted
   Word : ℕ → Denoted
   Contents : (ℕ → ℕ) → Denoted
+
+abbrev pub denoted_sort : Denoted → Sort
+denoted_sort (Truth b) = sort.Bool
+denoted_sort (Word n) = sort.Word
+denoted_sort (Contents m) = sort.Memory
 
 abbrev pub truth_of : Denoted → Bool
 truth_of (Truth b) = b

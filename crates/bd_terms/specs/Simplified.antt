@@ -1,13 +1,10 @@
 -- The rules by which terms are simplified as they are built, and no others: no rule looks below a child, but to
 -- see a negation.
 use Rattle.std.specs.Prelude.{◌≡◌, ℕ, Bool, true, false, ◌||◌, ◌==◌, List, [], ◌∷◌, ◌++◌, ◌⊎◌, Option, Some, None, slice_get, if◌then◌else◌}
+use Rattle.bd_terms.specs.declared.simplify.Form.{Form}
+use Rattle.bd_terms.specs.declared.simplify.Form.TheVariants.{Same, Built}
 use Rattle.bd_terms.specs.declared.node.Node.{Node}
 use Rattle.bd_terms.specs.declared.node.Node.TheVariants.{True, Not, And, Or, Ite, Eq, App, Pred, Read, Write, Init}
-
--- what a term comes out as: a node that is there, or this node
-pub data Form : Type 0 where
-  Same : ℕ → Form
-  Built : Node → Form
 
 abbrev pub node_is_true : Option Node → Bool
 node_is_true (Some True) = true

@@ -14,7 +14,7 @@ use std::marker::Model;
 /// Terms, each kept once. Clauses see the list of its nodes.
 #[derive(Drop)]
 pub struct Graph {
-    nodes: IndexSet<Node>,
+    pub(crate) nodes: IndexSet<Node>,
     sorts: Vec<Sort>,
 }
 
@@ -54,7 +54,8 @@ impl Graph {
     /// The term at an Id.
     pub fn node(&self, id: Id) -> &Node
         requires { id < length self.now }
-        ensures { slice_get self.now id ≡ Some result.now }
+        ensures node { slice_get self.now id ≡ Some result.now }
+        ensures graph { IsGraph self.now }
     {
         &self.nodes.as_slice()[id.index()]
     }

@@ -1,9 +1,11 @@
 //! Terms of the logic of equality with uninterpreted functions and memories, each kept once in a graph.
 #![tactic(auto)]
 
+mod build;
 mod graph;
 mod id;
 mod node;
+mod simplify;
 
 pub use graph::Graph;
 pub use id::{Id, Ids};
