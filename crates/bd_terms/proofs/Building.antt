@@ -8,7 +8,8 @@ use Rattle.std.proofs.lemmas.List.Elements.{Contains-append_left}
 use Rattle.bd_terms.specs.declared.node.Node.{Node}
 use Rattle.bd_terms.specs.declared.simplify.Form.{Form}
 use Rattle.bd_terms.specs.declared.simplify.Form.TheVariants.{Same, Built}
-use Rattle.bd_terms.specs.Graph.{AddsUses, Extends, FitsSorts, HasSort, IsGraph, KeepsSymbol, KeepsUses, Use, node_sort, node_uses, sort_at, sorts, uses}
+use Rattle.bd_terms.specs.Graph.{AddsUses, Extends, FitsSorts, HasSort, IsGraph, KeepsSymbol, Use, node_sort, node_uses, sort_at, sorts, uses}
+use Rattle.bd_terms.specs.inner.Kept.{KeepsUses}
 use Rattle.bd_terms.specs.Denotation.{World, Denoted, Denotes, denoted, node_value, values}
 use Rattle.bd_terms.specs.Simplified.{Gives, Holds, simplified}
 use Rattle.bd_terms.proofs.Graphs.{sort_at-get, node_sort-front, uses-push}

@@ -1,6 +1,7 @@
 -- Denotations stay when a graph grows.
 use Rattle.std.proofs.Common.{◌≡◌, ℕ, ◌<◌, List, [], ◌∷◌, ◌++◌, length, slice_get, take, drop, Some, ◌+◌, map, refl, ap, sym, ◌∙◌, arith, length-append, true, false, not, ◌&&◌, ◌||◌, ◌==◌, if◌then◌else◌}
-use Rattle.std.specs.List.{AllByRecursion}
+use Rattle.std.specs.List.{All}
+use Rattle.std.proofs.lemmas.List.Elements.{All-head, All-tail}
 use Rattle.bd_list.proofs.Grown.{get-grown_front, get-grown_at}
 use Rattle.bd_model.specs.declared.design.Sort.TheVariants as sort
 use Rattle.bd_terms.specs.declared.node.Node.{Node}
@@ -13,9 +14,10 @@ use Rattle.bd_terms.specs.Denotation.{World, Denoted, Truth, truth_of, word_of, 
 pub denoted-front : (w : World) (xs ys : List Node) (id : ℕ) → id < length xs → denoted w (xs ++ ys) id ≡ denoted w xs id
 denoted-front w xs ys id h = get-grown_front (node_value w) xs ys id (Truth false) h
 
-words-front : (w : World) (xs ys : List Node) (args : List ℕ) → AllByRecursion (λ a. HasSort xs a sort.Word) args → map (λ a. word_of (denoted w (xs ++ ys) a)) args ≡ map (λ a. word_of (denoted w xs a)) args
+words-front : (w : World) (xs ys : List Node) (args : List ℕ) → All (λ a. HasSort xs a sort.Word) args → map (λ a. word_of (denoted w (xs ++ ys) a)) args ≡ map (λ a. word_of (denoted w xs a)) args
 words-front w xs ys [] h = refl
-words-front w xs ys (a ∷ args) h = cc (denoted-front w xs ys a h.0.inside, words-front w xs ys args h.1)
+words-front w xs ys (a ∷ args) h =
+    cc (denoted-front w xs ys a (All-head (λ a. HasSort xs a sort.Word) a args h).inside, words-front w xs ys args (All-tail (λ a. HasSort xs a sort.Word) a args h))
 
 -- so what a node over a graph denotes stays too
 pub node_value-front : (w : World) (xs ys : List Node) (node : Node) → FitsSorts xs node → node_value w (values w (xs ++ ys)) node ≡ node_value w (values w xs) node

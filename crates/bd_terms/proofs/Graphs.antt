@@ -1,19 +1,20 @@
 -- What a graph keeps when a node is put behind the others.
 use Rattle.std.proofs.Common.{◌≡◌, ℕ, zero, suc, ◌+◌, ◌<◌, ◌≤◌, ◌⊎◌, inl, inr, List, [], ◌∷◌, ◌++◌, length, slice_get, take, drop, Some, Contains, refl, ap, sym, ◌∙◌, subst, arith, length-append}
-use Rattle.std.specs.List.{AllByRecursion}
+use Rattle.std.specs.List.{All}
 use Rattle.bd_list.specs.Grown.{grown}
 use Rattle.bd_list.proofs.Grown.{grown-push, length-grown, get-grown_front, get-grown_at}
 use Rattle.bd_model.specs.declared.design.Sort.{Sort}
 use Rattle.bd_model.specs.declared.design.Sort.TheVariants as sort
 use Rattle.bd_terms.specs.declared.node.Node.{Node}
 use Rattle.bd_terms.specs.declared.node.Node.TheVariants.{True, Not, And, Or, Ite, Eq, App, Pred, Read, Write, Init}
-use Rattle.bd_terms.specs.Graph.{node_sort, sorts, sort_at, HasSort, FitsSorts, Use, node_uses, uses, KeepsSymbol, KeepsUses, IsGraph, IsInside}
+use Rattle.bd_terms.specs.Graph.{node_sort, sorts, sort_at, HasSort, FitsSorts, Use, node_uses, uses, KeepsSymbol, IsGraph}
+use Rattle.bd_terms.specs.inner.Kept.{KeepsUses, IsKept}
 use Rattle.bd_terms.proofs.Places.{get-push, around, grown-get}
 use Rattle.std.proofs.lemmas.Option.{slice_get_within}
 use Rattle.std.proofs.lemmas.Grind.{flat_map-append}
 use Rattle.std.proofs.lemmas.List.{take-append-le, append-nil}
 use Rattle.std.proofs.Math.Seq.{take-append_seam}
-use Rattle.std.proofs.lemmas.List.Elements.{Contains-append_cases, All-from_recursion, All-contains}
+use Rattle.std.proofs.lemmas.List.Elements.{Contains-append_cases, All-from_recursion, All-contains, All-weaker}
 
 -- a node's sort stays when the graph grows
 pub sort_at-front : (xs ys : List Node) (id : ℕ) → id < length xs → sort_at (xs ++ ys) id ≡ sort_at xs id
@@ -22,9 +23,8 @@ sort_at-front xs ys id h = get-grown_front node_sort xs ys id sort.Bool h
 pub HasSort-front : (xs ys : List Node) (id : ℕ) (s : Sort) → HasSort xs id s → HasSort (xs ++ ys) id s
 HasSort-front xs ys id s h = record { inside = omega (arith, h.inside, length-append xs ys); sorted = sort_at-front xs ys id h.inside ∙ h.sorted }
 
-words-front : (xs ys : List Node) (args : List ℕ) → AllByRecursion (λ a. HasSort xs a sort.Word) args → AllByRecursion (λ a. HasSort (xs ++ ys) a sort.Word) args
-words-front xs ys [] h = tt
-words-front xs ys (a ∷ args) h = (HasSort-front xs ys a sort.Word h.0, words-front xs ys args h.1)
+words-front : (xs ys : List Node) (args : List ℕ) → All (λ a. HasSort xs a sort.Word) args → All (λ a. HasSort (xs ++ ys) a sort.Word) args
+words-front xs ys args h = All-weaker (λ a. HasSort xs a sort.Word) (λ a. HasSort (xs ++ ys) a sort.Word) (λ a. HasSort-front xs ys a sort.Word) args h
 
 -- and so it fits
 pub FitsSorts-front : (xs ys : List Node) (node : Node) → FitsSorts xs node → FitsSorts (xs ++ ys) node
@@ -140,12 +140,12 @@ IsGraph-pushed nodes node nodes' g fits keeps e different =
     (subst (λ l. (i j : ℕ) (n : Node) → slice_get l i ≡ Some n → slice_get l j ≡ Some n → i ≡ j) e different))
 
 -- a node behind the others, and its sort behind theirs
-pub IsInside-pushed : (nodes : List Node) (kept : List Sort) (node : Node) (s : Sort) (nodes' : List Node) (kept' : List Sort)
-    → IsInside nodes kept → FitsSorts nodes node → KeepsUses nodes node
+pub IsKept-pushed : (nodes : List Node) (kept : List Sort) (node : Node) (s : Sort) (nodes' : List Node) (kept' : List Sort)
+    → IsKept nodes kept → FitsSorts nodes node → KeepsUses nodes node
     → s ≡ node_sort (sorts nodes) node → nodes' ≡ nodes ++ node ∷ [] → kept' ≡ kept ++ s ∷ []
     → ((i j : ℕ) (n : Node) → slice_get nodes' i ≡ Some n → slice_get nodes' j ≡ Some n → i ≡ j)
-    → IsInside nodes' kept'
-IsInside-pushed nodes kept node s nodes' kept' g fits keeps is_sort e f different = record {
+    → IsKept nodes' kept'
+IsKept-pushed nodes kept node s nodes' kept' g fits keeps is_sort e f different = record {
   graph = IsGraph-pushed nodes node nodes' g.graph fits keeps e different;
   sorted = f ∙ ap (λ l. l ++ s ∷ []) g.sorted ∙ ap (λ x. sorts nodes ++ x ∷ []) is_sort ∙ sym (sorts-push nodes node) ∙ ap sorts (sym e);
 }

@@ -3,3 +3,4 @@ pub mod Graphs
 pub mod Denotations
 pub mod Simplifying
 pub mod Building
+pub mod Growth

@@ -1,7 +1,7 @@
 -- Graphs of terms as lists of nodes, each node over nodes that stand before it (Burch and Dill 1994; the logic
 -- of equality with uninterpreted functions and memories of Bryant, German and Velev 2001, every term kept once).
 use Rattle.std.specs.Prelude.{◌≡◌, ℕ, ◌<◌, List, [], ◌∷◌, ◌++◌, Contains, length, slice_get, slice_index_or, take, Some}
-use Rattle.std.specs.List.{AllByRecursion, flat_map}
+use Rattle.std.specs.List.{All, flat_map}
 use Rattle.bd_list.specs.Grown.{grown}
 use Rattle.bd_model.specs.declared.design.Sort.{Sort}
 use Rattle.bd_model.specs.declared.design.Sort.TheVariants as sort
@@ -75,8 +75,8 @@ FitsSorts nodes (And a b) = HasSort nodes a sort.Bool × HasSort nodes b sort.Bo
 FitsSorts nodes (Or a b) = HasSort nodes a sort.Bool × HasSort nodes b sort.Bool
 FitsSorts nodes (Ite c a b) = HasSort nodes c sort.Bool × HasSort nodes a (sort_at nodes a) × HasSort nodes b (sort_at nodes a)
 FitsSorts nodes (Eq a b) = HasSort nodes a sort.Word × HasSort nodes b sort.Word
-FitsSorts nodes (App s args) = AllByRecursion (λ a. HasSort nodes a sort.Word) args
-FitsSorts nodes (Pred s args) = AllByRecursion (λ a. HasSort nodes a sort.Word) args
+FitsSorts nodes (App s args) = All (λ a. HasSort nodes a sort.Word) args
+FitsSorts nodes (Pred s args) = All (λ a. HasSort nodes a sort.Word) args
 FitsSorts nodes (Read m a) = HasSort nodes m sort.Memory × HasSort nodes a sort.Word
 FitsSorts nodes (Write m a d) = HasSort nodes m sort.Memory × HasSort nodes a sort.Word × HasSort nodes d sort.Word
 FitsSorts nodes (Init e) = Unit {0}
@@ -86,7 +86,7 @@ pub record Extends (old new : List Node) : Type 0 where
   pub more : List Node
   pub grows : new ≡ old ++ more
 
--- what the longer graph applies is what the older one does, or this
+-- what the new graph applies is what the old one does, or among these
 pub record AddsUses (old new : List Node) (more : List Use) : Type 0 where
   pub within : (u : Use) → Contains (uses new) u → Contains (uses old ++ more) u
 
@@ -95,12 +95,3 @@ pub record IsGraph (nodes : List Node) : Type 0 where
   pub fits : (i : ℕ) (node : Node) → slice_get nodes i ≡ Some node → FitsSorts (take i nodes) node
   pub different : (i j : ℕ) (node : Node) → slice_get nodes i ≡ Some node → slice_get nodes j ≡ Some node → i ≡ j
   pub consistent : (u : Use) → Contains (uses nodes) u → KeepsSymbol nodes u.symbol u.arity u.sort
-
--- the symbol that the node applies keeps its arity and sort
-abbrev pub KeepsUses : List Node → Node → Type 0
-KeepsUses nodes node = AllByRecursion (λ u. KeepsSymbol nodes u.symbol u.arity u.sort) (node_uses node)
-
--- what a graph keeps: its nodes, and beside them their sorts
-pub record IsInside (nodes : List Node) (kept : List Sort) : Type 0 where
-  pub graph : IsGraph nodes
-  pub sorted : kept ≡ sorts nodes

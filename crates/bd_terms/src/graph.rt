@@ -1,7 +1,8 @@
 //! Graphs of terms. Every term is kept once, behind the terms that it stands over, so that a pass over the
 //! nodes in rising order meets each term behind its children, and two terms are equal where their Ids are.
 ghost use Rattle.std.specs.Prelude.{◌≡◌, ◌<◌, ◌∷◌, [], length, slice_get, Some, IfOk, OnErr};
-ghost use Rattle.bd_terms.specs.Graph.{FitsSorts, KeepsUses, node_sort, sorts, sort_at};
+ghost use Rattle.bd_terms.specs.Graph.{FitsSorts, node_sort, sorts, sort_at};
+ghost use Rattle.bd_terms.specs.inner.Kept.{KeepsUses};
 ghost use Rattle.bd_terms.specs.Simplified.{Holds};
 
 use crate::id::Id;
@@ -21,13 +22,13 @@ pub struct Graph {
 impl Model for Graph {
     ghost use Rattle.std.specs.Prelude.{List};
     ghost use Rattle.bd_terms.specs.declared.node.Node.{Node as TheNode};
-    ghost use Rattle.bd_terms.specs.Graph.{IsInside};
+    ghost use Rattle.bd_terms.specs.inner.Kept.{IsKept};
 
     ghost Value = { List TheNode };
 
     ghost view = { λ g. g.nodes.keys };
 
-    ghost invariant = { λ g. IsInside g.nodes.keys g.sorts.items };
+    ghost invariant = { λ g. IsKept g.nodes.keys g.sorts.items };
 }
 
 impl Graph {
@@ -49,6 +50,14 @@ impl Graph {
         ensures graph { IsGraph self.now }
     {
         self.nodes.len()
+    }
+
+    /// The Id of the term at this place, from 0.
+    pub fn id(&self, index: usize) -> Id
+        requires { index < length self.now }
+        ensures { result ≡ index }
+    {
+        Id::new(index)
     }
 
     /// The term at an Id.

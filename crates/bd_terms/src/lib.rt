@@ -5,8 +5,10 @@ mod build;
 mod graph;
 mod id;
 mod node;
+mod reach;
 mod simplify;
 
 pub use graph::Graph;
 pub use id::{Id, Ids};
 pub use node::{Node, Sym};
+pub use reach::{Marks, reached};

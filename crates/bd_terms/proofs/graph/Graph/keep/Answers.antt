@@ -1,10 +1,11 @@
 -- A node that isn't there goes behind the others, with its sort beside it.
 use Rattle.std.proofs.Common.{◌≡◌, [], ◌∷◌, ◌++◌, refl, ap, sym, ◌∙◌, subst, arith, rules}
 use Rattle.std.proofs.lemmas.Grind.{common_steps}
-use Rattle.bd_terms.specs.Graph.{sorts, node_sort, FitsSorts, KeepsUses, IsGraph}
+use Rattle.bd_terms.specs.Graph.{sorts, node_sort, FitsSorts, IsGraph}
+use Rattle.bd_terms.specs.inner.Kept.{KeepsUses}
 use Rattle.bd_terms.specs.contracts.node.NodeEq.TheImpl.Laws.{laws-law}
 use Rattle.bd_terms.proofs.Places.{IsDistinct-place}
-use Rattle.bd_terms.proofs.Graphs.{IsGraph-pushed, IsInside-pushed}
+use Rattle.bd_terms.proofs.Graphs.{IsGraph-pushed, IsKept-pushed}
 use Rattle.bd_terms.proofs.graph.Graph.keep.Goals as goal
 use Rattle.bd_terms.proofs.graph.Graph.keep.Goals.{then-is_new, else-is_new}
 
@@ -12,7 +13,7 @@ pub invariant_of-self-then-is_new : goal.invariant_of-self-then-is_new
 invariant_of-self-then-is_new c =
     let e : c.insert_full.new.self.keys ≡ c.self.inside.nodes.keys ++ c.args.node ∷ [] = grind (arith, common_steps) in
     let f : c.push_reserved.new.self.items ≡ c.self.inside.sorts.items ++ c.node_sort-sort.result ∷ [] = grind (arith, common_steps) in
-    IsInside-pushed c.self.inside.nodes.keys c.self.inside.sorts.items c.args.node c.node_sort-sort.result _ _
+    IsKept-pushed c.self.inside.nodes.keys c.self.inside.sorts.items c.args.node c.node_sort-sort.result _ _
     c.self.invariant
     (subst (λ l. FitsSorts l c.args.node) (sym c.self.view_is) c.requires.fits)
     (subst (λ l. KeepsUses l c.args.node) (sym c.self.view_is) c.requires.symbols)
