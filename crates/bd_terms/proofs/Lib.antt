@@ -4,3 +4,5 @@ pub mod Denotations
 pub mod Simplifying
 pub mod Building
 pub mod Growth
+pub mod Reaching
+pub mod Resting
