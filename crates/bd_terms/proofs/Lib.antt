@@ -6,3 +6,4 @@ pub mod Building
 pub mod Growth
 pub mod Reaching
 pub mod Resting
+pub mod Symbols

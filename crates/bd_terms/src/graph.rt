@@ -1,12 +1,12 @@
 //! Graphs of terms. Every term is kept once, behind the terms that it stands over, so that a pass over the
 //! nodes in rising order meets each term behind its children, and two terms are equal where their Ids are.
-ghost use Rattle.std.specs.Prelude.{◌≡◌, ◌<◌, ◌∷◌, [], length, slice_get, Some, IfOk, OnErr};
-ghost use Rattle.bd_terms.specs.Graph.{FitsSorts, node_sort, sorts, sort_at};
+ghost use Rattle.std.specs.Prelude.{◌≡◌, ◌<◌, ◌∷◌, [], length, slice_get, ◌↔◌, IsTrue, Some, IfOk, OnErr};
+ghost use Rattle.bd_terms.specs.Graph.{FitsSorts, KeepsSymbol, node_sort, sorts, sort_at};
 ghost use Rattle.bd_terms.specs.inner.Kept.{KeepsUses};
 ghost use Rattle.bd_terms.specs.Simplified.{Holds};
 
 use crate::id::Id;
-use crate::node::Node;
+use crate::node::{Node, Sym};
 use bd_model::Sort;
 use indexmap::IndexSet;
 use std::alloc::{AllocError, Global};
@@ -75,6 +75,18 @@ impl Graph {
         ensures { result ≡ sort_at self.now id }
     {
         self.sorts[id.index()]
+    }
+
+    /// Whether the graph keeps this arity and sort wherever it applies the symbol. It looks at every term.
+    pub fn keeps_symbol(&self, sym: Sym, arity: usize, sort: Sort) -> bool
+        ensures { IsTrue result ↔ KeepsSymbol self.now sym arity sort }
+    {
+        for node in self.nodes.as_slice() {
+            if !node.keeps_symbol(sym, arity, sort) {
+                return false;
+            }
+        }
+        true
     }
 
     // The Id of the node, which is put behind the others if it isn't there.

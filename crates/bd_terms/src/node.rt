@@ -1,5 +1,8 @@
 //! Symbols and nodes.
+ghost use Rattle.std.specs.Prelude.{◌≡◌, ◌↔◌, IsTrue};
+
 use crate::id::{Id, Ids};
+use bd_model::Sort;
 
 /// What an application stands for: a function or predicate of the design, the first contents of an entry, an
 /// input, a fresh address, or a variable.
@@ -27,4 +30,24 @@ pub enum Node {
     Write(Id, Id, Id),
     /// The first contents of a memory entry.
     Init(u32),
+}
+
+impl Node {
+    ghost use Rattle.bd_terms.specs.inner.Kept.{NodeKeepsSymbol};
+
+    // Whether the node applies the symbol to so many arguments and as a term of this sort, if it applies it.
+    pub(crate) fn keeps_symbol(&self, sym: Sym, arity: usize, sort: Sort) -> bool
+        ensures { IsTrue result ↔ NodeKeepsSymbol self.now sym arity sort }
+    {
+        match self {
+            Node::App(applied, args) => {
+                *applied != sym || (args.as_slice().len() == arity && sort == Sort::Word)
+            }
+            Node::Pred(applied, args) => {
+                *applied != sym || (args.as_slice().len() == arity && sort == Sort::Bool)
+            }
+            Node::Init(entry) => Sym::Entry(*entry) != sym || (arity == 1 && sort == Sort::Word),
+            _ => true,
+        }
+    }
 }
