@@ -12,3 +12,6 @@ pub use graph::Graph;
 pub use id::{Id, Ids};
 pub use node::{Node, Sym};
 pub use reach::{Marks, reached};
+
+#[cfg(test)]
+mod tests;
