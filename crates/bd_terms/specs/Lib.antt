@@ -1,0 +1,5 @@
+pub mod Graph
+pub mod Denotation
+pub mod Simplified
+pub mod inner
+pub mod Reaches

@@ -1,0 +1,115 @@
+//! The rules by which terms are simplified as they are built. No rule looks below a child, but to see a
+//! negation, so each costs no more than a few looks into the graph.
+ghost use Rattle.std.specs.Prelude.{◌≡◌, ◌==◌, ◌<◌, length, if◌then◌else◌};
+ghost use Rattle.bd_terms.specs.Graph.{FitsSorts, IsGraph};
+ghost use Rattle.bd_terms.specs.Simplified.{is_true, is_false, simplified};
+ghost use Rattle.bd_terms.specs.declared.node.Node.TheVariants as node;
+ghost use Rattle.bd_terms.specs.declared.simplify.Form.TheVariants as form;
+
+use crate::graph::Graph;
+use crate::id::Id;
+use crate::node::Node;
+
+/// What a term comes out as: a node that is there, or this node.
+#[derive(Drop)]
+pub enum Form {
+    Same(Id),
+    Built(Node),
+}
+
+impl Graph {
+    // What the node comes out as.
+    pub(crate) fn simplified(&self, node: Node) -> Form
+        requires { FitsSorts self.now node }
+        ensures form { result ≡ simplified self.now node }
+        ensures graph { IsGraph self.now }
+    {
+        let _ = &self.nodes;
+        match node {
+            Node::Not(a) => self.negation(a),
+            Node::And(a, b) => self.conjunction(a, b),
+            Node::Or(a, b) => self.disjunction(a, b),
+            Node::Ite(c, a, b) => self.choice(c, a, b),
+            Node::Eq(a, b) => equation(a, b),
+            other => Form::Built(other),
+        }
+    }
+
+    fn negation(&self, a: Id) -> Form
+        requires { a < length self.now }
+        ensures { result ≡ simplified self.now (node.Not a) }
+    {
+        match self.node(a) {
+            Node::Not(b) => Form::Same(*b),
+            _ => Form::Built(Node::Not(a)),
+        }
+    }
+
+    fn conjunction(&self, a: Id, b: Id) -> Form
+        requires first { a < length self.now }
+        requires second { b < length self.now }
+        ensures { result ≡ simplified self.now (node.And a b) }
+    {
+        if self.is_true(a) || self.is_false(b) || a == b {
+            Form::Same(b)
+        } else if self.is_false(a) || self.is_true(b) {
+            Form::Same(a)
+        } else {
+            Form::Built(Node::And(a, b))
+        }
+    }
+
+    fn disjunction(&self, a: Id, b: Id) -> Form
+        requires first { a < length self.now }
+        requires second { b < length self.now }
+        ensures { result ≡ simplified self.now (node.Or a b) }
+    {
+        if self.is_false(a) || self.is_true(b) || a == b {
+            Form::Same(b)
+        } else if self.is_true(a) || self.is_false(b) {
+            Form::Same(a)
+        } else {
+            Form::Built(Node::Or(a, b))
+        }
+    }
+
+    fn choice(&self, control: Id, yes: Id, no: Id) -> Form
+        requires { control < length self.now }
+        ensures { result ≡ simplified self.now (node.Ite control yes no) }
+    {
+        if self.is_true(control) || yes == no {
+            Form::Same(yes)
+        } else if self.is_false(control) {
+            Form::Same(no)
+        } else {
+            Form::Built(Node::Ite(control, yes, no))
+        }
+    }
+
+    fn is_true(&self, id: Id) -> bool
+        requires { id < length self.now }
+        ensures { result ≡ is_true self.now id }
+    {
+        matches!(self.node(id), Node::True)
+    }
+
+    fn is_false(&self, id: Id) -> bool
+        requires { id < length self.now }
+        ensures { result ≡ is_false self.now id }
+    {
+        match self.node(id) {
+            Node::Not(a) => self.is_true(*a),
+            _ => false,
+        }
+    }
+}
+
+fn equation(a: Id, b: Id) -> Form
+    ensures { result ≡ (if a == b then form.Built node.True else form.Built (node.Eq a b)) }
+{
+    if a == b {
+        Form::Built(Node::True)
+    } else {
+        Form::Built(Node::Eq(a, b))
+    }
+}
