@@ -89,7 +89,7 @@ pub trait Files {
 
 /// A place that bytes are put to, one after another.
 ///
-/// An object may tell what was written, as one in memory does; a put never changes whether it tells.
+/// An object may tell what was written, as one in memory does; a put never changes whether it does.
 pub trait Sink {
     /// All that was written, where the object tells that.
     ghost written: { Self → Option (List ℕ) };
@@ -100,7 +100,8 @@ pub trait Sink {
     /// Writes the bytes after those written before. It takes no memory.
     fn put(&mut self, bytes: &[u8]) -> Result<(), PutError>
         ensures appended { OnOk result (Appends (written self.old) (written self.new) bytes.now) }
-        ensures prefix { OnErr result (AppendsPrefix (written self.old) (written self.new) bytes.now) }
+        ensures prefix { OnErr result
+            (AppendsPrefix (written self.old) (written self.new) bytes.now) }
 
         ensures never_falls { faults self.old ≤ faults self.new }
         ensures failed_rose { OnErr result (Rose (faults self.old) (faults self.new)) };

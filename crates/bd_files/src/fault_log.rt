@@ -43,8 +43,8 @@ impl FaultLog {
         }
     }
 
-    /// Counts one more fault, and blames it on the call of that name. At the largest `u64` the count
-    /// stays.
+    /// Counts one more fault, and blames it on the call of that name. At the largest `u64` the
+    /// count stays.
     pub fn add(&mut self, call: FileCall, name: String)
         ensures { self.new ≡ faulted self.old call (string_bytes name) }
     {

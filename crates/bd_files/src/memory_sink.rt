@@ -41,9 +41,9 @@ impl Model for Page {
 }
 
 impl Page {
-    /// An empty page with room for `room` bytes, which it takes here. In `fails` each number of a put
-    /// that is to fail stands with how many bytes that put keeps before; of several pairs with one
-    /// number the first counts. A put past the room keeps what fits and fails.
+    /// An empty page with room for `room` bytes, which it takes here. In `fails` each number of a
+    /// put that is to fail stands with how many bytes that put keeps before; of several pairs with
+    /// one number the first counts. A put past the room keeps what fits and fails.
     pub fn new(alloc: Global, room: usize, fails: Vec<(u64, usize)>) -> Result<Page, AllocError>
         ensures { IfOk result (λ page. page ≡ new_page room fails.items) }
     {
