@@ -6,13 +6,14 @@ use Rattle.std.specs.Option.{option_map}
 use Rattle.bd_text.specs.Nodes.{Node}
 use Rattle.bd_files.specs.Devices.{Held, IsLoaded}
 use Rattle.bd_model.specs.DesignView.{DesignView}
-use Rattle.bd_app.specs.Answer.{IsAnswer, IsTold, Given}
+use Rattle.bd_app.specs.inner.Told.{IsAnswer, IsTold}
+use Rattle.bd_app.specs.Answer.{Given}
 use Rattle.bd_app.specs.Bit.{Bit}
 use Rattle.bd_app.specs.Form.{Denotes, IsText, IsPipeline, IsSpecification}
 use Rattle.bd_app.specs.Words.{Named, taken}
-use Rattle.bd_app.specs.declared.ended.Ended.{Ended}
-use Rattle.bd_app.specs.declared.ended.Ended.TheVariants.{Correct, Wrong, Usage, Unread, Device, Memory}
-use Rattle.bd_app.specs.declared.ended.Text.TheVariants as text
+use Rattle.bd_app.specs.declared.answer.Ended.{Ended}
+use Rattle.bd_app.specs.declared.answer.Ended.TheVariants.{Correct, Wrong, Usage, Unread, Device, Memory}
+use Rattle.bd_app.specs.declared.answer.Text.TheVariants as text
 
 -- bytes that were read of a file, where they are few all of them
 pub record IsRead (most : ℕ) (full bytes : List ℕ) : Type 0 where

@@ -22,8 +22,9 @@ use Rattle.bd_model.specs.declared.design.Sort.TheVariants as sort
 use Rattle.bd_model.specs.declared.case.Condition.{Condition}
 use Rattle.bd_model.specs.declared.case.Condition.TheVariants as condition
 use Rattle.bd_model.specs.declared.case.Judged.TheVariants as judged
-use Rattle.bd_app.specs.Bit.{Bit, latch, input, negation, choice, bit_value, uses_no_input, term_of_bit}
-use Rattle.bd_app.specs.OneBit.{design_of, is_broken, IsUnbroken, case_at}
+use Rattle.bd_app.specs.Bit.{Bit, latch, input, negation, choice, uses_no_input, term_of_bit}
+use Rattle.bd_app.specs.inner.Decided.{bit_value, is_broken, IsUnbroken, case_at}
+use Rattle.bd_app.specs.OneBit.{design_of}
 
 -- where the latch and the input have these values
 abbrev env_at : List Table → Bool → Bool → Env

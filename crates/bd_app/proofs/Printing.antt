@@ -4,9 +4,9 @@ use Rattle.std.specs.Prelude.{◌⊎◌}
 use Rattle.bd_model.specs.declared.case.Case.{Case}
 use Rattle.bd_model.specs.declared.case.Condition.{Condition}
 use Rattle.bd_app.specs.Answer.{IsVerdict}
-use Rattle.bd_app.specs.declared.ended.Which.TheVariants as which
-use Rattle.bd_app.specs.declared.ended.Ended.{Ended}
-use Rattle.bd_app.specs.declared.ended.Ended.TheVariants.{Correct, Wrong, Usage, Unread, Device, Memory}
+use Rattle.bd_app.specs.declared.answer.Which.TheVariants as which
+use Rattle.bd_app.specs.declared.answer.Ended.{Ended}
+use Rattle.bd_app.specs.declared.answer.Ended.TheVariants.{Correct, Wrong, Usage, Unread, Device, Memory}
 
 -- a wrong verdict was the answer before it was printed
 pub wrong_before : {P Q R S : Type 0} (ended result : Ended) → (¬ IsVerdict ended → (result ≡ ended) × P)

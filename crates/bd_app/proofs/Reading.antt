@@ -5,7 +5,8 @@ use Rattle.bd_text.specs.Nodes.{Node, Nodes, no_nodes, node}
 use Rattle.bd_text.specs.Grammar.{Spells}
 use Rattle.bd_text.specs.Written.{without_offsets}
 use Rattle.bd_app.specs.Form.{IsText}
-use Rattle.bd_app.specs.Bit.{bit_of, choice}
+use Rattle.bd_app.specs.inner.Shape.{bit_of}
+use Rattle.bd_app.specs.Bit.{choice}
 use Rattle.bd_app.specs.declared.truth.Truth.{Truth, the_lemmas}
 use Rattle.bd_app.specs.declared.truth.Truth.TheVariants.{Ite}
 

@@ -5,7 +5,8 @@ use Rattle.bd_text.specs.Nodes.{Node, no_nodes}
 use Rattle.bd_text.specs.View.{nodes_of_all}
 use Rattle.bd_text.specs.declared.tree.Tree.{Tree}
 use Rattle.bd_app.specs.Bit.{Bit, latch, input, negation, choice}
-use Rattle.bd_app.specs.Form.{shapes_of, word, form, IsOver, IsBitTree}
+use Rattle.bd_app.specs.inner.Shape.{shapes_of, IsOver, IsBitTree}
+use Rattle.bd_app.specs.Form.{word, form}
 
 -- no shapes are the shapes of no trees
 pub none_of_no_shapes : (ts : List Tree) → shapes_of ts ≡ no_nodes → length ts ≡ 0

@@ -9,13 +9,13 @@ use Rattle.bd_model.specs.Laws.{CyclesCompose}
 use Rattle.bd_model.specs.Lawful.{IsLawful}
 use Rattle.bd_model.specs.declared.case.Condition.TheVariants as condition
 use Rattle.bd_model.specs.declared.case.Judged.TheVariants as judged
-use Rattle.bd_app.specs.Answer.{IsAnswer}
+use Rattle.bd_app.specs.inner.Told.{IsAnswer}
 use Rattle.bd_app.specs.Bit.{Bit}
-use Rattle.bd_app.specs.Decided.{IsDecided}
+use Rattle.bd_app.specs.inner.Decided.{IsDecided}
 use Rattle.bd_app.specs.Form.{Denotes, IsText, IsPipeline, IsSpecification, pipeline_tree}
 use Rattle.bd_app.specs.OneBit.{design_of}
-use Rattle.bd_app.specs.declared.ended.Ended.{Ended}
-use Rattle.bd_app.specs.declared.ended.Ended.TheVariants.{Correct, Wrong, Usage, Unread, Device, Memory}
+use Rattle.bd_app.specs.declared.answer.Ended.{Ended}
+use Rattle.bd_app.specs.declared.answer.Ended.TheVariants.{Correct, Wrong, Usage, Unread, Device, Memory}
 use Rattle.bd_app.proofs.Depth.{NestsWithinLimit, pipeline_depth, specification_depth}
 use Rattle.bd_app.proofs.OneBitLaws.{no_case_breaks, case_breaks, one_bit_lawful}
 use Rattle.bd_app.proofs.Reading.{HasOneReading}

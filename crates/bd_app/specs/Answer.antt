@@ -11,10 +11,10 @@ use Rattle.bd_files.specs.declared.devices.FileCall.TheVariants as call
 use Rattle.bd_app.specs.Bit.{Bit}
 use Rattle.bd_app.specs.Form.{Denotes, IsPipeline}
 use Rattle.bd_app.specs.Words.{Named, taken}
-use Rattle.bd_app.specs.declared.ended.Text.TheVariants as text
-use Rattle.bd_app.specs.declared.ended.Which.TheVariants as which
-use Rattle.bd_app.specs.declared.ended.Ended.{Ended}
-use Rattle.bd_app.specs.declared.ended.Ended.TheVariants.{Correct, Wrong, Usage, Unread, Device, Memory}
+use Rattle.bd_app.specs.declared.answer.Text.TheVariants as text
+use Rattle.bd_app.specs.declared.answer.Which.TheVariants as which
+use Rattle.bd_app.specs.declared.answer.Ended.{Ended}
+use Rattle.bd_app.specs.declared.answer.Ended.TheVariants.{Correct, Wrong, Usage, Unread, Device, Memory}
 
 abbrev pub status_of : Ended → ℕ
 status_of Correct = 0
@@ -35,7 +35,9 @@ report_of (Device w) = []
 report_of Memory = []
 
 abbrev pub usage : List ℕ
-usage = codes "usage: burch_dill check PIPE SPEC [INV] [--budget N] [--cnf FILE] [--lrat FILE] | replay PIPE SPEC CASE [INV] | run PIPE SPEC CASE CYCLES | gen DEPTH DROP"
+usage =
+    codes "usage: burch_dill check PIPE SPEC [INV] [--budget N] [--cnf FILE] [--lrat FILE] "
+    ++ codes "| replay PIPE SPEC CASE [INV] | run PIPE SPEC CASE CYCLES | gen DEPTH DROP"
 
 -- the line for the error output: for an answer that is no fault, nothing
 abbrev pub fault_line_of : Ended → List ℕ
@@ -48,17 +50,6 @@ fault_line_of (Device which.Load) = codes "cannot read" ++ 10 ∷ []
 fault_line_of (Device which.Out) = codes "cannot write" ++ 10 ∷ []
 fault_line_of Memory = codes "out of memory" ++ 10 ∷ []
 
--- what an answer says of the texts of the two files; want of memory says nothing
-abbrev pub IsAnswer : List ℕ → List ℕ → Ended → Type 0
-IsAnswer pipe spec Correct = (d : DesignView) × Denotes pipe spec d × IsRight d
-IsAnswer pipe spec (Wrong k c) = (d : DesignView) × Denotes pipe spec d × Fits d c × IsJudged d c (judged.Broken k)
-IsAnswer pipe spec (Unread text.Pipe) = (a b : List ℕ) (e : Bit) → ¬ IsPipeline pipe a b e
-IsAnswer pipe spec (Unread text.Spec) =
-    ((a : List ℕ) × (b : List ℕ) × (e : Bit) × IsPipeline pipe a b e) × ((d : DesignView) → ¬ Denotes pipe spec d)
-IsAnswer pipe spec Usage = ⊥
-IsAnswer pipe spec (Device w) = ⊥
-IsAnswer pipe spec Memory = Unit {0}
-
 -- the bytes of the two files that the words name
 pub record Given (held : Held) (words : List (List ℕ)) (pipe spec : List ℕ) : Type 0 where
   pub names : Named
@@ -68,12 +59,14 @@ pub record Given (held : Held) (words : List (List ℕ)) (pipe spec : List ℕ) 
 
 -- the words name two files whose texts denote the design
 abbrev pub Asks : Held → List (List ℕ) → DesignView → Type 0
-Asks held words d = (pipe : List ℕ) × (spec : List ℕ) × Given held words pipe spec × Denotes pipe spec d
+Asks held words d =
+    (pipe : List ℕ) × (spec : List ℕ) × Given held words pipe spec × Denotes pipe spec d
 
 -- an answer that is no fault, and true of the design that the files denote
 abbrev pub IsTrueVerdict : Held → List (List ℕ) → Ended → Type 0
 IsTrueVerdict held words Correct = (d : DesignView) × Asks held words d × IsRight d
-IsTrueVerdict held words (Wrong k c) = (d : DesignView) × Asks held words d × Fits d c × IsJudged d c (judged.Broken k)
+IsTrueVerdict held words (Wrong k c) =
+    (d : DesignView) × Asks held words d × Fits d c × IsJudged d c (judged.Broken k)
 IsTrueVerdict held words Usage = ⊥
 IsTrueVerdict held words (Unread t) = ⊥
 IsTrueVerdict held words (Device w) = ⊥
@@ -91,25 +84,18 @@ IsVerdict Memory = ⊥
 -- both files are held, and the text of the pipeline isn't of the form
 abbrev pub IsUnreadPipe : Held → List (List ℕ) → Type 0
 IsUnreadPipe held words =
-    (pipe : List ℕ) × (spec : List ℕ) × Given held words pipe spec × ((a b : List ℕ) (e : Bit) → ¬ IsPipeline pipe a b e)
+    (pipe : List ℕ) × (spec : List ℕ) × Given held words pipe spec
+    × ((a b : List ℕ) (e : Bit) → ¬ IsPipeline pipe a b e)
 
 -- both files are held, the text of the pipeline is of the form, and that of the specification isn't
 abbrev pub IsUnreadSpec : Held → List (List ℕ) → Type 0
 IsUnreadSpec held words =
     (pipe : List ℕ) × (spec : List ℕ) × Given held words pipe spec
-    × ((a : List ℕ) × (b : List ℕ) × (e : Bit) × IsPipeline pipe a b e) × ((d : DesignView) → ¬ Denotes pipe spec d)
+    × ((a : List ℕ) × (b : List ℕ) × (e : Bit) × IsPipeline pipe a b e)
+    × ((d : DesignView) → ¬ Denotes pipe spec d)
 
 -- the last call that failed was a load of a file that the words name
 abbrev pub BlamesLoad : Option Blame → List (List ℕ) → Type 0
 BlamesLoad blame words =
-    (names : Named) × (name : List ℕ) × (taken words ≡ Some names) × ((name ≡ names.pipe) ⊎ (name ≡ names.spec)) × (blame ≡ Some (call.Load, name))
-
--- what an answer says of what the files hold; faults of devices and want of memory say nothing
-abbrev pub IsTold : Held → List (List ℕ) → Ended → Type 0
-IsTold held words Correct = IsTrueVerdict held words Correct
-IsTold held words (Wrong k c) = IsTrueVerdict held words (Wrong k c)
-IsTold held words Usage = Unit {0}
-IsTold held words (Unread text.Pipe) = IsUnreadPipe held words
-IsTold held words (Unread text.Spec) = IsUnreadSpec held words
-IsTold held words (Device w) = Unit {0}
-IsTold held words Memory = Unit {0}
+    (names : Named) × (name : List ℕ) × (taken words ≡ Some names)
+    × ((name ≡ names.pipe) ⊎ (name ≡ names.spec)) × (blame ≡ Some (call.Load, name))

@@ -1,11 +1,10 @@
--- The one form of text that is read: a one-bit pipeline that may stall, and a machine over the same bit.
-use Rattle.std.specs.Prelude.{◌≡◌, ◌≢◌, ◌≤◌, ℕ, true, List, [], ◌∷◌, map, length, codes, Option, Some, None, unwrap_or}
-use Rattle.bd_text.specs.Nodes.{Node, atom, list, Nodes, no_nodes, node}
-use Rattle.bd_text.specs.View.{node_of, nodes_of_all, nodes_from}
+-- The one form of text that is read: a one-bit pipeline that may stall, and a machine over its bit.
+use Rattle.std.specs.Prelude.{◌≡◌, ◌≢◌, ◌≤◌, ℕ, true, List, [], ◌∷◌, map, length, codes}
+use Rattle.bd_text.specs.Nodes.{Node, atom, list, no_nodes, node}
+use Rattle.bd_text.specs.View.{nodes_from}
 use Rattle.bd_text.specs.Grammar.{Spells}
 use Rattle.bd_text.specs.Faults.{HasNoFault}
-use Rattle.bd_text.specs.Written.{without_offsets, all_without_offsets}
-use Rattle.bd_text.specs.declared.tree.Tree.{Tree}
+use Rattle.bd_text.specs.Written.{without_offsets}
 use Rattle.bd_model.specs.Name.{IsName}
 use Rattle.bd_model.specs.DesignView.{DesignView}
 use Rattle.bd_app.specs.OneBit.{design_of}
@@ -18,19 +17,13 @@ word text = atom 0 text
 abbrev pub form : List Node → Node
 form parts = list 0 (nodes_from parts)
 
--- a tree of a text, wherever it stands
-abbrev pub shape_of : Tree → Node
-shape_of t = without_offsets (node_of t)
-
-abbrev pub shapes_of : List Tree → Nodes
-shapes_of ts = all_without_offsets (nodes_of_all ts)
-
 -- an expression over the latch a and the input b
 abbrev pub bit_tree : List ℕ → List ℕ → Bit → Node
 bit_tree a b latch = word a
 bit_tree a b input = word b
 bit_tree a b (negation e) = form (word (codes "not") ∷ bit_tree a b e ∷ [])
-bit_tree a b (choice p e f) = form (word (codes "ite") ∷ bit_tree a b p ∷ bit_tree a b e ∷ bit_tree a b f ∷ [])
+bit_tree a b (choice p e f) =
+    form (word (codes "ite") ∷ bit_tree a b p ∷ bit_tree a b e ∷ bit_tree a b f ∷ [])
 
 -- (HEAD NAME TAIL ..)
 abbrev pub item_tree : List ℕ → List ℕ → List (List ℕ) → Node
@@ -56,8 +49,11 @@ pipeline_tree a b e = pipeline_form a b (bit_tree a b e)
 
 -- (specification (latch A bool) (next A VALUE))
 abbrev pub specification_form : List ℕ → Node → Node
-specification_form a value =
-    form (word (codes "specification") ∷ item_tree (codes "latch") a (codes "bool" ∷ []) ∷ next_tree a value ∷ [])
+specification_form a value = form (
+    word (codes "specification")
+    ∷ item_tree (codes "latch") a (codes "bool" ∷ [])
+    ∷ next_tree a value
+    ∷ [])
 
 abbrev pub specification_tree : List ℕ → Bit → Node
 specification_tree a f = specification_form a (bit_tree a [] f)
@@ -90,7 +86,8 @@ IsPipeline bytes a b e = (t : Node) × IsText bytes t × IsPipelineTree t a b e
 abbrev pub IsSpecification : List ℕ → List ℕ → Bit → Type 0
 IsSpecification bytes a f = (t : Node) × IsText bytes t × IsSpecificationTree t a f
 
--- the texts of a pipeline and of its specification, which have the same latch, and the design that they denote
+-- the texts of a pipeline and of its specification, which have the same latch, and the design that
+-- they denote
 pub record Denotes (pipe spec : List ℕ) (d : DesignView) : Type 0 where
   pub latch : List ℕ
   pub input : List ℕ
@@ -99,17 +96,3 @@ pub record Denotes (pipe spec : List ℕ) (d : DesignView) : Type 0 where
   pub pipeline : IsPipeline pipe latch input next
   pub specification : IsSpecification spec latch spec_next
   pub design : d ≡ design_of latch input next spec_next
-
--- the name of an input, where there is one
-abbrev pub input_name : Option (List ℕ) → List ℕ
-input_name b = unwrap_or b []
-
--- an expression of a machine with that input, or with none
-abbrev pub IsOver : Option (List ℕ) → Bit → Type 0
-IsOver None e = uses_no_input e ≡ true
-IsOver (Some b) e = Unit {0}
-
--- the tree is the expression e over the latch a and the input b, where there is one
-pub record IsBitTree (a : List ℕ) (b : Option (List ℕ)) (t : Node) (e : Bit) : Type 0 where
-  pub tree : t ≡ bit_tree a (input_name b) e
-  pub over : IsOver b e

@@ -20,6 +20,7 @@ begins_with_dash (b ∷ bs) = b == 45
 -- the words are taken where they are `PROGRAM check PIPE SPEC`
 abbrev pub taken : List (List ℕ) → Option Named
 taken (program ∷ command ∷ pipe ∷ spec ∷ []) =
-    if (pointwise nat_eq command (codes "check") && not (begins_with_dash pipe)) && not (begins_with_dash spec)
+    if (pointwise nat_eq command (codes "check") && not (begins_with_dash pipe))
+    && not (begins_with_dash spec)
     then Some (record { pipe = pipe; spec = spec }) else None
 taken _ = None

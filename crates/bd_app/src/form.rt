@@ -1,10 +1,16 @@
-//! The one form of text that is read.
+//! The one form of text that is read, part by part.
+//!
+//! Each function takes one list of the form apart, from its head on, and says both what a found
+//! part is and that nothing found means that the tree isn't of that form. So the answer of the whole
+//! is exact: the clauses of the parts join without a look at the code. Offsets don't matter here, so
+//! the clauses speak of shapes, trees without their offsets.
 ghost use Rattle.std.specs.Prelude.{◌≡◌, ◌≢◌, ◌↔◌, ℕ, List, [], ◌∷◌, map, IsTrue, IfSome, IfNone, IfOk, IsErrOf, codes};
 ghost use Rattle.std.specs.Option.{option_map};
 ghost use Rattle.bd_text.specs.Nodes.{Node, Nodes, list};
 ghost use Rattle.bd_text.specs.View.{nodes_from};
-ghost use Rattle.bd_app.specs.Bit.{Bit, bit_of};
-ghost use Rattle.bd_app.specs.Form.{word, form, shape_of, shapes_of, item_tree, next_tree, IsBitTree};
+ghost use Rattle.bd_app.specs.Bit.{Bit};
+ghost use Rattle.bd_app.specs.inner.Shape.{bit_of, shape_of, shapes_of, IsBitTree};
+ghost use Rattle.bd_app.specs.Form.{word, form, item_tree, next_tree};
 
 use crate::truth::Truth;
 use bd_text::{Tree, Trees};
@@ -44,7 +50,8 @@ pub fn is_word(tree: &Tree, text: &[u8]) -> bool
 
 /// Whether the trees are these words.
 fn are_words(trees: &[Tree], words: &[&[u8]]) -> bool
-    ensures { IsTrue result ↔ (shapes_of trees.now ≡ nodes_from (map word (map (λ w. w.now) words.now))) }
+    ensures { IsTrue result
+        ↔ (shapes_of trees.now ≡ nodes_from (map word (map (λ w. w.now) words.now))) }
 {
     match (trees.split_first(), words.split_first()) {
         (Some((tree, trees)), Some((text, words))) => is_word(tree, text)
@@ -56,8 +63,10 @@ fn are_words(trees: &[Tree], words: &[&[u8]]) -> bool
 
 /// The name that `(HEAD NAME TAIL ..)` gives.
 pub fn declared<'a>(tree: &'a Tree, head: &[u8], tail: &[&[u8]]) -> Option<&'a [u8]>
-    ensures some { IfSome result (λ name. shape_of tree.now ≡ item_tree head.now name.now (map (λ w. w.now) tail.now)) }
-    ensures none { IfNone result ((name : List ℕ) → shape_of tree.now ≢ item_tree head.now name (map (λ w. w.now) tail.now)) }
+    ensures some { IfSome result (λ name.
+        shape_of tree.now ≡ item_tree head.now name.now (map (λ w. w.now) tail.now)) }
+    ensures none { IfNone result ((name : List ℕ) →
+        shape_of tree.now ≢ item_tree head.now name (map (λ w. w.now) tail.now)) }
 {
     let (first, parts) = parts_of(tree)?.split_first()?;
     let (name, parts) = parts.split_first()?;
@@ -71,7 +80,8 @@ pub fn declared<'a>(tree: &'a Tree, head: &[u8], tail: &[&[u8]]) -> Option<&'a [
 /// The expression of `(next NAME EXPR)`.
 #[tactic(auto, using(crate::proofs::Shapes::none_of_no_shapes))]
 pub fn next_value<'a>(tree: &'a Tree, name: &[u8]) -> Option<&'a Tree>
-    ensures some { IfSome result (λ value. shape_of tree.now ≡ next_tree name.now (shape_of value.now)) }
+    ensures some { IfSome result (λ value.
+        shape_of tree.now ≡ next_tree name.now (shape_of value.now)) }
     ensures none { IfNone result ((value : Node) → shape_of tree.now ≢ next_tree name.now value) }
 {
     let (first, parts) = parts_of(tree)?.split_first()?;
@@ -123,8 +133,11 @@ pub struct Names<'a> {
 /// The expression that an atom names.
 #[tactic(auto, using(crate::proofs::Shapes::no_such_name))]
 fn named(text: &[u8], names: Names) -> Result<Truth, FormError>
-    ensures read { IfOk result (λ truth. IsBitTree names.entry.latch.now (option_map (λ b. b.now) names.entry.input) (word text.now) (bit_of truth)) }
-    ensures other { IsErrOf result FormError.Other → (e : Bit) → ¬ IsBitTree names.entry.latch.now (option_map (λ b. b.now) names.entry.input) (word text.now) e }
+    ensures read { IfOk result (λ truth. let input = option_map (λ b. b.now) names.entry.input in
+        IsBitTree names.entry.latch.now input (word text.now) (bit_of truth)) }
+    ensures other { IsErrOf result FormError.Other → (e : Bit) →
+        let input = option_map (λ b. b.now) names.entry.input in
+        ¬ IsBitTree names.entry.latch.now input (word text.now) e }
 {
     if text == names.latch {
         return Ok(Truth::Latch);
@@ -142,8 +155,10 @@ fn named(text: &[u8], names: Names) -> Result<Truth, FormError>
 /// The part of `(not PART)`.
 #[tactic(auto, using(crate::proofs::Shapes::none_of_no_shapes))]
 fn negated(tree: &Tree) -> Option<&Tree>
-    ensures some { IfSome result (λ part. shape_of tree.now ≡ form (word (codes "not") ∷ shape_of part.now ∷ [])) }
-    ensures none { IfNone result ((part : Node) → shape_of tree.now ≢ form (word (codes "not") ∷ part ∷ [])) }
+    ensures some { IfSome result (λ part.
+        shape_of tree.now ≡ form (word (codes "not") ∷ shape_of part.now ∷ [])) }
+    ensures none { IfNone result ((part : Node) →
+        shape_of tree.now ≢ form (word (codes "not") ∷ part ∷ [])) }
 {
     let (first, parts) = parts_of(tree)?.split_first()?;
     let (part, parts) = parts.split_first()?;
@@ -157,8 +172,10 @@ fn negated(tree: &Tree) -> Option<&Tree>
 /// The parts of `(ite CONTROL YES NO)`.
 #[tactic(auto, using(crate::proofs::Shapes::none_of_no_shapes))]
 fn chosen(tree: &Tree) -> Option<(&Tree, &Tree, &Tree)>
-    ensures some { IfSome result (λ parts. shape_of tree.now ≡ form (word (codes "ite") ∷ shape_of parts.0.now ∷ shape_of parts.1.now ∷ shape_of parts.2.now ∷ [])) }
-    ensures none { IfNone result ((p e f : Node) → shape_of tree.now ≢ form (word (codes "ite") ∷ p ∷ e ∷ f ∷ [])) }
+    ensures some { IfSome result (λ parts. shape_of tree.now ≡ form (word (codes "ite")
+        ∷ shape_of parts.0.now ∷ shape_of parts.1.now ∷ shape_of parts.2.now ∷ [])) }
+    ensures none { IfNone result ((p e f : Node) →
+        shape_of tree.now ≢ form (word (codes "ite") ∷ p ∷ e ∷ f ∷ [])) }
 {
     let (first, parts) = parts_of(tree)?.split_first()?;
     let (control, parts) = parts.split_first()?;
@@ -173,8 +190,11 @@ fn chosen(tree: &Tree) -> Option<(&Tree, &Tree, &Tree)>
 
 /// The expression that a tree is. It goes as deep as the tree nests.
 pub fn bit(alloc: Global, tree: &Tree, names: Names) -> Result<Truth, FormError>
-    ensures read { IfOk result (λ truth. IsBitTree names.entry.latch.now (option_map (λ b. b.now) names.entry.input) (shape_of tree.now) (bit_of truth)) }
-    ensures other { IsErrOf result FormError.Other → (e : Bit) → ¬ IsBitTree names.entry.latch.now (option_map (λ b. b.now) names.entry.input) (shape_of tree.now) e }
+    ensures read { IfOk result (λ truth. let input = option_map (λ b. b.now) names.entry.input in
+        IsBitTree names.entry.latch.now input (shape_of tree.now) (bit_of truth)) }
+    ensures other { IsErrOf result FormError.Other → (e : Bit) →
+        let input = option_map (λ b. b.now) names.entry.input in
+        ¬ IsBitTree names.entry.latch.now input (shape_of tree.now) e }
 {
     if let Some(text) = word_of(tree) {
         return named(text, names);

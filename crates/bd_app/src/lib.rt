@@ -1,7 +1,8 @@
 //! The program's one call.
 #![tactic(auto)]
 
-mod ended;
+mod answer;
+mod command;
 mod form;
 mod machines;
 mod name;
@@ -9,9 +10,8 @@ mod program;
 mod text;
 mod truth;
 mod verdict;
-mod words;
 
-pub use ended::{Ended, Text, Which};
+pub use answer::{Ended, Text, Which};
 pub use program::run;
 
 #[cfg(test)]

@@ -1,7 +1,8 @@
 //! The two machines of the form: their names, and their expressions as trees.
 ghost use Rattle.std.specs.Prelude.{◌≡◌, ◌≢◌, ◌↔◌, ℕ, List, [], ◌∷◌, map, IsTrue, IfSome, IfNone};
 ghost use Rattle.bd_text.specs.Nodes.{Node};
-ghost use Rattle.bd_app.specs.Form.{form, shape_of, item_tree, pipeline_form, specification_form};
+ghost use Rattle.bd_app.specs.Form.{form, item_tree, pipeline_form, specification_form};
+ghost use Rattle.bd_app.specs.inner.Shape.{shape_of};
 
 use crate::form::{declared, is_word, next_value, parts_of};
 use bd_text::Tree;
@@ -27,7 +28,8 @@ pub struct PipelineParts<'a> {
 
 /// Whether the tree is `(HEAD NAME TAIL ..)`.
 fn is_declaration(tree: &Tree, head: &[u8], name: &[u8], tail: &[&[u8]]) -> bool
-    ensures { IsTrue result ↔ (shape_of tree.now ≡ item_tree head.now name.now (map (λ w. w.now) tail.now)) }
+    ensures { IsTrue result
+        ↔ (shape_of tree.now ≡ item_tree head.now name.now (map (λ w. w.now) tail.now)) }
 {
     match declared(tree, head, tail) {
         Some(found) => found == name,
@@ -38,8 +40,9 @@ fn is_declaration(tree: &Tree, head: &[u8], name: &[u8], tail: &[&[u8]]) -> bool
 /// The parts of a list of six.
 #[tactic(auto, using(crate::proofs::Shapes::none_of_no_shapes))]
 fn six_parts(tree: &Tree) -> Option<Parts<'_>>
-    ensures some { IfSome result (λ parts. shape_of tree.now ≡ form (shape_of parts.head.now ∷ shape_of parts.latch.now
-        ∷ shape_of parts.input.now ∷ shape_of parts.next.now ∷ shape_of parts.flush.now ∷ shape_of parts.steps.now ∷ [])) }
+    ensures some { IfSome result (λ parts. shape_of tree.now ≡ form (
+        shape_of parts.head.now ∷ shape_of parts.latch.now ∷ shape_of parts.input.now
+        ∷ shape_of parts.next.now ∷ shape_of parts.flush.now ∷ shape_of parts.steps.now ∷ [])) }
     ensures none { IfNone result ((head latch input next flush steps : Node) →
         shape_of tree.now ≢ form (head ∷ latch ∷ input ∷ next ∷ flush ∷ steps ∷ [])) }
 {
@@ -65,8 +68,10 @@ fn six_parts(tree: &Tree) -> Option<Parts<'_>>
 
 /// What `(pipeline (latch A bool) (input B bool false) (next A EXPR) (flush 0) (steps 1))` names.
 pub fn pipeline_parts(tree: &Tree) -> Option<PipelineParts<'_>>
-    ensures some { IfSome result (λ found. shape_of tree.now ≡ pipeline_form found.latch.now found.input.now (shape_of found.value.now)) }
-    ensures none { IfNone result ((a b : List ℕ) (value : Node) → shape_of tree.now ≢ pipeline_form a b value) }
+    ensures some { IfSome result (λ found. shape_of tree.now
+        ≡ pipeline_form found.latch.now found.input.now (shape_of found.value.now)) }
+    ensures none { IfNone result ((a b : List ℕ) (value : Node) →
+        shape_of tree.now ≢ pipeline_form a b value) }
 {
     let parts = six_parts(tree)?;
     let latch = declared(parts.latch, b"latch", &[b"bool"])?;
@@ -89,8 +94,10 @@ pub fn pipeline_parts(tree: &Tree) -> Option<PipelineParts<'_>>
 /// The expression of `(specification (latch A bool) (next A EXPR))`.
 #[tactic(auto, using(crate::proofs::Shapes::none_of_no_shapes))]
 pub fn specification_value<'a>(tree: &'a Tree, name: &[u8]) -> Option<&'a Tree>
-    ensures some { IfSome result (λ value. shape_of tree.now ≡ specification_form name.now (shape_of value.now)) }
-    ensures none { IfNone result ((value : Node) → shape_of tree.now ≢ specification_form name.now value) }
+    ensures some { IfSome result (λ value.
+        shape_of tree.now ≡ specification_form name.now (shape_of value.now)) }
+    ensures none { IfNone result ((value : Node) →
+        shape_of tree.now ≢ specification_form name.now value) }
 {
     let (head, parts) = parts_of(tree)?.split_first()?;
     let (latch, parts) = parts.split_first()?;

@@ -48,8 +48,8 @@ fn spells(text: &[u8]) -> bool
     }
 }
 
-/// Whether the bytes are a name: a letter or `_`, then letters, digits, `_`, `.` and `-`, at most 64 bytes,
-/// and no word of expressions.
+/// Whether the bytes are a name: a letter or `_`, then letters, digits, `_`, `.` and `-`, at most
+/// 64 bytes, and no word of expressions.
 pub fn is_name(text: &[u8]) -> bool
     ensures { IsTrue result ↔ IsName text.now }
 {

@@ -1,27 +1,37 @@
 //! The program's one call.
+//!
+//! It has three parts, in this order: the answer, which comes of the words and of what the files
+//! gave; its report, for which a failing output puts another answer in its place; and its line.
+//! Each part's clauses say what it leaves alone, so that what the first one told of the files still
+//! holds at the end. Everything that the program does to the world goes through the three objects
+//! that it is given, so the clauses speak of all of it.
 ghost use Rattle.std.specs.Prelude.{◌≡◌, ◌≢◌, ◌≤◌, ◌⊎◌, ◌↔◌, Some, None, IfSome, IfOk, IfErr, IsErrOf};
-ghost use Rattle.bd_files.specs.Devices.{Rose, IsLoaded, Appends, AppendsPrefix};
+ghost use Rattle.bd_files.specs.Devices.{Rose, IsLoaded, Appends, AppendsPrefix, PutsOrFaults};
 ghost use Rattle.bd_model.specs.DesignView.{DesignView};
 ghost use Rattle.bd_model.specs.Fits.{Fits};
 ghost use Rattle.bd_model.specs.Conditions.{IsJudged};
 ghost use Rattle.bd_model.specs.Right.{IsRight};
-ghost use Rattle.bd_app.specs.Answer.{Asks, IsTrueVerdict, IsVerdict, IsUnreadPipe, IsUnreadSpec, IsTold, BlamesLoad, report_of, fault_line_of};
+ghost use Rattle.bd_app.specs.Answer.{Asks, IsTrueVerdict, IsVerdict, IsUnreadPipe, IsUnreadSpec, BlamesLoad, report_of, fault_line_of};
+ghost use Rattle.bd_app.specs.inner.Told.{IsTold};
 ghost use Rattle.bd_app.specs.Words.{taken, texts_of};
 
-use crate::ended::{Ended, Text, Which};
+use crate::answer::{Ended, Text, Which};
+use crate::command::{Command, command_of};
 use crate::text::MAX_FILE;
 use crate::verdict::verdict;
-use crate::words::{Command, command_of};
 use bd_files::{FileCall, Files, LoadError, Sink};
 use bd_model::{Case, Condition, Judged};
 use std::alloc::Global;
 
 /// Loads a file, of more than the most bytes one byte more than that.
 fn load<F: Files>(files: &mut F, name: &str) -> Result<Vec<u8>, Ended>
-    ensures loaded { IfOk result (λ bytes. IsLoaded (F.held files.old) name.now 1048576 bytes.items) }
+    ensures loaded { IfOk result (λ bytes.
+        IsLoaded (F.held files.old) name.now 1048576 bytes.items) }
     ensures failed { IfErr result (λ e. (e ≡ Ended.Memory) ⊎ ((e ≡ Ended.Device Which.Load)
-        × Rose (F.faults files.old) (F.faults files.new) × (F.blame files.new ≡ Some (FileCall.Load, name.now)))) }
-    ensures else_keeps_blame { ¬ IsErrOf result (Ended.Device Which.Load) → F.blame files.new ≡ F.blame files.old }
+        × Rose (F.faults files.old) (F.faults files.new)
+        × (F.blame files.new ≡ Some (FileCall.Load, name.now)))) }
+    ensures else_keeps_blame { ¬ IsErrOf result (Ended.Device Which.Load) →
+        F.blame files.new ≡ F.blame files.old }
     ensures held { F.held files.new ≡ F.held files.old }
     ensures never_falls { F.faults files.old ≤ F.faults files.new }
 {
@@ -36,11 +46,16 @@ fn load<F: Files>(files: &mut F, name: &str) -> Result<Vec<u8>, Ended>
 fn answer<F: Files>(alloc: Global, words: &[String], files: &mut F) -> Ended
     ensures told { IfSome (F.held files.old) (λ held. IsTold held (texts_of words.now) result) }
     ensures usage { (result ≡ Ended.Usage) ↔ (taken (texts_of words.now) ≡ None) }
-    ensures load { result ≡ Ended.Device Which.Load → Rose (F.faults files.old) (F.faults files.new) × BlamesLoad (F.blame files.new) (texts_of words.now) }
-    ensures else_keeps_blame { result ≢ Ended.Device Which.Load → F.blame files.new ≡ F.blame files.old }
-    ensures untouched { result ≡ Ended.Usage → files.new ≡ files.old }
+    ensures load_rose { result ≡ Ended.Device Which.Load →
+        Rose (F.faults files.old) (F.faults files.new) }
+    ensures load_blamed { result ≡ Ended.Device Which.Load →
+        BlamesLoad (F.blame files.new) (texts_of words.now) }
+    ensures else_keeps_blame { result ≢ Ended.Device Which.Load →
+        F.blame files.new ≡ F.blame files.old }
+    ensures untouched { taken (texts_of words.now) ≡ None → files.new ≡ files.old }
     ensures out { result ≢ Ended.Device Which.Out }
-    ensures commute { (k : Condition) (c : Case) → result ≡ Ended.Wrong k c → k ≡ Condition.Commute }
+    ensures commute { (k : Condition) (c : Case) → result ≡ Ended.Wrong k c →
+        k ≡ Condition.Commute }
     ensures held { F.held files.new ≡ F.held files.old }
     ensures never_falls { F.faults files.old ≤ F.faults files.new }
 {
@@ -62,7 +77,8 @@ fn answer<F: Files>(alloc: Global, words: &[String], files: &mut F) -> Ended
 fn put_report<O: Sink>(ended: Ended, out: &mut O) -> Ended
     requires { ended ≢ Ended.Device Which.Out }
     ensures fault { ¬ IsVerdict ended → (result ≡ ended) × (out.new ≡ out.old) }
-    ensures verdict { IsVerdict ended → ((result ≡ ended) × Appends (O.written out.old) (O.written out.new) (report_of ended))
+    ensures verdict { IsVerdict ended →
+        ((result ≡ ended) × Appends (O.written out.old) (O.written out.new) (report_of ended))
         ⊎ ((result ≡ Ended.Device Which.Out) × Rose (O.faults out.old) (O.faults out.new)
         × AppendsPrefix (O.written out.old) (O.written out.new) (report_of ended)) }
     ensures never_falls { O.faults out.old ≤ O.faults out.new }
@@ -76,21 +92,9 @@ fn put_report<O: Sink>(ended: Ended, out: &mut O) -> Ended
     }
 }
 
-/// Puts the line of a fault on the error output.
-fn put_fault_line<E: Sink>(ended: &Ended, err: &mut E)
-    ensures line { Appends (E.written err.old) (E.written err.new) (fault_line_of ended.now)
-        ⊎ (Rose (E.faults err.old) (E.faults err.new) × AppendsPrefix (E.written err.old) (E.written err.new) (fault_line_of ended.now)) }
-    ensures verdict { IsVerdict ended.now → err.new ≡ err.old }
-    ensures never_falls { E.faults err.old ≤ E.faults err.new }
-{
-    if !ended.is_verdict() {
-        let _ = err.put(ended.fault_line());
-    }
-}
-
-/// All that the program does. `words` are the command line, the program's name first. The answer says how the
-/// program ends: with a verdict on the two files that the words name, which is printed on `out`, or with a
-/// fault, whose line is printed on `err`.
+/// All that the program does. `words` are the command line, the program's name first. The answer
+/// says how the program ends: with a verdict on the two files that the words name, which is printed
+/// on `out`, or with a fault, whose line is printed on `err`.
 pub fn run<F: Files, O: Sink, E: Sink>(
     alloc: Global,
     words: &[String],
@@ -99,34 +103,52 @@ pub fn run<F: Files, O: Sink, E: Sink>(
     err: &mut E,
 ) -> Ended
     // The headline: under every interpretation, from every state and for every list of inputs.
-    ensures correct { result ≡ Ended.Correct → IfSome (F.held files.old) (λ held. (d : DesignView) × Asks held (texts_of words.now) d × IsRight d) }
+    ensures correct { result ≡ Ended.Correct → IfSome (F.held files.old) (λ held.
+        (d : DesignView) × Asks held (texts_of words.now) d × IsRight d) }
     ensures wrong { (k : Condition) (c : Case) → result ≡ Ended.Wrong k c →
-        IfSome (F.held files.old) (λ held. (d : DesignView) × Asks held (texts_of words.now) d × Fits d c × IsJudged d c (Judged.Broken k)) }
-    ensures commute { (k : Condition) (c : Case) → result ≡ Ended.Wrong k c → k ≡ Condition.Commute }
+        IfSome (F.held files.old) (λ held. (d : DesignView)
+        × Asks held (texts_of words.now) d × Fits d c × IsJudged d c (Judged.Broken k)) }
+    ensures commute { (k : Condition) (c : Case) → result ≡ Ended.Wrong k c →
+        k ≡ Condition.Commute }
 
-    // Every other answer has its stated cause.
-    ensures usage { (result ≡ Ended.Usage) ↔ (taken (texts_of words.now) ≡ None) }
-    ensures unread_pipe { result ≡ Ended.Unread Text.Pipe → IfSome (F.held files.old) (λ held. IsUnreadPipe held (texts_of words.now)) }
-    ensures unread_spec { result ≡ Ended.Unread Text.Spec → IfSome (F.held files.old) (λ held. IsUnreadSpec held (texts_of words.now)) }
-    ensures load { result ≡ Ended.Device Which.Load → Rose (F.faults files.old) (F.faults files.new) × BlamesLoad (F.blame files.new) (texts_of words.now) }
+    // Every other answer but want of memory has its stated cause.
+    ensures usage_only { result ≡ Ended.Usage → taken (texts_of words.now) ≡ None }
+    ensures usage { taken (texts_of words.now) ≡ None →
+        (result ≡ Ended.Usage) ⊎ (result ≡ Ended.Memory) }
+    ensures unread_pipe { result ≡ Ended.Unread Text.Pipe →
+        IfSome (F.held files.old) (λ held. IsUnreadPipe held (texts_of words.now)) }
+    ensures unread_spec { result ≡ Ended.Unread Text.Spec →
+        IfSome (F.held files.old) (λ held. IsUnreadSpec held (texts_of words.now)) }
+    ensures load_rose { result ≡ Ended.Device Which.Load →
+        Rose (F.faults files.old) (F.faults files.new) }
+    ensures load_blamed { result ≡ Ended.Device Which.Load →
+        BlamesLoad (F.blame files.new) (texts_of words.now) }
+    ensures out_rose { result ≡ Ended.Device Which.Out →
+        Rose (O.faults out.old) (O.faults out.new) }
+
     // A load that fails, and so takes the blame, isn't passed over; other words load nothing.
-    ensures else_keeps_blame { result ≢ Ended.Device Which.Load → F.blame files.new ≡ F.blame files.old }
-    ensures untouched { result ≡ Ended.Usage → files.new ≡ files.old }
-    ensures out { result ≡ Ended.Device Which.Out → Rose (O.faults out.old) (O.faults out.new) }
+    ensures else_keeps_blame { result ≢ Ended.Device Which.Load →
+        F.blame files.new ≡ F.blame files.old }
+    ensures untouched { taken (texts_of words.now) ≡ None → files.new ≡ files.old }
 
-    // What is printed, and what the files hold.
-    ensures printed { IsVerdict result → Appends (O.written out.old) (O.written out.new) (report_of result) }
-    ensures cut { result ≡ Ended.Device Which.Out → (e : Ended) × IsVerdict e × AppendsPrefix (O.written out.old) (O.written out.new) (report_of e)
+    // What is printed.
+    ensures printed { IsVerdict result →
+        Appends (O.written out.old) (O.written out.new) (report_of result) }
+    ensures cut { result ≡ Ended.Device Which.Out → (e : Ended) × IsVerdict e
+        × AppendsPrefix (O.written out.old) (O.written out.new) (report_of e)
         × IfSome (F.held files.old) (λ held. IsTrueVerdict held (texts_of words.now) e) }
     ensures silent { ¬ IsVerdict result → result ≢ Ended.Device Which.Out → out.new ≡ out.old }
-    ensures line { Appends (E.written err.old) (E.written err.new) (fault_line_of result)
-        ⊎ (Rose (E.faults err.old) (E.faults err.new) × AppendsPrefix (E.written err.old) (E.written err.new) (fault_line_of result)) }
+    ensures line { PutsOrFaults E.written E.faults err.old err.new (fault_line_of result) }
     ensures no_line { IsVerdict result → err.new ≡ err.old }
+
+    // What the files hold, and the counts of faults.
     ensures held { F.held files.new ≡ F.held files.old }
-    ensures counts { (F.faults files.old ≤ F.faults files.new) × (O.faults out.old ≤ O.faults out.new) × (E.faults err.old ≤ E.faults err.new) }
+    ensures files_never_fall { F.faults files.old ≤ F.faults files.new }
+    ensures out_never_falls { O.faults out.old ≤ O.faults out.new }
+    ensures err_never_falls { E.faults err.old ≤ E.faults err.new }
 {
     let ended = answer(alloc, words, files);
     let ended = put_report(ended, out);
-    put_fault_line(&ended, err);
+    ended.put_line(err);
     ended
 }

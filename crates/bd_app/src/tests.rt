@@ -1,299 +1,579 @@
 //! Examples over files and sinks in memory.
 
-use crate::{Ended, run};
-use bd_files::{Page, Shelf};
+use crate::answer::Ended;
+use crate::name::is_name;
+use crate::run;
+use bd_files::{Files, LoadError, Page, PutError, SaveError, Shelf, Sink};
 use bd_model::{Condition, Scalar};
 use std::alloc::{AllocError, Global};
 use std::test::Fail;
 
 /// A one-bit pipeline that stalls where its input is false.
-const STALLS: &[u8] =
-    b"(pipeline (latch a bool) (input go bool false) (next a (ite go (not a) a)) (flush 0) (steps 1))";
+const STALLS: &str = "(pipeline (latch a bool) (input go bool false) (next a (ite go (not a) a)) \
+(flush 0) (steps 1))";
+
 /// A machine that turns its bit, and one that keeps it.
-const TURNS: &[u8] = b"(specification (latch a bool) (next a (not a)))";
+const TURNS: &str = "(specification (latch a bool) (next a (not a)))";
 
-const KEEPS: &[u8] = b"(specification (latch a bool) (next a a))";
+const KEEPS: &str = "(specification (latch a bool) (next a a))";
 
-const CHECK: [&str; 4] = ["burch_dill", "check", "p", "s"];
+const CHECK: &[&str] = &["burch_dill", "check", "p", "s"];
 
-const USAGE: &[u8] =
-    b"usage: burch_dill check PIPE SPEC [INV] [--budget N] [--cnf FILE] [--lrat FILE] | replay PIPE SPEC CASE [INV] | run PIPE SPEC CASE CYCLES | gen DEPTH DROP\n";
+const USAGE: &str = "usage: burch_dill check PIPE SPEC [INV] [--budget N] [--cnf FILE] \
+[--lrat FILE] | replay PIPE SPEC CASE [INV] | run PIPE SPEC CASE CYCLES | gen DEPTH DROP";
 
-/// Room for what any run prints.
-const ROOM: usize = 200;
+const UNREAD_PIPE: &str = "pipe: not read yet\n";
 
-/// What a run is given.
+const UNREAD_SPEC: &str = "spec: not read yet\n";
+
+/// What a run is given, and what it ends with and prints.
 #[derive(Clone, Copy)]
-struct Setup<'a> {
-    words: &'a [&'a str],
-    pipe: &'a [u8],
-    spec: &'a [u8],
-    /// The number of the load that fails, if one does.
-    failing_load: Option<u64>,
+struct Row<'a> {
+    name: &'static str,
+    words: &'static [&'static str],
+    pipe: &'a str,
+    spec: &'a str,
+    /// The number of the load that fails, or 0.
+    failing_load: u64,
     /// How many bytes the put on the output keeps, if it fails.
     kept: Option<usize>,
+    /// How many bytes the error output takes.
+    err_room: usize,
+    status: u8,
+    out: &'static str,
+    err: &'static str,
 }
 
-/// What a run came to.
-#[derive(Drop)]
-struct Outcome {
-    ended: Ended,
-    files: Shelf,
-    out: Page,
-    err: Page,
+/// The stalling bit, to be filled in.
+const STALLING: Row<'static> = Row {
+    name: "",
+    words: CHECK,
+    pipe: STALLS,
+    spec: TURNS,
+    failing_load: 0,
+    kept: None,
+    err_room: 200,
+    status: 0,
+    out: "",
+    err: "",
+};
+
+/// Whether the run of a row ends and prints as it says.
+fn holds(alloc: Global, row: &Row) -> Result<bool, AllocError> {
+    let words = words_of(alloc, row.words)?;
+    holds_of(alloc, row, words.as_slice())
 }
 
-fn check_of<'a>(pipe: &'a [u8], spec: &'a [u8]) -> Setup<'a> {
-    Setup {
-        words: &CHECK,
-        pipe,
-        spec,
-        failing_load: None,
-        kept: None,
+fn words_of(alloc: Global, texts: &[&str]) -> Result<Vec<String>, AllocError> {
+    let mut words = Vec::new(alloc);
+    for text in texts {
+        words.push(String::from_str(alloc, text)?)?;
     }
+    Ok(words)
 }
 
-fn shelf(alloc: Global, setup: Setup) -> Result<Shelf, AllocError> {
-    let mut held = Vec::new(alloc);
-    held.push((String::from_str(alloc, "p")?, setup.pipe.to_vec(alloc)?))?;
-    held.push((String::from_str(alloc, "s")?, setup.spec.to_vec(alloc)?))?;
-    let mut fails = Vec::new(alloc);
-    if let Some(number) = setup.failing_load {
-        fails.push(number)?;
-    }
-    Shelf::new(alloc, held, fails)
+fn holds_of(alloc: Global, row: &Row, words: &[String]) -> Result<bool, AllocError> {
+    let mut files = shelf_of(alloc, row)?;
+    holds_over(alloc, row, words, &mut files)
 }
 
-/// A page whose second put fails, so that what is printed whole went out in one.
+fn shelf_of(alloc: Global, row: &Row) -> Result<Shelf, AllocError> {
+    let pipe = file(alloc, "p", row.pipe)?;
+    let spec = file(alloc, "s", row.spec)?;
+    let held = vec![in alloc; pipe, spec]?;
+    Shelf::new(alloc, held, vec![in alloc; row.failing_load]?)
+}
+
+fn file(alloc: Global, name: &str, text: &str) -> Result<(String, Vec<u8>), AllocError> {
+    Ok((
+        String::from_str(alloc, name)?,
+        text.as_bytes().to_vec(alloc)?,
+    ))
+}
+
+fn holds_over(
+    alloc: Global,
+    row: &Row,
+    words: &[String],
+    files: &mut Shelf,
+) -> Result<bool, AllocError> {
+    let mut out = page(alloc, 200, row.kept)?;
+    holds_on(alloc, row, words, files, &mut out)
+}
+
 fn page(alloc: Global, room: usize, kept: Option<usize>) -> Result<Page, AllocError> {
-    let mut fails = Vec::new(alloc);
-    fails.push((2, 0))?;
-    if let Some(kept) = kept {
-        fails.push((1, kept))?;
-    }
+    let fails = match kept {
+        Some(kept) => vec![in alloc; (1, kept)]?,
+        None => Vec::new(alloc),
+    };
     Page::new(alloc, room, fails)
 }
 
-/// A run whose error output has that much room.
-fn outcome_of(alloc: Global, setup: Setup, err_room: usize) -> Result<Outcome, AllocError> {
-    let mut words = Vec::new(alloc);
-    for word in setup.words {
-        words.push(String::from_str(alloc, word)?)?;
-    }
-    let mut files = shelf(alloc, setup)?;
-    let mut out = page(alloc, ROOM, setup.kept)?;
-    let mut err = page(alloc, err_room, None)?;
-    let ended = run(alloc, words.as_slice(), &mut files, &mut out, &mut err);
-    Ok(Outcome {
-        ended,
-        files,
-        out,
-        err,
-    })
-}
-
-/// Whether the run ends with this status and prints this, also where nothing can be put on the error output.
-fn gives(alloc: Global, setup: Setup, want: (u8, &[u8], &[u8])) -> Result<bool, AllocError> {
-    let (status, out, err) = want;
-    let whole = outcome_of(alloc, setup, ROOM)?;
-    let silent = outcome_of(alloc, setup, 0)?;
+fn holds_on(
+    alloc: Global,
+    row: &Row,
+    words: &[String],
+    files: &mut Shelf,
+    out: &mut Page,
+) -> Result<bool, AllocError> {
+    let mut err = page(alloc, row.err_room, None)?;
+    let ended = run(alloc, words, files, out, &mut err);
     Ok(
-        whole.ended.status() == status
-            && silent.ended.status() == status
-            && whole.out.written() == out
-            && silent.out.written() == out
-            && whole.err.written() == err
-            && silent.err.written().is_empty(),
+        ended.status() == row.status
+            && out.written() == row.out.as_bytes()
+            && err.written() == row.err.as_bytes(),
     )
 }
 
+/// `stalling_bit`, `empty_file`, and texts that are of the form or just not.
+static TEXTS: [Row<'static>; 12] = [
+    Row {
+        name: "stalling bit",
+        out: "correct\n",
+        ..STALLING
+    },
+    Row {
+        name: "a machine that keeps its bit",
+        spec: KEEPS,
+        status: 1,
+        out: "wrong commute\n",
+        ..STALLING
+    },
+    Row {
+        name: "no bytes",
+        pipe: "",
+        status: 3,
+        err: UNREAD_PIPE,
+        ..STALLING
+    },
+    Row {
+        name: "no bytes for the machine",
+        spec: " ",
+        status: 3,
+        err: UNREAD_SPEC,
+        ..STALLING
+    },
+    Row {
+        name: "neither is of the form",
+        pipe: KEEPS,
+        spec: STALLS,
+        status: 3,
+        err: UNREAD_PIPE,
+        ..STALLING
+    },
+    Row {
+        name: "a part after the last",
+        spec: "(specification (latch a bool) (next a a) x)",
+        status: 3,
+        err: UNREAD_SPEC,
+        ..STALLING
+    },
+    Row {
+        name: "an input of the machine",
+        spec: "(specification (latch a bool) (next a go))",
+        status: 3,
+        err: UNREAD_SPEC,
+        ..STALLING
+    },
+    Row {
+        name: "a machine over another latch",
+        spec: "(specification (latch b bool) (next b b))",
+        status: 3,
+        err: UNREAD_SPEC,
+        ..STALLING
+    },
+    Row {
+        name: "an input with the latch's name",
+        pipe: "(pipeline (latch a bool) (input a bool false) (next a a) (flush 0) (steps 1))",
+        status: 3,
+        err: UNREAD_PIPE,
+        ..STALLING
+    },
+    Row {
+        name: "a latch with a word's name",
+        pipe: "(pipeline (latch not bool) (input b bool false) (next not b) (flush 0) (steps 1))",
+        status: 3,
+        err: UNREAD_PIPE,
+        ..STALLING
+    },
+    Row {
+        name: "comments and odd spacing",
+        pipe: "; a bit\n ( pipeline(latch a\tbool)(input go bool false)\r\n(next a(ite go(not a)a));that \
+may stall\n(flush 0)(steps 1) );",
+        spec: "(specification\n\n(latch a bool);\n(next a (not;\na)))\n",
+        out: "correct\n",
+        ..STALLING
+    },
+    Row {
+        name: "a choice on the bit, wrong where it's true",
+        pipe: "(pipeline (latch a bool) (input go bool false) (next a (ite a (ite go a (not a)) a)) \
+(flush 0) (steps 1))",
+        spec: KEEPS,
+        status: 1,
+        out: "wrong commute\n",
+        ..STALLING
+    },
+];
+
+/// `failing_devices`, and a text that isn't read.
+static DEVICES: [Row<'static>; 6] = [
+    Row {
+        name: "the first load fails",
+        failing_load: 1,
+        status: 5,
+        err: "cannot read\n",
+        ..STALLING
+    },
+    Row {
+        name: "the second load fails",
+        failing_load: 2,
+        status: 5,
+        err: "cannot read\n",
+        ..STALLING
+    },
+    Row {
+        name: "no such file",
+        words: &["burch_dill", "check", "p", "none"],
+        status: 5,
+        err: "cannot read\n",
+        ..STALLING
+    },
+    Row {
+        name: "a report cut after three bytes",
+        kept: Some(3),
+        status: 5,
+        out: "cor",
+        err: "cannot write\n",
+        ..STALLING
+    },
+    Row {
+        name: "a report that fails at its end",
+        kept: Some(8),
+        status: 5,
+        out: "correct\n",
+        err: "cannot write\n",
+        ..STALLING
+    },
+    Row {
+        name: "a text that isn't read",
+        pipe: "",
+        status: 3,
+        err: UNREAD_PIPE,
+        ..STALLING
+    },
+];
+
 #[test]
 fn answers_each_pair_of_texts(rt: HostRuntime) -> Result<(), Fail> {
-    let cases: [(&str, &[u8], &[u8], (u8, &[u8], &[u8])); 9] = [
-        ("stalling bit", STALLS, TURNS, (0, b"correct\n", b"")),
-        (
-            "a machine that keeps its bit",
-            STALLS,
-            KEEPS,
-            (1, b"wrong commute\n", b""),
-        ),
-        ("no bytes", b"", TURNS, (3, b"", b"pipe: not read yet\n")),
-        (
-            "no bytes for the machine",
-            STALLS,
-            b" ",
-            (3, b"", b"spec: not read yet\n"),
-        ),
-        (
-            "neither is of the form",
-            KEEPS,
-            STALLS,
-            (3, b"", b"pipe: not read yet\n"),
-        ),
-        (
-            "a part after the last",
-            STALLS,
-            b"(specification (latch a bool) (next a a) x)",
-            (3, b"", b"spec: not read yet\n"),
-        ),
-        (
-            "an input of the machine",
-            STALLS,
-            b"(specification (latch a bool) (next a go))",
-            (3, b"", b"spec: not read yet\n"),
-        ),
-        (
-            "comments and odd spacing",
-            b"; a bit\n ( pipeline(latch a\tbool)(input go bool false)\r\n(next a(ite go(not a)a));that may stall\n(flush 0)(steps 1) );",
-            b"(specification\n\n(latch a bool);\n(next a (not;\na)))\n",
-            (0, b"correct\n", b""),
-        ),
-        (
-            "a choice on the bit, wrong where it's true",
-            b"(pipeline (latch a bool) (input go bool false) (next a (ite a (ite go a (not a)) a)) (flush 0) (steps 1))",
-            KEEPS,
-            (1, b"wrong commute\n", b""),
-        ),
-    ];
-    for (name, pipe, spec, want) in &cases {
-        assert!(rt; gives(rt.alloc(), check_of(pipe, spec), *want)?, "{name}");
-    }
-    Ok(())
-}
-
-/// What a run says of a stalling bit with these names, and a machine over a latch of the third name.
-fn gives_named(
-    alloc: Global,
-    names: (&str, &str, &str),
-    want: (u8, &[u8], &[u8]),
-) -> Result<bool, AllocError> {
-    let (latch, input, spec_latch) = names;
-    let pipe = format!(in alloc;
-        "(pipeline (latch {latch} bool) (input {input} bool false) (next {latch} (ite {input} (not {latch}) {latch})) (flush 0) (steps 1))"
-    )?;
-    let spec = format!(in alloc;
-        "(specification (latch {spec_latch} bool) (next {spec_latch} (not {spec_latch})))"
-    )?;
-    gives(alloc, check_of(pipe.as_bytes(), spec.as_bytes()), want)
-}
-
-#[test]
-fn takes_names(rt: HostRuntime) -> Result<(), Fail> {
-    let longest = "abcdefghijklmnopqrstuvwxyz_ABCDEFGHIJKLMNOPQRSTUVWXYZ.0123456789";
-    let too_long = "abcdefghijklmnopqrstuvwxyz_ABCDEFGHIJKLMNOPQRSTUVWXYZ.0123456789-";
-    let correct: (u8, &[u8], &[u8]) = (0, b"correct\n", b"");
-    let unread_pipe: (u8, &[u8], &[u8]) = (3, b"", b"pipe: not read yet\n");
-    let unread_spec: (u8, &[u8], &[u8]) = (3, b"", b"spec: not read yet\n");
-    let cases = [
-        ((longest, "go", longest), correct),
-        (("_", longest, "_"), correct),
-        ((too_long, "go", too_long), unread_pipe),
-        (("a", too_long, "a"), unread_pipe),
-        (("not", "go", "not"), unread_pipe),
-        (("a", "let", "a"), unread_pipe),
-        (("9a", "go", "9a"), unread_pipe),
-        (("a", "a", "a"), unread_pipe),
-        (("a", "go", "b"), unread_spec),
-        (("a", "go", "go"), unread_spec),
-    ];
-    for (names, want) in &cases {
-        assert!(rt; gives_named(rt.alloc(), *names, *want)?, "{names:?}");
-    }
-    Ok(())
-}
-
-#[test]
-fn refuses_other_words_and_loads_nothing(rt: HostRuntime) -> Result<(), Fail> {
-    let cases: [&[&str]; 9] = [
-        &[],
-        &["burch_dill"],
-        &["burch_dill", "--help"],
-        &["burch_dill", "check", "p"],
-        &["burch_dill", "check", "p", "s", "s"],
-        &["burch_dill", "check", "-p", "s"],
-        &["burch_dill", "check", "p", "--help"],
-        &["burch_dill", "Check", "p", "s"],
-        &["burch_dill", "gen", "13", "0"],
-    ];
-    for words in &cases {
-        let setup = Setup {
-            words,
-            failing_load: Some(1),
-            ..check_of(STALLS, TURNS)
-        };
-        assert!(rt; gives(rt.alloc(), setup, (2, b"", USAGE))?, "{words:?}");
-        let outcome = outcome_of(rt.alloc(), setup, ROOM)?;
-        assert_eq!(rt; outcome.files.faults(), 0, "{words:?}");
+    for row in &TEXTS {
+        assert!(rt; holds(rt.alloc(), row)?, "{}", row.name);
     }
     Ok(())
 }
 
 #[test]
 fn names_the_device_that_failed(rt: HostRuntime) -> Result<(), Fail> {
-    let cases: [(&[&str; 4], Option<u64>, Option<usize>, (u8, &[u8], &[u8])); 6] = [
-        (&CHECK, Some(1), None, (5, b"", b"cannot read\n")),
-        (&CHECK, Some(2), None, (5, b"", b"cannot read\n")),
-        (
-            &["burch_dill", "check", "p", "none"],
-            None,
-            None,
-            (5, b"", b"cannot read\n"),
-        ),
-        (&CHECK, None, Some(3), (5, b"cor", b"cannot write\n")),
-        (&CHECK, None, Some(0), (5, b"", b"cannot write\n")),
-        (&CHECK, None, Some(8), (5, b"correct\n", b"cannot write\n")),
-    ];
-    for (words, failing_load, kept, want) in &cases {
-        let setup = Setup {
-            words: *words,
-            failing_load: *failing_load,
-            kept: *kept,
-            ..check_of(STALLS, TURNS)
+    for row in &DEVICES {
+        assert!(rt; holds(rt.alloc(), row)?, "{}", row.name);
+        let silent = Row {
+            err_room: 0,
+            err: "",
+            ..*row
         };
-        assert!(rt;
-            gives(rt.alloc(), setup, *want)?,
-            "{words:?} {failing_load:?} {kept:?}"
-        );
+        assert!(rt; holds(rt.alloc(), &silent)?, "{}, silent", row.name);
+    }
+    Ok(())
+}
+
+/// A load that is expected, and what it gives.
+#[derive(Clone, Copy)]
+struct Load {
+    name: &'static str,
+    most: usize,
+    text: &'static str,
+}
+
+/// Files that watch whether the loads come as they are expected, each once and in this order.
+#[derive(Drop)]
+struct WatchedFiles {
+    alloc: Global,
+    expected: &'static [Load],
+    next: usize,
+    as_expected: bool,
+}
+
+impl Files for WatchedFiles {
+    ghost use Rattle.std.specs.Prelude.{None};
+
+    ghost held = { λ _. None };
+
+    ghost faults = { λ _. 0 };
+
+    ghost blame = { λ _. None };
+
+    fn load(&mut self, name: &str, most: usize) -> Result<Vec<u8>, LoadError> {
+        let Some(load) = self.expected.get(self.next) else {
+            self.as_expected = false;
+            return Err(LoadError::Memory);
+        };
+        self.next = self.next.saturating_add(1);
+        self.as_expected = self.as_expected && name == load.name && most == load.most;
+        let text = load.text.as_bytes();
+        Vec::from_slice(self.alloc, &text[..text.len().min(most)]).map_err(|_| LoadError::Memory)
+    }
+
+    fn save(&mut self, _name: &str, _bytes: &[u8]) -> Result<(), SaveError> {
+        self.as_expected = false;
+        Err(SaveError::Memory)
+    }
+}
+
+/// A sink that watches whether the puts come as they are expected, each once and in this order.
+#[derive(Drop)]
+struct WatchedSink {
+    expected: &'static [&'static str],
+    next: usize,
+    as_expected: bool,
+}
+
+impl Sink for WatchedSink {
+    ghost use Rattle.std.specs.Prelude.{None};
+
+    ghost written = { λ _. None };
+
+    ghost faults = { λ _. 0 };
+
+    fn put(&mut self, bytes: &[u8]) -> Result<(), PutError> {
+        let fits = match self.expected.get(self.next) {
+            Some(text) => bytes == text.as_bytes(),
+            None => false,
+        };
+        self.next = self.next.saturating_add(1);
+        self.as_expected = self.as_expected && fits;
+        Ok(())
+    }
+}
+
+fn sink(expected: &'static [&'static str]) -> WatchedSink {
+    WatchedSink {
+        expected,
+        next: 0,
+        as_expected: true,
+    }
+}
+
+/// Whether all came as expected.
+fn is_done(sink: &WatchedSink) -> bool {
+    sink.as_expected && sink.next == sink.expected.len()
+}
+
+/// What a run does to its files and sinks, call by call.
+#[derive(Clone, Copy)]
+struct Calls {
+    words: &'static [&'static str],
+    loads: &'static [Load],
+    out: &'static [&'static str],
+    err: &'static [&'static str],
+}
+
+/// Loads of two files, in the order of the words.
+const BOTH: &[Load] = &[
+    Load {
+        name: "z",
+        most: 1_048_576,
+        text: STALLS,
+    },
+    Load {
+        name: "a",
+        most: 1_048_576,
+        text: TURNS,
+    },
+];
+
+/// Loads of a pipeline alone, for both files.
+const TWICE: &[Load] = &[
+    Load {
+        name: "p",
+        most: 1_048_576,
+        text: STALLS,
+    },
+    Load {
+        name: "p",
+        most: 1_048_576,
+        text: STALLS,
+    },
+];
+
+/// Words that aren't taken: the usage line, and nothing else.
+const NOT_TAKEN: Calls = Calls {
+    words: &[],
+    loads: &[],
+    out: &[],
+    err: &[USAGE, "\n"],
+};
+
+/// `usage` and others: which calls are made.
+static CALLS: [Calls; 11] = [
+    Calls {
+        words: &["burch_dill", "check", "z", "a"],
+        loads: BOTH,
+        out: &["correct\n"],
+        err: &[],
+    },
+    Calls {
+        words: &["burch_dill", "check", "p", "p"],
+        loads: TWICE,
+        out: &[],
+        err: &["spec: not read yet", "\n"],
+    },
+    Calls {
+        words: &[],
+        ..NOT_TAKEN
+    },
+    Calls {
+        words: &["burch_dill"],
+        ..NOT_TAKEN
+    },
+    Calls {
+        words: &["burch_dill", "--help"],
+        ..NOT_TAKEN
+    },
+    Calls {
+        words: &["burch_dill", "check", "p"],
+        ..NOT_TAKEN
+    },
+    Calls {
+        words: &["burch_dill", "check", "p", "s", "s"],
+        ..NOT_TAKEN
+    },
+    Calls {
+        words: &["burch_dill", "check", "-p", "s"],
+        ..NOT_TAKEN
+    },
+    Calls {
+        words: &["burch_dill", "check", "p", "--help"],
+        ..NOT_TAKEN
+    },
+    Calls {
+        words: &["burch_dill", "Check", "p", "s"],
+        ..NOT_TAKEN
+    },
+    Calls {
+        words: &["burch_dill", "gen", "13", "0"],
+        ..NOT_TAKEN
+    },
+];
+
+/// Whether the words make just these calls.
+fn makes(alloc: Global, calls: &Calls) -> Result<bool, AllocError> {
+    let words = words_of(alloc, calls.words)?;
+    Ok(makes_of(alloc, calls, words.as_slice()))
+}
+
+fn makes_of(alloc: Global, calls: &Calls, words: &[String]) -> bool {
+    let mut files = WatchedFiles {
+        alloc,
+        expected: calls.loads,
+        next: 0,
+        as_expected: true,
+    };
+    let mut out = sink(calls.out);
+    let mut err = sink(calls.err);
+    let _ = run(alloc, words, &mut files, &mut out, &mut err);
+    files.as_expected && files.next == calls.loads.len() && is_done(&out) && is_done(&err)
+}
+
+#[test]
+fn makes_no_other_calls(rt: HostRuntime) -> Result<(), Fail> {
+    for calls in &CALLS {
+        assert!(rt; makes(rt.alloc(), calls)?, "{:?}", calls.words);
     }
     Ok(())
 }
 
 #[test]
 fn shows_a_case_that_goes(rt: HostRuntime) -> Result<(), Fail> {
-    let outcome = outcome_of(rt.alloc(), check_of(STALLS, KEEPS), ROOM)?;
-    let goes = match &outcome.ended {
+    let row = Row {
+        spec: KEEPS,
+        ..STALLING
+    };
+    let words = words_of(rt.alloc(), CHECK)?;
+    assert!(rt; goes(rt.alloc(), &row, words.as_slice())?);
+    Ok(())
+}
+
+/// Whether the case that is shown has its input true.
+fn goes(alloc: Global, row: &Row, words: &[String]) -> Result<bool, AllocError> {
+    let mut files = shelf_of(alloc, row)?;
+    Ok(goes_over(alloc, words, &mut files))
+}
+
+fn goes_over(alloc: Global, words: &[String], files: &mut Shelf) -> bool {
+    let mut out = sink(&["wrong commute\n"]);
+    let mut err = sink(&[]);
+    match run(alloc, words, files, &mut out, &mut err) {
         Ended::Wrong(Condition::Commute, case) => {
             case.inputs.as_slice() == [Scalar::Bool(true)].as_slice()
         }
         _ => false,
-    };
-    assert!(rt; goes);
-    Ok(())
+    }
+}
+
+/// A text with spaces behind it up to that length.
+fn padded(alloc: Global, text: &str, length: usize) -> Result<String, AllocError> {
+    let mut padded = String::from_str(alloc, text)?;
+    for _ in text.len()..length {
+        padded.push(' ')?;
+    }
+    Ok(padded)
 }
 
 #[test]
 fn reads_files_of_the_most_bytes(rt: HostRuntime) -> Result<(), Fail> {
-    let alloc = rt.alloc();
-    let mut pipe = STALLS.to_vec(alloc)?;
-    pipe.resize(1048576, b' ')?;
-    let mut spec = TURNS.to_vec(alloc)?;
-    spec.resize(1048576, b' ')?;
-    assert!(rt; gives(alloc, check_of(&pipe, &spec), (0, b"correct\n", b""))?);
-    spec.push(b' ')?;
-    assert!(rt;
-        gives(
-            alloc,
-            check_of(&pipe, &spec),
-            (3, b"", b"spec: not read yet\n")
-        )?
-    );
-    pipe.push(b' ')?;
-    assert!(rt;
-        gives(
-            alloc,
-            check_of(&pipe, &spec),
-            (3, b"", b"pipe: not read yet\n")
-        )?
-    );
+    let longest = padded(rt.alloc(), STALLS, 1_048_576)?;
+    let longest = Row {
+        name: "length_limit",
+        pipe: longest.as_str(),
+        out: "correct\n",
+        ..STALLING
+    };
+    assert!(rt; holds(rt.alloc(), &longest)?);
+    let too_long = padded(rt.alloc(), STALLS, 1_048_577)?;
+    let too_long = Row {
+        pipe: too_long.as_str(),
+        status: 3,
+        err: UNREAD_PIPE,
+        ..STALLING
+    };
+    assert!(rt; holds(rt.alloc(), &too_long)?);
     Ok(())
+}
+
+#[test]
+fn takes_names(rt: HostRuntime) {
+    let cases = [
+        ("a", true),
+        ("_", true),
+        ("Z9_.-", true),
+        (
+            "abcdefghijklmnopqrstuvwxyz_ABCDEFGHIJKLMNOPQRSTUVWXYZ.0123456789",
+            true,
+        ),
+        (
+            "abcdefghijklmnopqrstuvwxyz_ABCDEFGHIJKLMNOPQRSTUVWXYZ.0123456789-",
+            false,
+        ),
+        ("", false),
+        ("9a", false),
+        ("-a", false),
+        (".a", false),
+        ("a+", false),
+        ("not", false),
+        ("let", false),
+        ("nott", true),
+        ("latch", true),
+    ];
+    for (text, want) in &cases {
+        assert_eq!(rt; is_name(text.as_bytes()), *want, "{text}");
+    }
 }

@@ -4,8 +4,9 @@ ghost use Rattle.bd_text.specs.Nodes.{Node, no_nodes, node};
 ghost use Rattle.bd_text.specs.View.{node_of, nodes_of};
 ghost use Rattle.bd_text.specs.Grammar.{Spells};
 ghost use Rattle.bd_text.specs.Faults.{HasNoFault};
-ghost use Rattle.bd_app.specs.Bit.{Bit, bit_of};
-ghost use Rattle.bd_app.specs.Form.{shape_of, IsText, IsPipelineTree, IsSpecificationTree, IsPipeline, IsSpecification};
+ghost use Rattle.bd_app.specs.Bit.{Bit};
+ghost use Rattle.bd_app.specs.inner.Shape.{bit_of, shape_of};
+ghost use Rattle.bd_app.specs.Form.{IsText, IsPipelineTree, IsSpecificationTree, IsPipeline, IsSpecification};
 
 use crate::form::{FormError, Names, bit};
 use crate::machines::{PipelineParts, pipeline_parts, specification_value};
@@ -30,7 +31,8 @@ fn only_tree(trees: &Trees) -> Option<&Tree>
 
 /// The trees of a text that isn't too long and has no fault.
 fn trees_of(alloc: Global, bytes: &[u8]) -> Result<Trees, FormError>
-    ensures read { IfOk result (λ trees. (length bytes.now ≤ 1048576) × HasNoFault bytes.now × Spells bytes.now (nodes_of trees)) }
+    ensures read { IfOk result (λ trees. (length bytes.now ≤ 1048576)
+        × HasNoFault bytes.now × Spells bytes.now (nodes_of trees)) }
     ensures other { IsErrOf result FormError.Other → (tree : Node) → ¬ IsText bytes.now tree }
 {
     if bytes.len() > MAX_FILE {
@@ -52,8 +54,10 @@ pub struct Pipeline {
 
 /// The pipeline of a tree.
 fn pipeline_of(alloc: Global, tree: &Tree) -> Result<Pipeline, FormError>
-    ensures read { IfOk result (λ p. (b : List ℕ) × IsPipelineTree (shape_of tree.now) p.latch.items b (bit_of p.next)) }
-    ensures other { IsErrOf result FormError.Other → (a b : List ℕ) (e : Bit) → ¬ IsPipelineTree (shape_of tree.now) a b e }
+    ensures read { IfOk result (λ p. (b : List ℕ)
+        × IsPipelineTree (shape_of tree.now) p.latch.items b (bit_of p.next)) }
+    ensures other { IsErrOf result FormError.Other → (a b : List ℕ) (e : Bit) →
+        ¬ IsPipelineTree (shape_of tree.now) a b e }
 {
     let Some(
         PipelineParts {
@@ -79,8 +83,10 @@ fn pipeline_of(alloc: Global, tree: &Tree) -> Result<Pipeline, FormError>
 
 /// The next value of a specification's tree over this latch.
 fn specification_of(alloc: Global, tree: &Tree, latch: &[u8]) -> Result<Truth, FormError>
-    ensures read { IfOk result (λ truth. IsSpecificationTree (shape_of tree.now) latch.now (bit_of truth)) }
-    ensures other { IsErrOf result FormError.Other → (f : Bit) → ¬ IsSpecificationTree (shape_of tree.now) latch.now f }
+    ensures read { IfOk result (λ truth.
+        IsSpecificationTree (shape_of tree.now) latch.now (bit_of truth)) }
+    ensures other { IsErrOf result FormError.Other → (f : Bit) →
+        ¬ IsSpecificationTree (shape_of tree.now) latch.now f }
 {
     let Some(value) = specification_value(tree, latch) else {
         return Err(FormError::Other);
@@ -90,8 +96,10 @@ fn specification_of(alloc: Global, tree: &Tree, latch: &[u8]) -> Result<Truth, F
 
 /// The pipeline of a text.
 pub fn read_pipeline(alloc: Global, bytes: &[u8]) -> Result<Pipeline, FormError>
-    ensures read { IfOk result (λ p. (b : List ℕ) × IsPipeline bytes.now p.latch.items b (bit_of p.next)) }
-    ensures other { IsErrOf result FormError.Other → (a b : List ℕ) (e : Bit) → ¬ IsPipeline bytes.now a b e }
+    ensures read { IfOk result (λ p.
+        (b : List ℕ) × IsPipeline bytes.now p.latch.items b (bit_of p.next)) }
+    ensures other { IsErrOf result FormError.Other → (a b : List ℕ) (e : Bit) →
+        ¬ IsPipeline bytes.now a b e }
 {
     one_reading();
     let trees = trees_of(alloc, bytes)?;
@@ -104,7 +112,8 @@ pub fn read_pipeline(alloc: Global, bytes: &[u8]) -> Result<Pipeline, FormError>
 /// The next value of a specification's text over this latch.
 pub fn read_specification(alloc: Global, bytes: &[u8], latch: &[u8]) -> Result<Truth, FormError>
     ensures read { IfOk result (λ truth. IsSpecification bytes.now latch.now (bit_of truth)) }
-    ensures other { IsErrOf result FormError.Other → (f : Bit) → ¬ IsSpecification bytes.now latch.now f }
+    ensures other { IsErrOf result FormError.Other → (f : Bit) →
+        ¬ IsSpecification bytes.now latch.now f }
 {
     one_reading();
     let trees = trees_of(alloc, bytes)?;

@@ -1,8 +1,8 @@
 //! Truth expressions over one latch and one input, and the decision by splitting on them.
 ghost use Rattle.std.specs.Prelude.{◌≡◌, Bool, true, false, IfSome, IfNone, Option};
 ghost use Rattle.std.specs.Option.{ForSome};
-ghost use Rattle.bd_app.specs.Bit.{bit_of, bit_value};
-ghost use Rattle.bd_app.specs.OneBit.{is_broken};
+ghost use Rattle.bd_app.specs.inner.Shape.{bit_of};
+ghost use Rattle.bd_app.specs.inner.Decided.{bit_value, is_broken};
 
 /// A truth expression over the latch and the input of a one-bit machine.
 #[derive(Debug, Drop)]
@@ -46,16 +46,18 @@ fn breaks(next: &Truth, spec_next: &Truth, at: Values) -> bool
     after != at.latch && after != value(spec_next, at)
 }
 
-/// Splits on the atoms without a value, and gives values at which a cycle breaks the condition. None on both
-/// sides of a split shows that there are none.
+/// Splits on the atoms without a value, and gives values at which a cycle breaks the condition.
+/// None on both sides of a split shows that there are none.
 pub fn split(
     next: &Truth,
     spec_next: &Truth,
     latch: Option<bool>,
     input: Option<bool>,
 ) -> Option<Values>
-    ensures found { IfSome result (λ at. is_broken (bit_of next.now) (bit_of spec_next.now) at.latch at.input ≡ true) }
-    ensures none { IfNone result ((a b : Bool) → ForSome latch (λ v. a ≡ v) → ForSome input (λ v. b ≡ v) →
+    ensures found { IfSome result (λ at.
+        is_broken (bit_of next.now) (bit_of spec_next.now) at.latch at.input ≡ true) }
+    ensures none { IfNone result ((a b : Bool) →
+        ForSome latch (λ v. a ≡ v) → ForSome input (λ v. b ≡ v) →
         is_broken (bit_of next.now) (bit_of spec_next.now) a b ≡ false) }
 {
     let Some(latch) = latch else {

@@ -1,11 +1,15 @@
 //! The verdict on two texts.
+//!
+//! The texts give two expressions over a latch and an input, and values of the two decide whether a
+//! cycle breaks the condition. Where none do, no case of the design breaks it, and the law that
+//! cycles compose makes of that a claim on every run. That law asks for a lawful design, whose
+//! expressions nest no deeper than the limit, which holds since the texts were read.
 ghost use Rattle.std.specs.Prelude.{◌≡◌, IfOk};
-ghost use Rattle.bd_app.specs.Answer.{IsAnswer};
-ghost use Rattle.bd_app.specs.Bit.{bit_of};
-ghost use Rattle.bd_app.specs.Decided.{IsDecided};
-ghost use Rattle.bd_app.specs.OneBit.{case_at};
+ghost use Rattle.bd_app.specs.inner.Told.{IsAnswer};
+ghost use Rattle.bd_app.specs.inner.Shape.{bit_of};
+ghost use Rattle.bd_app.specs.inner.Decided.{IsDecided, case_at};
 
-use crate::ended::{Ended, Text};
+use crate::answer::{Ended, Text};
 use crate::form::FormError;
 use crate::text::{read_pipeline, read_specification};
 use crate::truth::{Truth, Values, split};
@@ -44,7 +48,8 @@ fn decide(alloc: Global, next: &Truth, spec_next: &Truth) -> Ended
 /// The verdict on the texts of a pipeline and of its specification.
 pub fn verdict(alloc: Global, pipe: &[u8], spec: &[u8]) -> Ended
     ensures answer { IsAnswer pipe.now spec.now result }
-    ensures commute { (k : Condition) (c : Case) → result ≡ Ended.Wrong k c → k ≡ Condition.Commute }
+    ensures commute { (k : Condition) (c : Case) → result ≡ Ended.Wrong k c →
+        k ≡ Condition.Commute }
 {
     cycles_compose();
     one_reading();

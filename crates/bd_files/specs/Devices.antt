@@ -1,10 +1,10 @@
 -- What a collection of files holds and a sink has taken, and how their faults are counted.
 -- Source: this project's own interface to the files and streams of the system that runs it.
-use Rattle.std.specs.Prelude.{◌≡◌, ◌≢◌, ℕ, ◌+◌, ◌-◌, ◌^◌, ◌<◌, List, ◌++◌, take, ◌==◌, if◌then◌else◌, Option, Some, None}
+use Rattle.std.specs.Prelude.{◌≡◌, ◌≢◌, ◌⊎◌, ℕ, ◌+◌, ◌-◌, ◌^◌, ◌<◌, List, ◌++◌, take, ◌==◌, if◌then◌else◌, Option, Some, None}
 use Rattle.std.specs.Option.{option_map}
 use Rattle.bd_files.specs.declared.devices.FileCall.{FileCall}
 
--- what is held under each name, a name being the bytes of its text: the bytes of the file, or nothing
+-- what is held under each name, a name being the bytes of its text: the file's bytes, or nothing
 abbrev pub Held : Type 0
 Held = List ℕ → Option (List ℕ)
 
@@ -34,7 +34,8 @@ Holds (Some held) name bytes = held name ≡ Some bytes
 abbrev pub KeepsOthers : Option Held → Option Held → List ℕ → Type 0
 KeepsOthers None after name = after ≡ None
 KeepsOthers (Some held) None name = ⊥
-KeepsOthers (Some held) (Some after) name = (other : List ℕ) → other ≢ name → after other ≡ held other
+KeepsOthers (Some held) (Some after) name =
+    (other : List ℕ) → other ≢ name → after other ≡ held other
 
 -- all the bytes were appended to what was written
 abbrev pub Appends : Option (List ℕ) → Option (List ℕ) → List ℕ → Type 0
@@ -43,6 +44,13 @@ Appends old new bytes = new ≡ option_map (λ written. written ++ bytes) old
 -- some of the first bytes, maybe none or all, were appended to what was written
 abbrev pub AppendsPrefix : Option (List ℕ) → Option (List ℕ) → List ℕ → Type 0
 AppendsPrefix old new bytes = (kept : ℕ) × Appends old new (take kept bytes)
+
+-- a put of these bytes: all of them were appended, or the count of faults rose and some of the
+-- first were
+abbrev pub PutsOrFaults : {S : Type 0} → (S → Option (List ℕ)) → (S → ℕ) → S → S → List ℕ → Type 0
+PutsOrFaults written faults old new bytes =
+    Appends (written old) (written new) bytes
+    ⊎ (Rose (faults old) (faults new) × AppendsPrefix (written old) (written new) bytes)
 
 -- a count after one more fault
 abbrev pub count_after : ℕ → ℕ

@@ -6,8 +6,8 @@ use Rattle.std.specs.Option.{option_map}
 use Rattle.bd_files.specs.Devices.{count_after}
 use Rattle.bd_files.specs.Numbers.{number_after}
 
--- `next` is the number of the next put, and `fails` has the numbers of the puts that are to fail, each with
--- how many bytes it keeps before
+-- `next` is the number of the next put, and `fails` has the numbers of the puts that are to fail,
+-- each with how many bytes it keeps before
 pub record PageState : Type 0 where
   pub written : List ℕ
   pub room : ℕ
@@ -34,7 +34,8 @@ takes_all page count = is_none (limit_of page.fails page.next) && nat_le count (
 
 -- what the next put keeps of its bytes
 abbrev pub kept_of : PageState → List ℕ → List ℕ
-kept_of page bytes = take (min (unwrap_or (limit_of page.fails page.next) (length bytes)) (room_left page)) bytes
+kept_of page bytes =
+    take (min (unwrap_or (limit_of page.fails page.next) (length bytes)) (room_left page)) bytes
 
 -- the page after a put
 abbrev pub page_after : PageState → List ℕ → PageState

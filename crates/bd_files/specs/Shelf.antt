@@ -32,10 +32,12 @@ abbrev pub bytes_of : List File → List ℕ → Option (List ℕ)
 bytes_of [] name = None
 bytes_of (file ∷ files) name = if bytes_eq file.0 name then Some file.1 else bytes_of files name
 
--- the files with these bytes under the name: in place of the first file with that name, or behind them all
+-- the files with these bytes under the name: in place of the first file with that name, or behind
+-- them all
 abbrev pub put_file : List File → List ℕ → List ℕ → List File
 put_file [] name bytes = (name, bytes) ∷ []
-put_file (file ∷ files) name bytes = if bytes_eq file.0 name then (file.0, bytes) ∷ files else file ∷ put_file files name bytes
+put_file (file ∷ files) name bytes =
+    if bytes_eq file.0 name then (file.0, bytes) ∷ files else file ∷ put_file files name bytes
 
 -- whether the next call is to fail
 abbrev pub is_due : List ℕ → Option ℕ → Bool
@@ -44,7 +46,9 @@ is_due fails (Some number) = list_any (λ n. n == number) fails
 
 -- what the next call gives if it is a load; a load that fails gives nothing
 abbrev pub load_of : ShelfState → List ℕ → ℕ → Option (List ℕ)
-load_of shelf name most = if is_due shelf.fails shelf.next then None else option_map (take (most + 1)) (bytes_of shelf.held name)
+load_of shelf name most =
+    if is_due shelf.fails shelf.next then None
+    else option_map (take (most + 1)) (bytes_of shelf.held name)
 
 -- the shelf with one more call numbered
 abbrev pub numbered : ShelfState → ShelfState
@@ -52,7 +56,12 @@ numbered shelf = record shelf { next = number_after shelf.next }
 
 -- a shelf that holds these files, before its first call
 abbrev pub new_shelf : List File → List ℕ → ShelfState
-new_shelf files fails = record { held = files; fails = fails; next = Some 1; faults = record { count = 0; blame = None } }
+new_shelf files fails = record {
+  held = files;
+  fails = fails;
+  next = Some 1;
+  faults = record { count = 0; blame = None };
+}
 
 -- the shelf after a call that failed
 abbrev pub failed : ShelfState → FileCall → List ℕ → ShelfState

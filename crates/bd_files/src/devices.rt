@@ -1,3 +1,4 @@
+//! What a collection of files and a sink are, and what their answers mean.
 ghost use Rattle.std.specs.Prelude.{◌≡◌, ℕ, ◌+◌, ◌≤◌, List, Option, Some, vec_len, IfOk, OnOk, OnErr, IsErrOf};
 ghost use Rattle.bd_files.specs.Devices.{Held, Blame, Rose, IsLoaded, Holds, KeepsOthers, Appends, AppendsPrefix};
 
@@ -13,7 +14,8 @@ pub enum FileCall {
 /// Why a load gave no bytes.
 #[derive(Clone, Copy, Debug, PartialEq, Eq, Error)]
 pub enum LoadError {
-    /// The device failed, or holds nothing under the name. The fault was counted, and blamed on this call.
+    /// The device failed, or holds nothing under the name. The fault was counted, and blamed on
+    /// this call.
     #[error("cannot load the file")]
     Failed,
     /// Want of memory.
@@ -43,8 +45,8 @@ pub enum PutError {
 /// Files under names, a name being the bytes of its text.
 ///
 /// An object may tell what it holds, as one in memory does; a call never changes whether it tells.
-/// It counts its faults, and keeps which call answered `Failed` last. A fault can't come from the code
-/// that calls it: only the object itself raises the count.
+/// It counts its faults, and keeps which call answered `Failed` last. A fault can't come from the
+/// code that calls it: only the object itself raises the count.
 pub trait Files {
     /// What is held under each name, where the object tells that.
     ghost held: { Self → Option Held };
@@ -55,17 +57,21 @@ pub trait Files {
     /// The kind and the name of the last call that answered `Failed`, if one did.
     ghost blame: { Self → Option Blame };
 
-    /// Loads the file of that name; of more than `most` bytes only the first `most + 1`, which shows that
-    /// there are more.
+    /// Loads the file of that name; of more than `most` bytes only the first `most + 1`, which
+    /// shows that there are more.
     fn load(&mut self, name: &str, most: usize) -> Result<Vec<u8>, LoadError>
-        ensures loaded { IfOk result (λ bytes. IsLoaded (held self.old) name.now most bytes.items) }
+        ensures loaded { IfOk result (λ bytes.
+            IsLoaded (held self.old) name.now most bytes.items) }
         ensures bounded { IfOk result (λ bytes. vec_len bytes ≤ most + 1) }
         ensures holds_the_same { held self.new ≡ held self.old }
 
         ensures never_falls { faults self.old ≤ faults self.new }
-        ensures failed_rose { IsErrOf result LoadError.Failed → Rose (faults self.old) (faults self.new) }
-        ensures failed_blames { IsErrOf result LoadError.Failed → blame self.new ≡ Some (FileCall.Load, name.now) }
-        ensures else_keeps_blame { ¬ IsErrOf result LoadError.Failed → blame self.new ≡ blame self.old };
+        ensures failed_rose { IsErrOf result LoadError.Failed →
+            Rose (faults self.old) (faults self.new) }
+        ensures failed_blames { IsErrOf result LoadError.Failed →
+            blame self.new ≡ Some (FileCall.Load, name.now) }
+        ensures else_keeps_blame { ¬ IsErrOf result LoadError.Failed →
+            blame self.new ≡ blame self.old };
 
     /// Saves the bytes under that name. After an error nothing is said of what the name holds.
     fn save(&mut self, name: &str, bytes: &[u8]) -> Result<(), SaveError>
@@ -73,14 +79,17 @@ pub trait Files {
         ensures keeps_others { KeepsOthers (held self.old) (held self.new) name.now }
 
         ensures never_falls { faults self.old ≤ faults self.new }
-        ensures failed_rose { IsErrOf result SaveError.Failed → Rose (faults self.old) (faults self.new) }
-        ensures failed_blames { IsErrOf result SaveError.Failed → blame self.new ≡ Some (FileCall.Save, name.now) }
-        ensures else_keeps_blame { ¬ IsErrOf result SaveError.Failed → blame self.new ≡ blame self.old };
+        ensures failed_rose { IsErrOf result SaveError.Failed →
+            Rose (faults self.old) (faults self.new) }
+        ensures failed_blames { IsErrOf result SaveError.Failed →
+            blame self.new ≡ Some (FileCall.Save, name.now) }
+        ensures else_keeps_blame { ¬ IsErrOf result SaveError.Failed →
+            blame self.new ≡ blame self.old };
 }
 
 /// A place that bytes are put to, one after another.
 ///
-/// An object may tell what was written, as one in memory does; a put never changes whether it tells.
+/// An object may tell what was written, as one in memory does; a put never changes whether it does.
 pub trait Sink {
     /// All that was written, where the object tells that.
     ghost written: { Self → Option (List ℕ) };
@@ -91,7 +100,8 @@ pub trait Sink {
     /// Writes the bytes after those written before. It takes no memory.
     fn put(&mut self, bytes: &[u8]) -> Result<(), PutError>
         ensures appended { OnOk result (Appends (written self.old) (written self.new) bytes.now) }
-        ensures prefix { OnErr result (AppendsPrefix (written self.old) (written self.new) bytes.now) }
+        ensures prefix { OnErr result
+            (AppendsPrefix (written self.old) (written self.new) bytes.now) }
 
         ensures never_falls { faults self.old ≤ faults self.new }
         ensures failed_rose { OnErr result (Rose (faults self.old) (faults self.new)) };

@@ -1,3 +1,4 @@
+//! The count of faults, and the blame, for objects with files.
 ghost use Rattle.std.specs.Prelude.{◌≡◌, None};
 ghost use Rattle.std.specs.String.{string_bytes};
 ghost use Rattle.bd_files.specs.Devices.{faulted};
@@ -25,7 +26,10 @@ impl Model for FaultLog {
 
     ghost Value = { FaultRecord };
 
-    ghost view = { λ log. record { count = log.count; blame = option_map (λ blame. (blame.call, string_bytes blame.name)) log.blame } };
+    ghost view = { λ log. record {
+      count = log.count;
+      blame = option_map (λ blame. (blame.call, string_bytes blame.name)) log.blame;
+    } };
 }
 
 impl FaultLog {
@@ -39,7 +43,8 @@ impl FaultLog {
         }
     }
 
-    /// Counts one more fault, and blames it on the call of that name. At the largest `u64` the count stays.
+    /// Counts one more fault, and blames it on the call of that name. At the largest `u64` the
+    /// count stays.
     pub fn add(&mut self, call: FileCall, name: String)
         ensures { self.new ≡ faulted self.old call (string_bytes name) }
     {

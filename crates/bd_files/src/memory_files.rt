@@ -1,3 +1,7 @@
+//! Files in memory that fail where they are told to.
+//!
+//! A shelf keeps its files in a list, the first of a name counting. Each call takes the next
+//! number before it does anything else, so a call that answers want of memory is numbered too.
 ghost use Rattle.std.specs.Prelude.{◌≡◌, ◌+◌, true, false, Some, None, OnOk, OnErr, IfOk, IsErrOf, IsOkAnd, position, find, take, option_map};
 ghost use Rattle.std.specs.Option.{option_copied};
 ghost use Rattle.std.specs.String.{string_bytes};
@@ -10,8 +14,8 @@ use super::{FaultLog, FileCall, Files, LoadError, SaveError};
 use std::alloc::{AllocError, Global};
 use std::marker::Model;
 
-/// Files in memory, of which calls with given numbers fail. The calls on a shelf, loads and saves together,
-/// have the numbers 1, 2, 3, ..
+/// Files in memory, of which calls with given numbers fail. The calls on a shelf, loads and saves
+/// together, have the numbers 1, 2, 3, ..
 #[derive(Debug, Drop)]
 pub struct Shelf {
     alloc: Global,
@@ -26,12 +30,17 @@ impl Model for Shelf {
 
     ghost Value = { ShelfState };
 
-    ghost view = { λ shelf. record { held = files_of shelf.held.items; fails = shelf.fails.items; next = shelf.next; faults = shelf.faults } };
+    ghost view = { λ shelf. record {
+      held = files_of shelf.held.items;
+      fails = shelf.fails.items;
+      next = shelf.next;
+      faults = shelf.faults;
+    } };
 }
 
 impl Shelf {
-    /// A shelf that holds these files, each with its name, and whose calls with the numbers `fails` fail.
-    /// Of several files with one name the first counts.
+    /// A shelf that holds these files, each with its name, and whose calls with the numbers `fails`
+    /// fail. Of several files with one name the first counts.
     pub fn new(
         alloc: Global,
         held: Vec<(String, Vec<u8>)>,
@@ -65,10 +74,12 @@ impl Files for Shelf {
     ghost blame = { λ shelf. shelf.faults.blame };
 
     fn load(&mut self, name: &str, most: usize) -> Result<Vec<u8>, LoadError>
-        ensures given { IfOk result (λ bytes. load_of self.old name.now most ≡ Some bytes.items) }
+        ensures given { IfOk result (λ bytes.
+            load_of self.old name.now most ≡ Some bytes.items) }
         ensures ok { OnOk result (self.new ≡ numbered self.old) }
         ensures fails { IsErrOf result LoadError.Failed → load_of self.old name.now most ≡ None }
-        ensures failed { IsErrOf result LoadError.Failed → self.new ≡ failed self.old FileCall.Load name.now }
+        ensures failed { IsErrOf result LoadError.Failed →
+            self.new ≡ failed self.old FileCall.Load name.now }
         ensures memory { IsErrOf result LoadError.Memory → self.new ≡ numbered self.old }
     {
         let due = is_due_now(&self.fails, &mut self.next);
@@ -90,8 +101,10 @@ impl Files for Shelf {
     fn save(&mut self, name: &str, bytes: &[u8]) -> Result<(), SaveError>
         ensures ok { OnOk result (self.new ≡ saved self.old name.now bytes.now) }
         ensures ok_unless_due { OnOk result (is_due self.old.fails self.old.next ≡ false) }
-        ensures fails_if_due { IsErrOf result SaveError.Failed → is_due self.old.fails self.old.next ≡ true }
-        ensures failed { IsErrOf result SaveError.Failed → self.new ≡ failed self.old FileCall.Save name.now }
+        ensures fails_if_due { IsErrOf result SaveError.Failed →
+            is_due self.old.fails self.old.next ≡ true }
+        ensures failed { IsErrOf result SaveError.Failed →
+            self.new ≡ failed self.old FileCall.Save name.now }
         ensures memory { IsErrOf result SaveError.Memory → self.new ≡ numbered self.old }
     {
         let due = is_due_now(&self.fails, &mut self.next);
@@ -116,7 +129,8 @@ fn is_due_now(fails: &[u64], next: &mut Option<u64>) -> bool
 /// The bytes of the first file with that name, of more than `most` the first `most + 1`.
 #[tactic(auto, using(crate::proofs::Lookups::lookups))]
 fn first_bytes<'a>(held: &'a [(String, Vec<u8>)], name: &str, most: usize) -> Option<&'a [u8]>
-    ensures { option_copied result ≡ option_map (take (most + 1)) (bytes_of (files_of held.now) name.now) }
+    ensures { option_copied result
+        ≡ option_map (take (most + 1)) (bytes_of (files_of held.now) name.now) }
 {
     let file = file_under(held, name)?;
     let bytes = file.1.as_slice();
@@ -129,7 +143,8 @@ fn first_bytes<'a>(held: &'a [(String, Vec<u8>)], name: &str, most: usize) -> Op
 
 /// The first file with that name.
 fn file_under<'a>(held: &'a [(String, Vec<u8>)], name: &str) -> Option<&'a (String, Vec<u8>)>
-    ensures { option_copied result ≡ find (λ file. bytes_eq (string_bytes file.0) name.now) held.now }
+    ensures { option_copied result
+        ≡ find (λ file. bytes_eq (string_bytes file.0) name.now) held.now }
 {
     held.iter().find(|file| file.0.as_str() == name)
 }
@@ -141,14 +156,16 @@ fn place_of(held: &[(String, Vec<u8>)], name: &str) -> Option<usize>
     held.iter().position(|file| file.0.as_str() == name)
 }
 
-/// Puts the bytes under the name, in place of those of the first file with that name if there is one.
+/// Puts the bytes under the name, in place of those of the first file with that name if there is
+/// one.
 #[tactic(auto, using(crate::proofs::Lookups::lookups))]
 fn put_file(
     held: &mut Vec<(String, Vec<u8>)>,
     name: String,
     bytes: Vec<u8>,
 ) -> Result<(), AllocError>
-    ensures ok { OnOk result (files_of held.new.items ≡ put_file (files_of held.old.items) (string_bytes name) bytes.items) }
+    ensures ok { OnOk result (files_of held.new.items
+        ≡ put_file (files_of held.old.items) (string_bytes name) bytes.items) }
     ensures err { OnErr result (held.new.items ≡ held.old.items) }
 {
     match place_of(held, name.as_str()) {

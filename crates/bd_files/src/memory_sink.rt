@@ -1,3 +1,7 @@
+//! A sink in memory that fails where it is told to.
+//!
+//! The room is taken when the page is made, so no put asks for memory, and a put that fails keeps
+//! as many bytes as it was told to: a test can cut a text at any byte.
 ghost use Rattle.std.specs.Prelude.{◌≡◌, ◌==◌, length, Some, IfOk, is_ok, find};
 ghost use Rattle.bd_files.specs.Numbers.{number_after};
 ghost use Rattle.bd_files.specs.Page.{new_page, limit_of, takes_all, page_after};
@@ -7,8 +11,8 @@ use super::{PutError, Sink};
 use std::alloc::{AllocError, Global};
 use std::marker::Model;
 
-/// A sink in memory that has room for so many bytes, and of which puts with given numbers fail. The puts
-/// on a page have the numbers 1, 2, 3, ..
+/// A sink in memory that has room for so many bytes, and of which puts with given numbers fail. The
+/// puts on a page have the numbers 1, 2, 3, ..
 #[derive(Debug, Drop)]
 pub struct Page {
     written: Vec<u8>,
@@ -24,15 +28,22 @@ impl Model for Page {
 
     ghost Value = { PageState };
 
-    ghost view = { λ page. record { written = page.written.items; room = page.room; fails = page.fails.items; next = page.next; faults = page.faults } };
+    ghost view = { λ page. record {
+      written = page.written.items;
+      room = page.room;
+      fails = page.fails.items;
+      next = page.next;
+      faults = page.faults;
+    } };
 
-    ghost invariant = { λ page. (vec_len page.written ≤ page.room) × (page.room ≤ vec_capacity page.written) };
+    ghost invariant = { λ page.
+        (vec_len page.written ≤ page.room) × (page.room ≤ vec_capacity page.written) };
 }
 
 impl Page {
-    /// An empty page with room for `room` bytes, which it takes here. In `fails` each number of a put that is
-    /// to fail stands with how many bytes that put keeps before; of several pairs with one number the first
-    /// counts. A put past the room keeps what fits and fails.
+    /// An empty page with room for `room` bytes, which it takes here. In `fails` each number of a
+    /// put that is to fail stands with how many bytes that put keeps before; of several pairs with
+    /// one number the first counts. A put past the room keeps what fits and fails.
     pub fn new(alloc: Global, room: usize, fails: Vec<(u64, usize)>) -> Result<Page, AllocError>
         ensures { IfOk result (λ page. page ≡ new_page room fails.items) }
     {
@@ -81,7 +92,8 @@ impl Sink for Page {
     }
 }
 
-/// Numbers the put that begins, and answers how many bytes it keeps before it fails, if it is to fail.
+/// Numbers the put that begins, and answers how many bytes it keeps before it fails, if it is to
+/// fail.
 fn limit_now(fails: &[(u64, usize)], next: &mut Option<u64>) -> Option<usize>
     ensures limit { result ≡ limit_of fails.now next.old }
     ensures numbered { next.new ≡ number_after next.old }

@@ -1,7 +1,7 @@
 ghost use Rattle.std.specs.Prelude.{◌≡◌, Some};
 ghost use Rattle.bd_files.specs.Devices.{Rose};
 
-use super::{FileCall, Files, LoadError, Page, PutError, SaveError, Shelf, Sink};
+use super::{FileCall, Files, LoadError, Page, PutError, SaveError, Shelf, Sink, put_pieces};
 use std::alloc::{AllocError, Global};
 use std::test::Fail;
 
@@ -85,6 +85,25 @@ fn a_page_keeps_what_a_failing_put_may_keep(rt: HostRuntime) -> Result<(), Fail>
     Ok(())
 }
 
+#[test]
+fn pieces_are_put_up_to_the_first_fault(rt: HostRuntime) -> Result<(), Fail> {
+    for (failing, answer, written, faults) in [
+        (9, Ok(()), "abcde", 0),
+        (1, Err(PutError::Failed), "a", 1),
+        (3, Err(PutError::Failed), "abcd", 1),
+    ] {
+        let mut page = Page::new(rt.alloc(), 9, vec![in rt.alloc(); (failing, 1)]?)?;
+        assert_eq!(rt;
+            put_pieces(&mut page, &[b"ab", b"c", b"de"]),
+            answer,
+            "{failing}"
+        );
+        assert_eq!(rt; page.written(), written.as_bytes(), "{failing}");
+        assert_eq!(rt; page.faults(), faults, "{failing}");
+    }
+    Ok(())
+}
+
 #[derive(Clone, Copy, Debug, PartialEq, Eq)]
 enum Copied {
     Whole,
@@ -95,8 +114,10 @@ enum Copied {
 
 /// Puts the first bytes of a file, and names the device that failed.
 fn copy<F: Files, O: Sink>(files: &mut F, out: &mut O, name: &str) -> Copied
-    ensures not_loaded { result ≡ Copied.NotLoaded → Rose (F.faults files.old) (F.faults files.new) }
-    ensures blamed { result ≡ Copied.NotLoaded → F.blame files.new ≡ Some (FileCall.Load, name.now) }
+    ensures not_loaded { result ≡ Copied.NotLoaded →
+        Rose (F.faults files.old) (F.faults files.new) }
+    ensures blamed { result ≡ Copied.NotLoaded →
+        F.blame files.new ≡ Some (FileCall.Load, name.now) }
     ensures not_put { result ≡ Copied.NotPut → Rose (O.faults out.old) (O.faults out.new) }
     ensures holds_the_same { F.held files.new ≡ F.held files.old }
 {

@@ -1,10 +1,17 @@
 //! The program: real files, standard output and standard error for the one call that does its work.
+//!
+//! What is proved ends at `program`: whatever the files and the two streams are, the exit status is
+//! that of the answer, and the answer's clauses hold of these very objects. `main` makes the real
+//! ones, reads the words, and calls it once. That it hands over the right ones is only tested, by a
+//! run of the built program whose words, output and status are stored.
 #![tactic(auto)]
 
-ghost use Rattle.std.specs.Prelude.{◌≡◌, ◌⊎◌};
+ghost use Rattle.std.specs.Prelude.{◌≡◌, IfOk, OnErr};
 ghost use Rattle.std.specs.Process.{exit_status};
+ghost use Rattle.bd_files.specs.Devices.{PutsOrFaults};
 ghost use Rattle.bd_app.specs.Answer.{fault_line_of, status_of};
-ghost use Rattle.bd_files.specs.Devices.{Appends, AppendsPrefix, Rose};
+ghost use Rattle.bd_app.specs.Words.{texts_of};
+ghost use Rattle.burch_dill.specs.Program.{IsRun, files_seen, sink_seen};
 
 mod real_files;
 mod stream;
@@ -12,14 +19,14 @@ mod stream;
 use crate::real_files::RealFiles;
 use crate::stream::Stream;
 use bd_app::{Ended, run};
-use bd_files::Sink;
-use std::alloc::AllocError;
+use bd_files::{Files, Sink};
+use std::alloc::{AllocError, Global};
 use std::process::ExitCode;
 use std::rt::Env;
 use std::{env, io};
 
-/// The words of the command line, the program's name first. There are none where one of them isn't text, and
-/// no words are a faulty command line.
+/// The words of the command line, the program's name first. There are none where one of them isn't
+/// text, and no words are a faulty command line.
 fn command_line<R: Env + AllocGlobal>(rt: &R) -> Result<Vec<String>, AllocError> {
     match env::args(rt) {
         Ok(words) => words.collect(rt.alloc()),
@@ -28,33 +35,67 @@ fn command_line<R: Env + AllocGlobal>(rt: &R) -> Result<Vec<String>, AllocError>
     }
 }
 
-/// The answer where there is no memory for the words: its line is put on the error output.
-fn out_of_memory<E: Sink>(err: &mut E) -> Ended
-    ensures memory { result ≡ Ended.Memory }
-    ensures line { Appends (E.written err.old) (E.written err.new) (fault_line_of result)
-        ⊎ (Rose (E.faults err.old) (E.faults err.new) × AppendsPrefix (E.written err.old) (E.written err.new) (fault_line_of result)) }
-{
-    let ended = Ended::Memory;
-    let _ = err.put(ended.fault_line());
-    ended
-}
-
-/// The status of an answer, as `main` gives it to the system.
+/// The status of an answer, as the system takes it.
 fn exit_code(ended: &Ended) -> ExitCode
     ensures { exit_status result ≡ status_of ended.now }
 {
     ExitCode::from(ended.status())
 }
 
+/// The run on these words.
+fn run_on<F: Files, O: Sink, E: Sink>(
+    alloc: Global,
+    words: &[String],
+    files: &mut F,
+    out: &mut O,
+    err: &mut E,
+) -> ExitCode
+    ensures { IsRun (texts_of words.now) (exit_status result)
+        (files_seen F.held F.faults F.blame files.old) (files_seen F.held F.faults F.blame files.new)
+        (sink_seen O.written O.faults out.old) (sink_seen O.written O.faults out.new)
+        (sink_seen E.written E.faults err.old) (sink_seen E.written E.faults err.new) }
+{
+    exit_code(&run(alloc, words, files, out, err))
+}
+
+/// The program on any files and sinks. `words` are the command line, unless memory ran out.
+fn program<F: Files, O: Sink, E: Sink>(
+    alloc: Global,
+    words: Result<Vec<String>, AllocError>,
+    files: &mut F,
+    out: &mut O,
+    err: &mut E,
+) -> ExitCode
+    ensures run { IfOk words (λ words. IsRun (texts_of words.items) (exit_status result)
+        (files_seen F.held F.faults F.blame files.old) (files_seen F.held F.faults F.blame files.new)
+        (sink_seen O.written O.faults out.old) (sink_seen O.written O.faults out.new)
+        (sink_seen E.written E.faults err.old) (sink_seen E.written E.faults err.new)) }
+
+    // Where there is no memory for the words, only the line of that is put.
+    ensures no_words { OnErr words (exit_status result ≡ status_of Ended.Memory) }
+    ensures no_words_line { OnErr words
+        (PutsOrFaults E.written E.faults err.old err.new (fault_line_of Ended.Memory)) }
+    ensures no_words_files { OnErr words (files.new ≡ files.old) }
+    ensures no_words_out { OnErr words (out.new ≡ out.old) }
+{
+    match words {
+        Ok(words) => run_on(alloc, words.as_slice(), files, out, err),
+        Err(_) => {
+            let ended = Ended::Memory;
+            ended.put_line(err);
+            exit_code(&ended)
+        }
+    }
+}
+
 fn main(rt: HostRuntime) -> ExitCode {
-    let mut files = RealFiles::new(rt.alloc(), &rt);
-    let mut out = Stream::new(rt.stdout());
-    let mut err = Stream::new(rt.stderr());
-    let ended = match command_line(&rt) {
-        Ok(words) => run(rt.alloc(), words.as_slice(), &mut files, &mut out, &mut err),
-        Err(_) => out_of_memory(&mut err),
-    };
-    exit_code(&ended)
+    program(
+        rt.alloc(),
+        command_line(&rt),
+        &mut RealFiles::new(rt.alloc(), &rt),
+        &mut Stream::new(rt.stdout()),
+        &mut Stream::new(rt.stderr()),
+    )
 }
 
 #[cfg(test)]

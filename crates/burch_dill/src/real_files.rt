@@ -1,16 +1,23 @@
 //! The files of the system.
-ghost use Rattle.std.specs.Prelude.{◌≡◌, ℕ, ◌+◌, ◌<◌, ◌≤◌, ◌++◌, List, length, take, vec_len, None, IfSome, IfOk};
-ghost use Rattle.std.specs.Io.KnownBytes.{Consumes, IsAtEnd};
+//!
+//! The name is copied before the file is touched, so that a call that failed can be blamed without
+//! taking memory. A file is read piece by piece, one byte past the limit at most, so that a longer
+//! one is known as such and never read whole. Over a reader that tells what it has left, the clauses
+//! say that the bytes are its first ones.
+ghost use Rattle.std.specs.Prelude.{◌≡◌, ◌≢◌, ℕ, ◌+◌, ◌<◌, ◌≤◌, ◌++◌, List, length, take, vec_len, None, IfSome, IfOk};
+ghost use Rattle.std.specs.Io.{ReadsAtMost};
+ghost use Rattle.std.specs.Io.KnownBytes.{Consumes, IsAtEnd, ReadConsumes};
+ghost use Rattle.std.specs.IoError.{error_kind};
 
 use crate::stream::write_whole;
 use bd_files::{FaultLog, FileCall, Files, LoadError, SaveError};
 use std::alloc::Global;
-use std::fs;
-use std::io::Read;
+use std::io::{Error, ErrorKind, Read};
 use std::rt::Files as FileSystem;
+use std::{fs, io};
 
-/// The files of a file system, under the names that they have there. Each call that fails is counted, and
-/// blamed with its name. It tells nothing of what the files hold.
+/// The files of a file system, under the names that they have there. Each call that fails is counted,
+/// and blamed with its name. It tells nothing of what the files hold.
 #[derive(Debug, Drop)]
 pub struct RealFiles<'a, S> {
     alloc: Global,
@@ -73,24 +80,56 @@ fn load_file<S: FileSystem>(
 ) -> Result<Vec<u8>, LoadError>
     ensures bounded { IfOk result (λ bytes. vec_len bytes ≤ most + 1) }
 {
-    let mut file = fs::open(system, name).map_err(|_| LoadError::Failed)?;
+    let mut file = match fs::open(system, name) {
+        Ok(file) => file,
+        Err(e) => return Err(load_error(&e)),
+    };
     read_bytes(alloc, &mut file, most)
 }
 
 /// Writes the file anew.
 fn save_file<S: FileSystem>(system: &S, name: &str, bytes: &[u8]) -> Result<(), SaveError> {
-    let mut file = fs::create(system, name).map_err(|_| SaveError::Failed)?;
-    write_whole(&mut file, bytes).map_err(|_| SaveError::Failed)
+    let mut file = match fs::create(system, name) {
+        Ok(file) => file,
+        Err(e) => return Err(save_error(&e)),
+    };
+    match write_whole(&mut file, bytes) {
+        Ok(()) => Ok(()),
+        Err(e) => Err(save_error(&e)),
+    }
+}
+
+/// Want of memory is no fault of the device.
+fn load_error(error: &Error) -> LoadError
+    ensures memory { error_kind error.now ≡ ErrorKind.OutOfMemory → result ≡ LoadError.Memory }
+    ensures failed { error_kind error.now ≢ ErrorKind.OutOfMemory → result ≡ LoadError.Failed }
+{
+    match error.kind() {
+        ErrorKind::OutOfMemory => LoadError::Memory,
+        _ => LoadError::Failed,
+    }
+}
+
+/// Want of memory is no fault of the device.
+fn save_error(error: &Error) -> SaveError
+    ensures memory { error_kind error.now ≡ ErrorKind.OutOfMemory → result ≡ SaveError.Memory }
+    ensures failed { error_kind error.now ≢ ErrorKind.OutOfMemory → result ≡ SaveError.Failed }
+{
+    match error.kind() {
+        ErrorKind::OutOfMemory => SaveError::Memory,
+        _ => SaveError::Failed,
+    }
 }
 
 /// How many bytes are read at once, at most.
 const PIECE: usize = 4096;
 
-/// Reads to the end of the input, or past `most` bytes: then the first `most + 1`. It fails at the first read
-/// that answers an `Err`, one that a signal interrupted among them.
+/// Reads to the end of the input, or past `most` bytes: then the first `most + 1`. It fails at the
+/// first read that answers an `Err` other than that a signal interrupted it.
 pub fn read_bytes<R: Read>(alloc: Global, source: &mut R, most: usize) -> Result<Vec<u8>, LoadError>
     ensures bounded { IfOk result (λ bytes. vec_len bytes ≤ most + 1) }
-    ensures first { IfSome (R.remaining source.old) (λ input. IfOk result (λ bytes. bytes.items ≡ take (most + 1) input)) }
+    ensures first { IfSome (R.remaining source.old) (λ input. IfOk result (λ bytes.
+        bytes.items ≡ take (most + 1) input)) }
 {
     let mut bytes = Vec::new(alloc);
     while bytes.len() <= most {
@@ -102,12 +141,13 @@ pub fn read_bytes<R: Read>(alloc: Global, source: &mut R, most: usize) -> Result
     Ok(bytes)
 }
 
-/// Reads once, at most `room` bytes, and puts them behind those that were read before. None came only at the
-/// end of the input.
+/// Reads once, at most `room` bytes, and puts them behind those that were read before. None came
+/// only at the end of the input.
 fn read_piece<R: Read>(source: &mut R, room: usize, bytes: &mut Vec<u8>) -> Result<usize, LoadError>
     requires some { 0 < room }
     requires few { room ≤ PIECE }
-    ensures piece { IfOk result (λ count. (piece : List ℕ) × (length piece ≡ count) × (bytes.new.items ≡ bytes.old.items ++ piece)
+    ensures piece { IfOk result (λ count. (piece : List ℕ) × (length piece ≡ count)
+        × (bytes.new.items ≡ bytes.old.items ++ piece)
         × Consumes (R.remaining source.old) (R.remaining source.new) piece) }
     ensures len { IfOk result (λ count. vec_len bytes.new ≡ vec_len bytes.old + count) }
     ensures fits { IfOk result (λ count. count ≤ room) }
@@ -115,10 +155,28 @@ fn read_piece<R: Read>(source: &mut R, room: usize, bytes: &mut Vec<u8>) -> Resu
 {
     let mut buffer = [0u8; PIECE];
     let piece = &mut buffer[..room];
-    let count = source.read(piece).map_err(|_| LoadError::Failed)?;
+    let count = match read_some(source, piece) {
+        Ok(count) => count,
+        Err(e) => return Err(load_error(&e)),
+    };
     let piece = &piece[..count];
     bytes
         .extend_from_slice(piece)
         .map_err(|_| LoadError::Memory)?;
     Ok(count)
+}
+
+/// One read, made again where a signal interrupted it, up to 2^64 - 1 times.
+fn read_some<R: Read>(source: &mut R, piece: &mut [u8]) -> io::Result<usize>
+    ensures fits { ReadsAtMost result piece.new }
+    ensures bytes { ReadConsumes (R.remaining source.old) (R.remaining source.new) result piece.new }
+{
+    for _ in 0..u64::MAX {
+        match source.read(piece) {
+            Ok(count) => return Ok(count),
+            Err(e) if e.kind() == ErrorKind::Interrupted => {}
+            Err(e) => return Err(e),
+        }
+    }
+    Err(Error::from(ErrorKind::Interrupted))
 }

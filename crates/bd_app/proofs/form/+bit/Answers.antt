@@ -1,6 +1,6 @@
 use Rattle.std.proofs.Common.{◌≡◌, ◌∙◌, refl}
-use Rattle.bd_app.specs.Form.{shape_of}
-use Rattle.bd_app.specs.Bit.{choice, bit_of}
+use Rattle.bd_app.specs.inner.Shape.{shape_of, bit_of}
+use Rattle.bd_app.specs.Bit.{choice}
 use Rattle.bd_app.specs.declared.truth.Truth.TheVariants.{Ite}
 use Rattle.bd_app.proofs.Shapes.{no_expression, no_negation, no_control, no_yes, no_no, IsBitTree-choice}
 use Rattle.bd_app.proofs.Reading.{passed_on, bit_of-Ite}

@@ -1,5 +1,6 @@
 use Rattle.std.proofs.Common.{◌≡◌, [], ◌∷◌, codes}
-use Rattle.bd_app.specs.Form.{shape_of, item_tree}
+use Rattle.bd_app.specs.inner.Shape.{shape_of}
+use Rattle.bd_app.specs.Form.{item_tree}
 use Rattle.bd_app.proofs.machines.pipeline_parts.Goals as goal
 
 pub returns-in_err-latch-clause-none : goal.returns-in_err-latch-clause-none

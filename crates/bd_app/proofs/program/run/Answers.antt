@@ -1,6 +1,6 @@
 use Rattle.std.proofs.Common.{subst}
 use Rattle.std.specs.Prelude.{IfSome}
-use Rattle.bd_app.specs.Answer.{IsTold}
+use Rattle.bd_app.specs.inner.Told.{IsTold}
 use Rattle.bd_app.specs.Words.{texts_of}
 use Rattle.bd_app.proofs.Printing.{wrong_before}
 use Rattle.bd_app.proofs.program.run.Goals as goal

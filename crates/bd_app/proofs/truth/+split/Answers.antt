@@ -1,6 +1,6 @@
 use Rattle.std.proofs.Common.{◌≡◌, false, ◌∙◌, sym}
-use Rattle.bd_app.specs.Bit.{bit_of}
-use Rattle.bd_app.specs.OneBit.{is_broken}
+use Rattle.bd_app.specs.inner.Shape.{bit_of}
+use Rattle.bd_app.specs.inner.Decided.{is_broken}
 use Rattle.bd_app.proofs.Splitting.{none_on_both}
 use Rattle.bd_app.proofs.truth.+split.Goals as goal
 

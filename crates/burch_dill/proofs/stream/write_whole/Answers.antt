@@ -12,7 +12,7 @@ take_more done count bytes = take-add done count bytes ∙ ap (λ l. take done b
 -- src/stream.rt:46:5
 pub loop-done-preserved : goal.loop-done-preserved
 loop-done-preserved g c = record {
-  within = grind (arith, c.in-Ok.ensures.bound, length-drop c.loop-done.done c.args.bytes.now);
+  within = grind (arith, c.in-Ok.ensures.fits, length-drop c.loop-done.done c.args.bytes.now);
   written = subst (Appends _ _) (sym (take_more c.loop-done.done c.in-Ok.count c.args.bytes.now))
       (Appends-trans _ _ _ _ _ c.loop-done.invariant.written c.in-Ok.ensures.bytes);
 }

@@ -20,10 +20,11 @@ fn is_option(word: &str) -> bool
     }
 }
 
-/// The command, where the words are taken: the program's name, `check`, and two names that don't begin with
-/// `-`.
+/// The command, where the words are taken: the program's name, `check`, and two names that don't
+/// begin with `-`.
 pub fn command_of(words: &[String]) -> Option<Command<'_>>
-    ensures { option_map (λ c. record { pipe = c.pipe.now; spec = c.spec.now }) result ≡ taken (texts_of words.now) }
+    ensures { option_map (λ c. record { pipe = c.pipe.now; spec = c.spec.now }) result
+        ≡ taken (texts_of words.now) }
 {
     let [_, command, pipe, spec] = words else {
         return None;

@@ -1,0 +1,21 @@
+//! Text in several pieces, put without taking memory.
+ghost use Rattle.std.specs.Prelude.{◌≤◌, OnOk, OnErr, flat_map};
+ghost use Rattle.bd_files.specs.Devices.{Appends, AppendsPrefix, Rose};
+
+use super::{PutError, Sink};
+
+/// Puts the pieces one after another. It stops at the first put that fails, so that what was
+/// written is a prefix of the whole.
+pub fn put_pieces<S: Sink>(sink: &mut S, pieces: &[&[u8]]) -> Result<(), PutError>
+    ensures appended { OnOk result (let whole = flat_map (λ p. p.now) pieces.now in
+        Appends (S.written sink.old) (S.written sink.new) whole) }
+    ensures prefix { OnErr result (let whole = flat_map (λ p. p.now) pieces.now in
+        AppendsPrefix (S.written sink.old) (S.written sink.new) whole) }
+    ensures never_falls { S.faults sink.old ≤ S.faults sink.new }
+    ensures failed_rose { OnErr result (Rose (S.faults sink.old) (S.faults sink.new)) }
+{
+    for piece in pieces {
+        sink.put(piece)?;
+    }
+    Ok(())
+}
