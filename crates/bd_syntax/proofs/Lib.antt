@@ -1,0 +1,4 @@
+pub mod Expressions
+pub mod Loop
+pub mod Numbers
+pub mod Views
