@@ -21,3 +21,4 @@ pub use form::{Form, Forms, Spot};
 pub use item::{Item, Items, Sort, Spots};
 pub use name::is_name;
 pub use operator::Operator;
+pub use read::{read_invariant, read_machine, read_start};

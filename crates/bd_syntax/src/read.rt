@@ -107,3 +107,38 @@ fn condition(alloc: Global, trees: &Trees, head: &[u8]) -> Result<InvAst, FormFa
         value,
     })
 }
+
+/// The items of a machine file.
+///
+/// The first fault from left to right refuses it, where a list's own shape is tested before its parts: `E04`
+/// without a tree (at 0), at a first tree that isn't a list with the head of this kind of file, and at a second
+/// tree; `E05` at a malformed form; `E06` at an atom that is no name where one must stand; `E11` at an atom that
+/// is no number in range; and `E14` at an item that doesn't belong to this kind of file.
+pub fn read_machine(alloc: Global, trees: &Trees, kind: Kind) -> Result<Ast, FormFault>
+    ensures exact { Gives ast_view result (machine_form kind (nodes_of trees.now)) }
+    ensures well_formed { IfOk result (λ ast. IsAst (ast_view ast)) }
+    ensures limited { AreWithinLimits (nodes_of trees.now) → IfOk result (λ ast. AreLimited (ast_view ast).items) }
+{
+    machine(alloc, trees, kind)
+}
+
+/// The lets and the expression of an invariant file. Its faults are those of a machine file, and `E05` at its
+/// tree where it has no expression.
+pub fn read_invariant(alloc: Global, trees: &Trees) -> Result<InvAst, FormFault>
+    ensures exact { Gives invariant_view result (invariant_form (codes "invariant") (nodes_of trees.now)) }
+    ensures well_formed { IfOk result (λ ast. IsInvAst (invariant_view ast)) }
+    ensures limited { AreWithinLimits (nodes_of trees.now)
+        → IfOk result (λ ast. IsLimitedInvAst (invariant_view ast)) }
+{
+    condition(alloc, trees, b"invariant")
+}
+
+/// The lets and the expression of a file of starts, which reads like an invariant with the head `start`.
+pub fn read_start(alloc: Global, trees: &Trees) -> Result<InvAst, FormFault>
+    ensures exact { Gives invariant_view result (invariant_form (codes "start") (nodes_of trees.now)) }
+    ensures well_formed { IfOk result (λ ast. IsInvAst (invariant_view ast)) }
+    ensures limited { AreWithinLimits (nodes_of trees.now)
+        → IfOk result (λ ast. IsLimitedInvAst (invariant_view ast)) }
+{
+    condition(alloc, trees, b"start")
+}
