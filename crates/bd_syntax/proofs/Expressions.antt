@@ -1,12 +1,12 @@
 -- An expression's parts are read one after the other.
-use Rattle.std.proofs.Common.{◌≡◌, ℕ, ◌+◌, ◌<◌, ◌≤◌, List, [], ◌∷◌, length, get_or, max, Result, Ok, Err, refl, sym, ap, ◌∙◌, arith}
-use Rattle.bd_text.specs.Nodes.{Node, atom, list, Nodes, no_nodes, node, node_count}
+use Rattle.std.proofs.Common.{◌≡◌, ℕ, ◌<◌, ◌≤◌, List, ◌∷◌, length, get_or, Result, Ok, Err, refl, ap, ◌∙◌, arith}
+use Rattle.bd_text.specs.Nodes.{list, Nodes, no_nodes, node, node_count}
 use Rattle.bd_text.specs.Written.{nesting, nesting_inside}
 use Rattle.bd_text.specs.View.{node_of, nodes_of_all}
 use Rattle.bd_text.specs.declared.tree.Tree.{Tree}
 use Rattle.bd_text.proofs.Views.{nesting-part}
 use Rattle.bd_syntax.specs.Words.{operator_of}
-use Rattle.bd_syntax.specs.Forms.{Expression, application, Expressions, no_expressions, expression, expressions_from}
+use Rattle.bd_syntax.specs.Forms.{Expression, application, Expressions, expression, expressions_from}
 use Rattle.bd_syntax.specs.Reading.{Fault, ◌>>=◌, each_form, first_form, others, operator_form, expression_form, argument_forms, expression_forms, Fails}
 use Rattle.bd_syntax.specs.declared.fault.FormFault.{FormFault}
 use Rattle.bd_syntax.specs.declared.fault.FormFault.TheVariants as faults

@@ -1,7 +1,7 @@
 -- What holds of the results of reading, step by step.
-use Rattle.std.proofs.Common.{◌≡◌, ℕ, Bool, true, false, cond, Result, Ok, Err, refl, ap}
-use Rattle.std.specs.Prelude.{IfOk, IfErr, not, ◌&&◌}
-use Rattle.bd_syntax.specs.Reading.{Fault, ◌>>=◌, Gives, Fails}
+use Rattle.std.proofs.Common.{◌≡◌, Bool, true, false, cond, Result, Ok, Err, refl}
+use Rattle.std.specs.Prelude.{IfOk, ◌&&◌}
+use Rattle.bd_syntax.specs.Reading.{Fault, ◌>>=◌, Gives}
 use Rattle.bd_syntax.specs.declared.fault.FormFault.{FormFault}
 
 -- of a step, where what holds of the first value leads to what holds of the second
@@ -33,7 +33,3 @@ pub split_and : (a b : Bool) → (a && b) ≡ true → (a ≡ true) × (b ≡ tr
 split_and true true e = (refl, refl)
 split_and true false e = absurd cc
 split_and false b e = absurd cc
-
-pub not_true : (a : Bool) → not a ≡ true → a ≡ false
-not_true true e = absurd cc
-not_true false e = refl

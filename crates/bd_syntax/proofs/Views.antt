@@ -4,7 +4,7 @@ use Rattle.bd_text.specs.Nodes.{node_count, Node, node, no_nodes, add_node, Node
 use Rattle.bd_text.specs.View.{node_of, nodes_of_all}
 use Rattle.bd_text.specs.declared.tree.Tree.{Tree}
 use Rattle.bd_text.proofs.Views.{node_count-nodes_of_all, nodes_of_all-push}
-use Rattle.bd_syntax.specs.Forms.{Expression, word, application, Expressions, expression, no_expressions, expression_count, expressions_from, expression_of, expressions_of, expressions_of_all}
+use Rattle.bd_syntax.specs.Forms.{Expression, word, application, expression_count, expressions_from, expression_of, expressions_of, expressions_of_all}
 use Rattle.bd_syntax.specs.Reading.{before_last, last_node}
 use Rattle.bd_syntax.specs.declared.form.Spot.{Spot}
 use Rattle.bd_syntax.specs.declared.form.Form.{Form}

@@ -1,16 +1,15 @@
 -- What is read is well formed, and within the limits of its trees.
-use Rattle.std.proofs.Common.{◌≡◌, ◌≢◌, ℕ, ◌+◌, ◌≤◌, max, Bool, true, false, cond, eqb, leb, List, [], ◌∷◌, length, Option, Some, None, Result, Ok, Err, refl, sym, ap, ◌∙◌, arith}
-use Rattle.std.specs.Prelude.{IfOk, IsTrue, ◌||◌, ◌&&◌, not, nat_eq, nat_le, codes}
-use Rattle.std.specs.List.{AllByRecursion, list_any}
-use lib.Pointwise.{pointwise}
+use Rattle.std.proofs.Common.{◌≡◌, ℕ, ◌≤◌, Bool, true, false, cond, List, [], ◌∷◌, length, Option, Some, None, Result, Ok, Err, refl, arith}
+use Rattle.std.specs.Prelude.{IfOk, IsTrue, ◌||◌, ◌&&◌, nat_le, codes}
+use Rattle.std.specs.List.{AllByRecursion}
 use Rattle.std.proofs.lemmas.Bool.{leb-true}
 use Rattle.std.proofs.lemmas.Result.{IfOk-weaker}
 use Rattle.bd_text.specs.Nodes.{Node, atom, list, Nodes, no_nodes, node, node_count}
 use Rattle.bd_text.specs.Written.{nesting, nesting_inside}
-use Rattle.bd_syntax.specs.Name.{IsName, is_name, spells_name, words}
+use Rattle.bd_syntax.specs.Name.{is_name}
 use Rattle.bd_syntax.specs.Words.{is_word, is_truth, head_of, head_takes, is_item_of, operator_of, operator_takes}
-use Rattle.bd_syntax.specs.Forms.{Expression, word, application, Expressions, no_expressions, expression, expression_count, ItemView, latch_item, memory_item, input_item, function_item, predicate_item, let_item, next_item, flush_item, steps_item, exact_item, distinct_item, AstView, InvView}
-use Rattle.bd_syntax.specs.Reading.{Fault, ◌>>=◌, refused, spot, atom_form, name_form, is_number, number_of, number_form, scalar_form, sort_form, first_form, others, each_form, operator_form, word_form, expression_form, argument_forms, expression_forms, latch_form, memory_form, input_form, function_form, predicate_form, let_form, next_form, flush_form, steps_form, exact_form, distinct_form, parts_form, head_form, item_form, headed_form, end_form, file_form, kind_word, kind_place, machine_form, before_last, last_node, value_form, invariant_form}
+use Rattle.bd_syntax.specs.Forms.{Expression, word, application, Expressions, expression, expression_count, ItemView, latch_item, memory_item, input_item, function_item, predicate_item, let_item, next_item, flush_item, steps_item, exact_item, distinct_item, AstView, InvView}
+use Rattle.bd_syntax.specs.Reading.{Fault, ◌>>=◌, spot, name_form, is_number, number_of, number_form, scalar_form, sort_form, first_form, others, each_form, operator_form, word_form, expression_form, argument_forms, expression_forms, latch_form, memory_form, input_form, function_form, predicate_form, let_form, next_form, flush_form, steps_form, exact_form, distinct_form, parts_form, head_form, item_form, headed_form, end_form, file_form, kind_word, kind_place, machine_form, before_last, last_node, value_form, invariant_form}
 use Rattle.bd_syntax.specs.WellFormed.{IsHead, IsExpression, AreExpressions, IsNamed, IsScalar, IsItem, IsAst, IsInvAst, IsShort, AreShort, AreWithinLimits, expression_nesting, nesting_of_all, HasFewParts, HaveFewParts, IsLimited, IsLimitedItem, AreLimited, IsLimitedInvAst}
 use Rattle.bd_syntax.specs.declared.form.Spot.{Spot}
 use Rattle.bd_syntax.specs.declared.head.Head.{Head}
@@ -18,25 +17,17 @@ use Rattle.bd_syntax.specs.declared.head.Head.TheVariants as heads
 use Rattle.bd_syntax.specs.declared.head.Place.{Place}
 use Rattle.bd_syntax.specs.declared.head.Place.TheVariants as places
 use Rattle.bd_syntax.specs.declared.operator.Operator.{Operator}
-use Rattle.bd_syntax.specs.declared.item.Sort.{Sort}
 use Rattle.bd_syntax.specs.declared.item.Sort.TheVariants as sorts
 use Rattle.bd_syntax.specs.declared.ast.Kind.{Kind}
-use Rattle.bd_text.specs.declared.code.Code.{Code}
 use Rattle.bd_text.specs.declared.code.Code.TheVariants.{WrongHead, Malformed, NotName, NotNumber, NotOfThisFile}
-use Rattle.bd_syntax.proofs.Holding.{holds_then, holds_if, holds_if_both, anything, split_and, not_true}
+use Rattle.bd_syntax.proofs.Names.{is_name-true}
+use Rattle.bd_syntax.proofs.Holding.{holds_then, holds_if, holds_if_both, anything, split_and}
 
 -- ---- atoms
 
-pub IsName-is_name : (text : List ℕ) → is_name text ≡ true → IsName text
-IsName-is_name text h =
-    let no_word = list_any (pointwise nat_eq text) words in
-    let p = split_and (spells_name text && nat_le (length text) 64) (not no_word) h in
-    let q = split_and (spells_name text) (nat_le (length text) 64) p.0 in
-    record { spelled = q.0; short = leb-true _ _ q.1; no_word = not_true no_word p.1 }
-
 name_holds : (t : Node) → IfOk (name_form t) IsNamed
 unfolding name_form
-name_holds (atom offset text) = holds_if IsNamed (is_name text) (spot offset text) (record { offset = offset; code = NotName }) (λ h. IsName-is_name text h)
+name_holds (atom offset text) = holds_if IsNamed (is_name text) (spot offset text) (record { offset = offset; code = NotName }) (λ h. is_name-true text h)
 name_holds (list offset parts) = tt
 
 number_holds : (most : ℕ) (t : Node) → IfOk (number_form most t) (λ n. n ≤ most)
@@ -81,7 +72,7 @@ operator_holds : (offset n : ℕ) (head : Spot) (operator : Option Operator) →
 operator_holds offset n head (Some operator) is =
     holds_if (λ h. IsHead h.text n (operator_of h.text)) (operator_takes operator n) head (record { offset = offset; code = Malformed }) (λ h. rw is h)
 operator_holds offset n head None is =
-    holds_if (λ h. IsHead h.text n (operator_of h.text)) (is_name head.text) head (record { offset = head.offset; code = NotName }) (λ h. rw is (IsName-is_name head.text h))
+    holds_if (λ h. IsHead h.text n (operator_of h.text)) (is_name head.text) head (record { offset = head.offset; code = NotName }) (λ h. rw is (is_name-true head.text h))
 
 nesting_inside-others : (ts : Nodes) → nesting_inside (others ts) ≤ nesting_inside ts
 nesting_inside-others no_nodes = omega arith
@@ -257,8 +248,8 @@ unfolding distinct_form
 distinct_holds place offset ts fits two =
     holds_then (AllRead (λ _. IsNamed) ts) (IsRead place ts) (each_form name_form ts) (λ names. Ok (distinct_item offset names)) (each_holds (λ _. IsNamed) name_form name_holds ts)
     (λ names all.
-        let count = length-AllRead (λ _. IsNamed) ts names all in
-        ((fits, omega arith, All-AllRead (λ _. IsNamed) IsNamed (λ _ _ named. named) ts names all), λ within. omega (arith, within.count)))
+    let count = length-AllRead (λ _. IsNamed) ts names all in
+    ((fits, omega arith, All-AllRead (λ _. IsNamed) IsNamed (λ _ _ named. named) ts names all), λ within. omega (arith, within.count)))
 
 parts_hold : (place : Place) (offset : ℕ) (head : Head) (ts : Nodes) → IsTrue (is_item_of place head) → IsTrue (head_takes head (node_count ts)) → IfOk (parts_form offset head ts) (IsRead place ts)
 parts_hold place offset heads.Latch (node t (node u no_nodes)) fits takes = latch_holds place offset t u (node t (node u no_nodes)) fits
@@ -292,8 +283,8 @@ item_holds place (list offset parts) =
     holds_then (λ _. Unit {0}) Q (first_form offset parts) (λ first. head_form place offset (node_count (others parts)) (head_of first.text) >>= λ head. parts_form offset head (others parts)) (anything (first_form offset parts))
     (λ first _. holds_then P Q (head_form place offset (node_count (others parts)) (head_of first.text)) (λ head. parts_form offset head (others parts)) (head_holds place offset (node_count (others parts)) (head_of first.text))
     (λ head takes. IfOk-weaker (parts_form offset head (others parts)) (IsRead place (others parts)) Q
-        (λ item read. (read.0, λ deep short. read.1 (AreWithin-others parts (AreWithin-inside offset parts deep short))))
-        (parts_hold place offset head (others parts) takes.1 takes.0)))
+    (λ item read. (read.0, λ deep short. read.1 (AreWithin-others parts (AreWithin-inside offset parts deep short))))
+    (parts_hold place offset head (others parts) takes.1 takes.0)))
 
 limited_items : (place : Place) (ts : Nodes) (items : List ItemView) → nesting_inside ts ≤ 200 → AreShort 1048576 ts → AllRead (IsReadFrom place) ts items → AllByRecursion IsLimitedItem items
 limited_items place no_nodes [] deep short h = tt
@@ -307,10 +298,13 @@ AreItems place ts items = AllByRecursion (IsItem place) items × (AreWithin ts �
 
 items_hold : (place : Place) (ts : Nodes) → IfOk (each_form (item_form place) ts) (AreItems place ts)
 items_hold place ts = IfOk-weaker (each_form (item_form place) ts) (AllRead (IsReadFrom place) ts) (AreItems place ts)
-    (λ items all. (All-AllRead (IsReadFrom place) (IsItem place) (λ t item read. read.0) ts items all, λ within. record {
-      count = omega (arith, within.count, length-AllRead (IsReadFrom place) ts items all);
-      each = limited_items place ts items within.nesting within.short all;
-    }))
+    (λ items all. (
+      All-AllRead (IsReadFrom place) (IsItem place) (λ t item read. read.0) ts items all,
+      λ within. record {
+        count = omega (arith, within.count, length-AllRead (IsReadFrom place) ts items all);
+        each = limited_items place ts items within.nesting within.short all;
+      },
+    ))
     (each_holds (IsReadFrom place) (item_form place) (item_holds place) ts)
 
 -- ---- files

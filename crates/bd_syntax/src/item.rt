@@ -27,7 +27,10 @@ pub enum Item {
         sort: Sort,
     },
     /// `(memory NAME)`.
-    Memory { offset: usize, name: Spot },
+    Memory {
+        offset: usize,
+        name: Spot,
+    },
     /// `(input NAME SORT EXPR)`, of sort word or bool, with its value in flush cycles.
     Input {
         offset: usize,
@@ -61,9 +64,15 @@ pub enum Item {
         value: Form,
     },
     /// `(flush N)`, from 0 to 64.
-    Flush { offset: usize, count: u32 },
+    Flush {
+        offset: usize,
+        count: u32,
+    },
     /// `(steps N)`, from 0 to 8.
-    Steps { offset: usize, count: u32 },
+    Steps {
+        offset: usize,
+        count: u32,
+    },
     /// `(exact N EXPR)`: so many steps, from 0 to 8, where the expression is true.
     Exact {
         offset: usize,
@@ -71,7 +80,10 @@ pub enum Item {
         when: Form,
     },
     /// `(distinct NAME NAME ..)`, of two or more names.
-    Distinct { offset: usize, names: Spots },
+    Distinct {
+        offset: usize,
+        names: Spots,
+    },
 }
 
 /// Items, in the order of the file.

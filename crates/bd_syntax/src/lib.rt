@@ -1,4 +1,9 @@
 //! The forms of machine and invariant files: from trees to items and expressions, or the first fault.
+//!
+//! Forms are looked at from left to right, and a list's own shape before its parts, so the first fault is met
+//! first. What a file reads as is a function of its trees (`specs/Reading.antt`), and each reader gives what
+//! that function gives. Expressions are read by recursion, as deep as the file nests, and lists by loops. A
+//! word is copied once, into the form, and trees not at all. Names and sorts are not looked at here.
 #![tactic(auto)]
 
 mod ast;
@@ -8,6 +13,7 @@ mod fault;
 mod form;
 mod head;
 mod item;
+pub mod laws;
 mod lists;
 mod name;
 mod number;
@@ -22,3 +28,6 @@ pub use item::{Item, Items, Sort, Spots};
 pub use name::is_name;
 pub use operator::Operator;
 pub use read::{read_invariant, read_machine, read_start};
+
+#[cfg(test)]
+mod tests;

@@ -1,8 +1,8 @@
 //! Names.
-ghost use Rattle.std.specs.Prelude.{◌≡◌, nat_eq};
+ghost use Rattle.std.specs.Prelude.{◌≡◌, ◌↔◌, IsTrue, nat_eq};
 ghost use Rattle.std.specs.List.{list_all, list_any};
 ghost use lib.Pointwise.{pointwise};
-ghost use Rattle.bd_syntax.specs.Name.{begins_name, continues_name, is_name, spells_name};
+ghost use Rattle.bd_syntax.specs.Name.{IsName, begins_name, continues_name, is_name, spells_name};
 
 /// The longest name, in bytes.
 const MAX_NAME: usize = 64;
@@ -51,7 +51,8 @@ fn spells(text: &[u8]) -> bool
 /// Whether the bytes are a name: a letter or `_`, then letters, digits, `_`, `.` and `-`, at most 64 bytes,
 /// and no word of expressions.
 pub fn is_name(text: &[u8]) -> bool
-    ensures { result ≡ is_name text.now }
+    ensures test { result ≡ is_name text.now }
+    ensures name { IsTrue result ↔ IsName text.now }
 {
     spells(text) && text.len() <= MAX_NAME && !is_among(text, &RESERVED)
 }

@@ -44,7 +44,7 @@ pub fn number_within(text: &[u8], most: u32) -> Option<u32>
     requires { most ≤ 64 }
     ensures { result
         ≡ (if is_number text.now && nat_le (number_of text.now) most
-            then Some (number_of text.now) else None) }
+        then Some (number_of text.now) else None) }
 {
     if is_decimal(text) {
         value_within(text, most)

@@ -51,7 +51,10 @@ impl Operator {
     pub fn from_text(text: &[u8]) -> Option<Operator>
         ensures { result ≡ operator_of text.now }
     {
-        OPERATORS.iter().copied().find(|operator| text == operator.word())
+        OPERATORS
+            .iter()
+            .copied()
+            .find(|operator| text == operator.word())
     }
 
     /// Whether it may have so many parts.

@@ -8,18 +8,19 @@ ghost use Rattle.bd_syntax.specs.Forms.{item_view};
 ghost use Rattle.bd_syntax.specs.Reading.{Gives, each_form, head_form, item_form, name_form, parts_form};
 ghost use Rattle.bd_syntax.specs.Words.{head_of, head_takes};
 
-use crate::atoms;
 use crate::expression::expression;
 use crate::fault::bad;
 use crate::head::{Head, Place};
 use crate::lists::{one, open, three, two};
-use crate::{FormFault, Item, Items, Spots};
+use crate::{FormFault, Item, Items, Spots, atoms};
 use bd_text::{Code, Tree, Trees};
 use std::alloc::Global;
 
 /// The most words that a function or predicate takes, and the most steps.
 const MAX_ARITY: u32 = 8;
+
 const MAX_STEPS: u32 = 8;
+
 const MAX_FLUSH: u32 = 64;
 
 /// `(latch NAME SORT)`

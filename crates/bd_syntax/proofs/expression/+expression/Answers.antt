@@ -1,13 +1,12 @@
-use Rattle.std.proofs.Common.{◌≡◌, ◌∷◌, [], ◌++◌, ◌+◌, ◌<◌, ◌≤◌, map, Ok, sym, ap, ◌∙◌, arith}
+use Rattle.std.proofs.Common.{◌≡◌, ◌∷◌, [], ◌++◌, ◌+◌, ◌≤◌, map, ap, ◌∙◌, arith}
 use Rattle.std.proofs.lemmas.List.{map_push}
 use Rattle.std.proofs.lemmas.Result.{err_from_is_err_and}
 use Rattle.bd_text.specs.Nodes.{list}
 use Rattle.bd_text.specs.Written.{nesting, nesting_inside}
 use Rattle.bd_text.specs.View.{node_of, nodes_of, nodes_of_all}
 use Rattle.bd_text.proofs.Views.{node_of-List}
-use Rattle.bd_syntax.specs.Forms.{application, expression_of, expressions_of}
+use Rattle.bd_syntax.specs.Forms.{expression_of}
 use Rattle.bd_syntax.specs.Reading.{each_form, expression_form, spot}
-use Rattle.bd_syntax.specs.declared.form.Form.TheVariants.{List as ListOf}
 use Rattle.bd_syntax.proofs.Views.{expression_of-List}
 use Rattle.bd_syntax.proofs.Expressions.{arguments_fail, arguments_done, nesting-argument}
 use Rattle.bd_syntax.proofs.Loop.{goes_on, ends, is_done}
