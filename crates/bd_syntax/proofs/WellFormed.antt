@@ -178,12 +178,12 @@ unfolding latch_form
 latch_holds place offset t u ts fits =
     holds_then IsNamed (IsRead place ts) (name_form t) (λ name. scalar_form u >>= λ sort. Ok (latch_item offset name sort)) (name_holds t)
     (λ name named. holds_then IsScalar (IsRead place ts) (scalar_form u) (λ sort. Ok (latch_item offset name sort)) (scalar_holds u)
-    (λ sort scalar. ((fits, named, scalar), λ within. tt)))
+    (λ sort scalar. (record { fits = fits; parts = (named, scalar) }, λ within. tt)))
 
 memory_holds : (place : Place) (offset : ℕ) (t : Node) (ts : Nodes) → IsTrue (is_item_of place heads.Memory) → IfOk (memory_form offset t) (IsRead place ts)
 unfolding memory_form
 memory_holds place offset t ts fits =
-    holds_then IsNamed (IsRead place ts) (name_form t) (λ name. Ok (memory_item offset name)) (name_holds t) (λ name named. ((fits, named), λ within. tt))
+    holds_then IsNamed (IsRead place ts) (name_form t) (λ name. Ok (memory_item offset name)) (name_holds t) (λ name named. (record { fits = fits; parts = named }, λ within. tt))
 
 input_holds : (place : Place) (offset : ℕ) (t u v : Node) → IsTrue (is_item_of place heads.Input) → IfOk (input_form offset t u v) (IsRead place (node t (node u (node v no_nodes))))
 unfolding input_form
@@ -192,21 +192,21 @@ input_holds place offset t u v fits =
     holds_then IsNamed Q (name_form t) (λ name. scalar_form u >>= λ sort. expression_form v >>= λ idle. Ok (input_item offset name sort idle)) (name_holds t)
     (λ name named. holds_then IsScalar Q (scalar_form u) (λ sort. expression_form v >>= λ idle. Ok (input_item offset name sort idle)) (scalar_holds u)
     (λ sort scalar. holds_then (Keeps v) Q (expression_form v) (λ idle. Ok (input_item offset name sort idle)) (expression_holds v)
-    (λ idle keeps. ((fits, named, scalar, keeps.formed), λ within. IsLimited-kept v idle keeps (omega (arith, within.nesting)) within.short.1.1.0))))
+    (λ idle keeps. (record { fits = fits; parts = (named, scalar, keeps.formed) }, λ within. IsLimited-kept v idle keeps (omega (arith, within.nesting)) within.short.1.1.0))))
 
 function_holds : (place : Place) (offset : ℕ) (t u : Node) (ts : Nodes) → IsTrue (is_item_of place heads.Function) → IfOk (function_form offset t u) (IsRead place ts)
 unfolding function_form
 function_holds place offset t u ts fits =
     holds_then IsNamed (IsRead place ts) (name_form t) (λ name. number_form 8 u >>= λ arity. Ok (function_item offset name arity)) (name_holds t)
     (λ name named. holds_then (λ n. n ≤ 8) (IsRead place ts) (number_form 8 u) (λ arity. Ok (function_item offset name arity)) (number_holds 8 u)
-    (λ arity small. ((fits, named, small), λ within. tt)))
+    (λ arity small. (record { fits = fits; parts = (named, small) }, λ within. tt)))
 
 predicate_holds : (place : Place) (offset : ℕ) (t u : Node) (ts : Nodes) → IsTrue (is_item_of place heads.Predicate) → IfOk (predicate_form offset t u) (IsRead place ts)
 unfolding predicate_form
 predicate_holds place offset t u ts fits =
     holds_then IsNamed (IsRead place ts) (name_form t) (λ name. number_form 8 u >>= λ arity. Ok (predicate_item offset name arity)) (name_holds t)
     (λ name named. holds_then (λ n. n ≤ 8) (IsRead place ts) (number_form 8 u) (λ arity. Ok (predicate_item offset name arity)) (number_holds 8 u)
-    (λ arity small. ((fits, named, small), λ within. tt)))
+    (λ arity small. (record { fits = fits; parts = (named, small) }, λ within. tt)))
 
 let_holds : (place : Place) (offset : ℕ) (t u v : Node) → IsTrue (is_item_of place heads.Let) → IfOk (let_form offset t u v) (IsRead place (node t (node u (node v no_nodes))))
 unfolding let_form
@@ -215,7 +215,7 @@ let_holds place offset t u v fits =
     holds_then IsNamed Q (name_form t) (λ name. sort_form u >>= λ sort. expression_form v >>= λ value. Ok (let_item offset name sort value)) (name_holds t)
     (λ name named. holds_then (λ _. Unit {0}) Q (sort_form u) (λ sort. expression_form v >>= λ value. Ok (let_item offset name sort value)) (sort_holds u)
     (λ sort _. holds_then (Keeps v) Q (expression_form v) (λ value. Ok (let_item offset name sort value)) (expression_holds v)
-    (λ value keeps. ((fits, named, keeps.formed), λ within. IsLimited-kept v value keeps (omega (arith, within.nesting)) within.short.1.1.0))))
+    (λ value keeps. (record { fits = fits; parts = (named, keeps.formed) }, λ within. IsLimited-kept v value keeps (omega (arith, within.nesting)) within.short.1.1.0))))
 
 next_holds : (place : Place) (offset : ℕ) (t u : Node) → IsTrue (is_item_of place heads.Next) → IfOk (next_form offset t u) (IsRead place (node t (node u no_nodes)))
 unfolding next_form
@@ -223,17 +223,17 @@ next_holds place offset t u fits =
     let Q = IsRead place (node t (node u no_nodes)) in
     holds_then IsNamed Q (name_form t) (λ name. expression_form u >>= λ value. Ok (next_item offset name value)) (name_holds t)
     (λ name named. holds_then (Keeps u) Q (expression_form u) (λ value. Ok (next_item offset name value)) (expression_holds u)
-    (λ value keeps. ((fits, named, keeps.formed), λ within. IsLimited-kept u value keeps (omega (arith, within.nesting)) within.short.1.0)))
+    (λ value keeps. (record { fits = fits; parts = (named, keeps.formed) }, λ within. IsLimited-kept u value keeps (omega (arith, within.nesting)) within.short.1.0)))
 
 flush_holds : (place : Place) (offset : ℕ) (t : Node) (ts : Nodes) → IsTrue (is_item_of place heads.Flush) → IfOk (flush_form offset t) (IsRead place ts)
 unfolding flush_form
 flush_holds place offset t ts fits =
-    holds_then (λ n. n ≤ 64) (IsRead place ts) (number_form 64 t) (λ count. Ok (flush_item offset count)) (number_holds 64 t) (λ count small. ((fits, small), λ within. tt))
+    holds_then (λ n. n ≤ 64) (IsRead place ts) (number_form 64 t) (λ count. Ok (flush_item offset count)) (number_holds 64 t) (λ count small. (record { fits = fits; parts = small }, λ within. tt))
 
 steps_holds : (place : Place) (offset : ℕ) (t : Node) (ts : Nodes) → IsTrue (is_item_of place heads.Steps) → IfOk (steps_form offset t) (IsRead place ts)
 unfolding steps_form
 steps_holds place offset t ts fits =
-    holds_then (λ n. n ≤ 8) (IsRead place ts) (number_form 8 t) (λ count. Ok (steps_item offset count)) (number_holds 8 t) (λ count small. ((fits, small), λ within. tt))
+    holds_then (λ n. n ≤ 8) (IsRead place ts) (number_form 8 t) (λ count. Ok (steps_item offset count)) (number_holds 8 t) (λ count small. (record { fits = fits; parts = small }, λ within. tt))
 
 exact_holds : (place : Place) (offset : ℕ) (t u : Node) → IsTrue (is_item_of place heads.Exact) → IfOk (exact_form offset t u) (IsRead place (node t (node u no_nodes)))
 unfolding exact_form
@@ -241,7 +241,7 @@ exact_holds place offset t u fits =
     let Q = IsRead place (node t (node u no_nodes)) in
     holds_then (λ n. n ≤ 8) Q (number_form 8 t) (λ count. expression_form u >>= λ when. Ok (exact_item offset count when)) (number_holds 8 t)
     (λ count small. holds_then (Keeps u) Q (expression_form u) (λ when. Ok (exact_item offset count when)) (expression_holds u)
-    (λ when keeps. ((fits, small, keeps.formed), λ within. IsLimited-kept u when keeps (omega (arith, within.nesting)) within.short.1.0)))
+    (λ when keeps. (record { fits = fits; parts = (small, keeps.formed) }, λ within. IsLimited-kept u when keeps (omega (arith, within.nesting)) within.short.1.0)))
 
 distinct_holds : (place : Place) (offset : ℕ) (ts : Nodes) → IsTrue (is_item_of place heads.Distinct) → 2 ≤ node_count ts → IfOk (distinct_form offset ts) (IsRead place ts)
 unfolding distinct_form
@@ -249,7 +249,7 @@ distinct_holds place offset ts fits two =
     holds_then (AllRead (λ _. IsNamed) ts) (IsRead place ts) (each_form name_form ts) (λ names. Ok (distinct_item offset names)) (each_holds (λ _. IsNamed) name_form name_holds ts)
     (λ names all.
     let count = length-AllRead (λ _. IsNamed) ts names all in
-    ((fits, omega arith, All-AllRead (λ _. IsNamed) IsNamed (λ _ _ named. named) ts names all), λ within. omega (arith, within.count)))
+    (record { fits = fits; parts = (omega arith, All-AllRead (λ _. IsNamed) IsNamed (λ _ _ named. named) ts names all) }, λ within. omega (arith, within.count)))
 
 parts_hold : (place : Place) (offset : ℕ) (head : Head) (ts : Nodes) → IsTrue (is_item_of place head) → IsTrue (head_takes head (node_count ts)) → IfOk (parts_form offset head ts) (IsRead place ts)
 parts_hold place offset heads.Latch (node t (node u no_nodes)) fits takes = latch_holds place offset t u (node t (node u no_nodes)) fits

@@ -33,5 +33,7 @@ pub record IsName (name : List ℕ) : Type 0 where
   pub short : length name ≤ 64
   pub no_word : list_any (pointwise nat_eq name) words ≡ false
 
+-- the test of it
 abbrev pub is_name : List ℕ → Bool
-is_name name = (spells_name name && nat_le (length name) 64) && not (list_any (pointwise nat_eq name) words)
+is_name name =
+    (spells_name name && nat_le (length name) 64) && not (list_any (pointwise nat_eq name) words)

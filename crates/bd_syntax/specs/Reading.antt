@@ -1,5 +1,5 @@
--- The form of a file, or its first fault. Forms are looked at from left to right, and a list's own shape before its
--- parts. The language and its codes are this project's own.
+-- The form of a file, or its first fault. Forms are looked at from left to right, and a list's own shape
+-- before its parts. The language and its codes are this project's own.
 use Rattle.std.specs.Prelude.{◌≡◌, ℕ, ◌+◌, ◌-◌, ◌*◌, Bool, false, ◌&&◌, ◌||◌, ◌==◌, not, List, [], ◌∷◌, length, Option, Some, None, Result, Ok, Err, codes, fold, nat_le, if◌then◌else◌}
 use Rattle.std.specs.List.{list_all}
 use Rattle.bd_text.specs.Nodes.{Node, atom, list, Nodes, no_nodes, node, node_count}
@@ -72,13 +72,15 @@ number_of digits = fold (λ n b. 10 * n + (b - 48)) 0 digits
 unfoldable pub number_form : ℕ → Node → Result ℕ Fault
 number_form most t = do
   digits ← atom_form t
-  if is_number digits.text && nat_le (number_of digits.text) most then Ok (number_of digits.text) else refused digits.offset NotNumber
+  if is_number digits.text && nat_le (number_of digits.text) most
+    then Ok (number_of digits.text) else refused digits.offset NotNumber
 
 -- the sort of a latch or an input
 unfoldable pub scalar_form : Node → Result Sort Fault
 scalar_form t = do
   sort ← atom_form t
-  if is_word sort.text (codes "word") then Ok sorts.Word else (if is_word sort.text (codes "bool") then Ok sorts.Bool else refused sort.offset Malformed)
+  if is_word sort.text (codes "word") then Ok sorts.Word
+    else (if is_word sort.text (codes "bool") then Ok sorts.Bool else refused sort.offset Malformed)
 
 -- the sort of a let
 unfoldable pub sort_form : Node → Result Sort Fault
@@ -111,12 +113,15 @@ each_form form (node t ts) = do
 
 -- an operator with as many parts as it takes, or a name with any number
 abbrev pub operator_form : ℕ → Spot → ℕ → Option Operator → Result Spot Fault
-operator_form offset head parts (Some operator) = if operator_takes operator parts then Ok head else refused offset Malformed
-operator_form offset head parts None = if is_name head.text then Ok head else refused head.offset NotName
+operator_form offset head parts (Some operator) =
+    if operator_takes operator parts then Ok head else refused offset Malformed
+operator_form offset head parts None =
+    if is_name head.text then Ok head else refused head.offset NotName
 
 -- a name, true or false
 unfoldable pub word_form : ℕ → List ℕ → Result Expression Fault
-word_form offset text = if is_name text || is_truth text then Ok (word (spot offset text)) else refused offset NotName
+word_form offset text =
+    if is_name text || is_truth text then Ok (word (spot offset text)) else refused offset NotName
 
 abbrev mutual
   pub expression_form : Node → Result Expression Fault
@@ -224,7 +229,9 @@ parts_form offset _ _ = refused offset Malformed
 abbrev pub head_form : Place → ℕ → ℕ → Option Head → Result Head Fault
 head_form place offset parts None = refused offset Malformed
 head_form place offset parts (Some head) =
-    if head_takes head parts then (if is_item_of place head then Ok head else refused offset NotOfThisFile) else refused offset Malformed
+    if head_takes head parts
+      then (if is_item_of place head then Ok head else refused offset NotOfThisFile)
+      else refused offset Malformed
 
 unfoldable pub item_form : Place → Node → Result ItemView Fault
 item_form place (atom offset text) = refused offset Malformed
@@ -237,7 +244,8 @@ item_form place (list offset parts) = do
 
 -- the offset of a list and the parts behind its first, which must be this word
 abbrev pub headed_form : List ℕ → Node → Result (ℕ × Nodes) Fault
-headed_form head (list offset (node (atom at text) ts)) = if is_word text head then Ok (offset, ts) else refused offset WrongHead
+headed_form head (list offset (node (atom at text) ts)) =
+    if is_word text head then Ok (offset, ts) else refused offset WrongHead
 headed_form head (list offset _) = refused offset WrongHead
 headed_form head (atom offset text) = refused offset WrongHead
 

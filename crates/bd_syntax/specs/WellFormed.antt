@@ -8,6 +8,7 @@ use Rattle.bd_syntax.specs.Words.{is_truth, is_item_of, operator_of, operator_ta
 use Rattle.bd_syntax.specs.Forms.{Expression, word, application, Expressions, no_expressions, expression, expression_count, ItemView, latch_item, memory_item, input_item, function_item, predicate_item, let_item, next_item, flush_item, steps_item, exact_item, distinct_item, AstView, InvView}
 use Rattle.bd_syntax.specs.Reading.{kind_place}
 use Rattle.bd_syntax.specs.declared.form.Spot.{Spot}
+use Rattle.bd_syntax.specs.declared.head.Head.{Head}
 use Rattle.bd_syntax.specs.declared.head.Head.TheVariants as heads
 use Rattle.bd_syntax.specs.declared.head.Place.{Place}
 use Rattle.bd_syntax.specs.declared.head.Place.TheVariants as places
@@ -24,7 +25,8 @@ abbrev mutual
   -- words are names, true or false, and operators have as many parts as they take
   pub IsExpression : Expression → Type 0
   IsExpression (word w) = IsTrue (is_name w.text || is_truth w.text)
-  IsExpression (application offset head parts) = IsHead head.text (expression_count parts) (operator_of head.text) × AreExpressions parts
+  IsExpression (application offset head parts) =
+      IsHead head.text (expression_count parts) (operator_of head.text) × AreExpressions parts
 
   pub AreExpressions : Expressions → Type 0
   AreExpressions no_expressions = Unit {0}
@@ -36,19 +38,38 @@ IsNamed name = IsName name.text
 abbrev pub IsScalar : Sort → Type 0
 IsScalar sort = sort ≢ sorts.Memory
 
--- an item of that place, whose names, numbers and expressions are such
-abbrev pub IsItem : Place → ItemView → Type 0
-IsItem place (latch_item offset name sort) = IsTrue (is_item_of place heads.Latch) × IsNamed name × IsScalar sort
-IsItem place (memory_item offset name) = IsTrue (is_item_of place heads.Memory) × IsNamed name
-IsItem place (input_item offset name sort idle) = IsTrue (is_item_of place heads.Input) × IsNamed name × IsScalar sort × IsExpression idle
-IsItem place (function_item offset name arity) = IsTrue (is_item_of place heads.Function) × IsNamed name × (arity ≤ 8)
-IsItem place (predicate_item offset name arity) = IsTrue (is_item_of place heads.Predicate) × IsNamed name × (arity ≤ 8)
-IsItem place (let_item offset name sort value) = IsTrue (is_item_of place heads.Let) × IsNamed name × IsExpression value
-IsItem place (next_item offset name value) = IsTrue (is_item_of place heads.Next) × IsNamed name × IsExpression value
-IsItem place (flush_item offset count) = IsTrue (is_item_of place heads.Flush) × (count ≤ 64)
-IsItem place (steps_item offset count) = IsTrue (is_item_of place heads.Steps) × (count ≤ 8)
-IsItem place (exact_item offset count when) = IsTrue (is_item_of place heads.Exact) × (count ≤ 8) × IsExpression when
-IsItem place (distinct_item offset names) = IsTrue (is_item_of place heads.Distinct) × (2 ≤ length names) × AllByRecursion IsNamed names
+-- the first word of an item
+abbrev pub item_head : ItemView → Head
+item_head (latch_item offset name sort) = heads.Latch
+item_head (memory_item offset name) = heads.Memory
+item_head (input_item offset name sort idle) = heads.Input
+item_head (function_item offset name arity) = heads.Function
+item_head (predicate_item offset name arity) = heads.Predicate
+item_head (let_item offset name sort value) = heads.Let
+item_head (next_item offset name value) = heads.Next
+item_head (flush_item offset count) = heads.Flush
+item_head (steps_item offset count) = heads.Steps
+item_head (exact_item offset count when) = heads.Exact
+item_head (distinct_item offset names) = heads.Distinct
+
+-- names are names, numbers are in their ranges, and expressions have no fault of form
+abbrev pub HasParts : ItemView → Type 0
+HasParts (latch_item offset name sort) = IsNamed name × IsScalar sort
+HasParts (memory_item offset name) = IsNamed name
+HasParts (input_item offset name sort idle) = IsNamed name × IsScalar sort × IsExpression idle
+HasParts (function_item offset name arity) = IsNamed name × (arity ≤ 8)
+HasParts (predicate_item offset name arity) = IsNamed name × (arity ≤ 8)
+HasParts (let_item offset name sort value) = IsNamed name × IsExpression value
+HasParts (next_item offset name value) = IsNamed name × IsExpression value
+HasParts (flush_item offset count) = count ≤ 64
+HasParts (steps_item offset count) = count ≤ 8
+HasParts (exact_item offset count when) = (count ≤ 8) × IsExpression when
+HasParts (distinct_item offset names) = (2 ≤ length names) × AllByRecursion IsNamed names
+
+-- an item that may stand in that place
+pub record IsItem (place : Place) (item : ItemView) : Type 0 where
+  pub fits : IsTrue (is_item_of place (item_head item))
+  pub parts : HasParts item
 
 -- a machine file without a fault of form
 abbrev pub IsAst : AstView → Type 0
@@ -71,7 +92,8 @@ abbrev mutual
   AreShort most no_nodes = Unit {0}
   AreShort most (node t ts) = IsShort most t × AreShort most ts
 
--- trees as a text of at most 1,048,576 bytes has them: at most 200 lists are open at once, and none is longer
+-- trees as a text of at most 1,048,576 bytes has them: at most 200 lists are open at once, and none is
+-- longer than the text may be
 abbrev pub AreWithinLimits : Nodes → Type 0
 AreWithinLimits trees = (nesting_inside trees ≤ 200) × AreShort 1048576 trees
 
@@ -89,7 +111,8 @@ abbrev mutual
 abbrev mutual
   pub HasFewParts : ℕ → Expression → Type 0
   HasFewParts most (word w) = Unit {0}
-  HasFewParts most (application offset head parts) = (expression_count parts ≤ most) × HaveFewParts most parts
+  HasFewParts most (application offset head parts) =
+      (expression_count parts ≤ most) × HaveFewParts most parts
 
   pub HaveFewParts : ℕ → Expressions → Type 0
   HaveFewParts most no_expressions = Unit {0}

@@ -27,14 +27,16 @@ head_word Distinct = codes "distinct"
 
 abbrev pub heads : List Head
 heads =
-    Latch ∷ Memory ∷ Input ∷ Function ∷ Predicate ∷ Let ∷ Next ∷ Flush ∷ Steps ∷ Exact ∷ Distinct ∷ []
+    Latch ∷ Memory ∷ Input ∷ Function ∷ Predicate ∷ Let ∷ Next ∷ Flush ∷ Steps ∷ Exact
+    ∷ Distinct ∷ []
 
 -- the head that a text is
 unfoldable pub head_of : List ℕ → Option Head
 head_of text = find (λ head. is_word text (head_word head)) heads
 
--- (latch NAME SORT), (memory NAME), (input NAME SORT EXPR), (function NAME N), (predicate NAME N),
--- (let NAME SORT EXPR), (next NAME EXPR), (flush N), (steps N), (exact N EXPR), (distinct NAME NAME ..)
+-- how many parts stand behind it: (latch NAME SORT), (memory NAME), (input NAME SORT EXPR),
+-- (function NAME N), (predicate NAME N), (let NAME SORT EXPR), (next NAME EXPR), (flush N), (steps N),
+-- (exact N EXPR), (distinct NAME NAME ..)
 abbrev pub head_takes : Head → ℕ → Bool
 head_takes Latch parts = parts == 2
 head_takes Memory parts = parts == 1
@@ -77,7 +79,8 @@ operators = Not ∷ And ∷ Or ∷ Implies ∷ Iff ∷ Equal ∷ Ite ∷ Read �
 unfoldable pub operator_of : List ℕ → Option Operator
 operator_of text = find (λ operator. is_word text (operator_word operator)) operators
 
--- (not P), (and P P ..), (or P P ..), (implies P Q), (iff P Q), (= A B), (ite P X Y), (read M A), (write M A D)
+-- how many parts it takes: (not P), (and P P ..), (or P P ..), (implies P Q), (iff P Q), (= A B),
+-- (ite P X Y), (read M A), (write M A D)
 abbrev pub operator_takes : Operator → ℕ → Bool
 operator_takes Not parts = parts == 1
 operator_takes And parts = nat_le 2 parts

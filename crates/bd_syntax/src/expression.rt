@@ -33,7 +33,8 @@ fn word(alloc: Global, offset: usize, text: &[u8]) -> Result<Form, FormFault>
 
 /// Tests the word that a list begins with: an operator with as many parts as it takes, or a name.
 fn test_head(offset: usize, at: usize, word: &[u8], parts: usize) -> Result<(), FormFault>
-    ensures { Gives (λ _. spot_of at word.now) result (operator_form offset (spot_of at word.now) parts (operator_of word.now)) }
+    ensures { Gives (λ _. spot_of at word.now) result
+        (operator_form offset (spot_of at word.now) parts (operator_of word.now)) }
 {
     match Operator::from_text(word) {
         Some(operator) if operator.takes(parts) => Ok(()),

@@ -20,9 +20,12 @@ pub struct Opened<'a> {
 /// Opens the list that stands at an offset.
 #[tactic(auto, using(crate::proofs::Views::node_counts))]
 pub fn open(offset: usize, parts: &Trees) -> Result<Opened<'_>, FormFault>
-    ensures first { Gives (λ list. spot list.at list.word.now) result (first_form offset (nodes_of parts.now)) }
-    ensures parts { IfOk result (λ list. others (nodes_of parts.now) ≡ nodes_of_all list.parts.now) }
-    ensures count { IfOk result (λ list. node_count (others (nodes_of parts.now)) ≡ length list.parts.now) }
+    ensures first { Gives (λ list. spot list.at list.word.now) result
+        (first_form offset (nodes_of parts.now)) }
+    ensures parts { IfOk result (λ list.
+        others (nodes_of parts.now) ≡ nodes_of_all list.parts.now) }
+    ensures count { IfOk result (λ list.
+        node_count (others (nodes_of parts.now)) ≡ length list.parts.now) }
 {
     let Some((first, parts)) = parts.as_slice().split_first() else {
         return Err(bad(offset, Code::Malformed));
@@ -37,6 +40,7 @@ pub fn open(offset: usize, parts: &Trees) -> Result<Opened<'_>, FormFault>
     }
 }
 
+/// The part of a list that has one.
 pub fn one(parts: &[Tree]) -> &Tree
     requires { length parts.now ≡ 1 }
     ensures { nodes_of_all parts.now ≡ node (node_of result.now) no_nodes }
@@ -44,17 +48,21 @@ pub fn one(parts: &[Tree]) -> &Tree
     &parts[0]
 }
 
+/// The parts of a list that has two.
 pub fn two(parts: &[Tree]) -> (&Tree, &Tree)
     requires { length parts.now ≡ 2 }
-    ensures { nodes_of_all parts.now ≡ node (node_of result.0.now) (node (node_of result.1.now) no_nodes) }
+    ensures { nodes_of_all parts.now
+        ≡ node (node_of result.0.now) (node (node_of result.1.now) no_nodes) }
 {
     (&parts[0], &parts[1])
 }
 
+/// The parts of a list that has three.
 pub fn three(parts: &[Tree]) -> (&Tree, &Tree, &Tree)
     requires { length parts.now ≡ 3 }
     ensures { nodes_of_all parts.now
-        ≡ node (node_of result.0.now) (node (node_of result.1.now) (node (node_of result.2.now) no_nodes)) }
+        ≡ node (node_of result.0.now)
+            (node (node_of result.1.now) (node (node_of result.2.now) no_nodes)) }
 {
     (&parts[0], &parts[1], &parts[2])
 }

@@ -25,7 +25,8 @@ fn offset_of(tree: &Tree) -> usize
 
 /// The offset of a list that begins with this word, and the parts behind it.
 fn headed<'a>(tree: &'a Tree, head: &[u8]) -> Result<(usize, &'a [Tree]), FormFault>
-    ensures { Gives (λ file. (file.0, nodes_of_all file.1.now)) result (headed_form head.now (node_of tree.now)) }
+    ensures { Gives (λ file. (file.0, nodes_of_all file.1.now)) result
+        (headed_form head.now (node_of tree.now)) }
 {
     if let Tree::List { offset, parts } = tree {
         if let Some((Tree::Atom { text, .. }, parts)) = parts.as_slice().split_first() {
@@ -39,7 +40,8 @@ fn headed<'a>(tree: &'a Tree, head: &[u8]) -> Result<(usize, &'a [Tree]), FormFa
 
 /// The one tree of a file, which begins with this word: its offset, and the parts behind the word.
 fn file<'a>(trees: &'a Trees, head: &[u8]) -> Result<(usize, &'a [Tree]), FormFault>
-    ensures { Gives (λ file. (file.0, nodes_of_all file.1.now)) result (file_form head.now (nodes_of trees.now)) }
+    ensures { Gives (λ file. (file.0, nodes_of_all file.1.now)) result
+        (file_form head.now (nodes_of trees.now)) }
 {
     let Some((tree, further)) = trees.as_slice().split_first() else {
         return Err(bad(0, Code::WrongHead));
@@ -84,8 +86,10 @@ fn machine(alloc: Global, trees: &Trees, kind: Kind) -> Result<Ast, FormFault>
 
 /// The last part, and the parts before it.
 fn split_last(parts: &[Tree]) -> Option<(&Tree, &[Tree])>
-    ensures value { IfSome result (λ p. last_node (nodes_of_all parts.now) ≡ Some (node_of p.0.now)) }
-    ensures lets { IfSome result (λ p. before_last (nodes_of_all parts.now) ≡ nodes_of_all p.1.now) }
+    ensures value { IfSome result (λ p.
+        last_node (nodes_of_all parts.now) ≡ Some (node_of p.0.now)) }
+    ensures lets { IfSome result (λ p.
+        before_last (nodes_of_all parts.now) ≡ nodes_of_all p.1.now) }
     ensures none { IfNone result (nodes_of_all parts.now ≡ no_nodes) }
 {
     parts.split_last()
@@ -117,7 +121,8 @@ fn condition(alloc: Global, trees: &Trees, head: &[u8]) -> Result<InvAst, FormFa
 pub fn read_machine(alloc: Global, trees: &Trees, kind: Kind) -> Result<Ast, FormFault>
     ensures exact { Gives ast_view result (machine_form kind (nodes_of trees.now)) }
     ensures well_formed { IfOk result (λ ast. IsAst (ast_view ast)) }
-    ensures limited { AreWithinLimits (nodes_of trees.now) → IfOk result (λ ast. AreLimited (ast_view ast).items) }
+    ensures limited { AreWithinLimits (nodes_of trees.now)
+        → IfOk result (λ ast. AreLimited (ast_view ast).items) }
 {
     machine(alloc, trees, kind)
 }
@@ -125,7 +130,8 @@ pub fn read_machine(alloc: Global, trees: &Trees, kind: Kind) -> Result<Ast, For
 /// The lets and the expression of an invariant file. Its faults are those of a machine file, and `E05` at its
 /// tree where it has no expression.
 pub fn read_invariant(alloc: Global, trees: &Trees) -> Result<InvAst, FormFault>
-    ensures exact { Gives invariant_view result (invariant_form (codes "invariant") (nodes_of trees.now)) }
+    ensures exact { Gives invariant_view result
+        (invariant_form (codes "invariant") (nodes_of trees.now)) }
     ensures well_formed { IfOk result (λ ast. IsInvAst (invariant_view ast)) }
     ensures limited { AreWithinLimits (nodes_of trees.now)
         → IfOk result (λ ast. IsLimitedInvAst (invariant_view ast)) }
@@ -135,7 +141,8 @@ pub fn read_invariant(alloc: Global, trees: &Trees) -> Result<InvAst, FormFault>
 
 /// The lets and the expression of a file of starts, which reads like an invariant with the head `start`.
 pub fn read_start(alloc: Global, trees: &Trees) -> Result<InvAst, FormFault>
-    ensures exact { Gives invariant_view result (invariant_form (codes "start") (nodes_of trees.now)) }
+    ensures exact { Gives invariant_view result
+        (invariant_form (codes "start") (nodes_of trees.now)) }
     ensures well_formed { IfOk result (λ ast. IsInvAst (invariant_view ast)) }
     ensures limited { AreWithinLimits (nodes_of trees.now)
         → IfOk result (λ ast. IsLimitedInvAst (invariant_view ast)) }
