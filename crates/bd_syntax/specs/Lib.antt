@@ -1,0 +1,5 @@
+pub mod Forms
+pub mod Name
+pub mod Reading
+pub mod WellFormed
+pub mod Words

@@ -1,0 +1,58 @@
+//! Names.
+ghost use Rattle.std.specs.Prelude.{◌≡◌, ◌↔◌, IsTrue, nat_eq};
+ghost use Rattle.std.specs.List.{list_all, list_any};
+ghost use lib.Pointwise.{pointwise};
+ghost use Rattle.bd_syntax.specs.Name.{IsName, begins_name, continues_name, is_name, spells_name};
+
+/// The longest name, in bytes.
+const MAX_NAME: usize = 64;
+
+/// The words that expressions are written with.
+const RESERVED: [&[u8]; 11] = [
+    b"true", b"false", b"not", b"and", b"or", b"implies", b"iff", b"ite", b"read", b"write", b"let",
+];
+
+fn begins(byte: u8) -> bool
+    ensures { result ≡ begins_name byte }
+{
+    byte.is_ascii_alphabetic() || byte == b'_'
+}
+
+fn continues(byte: u8) -> bool
+    ensures { result ≡ continues_name byte }
+{
+    begins(byte) || byte.is_ascii_digit() || byte == b'.' || byte == b'-'
+}
+
+/// Whether it's one of these words.
+fn is_among(text: &[u8], words: &[&[u8]]) -> bool
+    ensures { result ≡ list_any (λ w. pointwise nat_eq text.now w.now) words.now }
+{
+    words.iter().any(|word| text == *word)
+}
+
+/// Whether each byte may stand in a name.
+fn all_continue(text: &[u8]) -> bool
+    ensures { result ≡ list_all continues_name text.now }
+{
+    text.iter().all(|byte| continues(*byte))
+}
+
+/// Whether it begins and goes on as a name does.
+fn spells(text: &[u8]) -> bool
+    ensures { result ≡ spells_name text.now }
+{
+    match text.split_first() {
+        Some((first, rest)) => begins(*first) && all_continue(rest),
+        None => false,
+    }
+}
+
+/// Whether the bytes are a name: a letter or `_`, then letters, digits, `_`, `.` and `-`, at most 64 bytes,
+/// and no word of expressions.
+pub fn is_name(text: &[u8]) -> bool
+    ensures test { result ≡ is_name text.now }
+    ensures name { IsTrue result ↔ IsName text.now }
+{
+    spells(text) && text.len() <= MAX_NAME && !is_among(text, &RESERVED)
+}
