@@ -1,6 +1,6 @@
 //! Designs and cases worked by hand.
 use crate::{eval, flush, judge, look, spec_step, step, trace};
-use bd_model::{Case, Condition, Design, Judged, Scalar, Value};
+use bd_model::{Case, Condition, Design, Judged, State};
 use std::alloc::{AllocError, Global};
 use std::process::Abort;
 use std::test::Fail;
@@ -8,6 +8,7 @@ use std::test::Fail;
 mod cases;
 mod designs;
 mod draft;
+mod forms;
 mod two_stage;
 
 use cases::{
@@ -15,16 +16,21 @@ use cases::{
     STALLED, SUNK, TWO_PLACES, ZEROS,
 };
 use designs::{
-    DOUBLE_INCREMENT, NO_STEP_A_TURN, ONE_STEP_A_TURN, SINKING_BIT, STALLING_BIT, SWAPPED_WRITES,
-    TWO_STEPS, WRITE_BACK,
+    COUNT_PER_STATE, DOUBLE_INCREMENT, NO_STEP_A_TURN, NO_STEP_ALLOWED, ONE_STEP_A_TURN,
+    SINKING_BIT, STALLING_BIT, SWAPPED_WRITES, TWO_STEPS, WRITE_BACK,
 };
 use draft::Held::{Bit, Memory, Word};
-use draft::{CaseDraft, DesignDraft, Held, case, design, expr, state};
-use two_stage::{NOTHING_PENDING, OPERAND, STALE_OPERAND, TWO_STAGE};
+use draft::{CaseDraft, DesignDraft, Held, case, design, expr, state, value};
+use forms::{EACH_FORM, FORMS, HOLDS_OF_NOTHING, LETS, SEVEN_AND_EIGHT, SEVENS};
+use two_stage::{NOTHING_PENDING, STALE_OPERAND, TWO_STAGE};
 
 const COMMUTE: Judged = Judged::Broken(Condition::Commute);
 
 const INVARIANT: Judged = Judged::Broken(Condition::Invariant);
+
+const HOLDS: Judged = Judged::Holds;
+
+const OUTSIDE: Judged = Judged::Outside;
 
 // What a case shows of a design; nothing where it doesn't fit.
 fn shown(alloc: Global, of: &DesignDraft, by: &CaseDraft) -> Result<Option<Judged>, AllocError> {
@@ -40,28 +46,85 @@ fn shown(alloc: Global, of: &DesignDraft, by: &CaseDraft) -> Result<Option<Judge
 fn cases_are_judged(rt: HostRuntime) -> Result<(), Fail> {
     let alloc = rt.alloc();
     for (name, design, case, judged) in [
-        ("replayed increment", &DOUBLE_INCREMENT, &REPLAYED, COMMUTE),
-        ("second row", &DOUBLE_INCREMENT, &SECOND_ROW, Judged::Holds),
-        ("largest word", &DOUBLE_INCREMENT, &LARGEST_WORD, COMMUTE),
-        ("two steps", &TWO_STEPS, &REPLAYED, Judged::Holds),
-        ("turn", &STALLING_BIT, &GOING, Judged::Holds),
-        ("stall", &STALLING_BIT, &STALLED, Judged::Holds),
-        ("one step a turn", &ONE_STEP_A_TURN, &GOING, Judged::Holds),
-        ("no step a stall", &ONE_STEP_A_TURN, &STALLED, Judged::Holds),
-        ("no step a turn", &NO_STEP_A_TURN, &GOING, COMMUTE),
-        ("both conditions false", &SINKING_BIT, &RAISED, INVARIANT),
-        ("invariant false", &SINKING_BIT, &SUNK, Judged::Outside),
-        ("write back", &WRITE_BACK, &SEVEN_AT_FIVE, Judged::Holds),
-        ("swapped writes", &SWAPPED_WRITES, &ONE_PLACE, COMMUTE),
-        ("two places", &SWAPPED_WRITES, &TWO_PLACES, Judged::Holds),
-        ("one word", &SWAPPED_WRITES, &ONE_WORD, Judged::Holds),
-        ("two stages", &TWO_STAGE, &PENDING, Judged::Holds),
-        ("stale operand", &STALE_OPERAND, &PENDING, COMMUTE),
-        ("pending write", &NOTHING_PENDING, &PENDING, Judged::Outside),
-        ("write of 0", &NOTHING_PENDING, &ZEROS, Judged::Outside),
+        ("replayed_increment", &DOUBLE_INCREMENT, &REPLAYED, COMMUTE),
+        (
+            "replayed_increment, by the second row",
+            &DOUBLE_INCREMENT,
+            &SECOND_ROW,
+            HOLDS,
+        ),
+        (
+            "replayed_increment, two steps",
+            &TWO_STEPS,
+            &REPLAYED,
+            HOLDS,
+        ),
+        ("largest_word", &DOUBLE_INCREMENT, &LARGEST_WORD, COMMUTE),
+        ("stalling_bit, going", &STALLING_BIT, &GOING, HOLDS),
+        ("stalling_bit, stalled", &STALLING_BIT, &STALLED, HOLDS),
+        ("forced_counts, going", &ONE_STEP_A_TURN, &GOING, HOLDS),
+        ("forced_counts, stalled", &ONE_STEP_A_TURN, &STALLED, HOLDS),
+        ("forced_counts, none", &NO_STEP_A_TURN, &GOING, COMMUTE),
+        ("count_per_state, one step", &COUNT_PER_STATE, &SUNK, HOLDS),
+        ("count_per_state, no step", &COUNT_PER_STATE, &RAISED, HOLDS),
+        ("no_step_allowed", &NO_STEP_ALLOWED, &SUNK, COMMUTE),
+        ("sinking_bit", &SINKING_BIT, &RAISED, INVARIANT),
+        ("sinking_bit, sunk", &SINKING_BIT, &SUNK, OUTSIDE),
+        ("write_back", &WRITE_BACK, &SEVEN_AT_FIVE, HOLDS),
+        ("swapped_writes", &SWAPPED_WRITES, &ONE_PLACE, COMMUTE),
+        ("swapped_writes, two", &SWAPPED_WRITES, &TWO_PLACES, HOLDS),
+        (
+            "swapped_writes, one word",
+            &SWAPPED_WRITES,
+            &ONE_WORD,
+            HOLDS,
+        ),
+        ("two_stage", &TWO_STAGE, &PENDING, HOLDS),
+        ("stale_operand", &STALE_OPERAND, &PENDING, COMMUTE),
+        (
+            "two_stage, claimed idle",
+            &NOTHING_PENDING,
+            &PENDING,
+            OUTSIDE,
+        ),
+        ("two_stage, zeros", &NOTHING_PENDING, &ZEROS, OUTSIDE),
+        ("each_form", &EACH_FORM, &SEVENS, HOLDS),
+        ("each_form, eight", &EACH_FORM, &SEVEN_AND_EIGHT, COMMUTE),
+        ("each_form, outside", &EACH_FORM, &HOLDS_OF_NOTHING, OUTSIDE),
     ] {
         assert_eq!(rt; shown(alloc, design, case)?, Some(judged), "{name}");
     }
+    Ok(())
+}
+
+// The values of the forms, each of which is as wanted.
+fn each_form(
+    rt: &impl Abort,
+    alloc: Global,
+    design: &Design,
+    at: &Case,
+    lets: &State,
+) -> Result<(), AllocError> {
+    for (form, (draft, held)) in FORMS.iter().enumerate() {
+        let expr = expr(alloc, draft)?;
+        let found = eval(
+            alloc, design, &expr, &at.interp, &at.state, &at.inputs, lets,
+        )?;
+        assert!(rt; found == value(alloc, held)?, "form {form}");
+    }
+    Ok(())
+}
+
+fn on_sevens(rt: &impl Abort, alloc: Global) -> Result<(), AllocError> {
+    let design = design(alloc, &EACH_FORM)?;
+    let at = case(alloc, &SEVENS)?;
+    let lets = state(alloc, &LETS)?;
+    each_form(rt, alloc, &design, &at, &lets)
+}
+
+#[test]
+fn forms_are_valued(rt: HostRuntime) -> Result<(), Fail> {
+    on_sevens(&rt, rt.alloc())?;
     Ok(())
 }
 
@@ -93,16 +156,20 @@ fn traced(
 }
 
 #[test]
-fn runs_are_traced(rt: HostRuntime) -> Result<(), Fail> {
-    let alloc = rt.alloc();
-    let bits: [&[Held]; 3] = [&[Bit(false)], &[Bit(true)], &[Bit(false)]];
-    goes_through(&rt, alloc, &STALLING_BIT, &GOING, &bits)?;
-    let written: [&[Held]; 3] = [
+fn bit_trace(rt: HostRuntime) -> Result<(), Fail> {
+    let states: [&[Held]; 3] = [&[Bit(false)], &[Bit(true)], &[Bit(false)]];
+    goes_through(&rt, rt.alloc(), &STALLING_BIT, &GOING, &states)?;
+    Ok(())
+}
+
+#[test]
+fn memory_trace(rt: HostRuntime) -> Result<(), Fail> {
+    let states: [&[Held]; 3] = [
         &[Memory(0, &[(5, 7)]), Word(5)],
         &[Memory(0, &[(5, 7), (5, 7)]), Word(5)],
         &[Memory(0, &[(5, 7), (5, 7), (5, 7)]), Word(5)],
     ];
-    goes_through(&rt, alloc, &WRITE_BACK, &SEVEN_AT_FIVE, &written)?;
+    goes_through(&rt, rt.alloc(), &WRITE_BACK, &SEVEN_AT_FIVE, &states)?;
     Ok(())
 }
 
@@ -152,22 +219,7 @@ fn specification_follows(
     Ok(())
 }
 
-// The operand's next value, by a let that holds the memory behind the write.
-fn operand(alloc: Global, design: &Design, start: &Case) -> Result<Value, AllocError> {
-    let expr = expr(alloc, &OPERAND)?;
-    let lets = state(alloc, &[Memory(0, &[(7, 50)])])?;
-    eval(
-        alloc,
-        design,
-        &expr,
-        &start.interp,
-        &start.state,
-        &start.inputs,
-        &lets,
-    )
-}
-
-// The cycle, the specification's step and the operand.
+// The cycle and the specification's step.
 fn each_call(
     rt: &impl Abort,
     alloc: Global,
@@ -175,10 +227,7 @@ fn each_call(
     start: &Case,
 ) -> Result<(), AllocError> {
     write_ends(rt, alloc, design, start)?;
-    specification_follows(rt, alloc, design, start)?;
-    let operand = operand(alloc, design, start)?;
-    assert!(rt; operand == Value::Scalar(Scalar::Word(50)));
-    Ok(())
+    specification_follows(rt, alloc, design, start)
 }
 
 fn on_two_stages(rt: &impl Abort, alloc: Global) -> Result<(), AllocError> {

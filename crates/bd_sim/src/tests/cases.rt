@@ -1,82 +1,77 @@
 //! Cases of the small pipelines.
-use super::draft::CaseDraft;
 use super::draft::Held::{Bit, Memory, Word};
+use super::draft::{CaseDraft, NO_CASE};
+use bd_model::Scalar;
 
 // `double_increment`: the rows of its function, and its counter.
 
 pub static REPLAYED: CaseDraft = CaseDraft {
-    tables: &[&[(&[1], 2), (&[1], 1), (&[2], 3)]],
+    functions: &[&[(&[1], 2), (&[1], 1), (&[2], 3)]],
     state: &[Word(1)],
-    inputs: &[],
+    ..NO_CASE
 };
 
 pub static SECOND_ROW: CaseDraft = CaseDraft {
-    tables: &[&[(&[1], 1), (&[2], 3)]],
+    functions: &[&[(&[1], 1), (&[2], 3)]],
     state: &[Word(1)],
-    inputs: &[],
+    ..NO_CASE
 };
 
 pub static LARGEST_WORD: CaseDraft = CaseDraft {
-    tables: &[&[(&[1], u64::MAX)]],
+    functions: &[&[(&[1], u64::MAX)]],
     state: &[Word(1)],
-    inputs: &[],
+    ..NO_CASE
 };
 
 // A bit, and whether it goes.
 
 pub static GOING: CaseDraft = CaseDraft {
-    tables: &[],
     state: &[Bit(false)],
-    inputs: &[true],
+    inputs: &[Scalar::Bool(true)],
+    ..NO_CASE
 };
 
 pub static STALLED: CaseDraft = CaseDraft {
-    tables: &[],
     state: &[Bit(false)],
-    inputs: &[false],
+    inputs: &[Scalar::Bool(false)],
+    ..NO_CASE
 };
 
 pub static RAISED: CaseDraft = CaseDraft {
-    tables: &[],
     state: &[Bit(true)],
-    inputs: &[],
+    ..NO_CASE
 };
 
 pub static SUNK: CaseDraft = CaseDraft {
-    tables: &[],
     state: &[Bit(false)],
-    inputs: &[],
+    ..NO_CASE
 };
 
 // A memory, and where it is read and written.
 
 pub static SEVEN_AT_FIVE: CaseDraft = CaseDraft {
-    tables: &[],
     state: &[Memory(0, &[(5, 7)]), Word(5)],
-    inputs: &[],
+    ..NO_CASE
 };
 
 pub static ONE_PLACE: CaseDraft = CaseDraft {
-    tables: &[],
     state: &[Memory(0, &[]), Word(7), Word(7), Word(1), Word(2)],
-    inputs: &[],
+    ..NO_CASE
 };
 
 pub static TWO_PLACES: CaseDraft = CaseDraft {
-    tables: &[],
     state: &[Memory(0, &[]), Word(7), Word(8), Word(1), Word(2)],
-    inputs: &[],
+    ..NO_CASE
 };
 
 pub static ONE_WORD: CaseDraft = CaseDraft {
-    tables: &[],
     state: &[Memory(0, &[]), Word(7), Word(7), Word(1), Word(1)],
-    inputs: &[],
+    ..NO_CASE
 };
 
 /// Two stages: the ALU's result 50 is on its way to register 7, from which the instruction at 1 reads.
 pub static PENDING: CaseDraft = CaseDraft {
-    tables: &[
+    functions: &[
         &[(&[1], 2)],
         &[(&[1], 7)],
         &[(&[1], 8)],
@@ -91,12 +86,13 @@ pub static PENDING: CaseDraft = CaseDraft {
         Word(3),
         Word(4),
     ],
-    inputs: &[false],
+    inputs: &[Scalar::Bool(false)],
+    ..NO_CASE
 };
 
 /// Two stages, with a write pending, where all else is 0.
 pub static ZEROS: CaseDraft = CaseDraft {
-    tables: &[&[], &[], &[], &[], &[]],
+    functions: &[&[], &[], &[], &[], &[]],
     state: &[
         Word(0),
         Memory(0, &[]),
@@ -105,5 +101,6 @@ pub static ZEROS: CaseDraft = CaseDraft {
         Word(0),
         Word(0),
     ],
-    inputs: &[false],
+    inputs: &[Scalar::Bool(false)],
+    ..NO_CASE
 };

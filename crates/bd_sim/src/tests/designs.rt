@@ -1,6 +1,6 @@
 //! Small pipelines, each with its specification.
 use super::draft::{DesignDraft, Draft, MachineDraft, NO_MACHINE, PLAIN};
-use Draft::{Apply, Entry, Input, Ite, Not, Read, Write};
+use Draft::{Apply, Entry, Input, Ite, Not, Read, Truth, Write};
 use bd_model::Sort;
 
 const BIT: Draft = Entry(0);
@@ -22,7 +22,7 @@ const TURNING: MachineDraft = MachineDraft {
 
 const STALLING: DesignDraft = DesignDraft {
     pipe: MachineDraft {
-        inputs: &[("go", Draft::Truth(false))],
+        inputs: &[("go", Sort::Bool, Truth(false))],
         nexts: &[Ite(&GO, &TURNED, &BIT)],
         ..KEPT
     },
@@ -43,6 +43,24 @@ pub static ONE_STEP_A_TURN: DesignDraft = DesignDraft {
 pub static NO_STEP_A_TURN: DesignDraft = DesignDraft {
     exact: &[(0, GO)],
     ..STALLING
+};
+
+/// A bit that becomes true.
+pub static COUNT_PER_STATE: DesignDraft = BECOMES_TRUE;
+
+const BECOMES_TRUE: DesignDraft = DesignDraft {
+    pipe: MachineDraft {
+        nexts: &[Truth(true)],
+        ..KEPT
+    },
+    spec: TURNING,
+    ..PLAIN
+};
+
+/// The same, where a cycle may be no step.
+pub static NO_STEP_ALLOWED: DesignDraft = DesignDraft {
+    steps: 0,
+    ..BECOMES_TRUE
 };
 
 /// A bit that turns, where it should stay and is claimed to be true.

@@ -14,6 +14,11 @@ pub enum Draft {
     Input(u32),
     Local(u32),
     Not(&'static Draft),
+    And(&'static [Draft]),
+    Or(&'static [Draft]),
+    Implies(&'static Draft, &'static Draft),
+    Iff(&'static Draft, &'static Draft),
+    Equal(&'static Draft, &'static Draft),
     Ite(&'static Draft, &'static Draft, &'static Draft),
     Read(&'static Draft, &'static Draft),
     Write(&'static Draft, &'static Draft, &'static Draft),
@@ -24,33 +29,37 @@ pub enum Draft {
 #[derive(Clone, Copy)]
 pub struct MachineDraft {
     pub entries: &'static [(&'static str, Sort)],
-    pub inputs: &'static [(&'static str, Draft)],
+    pub inputs: &'static [(&'static str, Sort, Draft)],
     pub locals: &'static [(Sort, Draft)],
     pub nexts: &'static [Draft],
 }
 
-/// A design over functions of words, whose inputs are truth values.
+/// A design. Its functions of words are numbered first, and its predicates behind them.
 #[derive(Clone, Copy)]
 pub struct DesignDraft {
     pub functions: &'static [(&'static str, u32)],
+    pub predicates: &'static [(&'static str, u32)],
     pub pipe: MachineDraft,
     pub spec: MachineDraft,
     pub visible: &'static [u32],
     pub flush: u32,
     pub steps: u32,
+    pub inv_locals: &'static [(Sort, Draft)],
     pub inv: Draft,
     pub exact: &'static [(u32, Draft)],
 }
 
-/// A design without functions and inputs, to be filled in: its first entry is visible, and a cycle stands for
+/// A design without symbols and inputs, to be filled in: its first entry is visible, and a cycle stands for
 /// at most one step.
 pub const PLAIN: DesignDraft = DesignDraft {
     functions: &[],
+    predicates: &[],
     pipe: NO_MACHINE,
     spec: NO_MACHINE,
     visible: &[0],
     flush: 0,
     steps: 1,
+    inv_locals: &[],
     inv: Draft::Truth(true),
     exact: &[],
 };
@@ -74,13 +83,25 @@ pub enum Held {
 /// The rows of a function whose default is 0.
 pub type RowsDraft = &'static [(&'static [u64], u64)];
 
+/// The arguments at which a predicate is true.
+pub type TrueAt = &'static [&'static [u64]];
+
 /// A case.
 #[derive(Clone, Copy)]
 pub struct CaseDraft {
-    pub tables: &'static [RowsDraft],
+    pub functions: &'static [RowsDraft],
+    pub predicates: &'static [TrueAt],
     pub state: &'static [Held],
-    pub inputs: &'static [bool],
+    pub inputs: &'static [Scalar],
 }
+
+/// A case without symbols and inputs, to be filled in.
+pub const NO_CASE: CaseDraft = CaseDraft {
+    functions: &[],
+    predicates: &[],
+    state: &[],
+    inputs: &[],
+};
 
 #[cycle(draft)]
 pub fn expr(alloc: Global, draft: &Draft) -> Result<Expr, AllocError> {
@@ -90,6 +111,11 @@ pub fn expr(alloc: Global, draft: &Draft) -> Result<Expr, AllocError> {
         Draft::Input(i) => Ok(Expr::Input(*i)),
         Draft::Local(i) => Ok(Expr::Local(*i)),
         Draft::Not(a) => Ok(Expr::Not(boxed(alloc, a)?)),
+        Draft::And(parts) => Ok(Expr::And(exprs(alloc, parts)?)),
+        Draft::Or(parts) => Ok(Expr::Or(exprs(alloc, parts)?)),
+        Draft::Implies(a, b) => Ok(Expr::Implies(boxed(alloc, a)?, boxed(alloc, b)?)),
+        Draft::Iff(a, b) => Ok(Expr::Iff(boxed(alloc, a)?, boxed(alloc, b)?)),
+        Draft::Equal(a, b) => Ok(Expr::Equal(boxed(alloc, a)?, boxed(alloc, b)?)),
         Draft::Ite(p, a, b) => {
             let p = boxed(alloc, p)?;
             let a = boxed(alloc, a)?;
@@ -123,14 +149,16 @@ fn name(alloc: Global, text: &str) -> Result<Name, AllocError> {
     Ok(Sequence::from_vec(text.as_bytes().to_vec(alloc)?))
 }
 
-fn symbols(alloc: Global, functions: &[(&str, u32)]) -> Result<Symbols, AllocError> {
+fn symbols(alloc: Global, draft: &DesignDraft) -> Result<Symbols, AllocError> {
     let mut symbols = Vec::new(alloc);
-    for (text, arity) in functions {
-        symbols.push(Symbol {
-            name: name(alloc, text)?,
-            arity: *arity,
-            predicate: false,
-        })?;
+    for (drafts, predicate) in [(draft.functions, false), (draft.predicates, true)] {
+        for (text, arity) in drafts {
+            symbols.push(Symbol {
+                name: name(alloc, text)?,
+                arity: *arity,
+                predicate,
+            })?;
+        }
     }
     Ok(Sequence::from_vec(symbols))
 }
@@ -146,14 +174,14 @@ fn entries(alloc: Global, drafts: &[(&str, Sort)]) -> Result<Entries, AllocError
     Ok(Sequence::from_vec(entries))
 }
 
-fn ports(alloc: Global, inputs: &[(&str, Draft)]) -> Result<Ports, AllocError> {
+fn ports(alloc: Global, inputs: &[(&str, Sort, Draft)]) -> Result<Ports, AllocError> {
     let mut ports = Vec::new(alloc);
-    for (text, idle) in inputs {
+    for (text, sort, idle) in inputs {
         let name = name(alloc, text)?;
         let idle = expr(alloc, idle)?;
         ports.push(Port {
             name,
-            sort: Sort::Bool,
+            sort: *sort,
             idle,
         })?;
     }
@@ -195,11 +223,11 @@ pub fn design(alloc: Global, draft: &DesignDraft) -> Result<Design, AllocError> 
     Ok(Design {
         pipe: machine(alloc, &draft.pipe)?,
         spec: machine(alloc, &draft.spec)?,
-        symbols: symbols(alloc, draft.functions)?,
+        symbols: symbols(alloc, draft)?,
         visible: Sequence::from_vec(draft.visible.to_vec(alloc)?),
         flush: draft.flush,
         steps: draft.steps,
-        inv_locals: Sequence::from_vec(Vec::new(alloc)),
+        inv_locals: locals(alloc, draft.inv_locals)?,
         inv: expr(alloc, &draft.inv)?,
         exact: exacts(alloc, draft.exact)?,
         distinct: Sequence::from_vec(Vec::new(alloc)),
@@ -217,7 +245,7 @@ fn slots(alloc: Global, rows: &[(u64, u64)]) -> Result<Sequence<Slot>, AllocErro
     Ok(Sequence::from_vec(slots))
 }
 
-fn value(alloc: Global, held: &Held) -> Result<Value, AllocError> {
+pub fn value(alloc: Global, held: &Held) -> Result<Value, AllocError> {
     match held {
         Held::Bit(b) => Ok(Value::Scalar(Scalar::Bool(*b))),
         Held::Word(n) => Ok(Value::Scalar(Scalar::Word(*n))),
@@ -250,25 +278,38 @@ fn table(alloc: Global, rows: RowsDraft) -> Result<Table, AllocError> {
     })
 }
 
-fn interp(alloc: Global, tables: &[RowsDraft]) -> Result<Interp, AllocError> {
+fn predicate(alloc: Global, places: TrueAt) -> Result<Table, AllocError> {
     let mut list = Vec::new(alloc);
-    for rows in tables {
+    for args in places {
+        list.push(Row {
+            args: Sequence::from_vec(args.to_vec(alloc)?),
+            value: Scalar::Bool(true),
+        })?;
+    }
+    Ok(Table {
+        default: Scalar::Bool(false),
+        rows: Sequence::from_vec(list),
+    })
+}
+
+fn interp(alloc: Global, draft: &CaseDraft) -> Result<Interp, AllocError> {
+    let mut list = Vec::new(alloc);
+    for rows in draft.functions {
         list.push(table(alloc, rows)?)?;
+    }
+    for places in draft.predicates {
+        list.push(predicate(alloc, places)?)?;
     }
     Ok(Sequence::from_vec(list))
 }
 
-fn inputs(alloc: Global, bits: &[bool]) -> Result<Inputs, AllocError> {
-    let mut list = Vec::new(alloc);
-    for b in bits {
-        list.push(Scalar::Bool(*b))?;
-    }
-    Ok(Sequence::from_vec(list))
+fn inputs(alloc: Global, scalars: &[Scalar]) -> Result<Inputs, AllocError> {
+    Ok(Sequence::from_vec(scalars.to_vec(alloc)?))
 }
 
 pub fn case(alloc: Global, draft: &CaseDraft) -> Result<Case, AllocError> {
     Ok(Case {
-        interp: interp(alloc, draft.tables)?,
+        interp: interp(alloc, draft)?,
         state: state(alloc, draft.state)?,
         inputs: inputs(alloc, draft.inputs)?,
     })

@@ -30,9 +30,6 @@ const OP_PC: Draft = Apply(3, &[PC]);
 
 const NEXT_PC: Draft = Ite(&STALL, &PC, &INC_PC);
 
-/// The next value of the operand: it's read after the pending write.
-pub static OPERAND: Draft = Read(&RF2, &SRC_PC);
-
 const PIPE: MachineDraft = MachineDraft {
     entries: &[
         ("pc", Sort::Word),
@@ -42,7 +39,7 @@ const PIPE: MachineDraft = MachineDraft {
         ("o", Sort::Word),
         ("a", Sort::Word),
     ],
-    inputs: &[("stall", Truth(true))],
+    inputs: &[("stall", Sort::Bool, Truth(true))],
     locals: &[(
         Sort::Memory,
         Ite(&V, &Write(&RF, &D, &Apply(4, &[O, A])), &RF),
