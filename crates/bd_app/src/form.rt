@@ -1,9 +1,9 @@
 //! The one form of text that is read, part by part.
 //!
 //! Each function takes one list of the form apart, from its head on, and says both what a found
-//! part is and that nothing found means that the tree isn't of that form. So the answer of the whole
-//! is exact: the clauses of the parts join without a look at the code. Offsets don't matter here, so
-//! the clauses speak of shapes, trees without their offsets.
+//! part is and that nothing found means that the tree isn't of that form. So the answer of the
+//! whole is exact: the clauses of the parts join without a look at the code. Offsets don't matter
+//! here, so the clauses speak of shapes, trees without their offsets.
 ghost use Rattle.std.specs.Prelude.{◌≡◌, ◌≢◌, ◌↔◌, ℕ, List, [], ◌∷◌, map, IsTrue, IfSome, IfNone, IfOk, IsErrOf, codes};
 ghost use Rattle.std.specs.Option.{option_map};
 ghost use Rattle.bd_text.specs.Nodes.{Node, Nodes, list};

@@ -4,7 +4,7 @@ use Rattle.std.proofs.lemmas.Bool.{cases_lt}
 use Rattle.bd_text.specs.Layout.{read_at}
 use Rattle.bd_text.specs.Grammar.{IsBlank, TreeAt, TreesAt}
 use Rattle.bd_text.specs.Nodes.{Node, list, Nodes, no_nodes, node, add_node}
-use Rattle.bd_text.specs.Progress.{StandsOpen}
+use Rattle.bd_text.specs.inner.Progress.{StandsOpen}
 
 pub nothing_blank : (s : List ℕ) (i : ℕ) → IsBlank s i i
 nothing_blank s i = record { ordered = omega arith; blank = λ k low high. absurd (omega arith) }

@@ -6,6 +6,7 @@ pub mod Openings
 pub mod Placing
 pub mod Readable
 pub mod Rereading
+pub mod Spelling
 pub mod Steps
 pub mod Unique
 pub mod Views

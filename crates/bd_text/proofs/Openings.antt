@@ -3,7 +3,7 @@ use Rattle.std.proofs.Common.{◌≡◌, ℕ, ◌+◌, ◌<◌, List, [], ◌∷
 use Rattle.std.proofs.lemmas.List.{map_push, reverse-append, length-reverse, length-map}
 use Rattle.bd_text.specs.Nodes.{Nodes}
 use Rattle.bd_text.specs.Faults.{OnBad}
-use Rattle.bd_text.specs.Progress.{opening_of, openings_of, IsReadTo, ClosesList}
+use Rattle.bd_text.specs.inner.Progress.{opening_of, openings_of, IsReadTo, ClosesList}
 use Rattle.bd_text.specs.declared.code.Code.{Code}
 use Rattle.bd_text.specs.declared.fault.TextFault.{TextFault}
 use Rattle.bd_text.specs.declared.fault.TextFault.TheVariants.{Bad, Memory}

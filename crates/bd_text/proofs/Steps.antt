@@ -6,7 +6,7 @@ use Rattle.bd_text.specs.Layout.{IsAllowed, IsSeparator, IsAtomByte, without_com
 use Rattle.bd_text.specs.Grammar.{IsBlank, IsRun, TreeAt, Spells}
 use Rattle.bd_text.specs.Faults.{HasDepth, IsFault, HasNoFault, IsFirstFault}
 use Rattle.bd_text.specs.Nodes.{atom, list, Nodes, no_nodes, add_node}
-use Rattle.bd_text.specs.Progress.{IsReadTo, IsWord, IsComment}
+use Rattle.bd_text.specs.inner.Progress.{IsReadTo, IsWord, IsComment}
 use Rattle.bd_text.specs.declared.code.Code.{Code}
 use Rattle.bd_text.specs.declared.code.Code.TheVariants.{ByteNotAllowed, Unbalanced, TooDeep}
 use Rattle.bd_text.proofs.Comments.{up_from, length-without_comments, IsOutside, IsInside, read_outside, read_semicolon, read_inside, leave_comment}

@@ -1,4 +1,5 @@
--- The faults of a text, by the count of parentheses outside comments. The codes are this project's own.
+-- The faults of a text, by the count of parentheses outside comments. The codes are this project's
+-- own.
 use Rattle.std.specs.Prelude.{◌≡◌, ℕ, ◌+◌, ◌<◌, ◌≤◌, ◌==◌, ◌⊎◌, List, length, take, count_by, slice_index}
 use Rattle.bd_text.specs.Layout.{IsAllowed, without_comments, read_at}
 use Rattle.bd_text.specs.declared.code.Code.{Code}
@@ -25,7 +26,8 @@ IsBadByte source o = (o < length source) × (¬ IsAllowed (slice_index source o)
 -- a ) with no list open, or the end of the text with a list open
 abbrev pub IsUnbalanced : List ℕ → ℕ → Type 0
 IsUnbalanced source o =
-    ((read_at source o ≡ 41) × HasDepth source o 0) ⊎ ((o ≡ length source) × (closed_before source o < opened_before source o))
+    ((read_at source o ≡ 41) × HasDepth source o 0)
+    ⊎ ((o ≡ length source) × (closed_before source o < opened_before source o))
 
 -- a ( that would be the 201st list open
 abbrev pub IsTooDeep : List ℕ → ℕ → Type 0
@@ -43,7 +45,8 @@ HasNoFault source = (o : ℕ) (code : Code) → ¬ IsFault source o code
 
 -- the fault is there, and none stands before it
 abbrev pub IsFirstFault : List ℕ → ℕ → Code → Type 0
-IsFirstFault source o code = IsFault source o code × ((p : ℕ) (other : Code) → IsFault source p other → o ≤ p)
+IsFirstFault source o code =
+    IsFault source o code × ((p : ℕ) (other : Code) → IsFault source p other → o ≤ p)
 
 -- what holds of the offset and the code of a fault that isn't want of memory
 abbrev pub OnBad : TextFault → (ℕ → Code → Type 0) → Type 0

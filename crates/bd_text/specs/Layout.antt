@@ -1,5 +1,5 @@
--- The bytes of a text, and what a comment reads as. The format is this project's own: printable ASCII, and
--- comments from a semicolon to the end of the line, as in Lisp.
+-- The bytes of a text, and what a comment reads as. The format is this project's own: printable
+-- ASCII, and comments from a semicolon to the end of the line, as in Lisp.
 use Rattle.std.specs.Prelude.{◌≡◌, ◌≢◌, ℕ, ◌≤◌, ◌==◌, ◌⊎◌, List, [], ◌∷◌, if◌then◌else◌, slice_index}
 
 -- tab, line feed, carriage return and the printable ASCII bytes may stand in a text
@@ -14,8 +14,8 @@ IsSeparator b = (b ≡ 32) ⊎ ((b ≡ 9) ⊎ ((b ≡ 13) ⊎ (b ≡ 10)))
 abbrev pub IsAtomByte : ℕ → Type 0
 IsAtomByte b = (33 ≤ b) × (b ≤ 126) × (b ≢ 40) × (b ≢ 41) × (b ≢ 59)
 
--- The text with a space in place of each byte of a comment. A comment begins with ; and ends before the
--- next line feed, or at the end of the text.
+-- The text with a space in place of each byte of a comment. A comment begins with ; and ends before
+-- the next line feed, or at the end of the text.
 abbrev mutual
   pub without_comments : List ℕ → List ℕ
   without_comments [] = []

@@ -3,6 +3,6 @@ pub mod Faults
 pub mod Grammar
 pub mod Layout
 pub mod Nodes
-pub mod Progress
 pub mod View
 pub mod Written
+pub mod inner

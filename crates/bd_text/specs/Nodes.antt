@@ -1,4 +1,4 @@
--- What contracts see of trees: S-expressions (McCarthy, 1960), with the offsets at which they stand.
+-- What contracts see of trees: S-expressions (McCarthy, 1960), with the offsets where they stand.
 use Rattle.std.specs.Prelude.{ℕ, zero, suc, ◌+◌, List, Option, Some, None}
 
 mutual

@@ -18,18 +18,20 @@ abbrev mutual
   written_rest no_nodes = []
   written_rest (node t ts) = 32 ∷ written t ++ written_rest ts
 
--- The text lays a tree out: an atom as it is, and a list with separators as one likes, where each tree is
--- followed by a separator, by a parenthesis or by nothing.
+-- The text lays a tree out: an atom as it is, and a list with separators as one likes, where each
+-- tree is followed by a separator, by a parenthesis or by nothing.
 abbrev mutual
   pub LaysOut : Node → List ℕ → Type 0
   LaysOut (atom offset text) x = (x ≡ text) × (0 < length x) × All IsAtomByte x
-  LaysOut (list offset parts) x = (inside : List ℕ) × (x ≡ 40 ∷ inside ++ 41 ∷ []) × LayOut parts inside
+  LaysOut (list offset parts) x =
+      (inside : List ℕ) × (x ≡ 40 ∷ inside ++ 41 ∷ []) × LayOut parts inside
 
   pub LayOut : Nodes → List ℕ → Type 0
   LayOut no_nodes x = All IsSeparator x
   LayOut (node t ts) x =
       (blank : List ℕ) × (tree : List ℕ) × (rest : List ℕ) × (x ≡ blank ++ (tree ++ rest))
-      × All IsSeparator blank × LaysOut t tree × LayOut ts rest × (¬ IsAtomByte (slice_index rest 0))
+      × All IsSeparator blank × LaysOut t tree × LayOut ts rest
+      × (¬ IsAtomByte (slice_index rest 0))
 
 -- how many lists are open at most inside a tree
 abbrev mutual

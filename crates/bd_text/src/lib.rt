@@ -1,4 +1,5 @@
-//! Texts of nested parentheses (S-expressions): reading them into trees with offsets, and writing them.
+//! Texts of nested parentheses (S-expressions): reading them into trees with offsets, and writing
+//! them.
 #![tactic(auto)]
 
 pub mod code;

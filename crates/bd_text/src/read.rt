@@ -1,11 +1,17 @@
 //! Reading a text.
+//!
+//! One pass over the bytes keeps the trees of the innermost open list, and for each list around it
+//! the trees before it, so a `)` makes a tree of what is there and goes on with what was before: no
+//! call goes deeper however the text nests. After each step the text up to the offset is just what
+//! is kept (`HasRead`), no fault stands before it, and it lies outside comments. So a fault that is
+//! found is the first, and where no list is open at the end the text is the trees.
 
 ghost use Rattle.std.specs.Prelude.{◌≡◌, ◌+◌, ◌^◌, ◌<◌, ◌≤◌, ◌⊎◌, false, [], ◌∷◌, length, slice_index, slice_range, IfOk, IfErr, IsTrue};
 ghost use Rattle.bd_text.specs.Layout.{IsAllowed, IsAtomByte, IsSeparator};
 ghost use Rattle.bd_text.specs.Faults.{HasNoFault, IsFirstFault, OnBad};
 ghost use Rattle.bd_text.specs.Grammar.{Spells};
 ghost use Rattle.bd_text.specs.Nodes.{atom, add_node};
-ghost use Rattle.bd_text.specs.Progress.{ClosesList, IsComment, IsReadTo, IsWord, openings_of};
+ghost use Rattle.bd_text.specs.inner.Progress.{ClosesList, HasRead, IsComment, IsWord, openings_of};
 ghost use Rattle.bd_text.specs.View.{nodes_of, nodes_of_all};
 
 use crate::{Bytes, Code, TextFault, Tree, Trees};
@@ -51,9 +57,9 @@ impl Reader {
     /// Reads what begins at an offset, and answers where it ends.
     fn step(&mut self, bytes: &[u8], at: usize) -> Result<usize, TextFault>
         requires inside { at < length bytes.now }
-        requires read { IsReadTo bytes.now at (nodes_of_all self.old.parts.items) (openings_of self.old.open_lists.items) }
-        ensures ok { IfOk result (λ next. (at < next)
-            × IsReadTo bytes.now next (nodes_of_all self.new.parts.items) (openings_of self.new.open_lists.items)) }
+        requires read { HasRead bytes.now at self.old }
+        ensures further { IfOk result (λ next. at < next) }
+        ensures read { IfOk result (λ next. HasRead bytes.now next self.new) }
         ensures fault { IfErr result (λ fault. OnBad fault (IsFirstFault bytes.now)) }
     {
         match bytes[at] {
@@ -71,7 +77,8 @@ impl Reader {
         requires fits { at + 1 < 2 ^ 64 }
         ensures ok { IfOk result (λ next. (next ≡ at + 1) × (length self.old.open_lists.items < 200)
             × (self.new.parts.items ≡ [])
-            × (openings_of self.new.open_lists.items ≡ (at, nodes_of_all self.old.parts.items) ∷ openings_of self.old.open_lists.items)) }
+            × (openings_of self.new.open_lists.items
+            ≡ (at, nodes_of_all self.old.parts.items) ∷ openings_of self.old.open_lists.items)) }
         ensures fault { IfErr result (λ fault. OnBad fault (λ offset code.
             (offset ≡ at) × (code ≡ Code.TooDeep) × (200 ≤ length self.old.open_lists.items))) }
     {
@@ -108,7 +115,8 @@ impl Reader {
         requires inside { at < length bytes.now }
         requires begins { IsAtomByte (slice_index bytes.now at) }
         ensures ok { IfOk result (λ end. IsWord bytes.now at end
-            × (nodes_of_all self.new.parts.items ≡ add_node (nodes_of_all self.old.parts.items) (atom at (slice_range bytes.now at end)))
+            × (nodes_of_all self.new.parts.items
+            ≡ add_node (nodes_of_all self.old.parts.items) (atom at (slice_range bytes.now at end)))
             × (self.new.open_lists.items ≡ self.old.open_lists.items)) }
         ensures fault { IfErr result (λ fault. fault ≡ TextFault.Memory) }
     {
@@ -120,7 +128,8 @@ impl Reader {
 
     /// The trees, where every list was closed before the end.
     fn finish(self, end: usize) -> Result<Trees, TextFault>
-        ensures ok { IfOk result (λ trees. (self.open_lists.items ≡ []) × (nodes_of trees ≡ nodes_of_all self.parts.items)) }
+        ensures ok { IfOk result (λ trees.
+            (self.open_lists.items ≡ []) × (nodes_of trees ≡ nodes_of_all self.parts.items)) }
         ensures fault { IfErr result (λ fault. OnBad fault (λ offset code.
             (offset ≡ end) × (code ≡ Code.Unbalanced) × (0 < length self.open_lists.items))) }
     {
@@ -177,7 +186,8 @@ fn comment_end(bytes: &[u8], at: usize) -> Result<usize, TextFault>
     ensures ok { IfOk result (λ end. IsComment bytes.now at end
         × ((end ≡ length bytes.now) ⊎ (slice_index bytes.now end ≡ 10))) }
     ensures fault { IfErr result (λ fault. OnBad fault (λ offset code. IsComment bytes.now at offset
-        × (offset < length bytes.now) × (code ≡ Code.ByteNotAllowed) × (¬ IsAllowed (slice_index bytes.now offset)))) }
+        × (offset < length bytes.now) × (code ≡ Code.ByteNotAllowed)
+        × (¬ IsAllowed (slice_index bytes.now offset)))) }
 {
     for end in at + 1..bytes.len() {
         let byte = bytes[end];
@@ -193,11 +203,13 @@ fn comment_end(bytes: &[u8], at: usize) -> Result<usize, TextFault>
 
 /// The trees of a text, each with its offset in bytes from 0, in one pass over the bytes.
 ///
-/// The first fault from the left refuses the text: `E01` at a byte that isn't allowed, in a comment too,
-/// `E02` at a `)` with no list open, or at the text's length where a list is open there, and `E03` at a `(`
-/// that would be the 201st list open. Which fault it is depends on the bytes alone, unless memory runs out.
+/// The first fault from the left refuses the text: `E01` at a byte that isn't allowed, in a comment
+/// too, `E02` at a `)` with no list open, or at the text's length where a list is open there, and
+/// `E03` at a `(` that would be the 201st list open. Which fault it is depends on the bytes alone,
+/// unless memory runs out.
 pub fn read_trees(alloc: Global, bytes: &[u8]) -> Result<Trees, TextFault>
-    ensures trees { IfOk result (λ trees. HasNoFault bytes.now × Spells bytes.now (nodes_of trees)) }
+    ensures no_fault { IfOk result (λ _. HasNoFault bytes.now) }
+    ensures trees { IfOk result (λ trees. Spells bytes.now (nodes_of trees)) }
     ensures fault { IfErr result (λ fault. OnBad fault (IsFirstFault bytes.now)) }
 {
     let mut reader = Reader::new(alloc);

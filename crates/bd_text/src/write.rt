@@ -8,11 +8,12 @@ ghost use Rattle.bd_text.specs.Written.{written};
 use crate::{Tree, Trees};
 use std::alloc::{AllocError, Global};
 
-/// The text of one of the trees: an atom as it is, a list as `(`, its parts with one space between two, and
-/// `)`. It goes as deep as the tree nests, and fails only for want of memory.
+/// The text of one of the trees: an atom as it is, a list as `(`, its parts with one space between
+/// two, and `)`. It goes as deep as the tree nests, and fails only for want of memory.
 pub fn write_tree(alloc: Global, trees: &Trees, which: usize) -> Result<Vec<u8>, AllocError>
     requires { which < node_count (nodes_of trees.now) }
-    ensures { IfOk result (λ text. IfSome (node_at (nodes_of trees.now) which) (λ t. text.items ≡ written t)) }
+    ensures { IfOk result (λ text.
+        IfSome (node_at (nodes_of trees.now) which) (λ t. text.items ≡ written t)) }
 {
     let mut out = Vec::new(alloc);
     push_tree(&mut out, &trees.items[which])?;

@@ -21,8 +21,10 @@ pub record FilesSeen : Type 0 where
   pub faults : ℕ
   pub blame : Option Blame
 
-abbrev pub files_seen : {F : Type 0} → (F → Option Held) → (F → ℕ) → (F → Option Blame) → F → FilesSeen
-files_seen held faults blame files = record { held = held files; faults = faults files; blame = blame files }
+abbrev pub files_seen : {F : Type 0}
+    → (F → Option Held) → (F → ℕ) → (F → Option Blame) → F → FilesSeen
+files_seen held faults blame files =
+    record { held = held files; faults = faults files; blame = blame files }
 
 -- a sink as a caller sees it
 pub record SinkSeen : Type 0 where
@@ -34,12 +36,15 @@ sink_seen written faults sink = record { written = written sink; faults = faults
 
 -- a run on these words that ends with this status: some answer has the status, and the clauses of
 -- `bd_app::run` hold of it, each under its name there
-pub record IsRun (words : List (List ℕ)) (status : ℕ) (files files' : FilesSeen) (out out' err err' : SinkSeen) : Type 0 where
+pub record IsRun (words : List (List ℕ)) (status : ℕ)
+    (files files' : FilesSeen) (out out' err err' : SinkSeen) : Type 0 where
   pub ended : Ended
   pub status_is : status ≡ status_of ended
-  pub correct : ended ≡ Correct → IfSome files.held (λ held. (d : DesignView) × Asks held words d × IsRight d)
+  pub correct : ended ≡ Correct →
+      IfSome files.held (λ held. (d : DesignView) × Asks held words d × IsRight d)
   pub wrong : (k : Condition) (c : Case) → ended ≡ Wrong k c →
-      IfSome files.held (λ held. (d : DesignView) × Asks held words d × Fits d c × IsJudged d c (Broken k))
+      IfSome files.held (λ held.
+      (d : DesignView) × Asks held words d × Fits d c × IsJudged d c (Broken k))
   pub usage_only : ended ≡ Usage → taken words ≡ None
   pub usage : taken words ≡ None → (ended ≡ Usage) ⊎ (ended ≡ Memory)
   pub unread_pipe : ended ≡ Unread Pipe → IfSome files.held (λ held. IsUnreadPipe held words)
@@ -54,6 +59,7 @@ pub record IsRun (words : List (List ℕ)) (status : ℕ) (files files' : FilesS
       × AppendsPrefix out.written out'.written (report_of e)
       × IfSome files.held (λ held. IsTrueVerdict held words e)
   pub silent : ¬ IsVerdict ended → ended ≢ Device Out → out' ≡ out
-  pub line : PutsOrFaults (λ (sink : SinkSeen). sink.written) (λ (sink : SinkSeen). sink.faults) err err' (fault_line_of ended)
+  pub line : PutsOrFaults (λ (sink : SinkSeen). sink.written) (λ (sink : SinkSeen). sink.faults)
+      err err' (fault_line_of ended)
   pub no_line : IsVerdict ended → err' ≡ err
   pub held : files'.held ≡ files.held

@@ -51,7 +51,8 @@ fn run_on<F: Files, O: Sink, E: Sink>(
     err: &mut E,
 ) -> ExitCode
     ensures { IsRun (texts_of words.now) (exit_status result)
-        (files_seen F.held F.faults F.blame files.old) (files_seen F.held F.faults F.blame files.new)
+        (files_seen F.held F.faults F.blame files.old)
+        (files_seen F.held F.faults F.blame files.new)
         (sink_seen O.written O.faults out.old) (sink_seen O.written O.faults out.new)
         (sink_seen E.written E.faults err.old) (sink_seen E.written E.faults err.new) }
 {
@@ -67,7 +68,8 @@ fn program<F: Files, O: Sink, E: Sink>(
     err: &mut E,
 ) -> ExitCode
     ensures run { IfOk words (λ words. IsRun (texts_of words.items) (exit_status result)
-        (files_seen F.held F.faults F.blame files.old) (files_seen F.held F.faults F.blame files.new)
+        (files_seen F.held F.faults F.blame files.old)
+        (files_seen F.held F.faults F.blame files.new)
         (sink_seen O.written O.faults out.old) (sink_seen O.written O.faults out.new)
         (sink_seen E.written E.faults err.old) (sink_seen E.written E.faults err.new)) }
 

@@ -2,8 +2,8 @@
 //!
 //! The name is copied before the file is touched, so that a call that failed can be blamed without
 //! taking memory. A file is read piece by piece, one byte past the limit at most, so that a longer
-//! one is known as such and never read whole. Over a reader that tells what it has left, the clauses
-//! say that the bytes are its first ones.
+//! one is known as such and never read whole. Over a reader that tells what it has left, the
+//! clauses say that the bytes are its first ones.
 ghost use Rattle.std.specs.Prelude.{◌≡◌, ◌≢◌, ℕ, ◌+◌, ◌<◌, ◌≤◌, ◌++◌, List, length, take, vec_len, None, IfSome, IfOk};
 ghost use Rattle.std.specs.Io.{ReadsAtMost};
 ghost use Rattle.std.specs.Io.KnownBytes.{Consumes, IsAtEnd, ReadConsumes};
@@ -16,8 +16,8 @@ use std::io::{Error, ErrorKind, Read};
 use std::rt::Files as FileSystem;
 use std::{fs, io};
 
-/// The files of a file system, under the names that they have there. Each call that fails is counted,
-/// and blamed with its name. It tells nothing of what the files hold.
+/// The files of a file system, under the names that they have there. Each call that fails is
+/// counted, and blamed with its name. It tells nothing of what the files hold.
 #[derive(Debug, Drop)]
 pub struct RealFiles<'a, S> {
     alloc: Global,
@@ -169,7 +169,8 @@ fn read_piece<R: Read>(source: &mut R, room: usize, bytes: &mut Vec<u8>) -> Resu
 /// One read, made again where a signal interrupted it, up to 2^64 - 1 times.
 fn read_some<R: Read>(source: &mut R, piece: &mut [u8]) -> io::Result<usize>
     ensures fits { ReadsAtMost result piece.new }
-    ensures bytes { ReadConsumes (R.remaining source.old) (R.remaining source.new) result piece.new }
+    ensures bytes {
+        ReadConsumes (R.remaining source.old) (R.remaining source.new) result piece.new }
 {
     for _ in 0..u64::MAX {
         match source.read(piece) {

@@ -44,7 +44,8 @@ impl<W: Write> Sink for Stream<W> {
         ensures whole { OnOk result
             (Appends (W.contents self.old.writer) (W.contents self.new.writer) bytes.now) }
         ensures prefix { OnErr result ((kept : ℕ) ×
-            Appends (W.contents self.old.writer) (W.contents self.new.writer) (take kept bytes.now)) }
+            Appends (W.contents self.old.writer) (W.contents self.new.writer)
+            (take kept bytes.now)) }
         ensures uncounted { OnOk result (self.new.faults ≡ self.old.faults) }
         ensures counted { OnErr result (self.new.faults ≡ count_after self.old.faults) }
     {

@@ -1,5 +1,5 @@
 use Rattle.std.proofs.Common.{length, ◌-◌}
-use Rattle.bd_text.specs.Progress.{IsReadTo, openings_of}
+use Rattle.bd_text.specs.inner.Progress.{IsReadTo, openings_of}
 use Rattle.bd_text.specs.View.{nodes_of_all}
 use Rattle.bd_text.proofs.read.read_trees.Given as goal
 

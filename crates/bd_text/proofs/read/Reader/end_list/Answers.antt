@@ -1,6 +1,6 @@
 use Rattle.std.proofs.Common.{◌≡◌, ◌∷◌, Vec, Global, refl, ap, ◌∙◌}
 use Rattle.bd_text.specs.Nodes.{add_node, list}
-use Rattle.bd_text.specs.Progress.{opening_of, openings_of}
+use Rattle.bd_text.specs.inner.Progress.{opening_of, openings_of}
 use Rattle.bd_text.specs.View.{nodes_of_all}
 use Rattle.bd_text.specs.declared.tree.Tree.{Tree}
 use Rattle.bd_text.proofs.Openings.{openings_of-push}
