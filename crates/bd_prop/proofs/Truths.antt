@@ -33,7 +33,7 @@ pub truth-extends : (v : Atom → Bool) (old new : List PropNode) (id : ℕ) →
 truth-extends v old new id (more, is) h = ap (λ ns. truth_at v ns id) is ∙ truth-front v old more id h
 
 -- the node at an id, between those before it and those behind it
-split_at : (nodes : List PropNode) (id : ℕ) (n : PropNode) → StandsAt nodes id n → nodes ≡ take id nodes ++ n ∷ drop (id + 1) nodes
+pub split_at : (nodes : List PropNode) (id : ℕ) (n : PropNode) → StandsAt nodes id n → nodes ≡ take id nodes ++ n ∷ drop (id + 1) nodes
 split_at nodes id n at =
     sym (take-append-drop id nodes) ∙ ap (λ rest. take id nodes ++ rest) (drop_more nodes id n (slice_get_within nodes id n at) ∙ ap (λ m. m ∷ drop (id + 1) nodes) (get_or_from_slice_get nodes id n n at))
 

@@ -1,0 +1,9 @@
+pub mod Joined
+pub mod Numbering
+pub mod Stage
+pub mod Gates
+pub mod Flat
+pub mod Rising
+pub mod Within
+pub mod Laws
+pub mod Decoded

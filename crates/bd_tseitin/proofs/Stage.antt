@@ -1,0 +1,205 @@
+-- The parts of the form when the nodes below k are done.
+use Rattle.std.proofs.Common.{◌≡◌, ◌⊎◌, ◌↔◌, ℕ, ◌<◌, ◌≤◌, ◌+◌, Bool, true, false, ◌&&◌, cond, List, [], ◌∷◌, ◌++◌, length, get_or, Contains, All, Option, None, Some, unwrap_or, IsSome, is_some, refl, ap, sym, ◌∙◌, subst, inl, inr, zero, suc, arith}
+use Rattle.std.proofs.lemmas.Bool.{false≢true, true≢false, and_parts, and_from, cases_Bool, cases_lt, cases_eq}
+use Rattle.std.proofs.lemmas.List.{append-nil, append_assoc, get_or_append_left, get_or_push, length_push}
+use Rattle.std.proofs.lemmas.Grind.{flat_map-append}
+use Rattle.std.proofs.lemmas.Option.{slice_get_within, slice_get-get_or, get_or_from_slice_get}
+use Rattle.std.specs.List.{flat_map}
+use Rattle.bd_prop.specs.declared.node.PropNode.{PropNode}
+use Rattle.bd_prop.specs.declared.node.PropNode.TheVariants.{True, Atom as OfAtom, Not, And, Or, Ite}
+use Rattle.bd_prop.specs.Node.{children}
+use Rattle.bd_prop.specs.Form.{node_at}
+use Rattle.bd_prop.specs.Graph.{IsGraph, StandsAt, Reaches, IsBelow}
+use Rattle.bd_prop.proofs.Reaching.{reached_at_most, reached_children}
+use Rattle.bd_cnf.specs.Literal.{Literal, literal, negate}
+use Rattle.bd_tseitin.specs.declared.row.AtomVar.{AtomVar}
+use Rattle.bd_tseitin.specs.declared.form.Parts.{Parts}
+use Rattle.bd_tseitin.specs.Definition.{is_gate, and_clauses, or_clauses, ite_clauses, definition, AreClauses}
+use Rattle.bd_tseitin.specs.Form.{IsGateOf, definition_at, rows_of, rows_at, IsTseitin}
+use Rattle.bd_tseitin.specs.inner.Step.{known, AreKnown, Pushes, literal_in, AddsNode}
+use Rattle.bd_tseitin.proofs.Joined.{AreClauses-append}
+use Rattle.bd_tseitin.proofs.Numbering.{is_marked, has_variable, gates, literal_of, literal_for, literal-node, gates_have, have_gates, length-gates, gates_numbered}
+
+-- a node's clauses rest on its children's literals alone
+pub definition_same : (f g : ℕ → Literal) (gate : Literal) (n : PropNode) → All (λ c. f c ≡ g c) (children n) → definition f gate n ≡ definition g gate n
+definition_same f g gate True h = refl
+definition_same f g gate (OfAtom a) h = refl
+definition_same f g gate (Not a) h = refl
+definition_same f g gate (And a b) h = let first : f a ≡ g a = h 0 a (omega arith) in let second : f b ≡ g b = h 1 a (omega arith) in λ i. and_clauses gate (first i) (second i)
+definition_same f g gate (Or a b) h = let first : f a ≡ g a = h 0 a (omega arith) in let second : f b ≡ g b = h 1 a (omega arith) in λ i. or_clauses gate (first i) (second i)
+definition_same f g gate (Ite a b c) h =
+    let first : f a ≡ g a = h 0 a (omega arith) in
+    let second : f b ≡ g b = h 1 a (omega arith) in
+    let third : f c ≡ g c = h 2 a (omega arith) in
+    λ i. ite_clauses gate (first i) (second i) (third i)
+
+no_definition : (f : ℕ → Literal) (gate : Literal) (n : PropNode) → is_gate n ≡ false → definition f gate n ≡ []
+no_definition f gate (Not a) h = refl
+no_definition f gate n h = absurd (true≢false h)
+
+no_row : (n : PropNode) (var : ℕ) → is_gate n ≡ false → rows_of n var ≡ []
+no_row (Not a) var h = refl
+no_row n var h = absurd (true≢false h)
+
+gate_literal : (table : List (Option Literal)) (vars : ℕ) (n : PropNode) → is_gate n ≡ true → literal_in table vars n ≡ literal (vars + 1) true
+gate_literal table vars (Not a) h = absurd (false≢true h)
+gate_literal table vars n h = refl
+
+module _ (nodes : List PropNode) (marks : List Bool) where
+  pub clauses_to : ℕ → List (List Literal)
+  clauses_to k = flat_map (definition_at nodes (literal_of nodes marks)) (gates nodes marks k)
+
+  pub rows_to : ℕ → List AtomVar
+  rows_to k = flat_map (rows_at nodes (literal_of nodes marks)) (gates nodes marks k)
+
+  pub record IsStage (k : ℕ) (parts : Parts) : Type 0 where
+    pub size : length parts.literals.items ≡ k
+    pub table : (id : ℕ) → id < k → is_marked nodes marks id ≡ true → get_or parts.literals.items id None ≡ Some (literal_of nodes marks id)
+    pub counted : parts.vars ≡ length (gates nodes marks k)
+    pub defined : AreClauses (clauses_to k) parts.clauses.items
+    pub rows : parts.atoms.items ≡ rows_to k
+
+  -- a list that is made node by node
+  flat-more : {X : Type 0} (f : ℕ → List X) (k : ℕ) → has_variable nodes marks k ≡ true → flat_map f (gates nodes marks (suc k)) ≡ flat_map f (gates nodes marks k) ++ f k
+  flat-more f k e =
+      ap (λ b. flat_map f (cond b (gates nodes marks k ++ k ∷ []) (gates nodes marks k))) e
+      ∙ flat_map-append f (gates nodes marks k) (k ∷ [])
+      ∙ ap (λ xs. flat_map f (gates nodes marks k) ++ xs) (append-nil (f k))
+
+  flat-same : {X : Type 0} (f : ℕ → List X) (k : ℕ) → has_variable nodes marks k ≡ false → flat_map f (gates nodes marks (suc k)) ≡ flat_map f (gates nodes marks k)
+  flat-same f k e = ap (λ b. flat_map f (cond b (gates nodes marks k ++ k ∷ []) (gates nodes marks k))) e
+
+  table_more : (k : ℕ) (table : List (Option Literal)) (entry : Option Literal) → length table ≡ k
+      → ((id : ℕ) → id < k → is_marked nodes marks id ≡ true → get_or table id None ≡ Some (literal_of nodes marks id))
+      → (is_marked nodes marks k ≡ true → entry ≡ Some (literal_of nodes marks k))
+      → (id : ℕ) → id < suc k → is_marked nodes marks id ≡ true → get_or (table ++ entry ∷ []) id None ≡ Some (literal_of nodes marks id)
+  table_more k table entry size before last id low marked =
+      elim (cases_eq id k) [
+        | inl same ↦
+            subst (λ m. get_or (table ++ entry ∷ []) m None ≡ Some (literal_of nodes marks m)) (sym same)
+            (get_or_push table entry None k size ∙ last (subst (λ m. is_marked nodes marks m ≡ true) same marked))
+        | inr other ↦
+            let inside : id < length table = omega (arith, other) in
+            get_or_append_left table (entry ∷ []) None id inside ∙ before id (omega (arith, other)) marked
+      ]
+
+  -- a node that isn't reached
+  pub stage_skip : (k : ℕ) (old new : Parts) → is_marked nodes marks k ≡ false → IsStage k old → new.literals.items ≡ old.literals.items ++ None ∷ [] → new.vars ≡ old.vars → new.clauses.items ≡ old.clauses.items → new.atoms.items ≡ old.atoms.items → IsStage (suc k) new
+  unfolding clauses_to rows_to
+  stage_skip k old new off is literals vars clauses atoms =
+      let none : has_variable nodes marks k ≡ false = ap (λ b. b && is_gate (node_at nodes k)) off in
+      record {
+        size = ap length literals ∙ length_push old.literals.items None ∙ omega (arith, is.size);
+        table = subst (λ t. (id : ℕ) → id < suc k → is_marked nodes marks id ≡ true → get_or t id None ≡ Some (literal_of nodes marks id)) (sym literals)
+            (table_more k old.literals.items None is.size is.table (λ on. absurd (false≢true (sym off ∙ on))));
+        counted = vars ∙ is.counted ∙ ap (λ b. length (cond b (gates nodes marks k ++ k ∷ []) (gates nodes marks k))) (sym none);
+        defined = subst (λ ds. AreClauses ds new.clauses.items) (sym (flat-same (definition_at nodes (literal_of nodes marks)) k none)) (subst (AreClauses (clauses_to k)) (sym clauses) is.defined);
+        rows = atoms ∙ is.rows ∙ sym (flat-same (rows_at nodes (literal_of nodes marks)) k none);
+      }
+
+  -- the table's literals of a node's children are theirs
+  known_children : (k : ℕ) (table : List (Option Literal)) (n : PropNode) → IsBelow k n → All (λ c. is_marked nodes marks c ≡ true) (children n)
+      → ((id : ℕ) → id < k → is_marked nodes marks id ≡ true → get_or table id None ≡ Some (literal_of nodes marks id))
+      → All (λ c. known table c ≡ literal_of nodes marks c) (children n)
+  known_children k table n low marked before j d h =
+      ap (λ o. unwrap_or o (literal 0 true)) (before (get_or (children n) j d) (low j d h) (marked j d h))
+
+  literal_in_is : IsGraph nodes → (k vars : ℕ) (table : List (Option Literal)) (n : PropNode) → StandsAt nodes k n → vars ≡ length (gates nodes marks k) → All (λ c. known table c ≡ literal_of nodes marks c) (children n) → literal_in table vars n ≡ literal_of nodes marks k
+  literal_in_is graph k vars table n at counted same = by n same ∙ sym (literal-node nodes marks k n graph at)
+    where
+      by : (m : PropNode) → All (λ c. known table c ≡ literal_of nodes marks c) (children m) → literal_in table vars m ≡ literal_for nodes marks k m
+      by (Not a) h = ap negate (h 0 a (omega arith))
+      by m h = ap (λ v. literal (v + 1) true) counted
+
+  -- what a marked node's children are
+  pub marked_children : (root : ℕ) → ((id : ℕ) → (is_marked nodes marks id ≡ true) ↔ Reaches nodes root id) → (k : ℕ) (n : PropNode) → is_marked nodes marks k ≡ true → StandsAt nodes k n → All (λ c. is_marked nodes marks c ≡ true) (children n)
+  marked_children root are k n on at j d h = (are (get_or (children n) j d)).1 (reached_children nodes root k n ((are k).0 on) at j d h)
+
+  pub children_known : (k : ℕ) (parts : Parts) (n : PropNode) → IsBelow k n → All (λ c. is_marked nodes marks c ≡ true) (children n) → IsStage k parts → AreKnown parts.literals.items (children n)
+  children_known k parts n low marked is j d h = ap is_some (is.table (get_or (children n) j d) (low j d h) (marked j d h))
+
+  pub root_known : (k root : ℕ) (parts : Parts) → root < k → is_marked nodes marks root ≡ true → IsStage k parts → IsSome (get_or parts.literals.items root None)
+  root_known k root parts low on is = ap is_some (is.table root low on)
+
+  -- there are no more variables than nodes
+  pub vars_at_most : (k : ℕ) (parts : Parts) → IsStage k parts → parts.vars ≤ k
+  vars_at_most k parts is = omega (arith, is.counted, length-gates nodes marks k)
+
+  -- a node that is reached
+  pub stage_add : IsGraph nodes → (k : ℕ) (n : PropNode) (old new : Parts) → is_marked nodes marks k ≡ true → StandsAt nodes k n → All (λ c. is_marked nodes marks c ≡ true) (children n) → IsStage k old → AddsNode old n new → IsStage (suc k) new
+  unfolding clauses_to rows_to
+  stage_add graph k n old new on at marked is adds =
+      let same = known_children k old.literals.items n (graph k n at) marked is.table in
+      let mine : literal_in old.literals.items old.vars n ≡ literal_of nodes marks k = literal_in_is graph k old.vars old.literals.items n at is.counted same in
+      let node_is : node_at nodes k ≡ n = get_or_from_slice_get nodes k n True at in
+      let made : definition (known old.literals.items) (literal_in old.literals.items old.vars n) n ≡ definition_at nodes (literal_of nodes marks) k =
+      definition_same _ _ _ n same ∙ (λ i. definition (literal_of nodes marks) (mine i) n) ∙ ap (definition (literal_of nodes marks) (literal_of nodes marks k)) (sym node_is) in
+      let variable : has_variable nodes marks k ≡ is_gate n = (λ i. on i && is_gate (node_is i)) in
+      let size : length new.literals.items ≡ suc k = ap length adds.literals ∙ length_push old.literals.items _ ∙ omega (arith, is.size) in
+      let table : (id : ℕ) → id < suc k → is_marked nodes marks id ≡ true → get_or new.literals.items id None ≡ Some (literal_of nodes marks id) =
+      subst (λ t. (id : ℕ) → id < suc k → is_marked nodes marks id ≡ true → get_or t id None ≡ Some (literal_of nodes marks id)) (sym adds.literals)
+      (table_more k old.literals.items (Some (literal_in old.literals.items old.vars n)) is.size is.table (λ _. ap Some mine)) in
+      elim (cases_Bool (is_gate n)) [
+        | inl gate ↦
+            let has : has_variable nodes marks k ≡ true = variable ∙ gate in
+            let number : (literal_of nodes marks k).var ≡ old.vars + 1 = ap (λ (l : Literal). l.var) (sym mine ∙ gate_literal old.literals.items old.vars n gate) in
+            record {
+              size = size;
+              table = table;
+              counted = adds.vars ∙ ap (λ b. old.vars + cond b 1 0) gate ∙ ap (λ m. m + 1) is.counted ∙ sym (length_push (gates nodes marks k) k)
+                  ∙ ap (λ b. length (cond b (gates nodes marks k ++ k ∷ []) (gates nodes marks k))) (sym has);
+              defined = subst (λ ds. AreClauses ds new.clauses.items) (sym (flat-more (definition_at nodes (literal_of nodes marks)) k has))
+                  (subst (AreClauses (clauses_to k ++ definition_at nodes (literal_of nodes marks) k)) (sym adds.clauses.1)
+                  (AreClauses-append (clauses_to k) (definition_at nodes (literal_of nodes marks) k) old.clauses.items adds.clauses.0 is.defined
+                  (subst (λ ds. AreClauses ds adds.clauses.0) made adds.clauses.2)));
+              rows = adds.atoms ∙ (λ i. is.rows i ++ rows_of n (old.vars + 1)) ∙ (λ i. rows_to k ++ rows_of (sym node_is i) (sym number i))
+                  ∙ sym (flat-more (rows_at nodes (literal_of nodes marks)) k has);
+            }
+        | inr other ↦
+            let none : has_variable nodes marks k ≡ false = variable ∙ other in
+            let nothing : adds.clauses.0 ≡ [] = subst (λ ds. AreClauses ds adds.clauses.0) (no_definition _ _ n other) adds.clauses.2 in
+            let stays : new.clauses.items ≡ old.clauses.items = adds.clauses.1 ∙ ap (λ xs. old.clauses.items ++ xs) nothing ∙ append-nil old.clauses.items in
+            record {
+              size = size;
+              table = table;
+              counted = adds.vars ∙ ap (λ b. old.vars + cond b 1 0) other ∙ omega (arith, is.counted)
+                  ∙ ap (λ b. length (cond b (gates nodes marks k ++ k ∷ []) (gates nodes marks k))) (sym none);
+              defined = subst (λ ds. AreClauses ds new.clauses.items) (sym (flat-same (definition_at nodes (literal_of nodes marks)) k none)) (subst (AreClauses (clauses_to k)) (sym stays) is.defined);
+              rows = adds.atoms ∙ ap (λ xs. old.atoms.items ++ xs) (no_row n (old.vars + 1) other) ∙ append-nil old.atoms.items ∙ is.rows
+                  ∙ sym (flat-same (rows_at nodes (literal_of nodes marks)) k none);
+            }
+      ]
+
+  pub stage_start : (parts : Parts) → parts.literals.items ≡ [] → parts.vars ≡ 0 → parts.clauses.items ≡ [] → parts.atoms.items ≡ [] → IsStage 0 parts
+  unfolding clauses_to rows_to
+  stage_start parts literals vars clauses atoms = record {
+    size = ap length literals;
+    table = λ id low marked. absurd (omega arith);
+    counted = vars;
+    defined = clauses;
+    rows = atoms;
+  }
+
+  -- the parts of all nodes, with the root's unit clause, are Tseitin's form
+  pub IsTseitin-stage : IsGraph nodes → (root : ℕ) (parts : Parts) (clauses : List (List Literal)) → length marks ≡ length nodes → ((id : ℕ) → (is_marked nodes marks id ≡ true) ↔ Reaches nodes root id)
+      → IsStage (length nodes) parts → Pushes parts.clauses.items ((literal_of nodes marks root ∷ []) ∷ []) clauses → IsTseitin nodes root parts.vars clauses parts.atoms.items
+  unfolding clauses_to rows_to
+  IsTseitin-stage graph root parts clauses size are is unit = record {
+    gates = gates nodes marks (length nodes);
+    literal_of = literal_of nodes marks;
+    are_gates = λ id. (
+      λ has.
+          let found = gates_have nodes marks (length nodes) id has in
+          let both = and_parts (is_marked nodes marks id) _ found.1 in
+          (node_at nodes id, slice_get-get_or nodes id True found.0, both.1, (are id).0 both.0),
+      λ gate.
+          let inside = slice_get_within nodes id gate.0 gate.1 in
+          let same : node_at nodes id ≡ gate.0 = get_or_from_slice_get nodes id gate.0 True gate.1 in
+          have_gates nodes marks (length nodes) id inside (and_from _ _ ((are id).1 gate.3) (ap is_gate same ∙ gate.2)),
+    );
+    counted = is.counted;
+    numbered = λ k low. gates_numbered nodes marks graph (length nodes) k 0 (omega arith) low;
+    negated = λ id a up at. literal-node nodes marks id (Not a) graph at;
+    defined = subst (AreClauses (clauses_to (length nodes) ++ (literal_of nodes marks root ∷ []) ∷ [])) (sym unit.1) (AreClauses-append (clauses_to (length nodes)) ((literal_of nodes marks root ∷ []) ∷ []) parts.clauses.items unit.0 is.defined unit.2);
+    rows_are = is.rows;
+  }

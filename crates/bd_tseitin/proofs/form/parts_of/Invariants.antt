@@ -1,0 +1,5 @@
+use Rattle.bd_tseitin.proofs.Stage.{IsStage}
+use Rattle.bd_tseitin.proofs.form.parts_of.Given as goal
+
+abbrev pub invariant-loop-id : goal.invariant-loop-id
+invariant-loop-id l = IsStage l.prop l.marks l.id l.parts

@@ -1,0 +1,4 @@
+pub mod Definition
+pub mod Rows
+pub mod Form
+pub mod inner

@@ -1,0 +1,34 @@
+-- What one node adds to the form of the nodes before it.
+use Rattle.std.specs.Prelude.{◌≡◌, ℕ, ◌+◌, Bool, true, false, ◌&&◌, if◌then◌else◌, List, [], ◌∷◌, ◌++◌, Option, Some, None, unwrap_or, slice_index_or, IsSome, IsTrue, All}
+use Rattle.bd_prop.specs.declared.node.PropNode.{PropNode}
+use Rattle.bd_prop.specs.declared.node.PropNode.TheVariants.{True, Atom as OfAtom, Not, And, Or, Ite}
+use Rattle.bd_prop.specs.Node.{children}
+use Rattle.bd_cnf.specs.Literal.{Literal, literal, negate}
+use Rattle.bd_tseitin.specs.declared.row.AtomVar.{AtomVar}
+use Rattle.bd_tseitin.specs.declared.form.Parts.{Parts}
+use Rattle.bd_tseitin.specs.Definition.{is_gate, definition, AreClauses}
+use Rattle.bd_tseitin.specs.Form.{rows_of}
+
+-- the literal that the table has for an id
+abbrev pub known : List (Option Literal) → ℕ → Literal
+known literals id = unwrap_or (slice_index_or literals id None) (literal 0 true)
+
+-- the table has these
+abbrev pub AreKnown : List (Option Literal) → List ℕ → Type 0
+AreKnown literals ids = All (λ id. IsSome (slice_index_or literals id None)) ids
+
+-- the new clauses stand behind the old ones
+abbrev pub Pushes : List (List Literal) → List (List Literal) → List (List Literal) → Type 0
+Pushes old lists new = (more : List (List Literal)) × (new ≡ old ++ more) × AreClauses lists more
+
+-- the literal of a node, where vars gates come before it
+abbrev pub literal_in : List (Option Literal) → ℕ → PropNode → Literal
+literal_in literals vars (Not a) = negate (known literals a)
+literal_in literals vars _ = literal (vars + 1) true
+
+-- the new parts have one node more, which the root reaches
+pub record AddsNode (old : Parts) (node : PropNode) (new : Parts) : Type 0 where
+  pub literals : new.literals.items ≡ old.literals.items ++ Some (literal_in old.literals.items old.vars node) ∷ []
+  pub vars : new.vars ≡ old.vars + (if is_gate node then 1 else 0)
+  pub clauses : Pushes old.clauses.items (definition (known old.literals.items) (literal_in old.literals.items old.vars node) node) new.clauses.items
+  pub atoms : new.atoms.items ≡ old.atoms.items ++ rows_of node (old.vars + 1)

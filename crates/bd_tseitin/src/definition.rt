@@ -1,0 +1,105 @@
+//! The clauses that define one gate.
+ghost use Rattle.std.specs.Prelude.{◌≡◌, ◌<◌, [], ◌∷◌, Some, None, IsSome, slice_index_or, OnOk, length};
+ghost use Rattle.bd_prop.specs.Node.{children};
+ghost use Rattle.bd_tseitin.specs.Definition.{definition, and_clauses, or_clauses, ite_clauses};
+ghost use Rattle.bd_tseitin.specs.inner.Step.{known, AreKnown, Pushes};
+
+use bd_cnf::{Clause, Lit};
+use bd_prop::PropNode;
+use std::alloc::{AllocError, Global};
+
+/// The literal of a node that has one.
+pub(crate) fn literal(literals: &[Option<Lit>], id: usize) -> Lit
+    requires { IsSome (slice_index_or literals.now id None) }
+    ensures { slice_index_or literals.now id None ≡ Some result }
+{
+    literals[id].unwrap()
+}
+
+/// Puts the clause of these literals behind the others, unless it is always true.
+pub(crate) fn push(alloc: Global, clauses: &mut Vec<Clause>, lits: &[Lit]) -> Result<(), AllocError>
+    ensures { OnOk result (Pushes clauses.old.items (lits.now ∷ []) clauses.new.items) }
+{
+    if let Some(clause) = Clause::of(alloc, lits)? {
+        clauses.push(clause)?;
+    }
+    Ok(())
+}
+
+/// Puts the clauses that define the gate behind the others.
+pub(crate) fn define(
+    alloc: Global,
+    clauses: &mut Vec<Clause>,
+    literals: &[Option<Lit>],
+    gate: Lit,
+    node: PropNode,
+) -> Result<(), AllocError>
+    requires { AreKnown literals.now (children node) }
+    ensures { OnOk result
+        (Pushes clauses.old.items (definition (known literals.now) gate node) clauses.new.items) }
+{
+    match node {
+        PropNode::True => push(alloc, clauses, &[gate]),
+        PropNode::Atom(_) | PropNode::Not(_) => Ok(()),
+        PropNode::And(a, b) => {
+            let a = literal(literals, a);
+            let b = literal(literals, b);
+            define_and(alloc, clauses, gate, a, b)
+        }
+        PropNode::Or(a, b) => {
+            let a = literal(literals, a);
+            let b = literal(literals, b);
+            define_or(alloc, clauses, gate, a, b)
+        }
+        PropNode::Ite(a, b, c) => {
+            let a = literal(literals, a);
+            let b = literal(literals, b);
+            let c = literal(literals, c);
+            define_ite(alloc, clauses, gate, a, b, c)
+        }
+    }
+}
+
+fn define_and(
+    alloc: Global,
+    clauses: &mut Vec<Clause>,
+    gate: Lit,
+    a: Lit,
+    b: Lit,
+) -> Result<(), AllocError>
+    ensures { OnOk result (Pushes clauses.old.items (and_clauses gate a b) clauses.new.items) }
+{
+    push(alloc, clauses, &[gate.negated(), a])?;
+    push(alloc, clauses, &[gate.negated(), b])?;
+    push(alloc, clauses, &[gate, a.negated(), b.negated()])
+}
+
+fn define_or(
+    alloc: Global,
+    clauses: &mut Vec<Clause>,
+    gate: Lit,
+    a: Lit,
+    b: Lit,
+) -> Result<(), AllocError>
+    ensures { OnOk result (Pushes clauses.old.items (or_clauses gate a b) clauses.new.items) }
+{
+    push(alloc, clauses, &[gate, a.negated()])?;
+    push(alloc, clauses, &[gate, b.negated()])?;
+    push(alloc, clauses, &[gate.negated(), a, b])
+}
+
+fn define_ite(
+    alloc: Global,
+    clauses: &mut Vec<Clause>,
+    gate: Lit,
+    a: Lit,
+    b: Lit,
+    c: Lit,
+) -> Result<(), AllocError>
+    ensures { OnOk result (Pushes clauses.old.items (ite_clauses gate a b c) clauses.new.items) }
+{
+    push(alloc, clauses, &[gate.negated(), a.negated(), b])?;
+    push(alloc, clauses, &[gate.negated(), a, c])?;
+    push(alloc, clauses, &[gate, a.negated(), b.negated()])?;
+    push(alloc, clauses, &[gate, a, c.negated()])
+}
