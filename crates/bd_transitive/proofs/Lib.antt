@@ -1,0 +1,14 @@
+pub mod Places
+pub mod Ends
+pub mod Pushed
+pub mod SpanEq
+pub mod Filling
+pub mod OrderSpans
+pub mod OrderMade
+pub mod NotTwo
+pub mod Linking
+pub mod Meeting
+pub mod ClassesAgree
+pub mod Fans
+pub mod Counting
+pub mod Numbered

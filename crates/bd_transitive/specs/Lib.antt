@@ -1,0 +1,4 @@
+pub mod Edges
+pub mod Orders
+pub mod Triangle
+pub mod inner

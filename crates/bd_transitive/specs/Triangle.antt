@@ -1,0 +1,55 @@
+-- Transitivity of equality on the triangles of an elimination order (Bryant and Velev 2000). An edge's truth
+-- value says whether its ends are equal; `value e` is that of edge number e, from 0.
+use Rattle.std.specs.Prelude.{◌≡◌, ◌≢◌, ◌↔◌, ◌<◌, ◌+◌, ◌==◌, ℕ, Bool, false, List, [], ◌∷◌, min, IsTrue, count_by, slice_index_or}
+use Rattle.bd_transitive.specs.Edges.{JoinsAt}
+use Rattle.bd_transitive.specs.Orders.{place}
+use Rattle.bd_transitive.specs.declared.graph.Edge.{Edge}
+use Rattle.bd_transitive.specs.declared.graph.Order.{Order}
+
+-- three edges, by their numbers: two that lead from a vertex to later neighbours, and the one that joins these
+pub record IsTriangle (order : Order) (d e f : ℕ) : Type 0 where
+  pub vertex : ℕ
+  pub left : ℕ
+  pub right : ℕ
+  pub to_left : JoinsAt order.edges d vertex left
+  pub to_right : JoinsAt order.edges e vertex right
+  pub across : JoinsAt order.edges f left right
+  pub left_later : place order.vertices vertex < place order.vertices left
+  pub right_later : place order.vertices vertex < place order.vertices right
+
+-- not exactly two of the three are true
+abbrev pub IsNotTwo : Bool → Bool → Bool → Type 0
+IsNotTwo a b c = count_by (λ x. x) (a ∷ b ∷ c ∷ []) ≢ 2
+
+-- in no triangle are exactly two edges true
+abbrev pub MeetsTriangles : Order → (ℕ → Bool) → Type 0
+MeetsTriangles order value = (d e f : ℕ) → IsTriangle order d e f → IsNotTwo (value d) (value e) (value f)
+
+-- two ends of an edge have the same class exactly where the edge is true
+abbrev pub AgreesWithClasses : List Edge → (ℕ → Bool) → (ℕ → ℕ) → Type 0
+AgreesWithClasses edges value class = (e a b : ℕ) → JoinsAt edges e a b → IsTrue (value e) ↔ (class a ≡ class b)
+
+-- in the clauses of the triangles the variable of an edge is its number from 1
+abbrev pub edge_value : (ℕ → Bool) → ℕ → Bool
+edge_value v e = v (e + 1)
+
+-- the value of edge number e in a list of values
+abbrev pub value_at : List Bool → ℕ → Bool
+value_at values e = slice_index_or values e false
+
+-- the class of a vertex in a list of classes by the order's vertices
+abbrev pub class_of : List ℕ → List ℕ → ℕ → ℕ
+class_of vertices classes v = slice_index_or classes (place vertices v) 0
+
+-- the place of the end of an edge that is eliminated first
+abbrev pub earlier_place : List ℕ → Edge → ℕ
+earlier_place vertices edge = min (place vertices edge.from) (place vertices edge.to)
+
+-- of how many pairs of a list the test is true
+abbrev pub pair_count : {X : Type 0} → (X → X → Bool) → List X → ℕ
+pair_count test [] = 0
+pair_count test (x ∷ xs) = count_by (test x) xs + pair_count test xs
+
+-- how many triangles: each two edges that lead from one vertex to later neighbours make one
+abbrev pub triangle_count : Order → ℕ
+triangle_count order = pair_count (λ d e. earlier_place order.vertices d == earlier_place order.vertices e) order.edges

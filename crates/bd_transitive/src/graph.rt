@@ -1,0 +1,32 @@
+//! Edges, and what is made of them.
+use bd_cnf::Clause;
+use bd_list::Sequence;
+
+/// An edge between two vertices, which may stand either way round.
+#[derive(Clone, Copy, Debug, PartialEq, Eq)]
+pub struct Edge {
+    pub from: u64,
+    pub to: u64,
+}
+
+/// A list of edges. The number of an edge is its place, from 0.
+pub type Edges = Sequence<Edge>;
+
+/// A list of words.
+pub type Words = Sequence<u64>;
+
+/// A list of clauses, in which the variable of an edge is its number from 1.
+pub type Triangles = Sequence<Clause>;
+
+/// A truth value for each edge of an order.
+pub type EdgeValues = Sequence<bool>;
+
+/// A class for each vertex of an order.
+pub type Classes = Sequence<u64>;
+
+/// Vertices in the order in which they are eliminated, and the edges between them.
+#[derive(Debug, Drop)]
+pub struct Order {
+    pub vertices: Words,
+    pub edges: Edges,
+}
