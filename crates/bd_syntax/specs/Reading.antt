@@ -32,6 +32,7 @@ abbrev pub ◌>>=◌ : {A B : Type 0} → Result A Fault → (A → Result B Fau
 (Ok x) >>= f = f x
 (Err e) >>= f = Err e
 
+-- reading ends here
 abbrev pub refused : {A : Type 0} → ℕ → Code → Result A Fault
 refused offset code = Err (record { offset = offset; code = code })
 
@@ -54,6 +55,7 @@ abbrev pub atom_form : Node → Result Spot Fault
 atom_form (atom offset text) = Ok (spot offset text)
 atom_form (list offset parts) = refused offset Malformed
 
+-- an atom that is a name
 unfoldable pub name_form : Node → Result Spot Fault
 name_form t = do
   name ← atom_form t
@@ -68,19 +70,19 @@ is_number (b ∷ bs) = (is_digit b && list_all is_digit bs) && (not (b == 48) ||
 abbrev pub number_of : List ℕ → ℕ
 number_of digits = fold (λ n b. 10 * n + (b - 48)) 0 digits
 
--- a number of at most so much
+-- an atom that is a number of at most so much
 unfoldable pub number_form : ℕ → Node → Result ℕ Fault
 number_form most t = do
   digits ← atom_form t
   if is_number digits.text && nat_le (number_of digits.text) most
-    then Ok (number_of digits.text) else refused digits.offset NotNumber
+      then Ok (number_of digits.text) else refused digits.offset NotNumber
 
 -- the sort of a latch or an input
 unfoldable pub scalar_form : Node → Result Sort Fault
 scalar_form t = do
   sort ← atom_form t
   if is_word sort.text (codes "word") then Ok sorts.Word
-    else (if is_word sort.text (codes "bool") then Ok sorts.Bool else refused sort.offset Malformed)
+      else (if is_word sort.text (codes "bool") then Ok sorts.Bool else refused sort.offset Malformed)
 
 -- the sort of a let
 unfoldable pub sort_form : Node → Result Sort Fault
@@ -124,6 +126,7 @@ word_form offset text =
     if is_name text || is_truth text then Ok (word (spot offset text)) else refused offset NotName
 
 abbrev mutual
+  -- a word, or a list whose first part is an operator or a name
   pub expression_form : Node → Result Expression Fault
   expression_form (atom offset text) = word_form offset text
   expression_form (list offset parts) = do
@@ -146,17 +149,20 @@ abbrev mutual
 
 -- ---- items
 
+-- (latch NAME SORT)
 unfoldable pub latch_form : ℕ → Node → Node → Result ItemView Fault
 latch_form offset t u = do
   name ← name_form t
   sort ← scalar_form u
   Ok (latch_item offset name sort)
 
+-- (memory NAME)
 unfoldable pub memory_form : ℕ → Node → Result ItemView Fault
 memory_form offset t = do
   name ← name_form t
   Ok (memory_item offset name)
 
+-- (input NAME SORT EXPR)
 unfoldable pub input_form : ℕ → Node → Node → Node → Result ItemView Fault
 input_form offset t u v = do
   name ← name_form t
@@ -164,18 +170,21 @@ input_form offset t u v = do
   idle ← expression_form v
   Ok (input_item offset name sort idle)
 
+-- (function NAME N)
 unfoldable pub function_form : ℕ → Node → Node → Result ItemView Fault
 function_form offset t u = do
   name ← name_form t
   arity ← number_form 8 u
   Ok (function_item offset name arity)
 
+-- (predicate NAME N)
 unfoldable pub predicate_form : ℕ → Node → Node → Result ItemView Fault
 predicate_form offset t u = do
   name ← name_form t
   arity ← number_form 8 u
   Ok (predicate_item offset name arity)
 
+-- (let NAME SORT EXPR)
 unfoldable pub let_form : ℕ → Node → Node → Node → Result ItemView Fault
 let_form offset t u v = do
   name ← name_form t
@@ -183,28 +192,33 @@ let_form offset t u v = do
   value ← expression_form v
   Ok (let_item offset name sort value)
 
+-- (next NAME EXPR)
 unfoldable pub next_form : ℕ → Node → Node → Result ItemView Fault
 next_form offset t u = do
   name ← name_form t
   value ← expression_form u
   Ok (next_item offset name value)
 
+-- (flush N)
 unfoldable pub flush_form : ℕ → Node → Result ItemView Fault
 flush_form offset t = do
   count ← number_form 64 t
   Ok (flush_item offset count)
 
+-- (steps N)
 unfoldable pub steps_form : ℕ → Node → Result ItemView Fault
 steps_form offset t = do
   count ← number_form 8 t
   Ok (steps_item offset count)
 
+-- (exact N EXPR)
 unfoldable pub exact_form : ℕ → Node → Node → Result ItemView Fault
 exact_form offset t u = do
   count ← number_form 8 t
   when ← expression_form u
   Ok (exact_item offset count when)
 
+-- (distinct NAME NAME ..)
 unfoldable pub distinct_form : ℕ → Nodes → Result ItemView Fault
 distinct_form offset ts = do
   names ← each_form name_form ts
@@ -230,9 +244,10 @@ abbrev pub head_form : Place → ℕ → ℕ → Option Head → Result Head Fau
 head_form place offset parts None = refused offset Malformed
 head_form place offset parts (Some head) =
     if head_takes head parts
-      then (if is_item_of place head then Ok head else refused offset NotOfThisFile)
-      else refused offset Malformed
+    then (if is_item_of place head then Ok head else refused offset NotOfThisFile)
+    else refused offset Malformed
 
+-- an item is a list
 unfoldable pub item_form : Place → Node → Result ItemView Fault
 item_form place (atom offset text) = refused offset Malformed
 item_form place (list offset parts) = do

@@ -62,7 +62,7 @@ pub fn three(parts: &[Tree]) -> (&Tree, &Tree, &Tree)
     requires { length parts.now ≡ 3 }
     ensures { nodes_of_all parts.now
         ≡ node (node_of result.0.now)
-            (node (node_of result.1.now) (node (node_of result.2.now) no_nodes)) }
+        (node (node_of result.1.now) (node (node_of result.2.now) no_nodes)) }
 {
     (&parts[0], &parts[1], &parts[2])
 }

@@ -71,6 +71,7 @@ fn place_of(kind: Kind) -> Place
     }
 }
 
+/// The items of a machine file.
 #[tactic(auto, unfolding(crate::specs::Reading::machine_form))]
 fn machine(alloc: Global, trees: &Trees, kind: Kind) -> Result<Ast, FormFault>
     ensures { Gives ast_view result (machine_form kind (nodes_of trees.now)) }
@@ -95,8 +96,9 @@ fn split_last(parts: &[Tree]) -> Option<(&Tree, &[Tree])>
     parts.split_last()
 }
 
+/// The lets and the expression of a file that begins with this word.
 #[tactic(auto, unfolding(crate::specs::Reading::invariant_form))]
-fn condition(alloc: Global, trees: &Trees, head: &[u8]) -> Result<InvAst, FormFault>
+fn invariant(alloc: Global, trees: &Trees, head: &[u8]) -> Result<InvAst, FormFault>
     ensures { Gives invariant_view result (invariant_form head.now (nodes_of trees.now)) }
 {
     let (offset, parts) = file(trees, head)?;
@@ -136,7 +138,7 @@ pub fn read_invariant(alloc: Global, trees: &Trees) -> Result<InvAst, FormFault>
     ensures limited { AreWithinLimits (nodes_of trees.now)
         → IfOk result (λ ast. IsLimitedInvAst (invariant_view ast)) }
 {
-    condition(alloc, trees, b"invariant")
+    invariant(alloc, trees, b"invariant")
 }
 
 /// The lets and the expression of a file of starts, which reads like an invariant with the head `start`.
@@ -147,5 +149,5 @@ pub fn read_start(alloc: Global, trees: &Trees) -> Result<InvAst, FormFault>
     ensures limited { AreWithinLimits (nodes_of trees.now)
         → IfOk result (λ ast. IsLimitedInvAst (invariant_view ast)) }
 {
-    condition(alloc, trees, b"start")
+    invariant(alloc, trees, b"start")
 }

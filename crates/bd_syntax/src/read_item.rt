@@ -16,11 +16,13 @@ use crate::{FormFault, Item, Items, Spots, atoms};
 use bd_text::{Code, Tree, Trees};
 use std::alloc::Global;
 
-/// The most words that a function or predicate takes, and the most steps.
+/// The most words that a function or predicate takes.
 const MAX_ARITY: u32 = 8;
 
+/// The most steps.
 const MAX_STEPS: u32 = 8;
 
+/// The most flush cycles.
 const MAX_FLUSH: u32 = 64;
 
 /// `(latch NAME SORT)`
@@ -183,7 +185,7 @@ fn distinct(alloc: Global, offset: usize, parts: &[Tree]) -> Result<Item, FormFa
 }
 
 /// The item of that head.
-fn headed(alloc: Global, offset: usize, head: Head, parts: &[Tree]) -> Result<Item, FormFault>
+fn item_of_head(alloc: Global, offset: usize, head: Head, parts: &[Tree]) -> Result<Item, FormFault>
     requires { head_takes head (length parts.now) ≡ true }
     ensures { Gives item_view result (parts_form offset head (nodes_of_all parts.now)) }
 {
@@ -225,7 +227,7 @@ fn item(alloc: Global, place: Place, tree: &Tree) -> Result<Item, FormFault>
         Tree::List { offset, parts } => {
             let list = open(*offset, parts)?;
             let head = head_of(place, *offset, list.word, list.parts.len())?;
-            headed(alloc, *offset, head, list.parts)
+            item_of_head(alloc, *offset, head, list.parts)
         }
     }
 }

@@ -11,9 +11,9 @@ use Rattle.bd_syntax.proofs.read.read_start.Goals as goal
 pub returns-clause-well_formed : goal.returns-clause-well_formed
 returns-clause-well_formed c =
     let trees = nodes_of c.args.trees.now in
-    given_holds invariant_view IsInvAst c.condition.result (invariant_form (codes "start") trees) c.condition.ensures (IfOk-weaker (invariant_form (codes "start") trees) _ IsInvAst (λ ast all. all.0) (invariant_holds (codes "start") trees))
+    given_holds invariant_view IsInvAst c.invariant.result (invariant_form (codes "start") trees) c.invariant.ensures (IfOk-weaker (invariant_form (codes "start") trees) _ IsInvAst (λ ast all. all.0) (invariant_holds (codes "start") trees))
 
 pub returns-clause-limited : goal.returns-clause-limited
 returns-clause-limited c = λ limits.
     let trees = nodes_of c.args.trees.now in
-    given_holds invariant_view IsLimitedInvAst c.condition.result (invariant_form (codes "start") trees) c.condition.ensures (IfOk-weaker (invariant_form (codes "start") trees) _ IsLimitedInvAst (λ ast all. all.1 limits) (invariant_holds (codes "start") trees))
+    given_holds invariant_view IsLimitedInvAst c.invariant.result (invariant_form (codes "start") trees) c.invariant.ensures (IfOk-weaker (invariant_form (codes "start") trees) _ IsLimitedInvAst (λ ast all. all.1 limits) (invariant_holds (codes "start") trees))
