@@ -1,13 +1,13 @@
 -- The clauses that define a gate say that its literal has the value of its connective.
-use Rattle.std.proofs.Common.{◌≡◌, ℕ, Bool, true, false, not, ◌&&◌, ◌||◌, cond, List, [], ◌∷◌, refl, ap, sym, ◌∙◌}
+use Rattle.std.proofs.Common.{◌≡◌, ℕ, Bool, true, false, not, ◌&&◌, ◌||◌, cond, refl, sym, ◌∙◌}
 use Rattle.std.proofs.lemmas.Bool.{false≢true, true≢false}
 use mathlib.Core.Bool.{beq}
 use Rattle.bd_prop.specs.declared.atom.Atom.{Atom}
 use Rattle.bd_prop.specs.declared.node.PropNode.{PropNode}
 use Rattle.bd_prop.specs.declared.node.PropNode.TheVariants.{True, Atom as OfAtom, Not, And, Or, Ite}
 use Rattle.bd_prop.specs.Node.{node_truth}
-use Rattle.bd_cnf.specs.Literal.{Literal, negate, literal_value}
-use Rattle.bd_cnf.specs.Clause.{clause_value, clauses_value}
+use Rattle.bd_cnf.specs.Literal.{Literal, literal_value}
+use Rattle.bd_cnf.specs.Clause.{clauses_value}
 use Rattle.bd_cnf.proofs.Literals.{negate-value}
 use Rattle.bd_tseitin.specs.Definition.{and_clauses, or_clauses, ite_clauses, definition}
 

@@ -1,10 +1,9 @@
 -- Lists of literals as clauses: joined, and their value.
-use Rattle.std.proofs.Common.{◌≡◌, ◌⊎◌, ℕ, Bool, true, false, ◌&&◌, List, [], ◌∷◌, ◌++◌, refl, ap, sym, ◌∙◌, subst, inl, inr, Option, None, Some, get_or, unwrap_or}
-use Rattle.std.proofs.lemmas.List.{append_assoc, append-nil}
-use Rattle.std.specs.List.{list_all}
+use Rattle.std.proofs.Common.{◌≡◌, ℕ, Bool, true, ◌&&◌, List, [], ◌∷◌, ◌++◌, ap, sym, ◌∙◌, subst, inl, inr, Option, None, Some, get_or, unwrap_or}
+use Rattle.std.proofs.lemmas.List.{append_assoc}
 use Rattle.bd_cnf.specs.Literal.{Literal, literal}
-use Rattle.bd_cnf.specs.Clause.{SameLiterals, IsTautology, IsWithin, clause_value, clauses_value}
-use Rattle.bd_cnf.proofs.Literals.{same_value, tautology_value, within_of_same}
+use Rattle.bd_cnf.specs.Clause.{clauses_value}
+use Rattle.bd_cnf.proofs.Literals.{same_value, tautology_value}
 use Rattle.bd_tseitin.specs.Definition.{AreClauses}
 use Rattle.bd_tseitin.specs.inner.Step.{Pushes, known}
 

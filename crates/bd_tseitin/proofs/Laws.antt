@@ -1,30 +1,30 @@
 -- What Tseitin's form of a root says: it is satisfiable exactly with the root.
-use Rattle.std.proofs.Common.{◌≡◌, ◌⊎◌, ◌↔◌, ℕ, ◌<◌, ◌≤◌, ◌+◌, ◌-◌, Bool, true, false, not, ◌&&◌, ◌||◌, cond, List, [], ◌∷◌, ◌++◌, length, get_or, Contains, All, Some, slice_get, refl, ap, sym, ◌∙◌, subst, inl, inr, zero, suc, arith}
+use Rattle.std.proofs.Common.{◌≡◌, ◌↔◌, ℕ, ◌<◌, ◌≤◌, ◌+◌, ◌-◌, Bool, true, false, not, ◌&&◌, ◌||◌, List, [], ◌∷◌, ◌++◌, length, get_or, Contains, All, Some, slice_get, refl, ap, sym, ◌∙◌, subst, zero, suc, arith}
 use Rattle.std.specs.Prelude.{slice_index}
-use Rattle.std.proofs.lemmas.Bool.{false≢true, true≢false, and_parts, and_from, cases_Bool}
+use Rattle.std.proofs.lemmas.Bool.{false≢true, and_parts, and_from}
 use Rattle.std.proofs.lemmas.List.{get_or_default}
 use Rattle.std.proofs.lemmas.List.Folds.{list_all-append}
 use Rattle.std.proofs.lemmas.List.Elements.{Contains-get_or, All-contains, All-append, All-cons, All-nil, All-weaker, All-get_or}
 use Rattle.std.proofs.lemmas.Option.{slice_get_within, slice_get-get_or, get_or_from_slice_get}
-use Rattle.std.specs.List.{flat_map, list_all}
+use Rattle.std.specs.List.{flat_map}
 use Rattle.bd_prop.specs.declared.atom.Atom.{Atom}
 use Rattle.bd_prop.specs.declared.node.PropNode.{PropNode}
 use Rattle.bd_prop.specs.declared.node.PropNode.TheVariants.{True, Atom as OfAtom, Not, And, Or, Ite}
-use Rattle.bd_prop.specs.Node.{children, node_truth}
+use Rattle.bd_prop.specs.Node.{children}
 use Rattle.bd_prop.specs.Truth.{truth_at}
 use Rattle.bd_prop.specs.Form.{node_at}
 use Rattle.bd_prop.specs.Graph.{IsGraph, HasOneId, StandsAt, Reaches}
 use Rattle.bd_prop.specs.Graph.Reaches.{Itself}
 use Rattle.bd_prop.proofs.Truths.{node_truth_same, truth-node}
 use Rattle.bd_prop.proofs.Reaching.{reached_at_most, reached_children}
-use Rattle.bd_cnf.specs.Literal.{Literal, literal, negate, literal_value}
+use Rattle.bd_cnf.specs.Literal.{Literal, literal, literal_value}
 use Rattle.bd_cnf.specs.Clause.{IsWithin, clause_value, clauses_value, Satisfies}
 use Rattle.bd_cnf.specs.Problem.{AreWithin}
 use Rattle.bd_cnf.proofs.Literals.{negate-value}
 use Rattle.bd_tseitin.specs.declared.row.AtomVar.{AtomVar}
-use Rattle.bd_tseitin.specs.Definition.{is_gate, definition, AreClauses}
+use Rattle.bd_tseitin.specs.Definition.{is_gate, definition}
 use Rattle.bd_tseitin.specs.Rows.{Agree, AreApart, AreRows, HasAtom}
-use Rattle.bd_tseitin.specs.Form.{IsGateOf, ReachesAtom, definition_at, rows_of, rows_at, IsTseitin}
+use Rattle.bd_tseitin.specs.Form.{ReachesAtom, definition_at, rows_of, rows_at, IsTseitin}
 use Rattle.bd_tseitin.proofs.Joined.{value-AreClauses}
 use Rattle.bd_tseitin.proofs.Gates.{definition_holds, value_from_definition, is_defined}
 use Rattle.bd_tseitin.proofs.Rising.{RowsRise, variables_apart, RowsRise-flat}

@@ -7,3 +7,4 @@ pub mod Rising
 pub mod Within
 pub mod Laws
 pub mod Decoded
+pub mod Further

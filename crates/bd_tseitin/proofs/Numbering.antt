@@ -1,13 +1,13 @@
 -- The literal of each node, and the gates among the nodes that are reached.
-use Rattle.std.proofs.Common.{◌≡◌, ◌⊎◌, ℕ, ◌<◌, ◌≤◌, ◌+◌, Bool, true, false, ◌&&◌, cond, List, [], ◌∷◌, ◌++◌, length, get_or, take, drop, Contains, refl, ap, sym, ◌∙◌, subst, inl, inr, zero, suc, arith, add-one}
-use Rattle.std.proofs.lemmas.Bool.{false≢true, and_parts, and_from, cases_Bool, cases_lt, cases_eq}
+use Rattle.std.proofs.Common.{◌≡◌, ℕ, ◌<◌, ◌≤◌, ◌+◌, Bool, true, false, ◌&&◌, cond, List, [], ◌∷◌, ◌++◌, length, get_or, take, drop, Contains, refl, ap, sym, ◌∙◌, subst, inl, inr, zero, suc, arith}
+use Rattle.std.proofs.lemmas.Bool.{false≢true, and_parts, cases_Bool, cases_lt, cases_eq}
 use Rattle.std.proofs.lemmas.List.{length-take-le, get_or_append_left, get_or_push, length_push}
 use Rattle.std.proofs.lemmas.List.Elements.{Contains-push, Contains-append_left, Contains-push_cases}
-use Rattle.std.proofs.lemmas.Option.{slice_get_within, slice_get-get_or, get_or_from_slice_get}
+use Rattle.std.proofs.lemmas.Option.{slice_get_within, slice_get-get_or}
 use Rattle.bd_list.specs.Grown.{grown}
 use Rattle.bd_list.proofs.Grown.{get-grown_front, get-grown_at, length-grown}
 use Rattle.bd_prop.specs.declared.node.PropNode.{PropNode}
-use Rattle.bd_prop.specs.declared.node.PropNode.TheVariants.{True, Atom as OfAtom, Not, And, Or, Ite}
+use Rattle.bd_prop.specs.declared.node.PropNode.TheVariants.{True, Not}
 use Rattle.bd_prop.specs.Form.{node_at}
 use Rattle.bd_prop.specs.Graph.{IsGraph, StandsAt, IsBelow}
 use Rattle.bd_prop.proofs.Truths.{split_at}

@@ -1,7 +1,7 @@
 -- The parts of the form when the nodes below k are done.
-use Rattle.std.proofs.Common.{◌≡◌, ◌⊎◌, ◌↔◌, ℕ, ◌<◌, ◌≤◌, ◌+◌, Bool, true, false, ◌&&◌, cond, List, [], ◌∷◌, ◌++◌, length, get_or, Contains, All, Option, None, Some, unwrap_or, IsSome, is_some, refl, ap, sym, ◌∙◌, subst, inl, inr, zero, suc, arith}
-use Rattle.std.proofs.lemmas.Bool.{false≢true, true≢false, and_parts, and_from, cases_Bool, cases_lt, cases_eq}
-use Rattle.std.proofs.lemmas.List.{append-nil, append_assoc, get_or_append_left, get_or_push, length_push}
+use Rattle.std.proofs.Common.{◌≡◌, ◌↔◌, ℕ, ◌<◌, ◌≤◌, ◌+◌, Bool, true, false, ◌&&◌, cond, List, [], ◌∷◌, ◌++◌, length, get_or, All, Option, None, Some, unwrap_or, IsSome, is_some, refl, ap, sym, ◌∙◌, subst, inl, inr, suc, arith}
+use Rattle.std.proofs.lemmas.Bool.{false≢true, true≢false, and_parts, and_from, cases_Bool, cases_eq}
+use Rattle.std.proofs.lemmas.List.{append-nil, get_or_append_left, get_or_push, length_push}
 use Rattle.std.proofs.lemmas.Grind.{flat_map-append}
 use Rattle.std.proofs.lemmas.Option.{slice_get_within, slice_get-get_or, get_or_from_slice_get}
 use Rattle.std.specs.List.{flat_map}
@@ -10,12 +10,12 @@ use Rattle.bd_prop.specs.declared.node.PropNode.TheVariants.{True, Atom as OfAto
 use Rattle.bd_prop.specs.Node.{children}
 use Rattle.bd_prop.specs.Form.{node_at}
 use Rattle.bd_prop.specs.Graph.{IsGraph, StandsAt, Reaches, IsBelow}
-use Rattle.bd_prop.proofs.Reaching.{reached_at_most, reached_children}
+use Rattle.bd_prop.proofs.Reaching.{reached_children}
 use Rattle.bd_cnf.specs.Literal.{Literal, literal, negate}
 use Rattle.bd_tseitin.specs.declared.row.AtomVar.{AtomVar}
 use Rattle.bd_tseitin.specs.declared.form.Parts.{Parts}
 use Rattle.bd_tseitin.specs.Definition.{is_gate, and_clauses, or_clauses, ite_clauses, definition, AreClauses}
-use Rattle.bd_tseitin.specs.Form.{IsGateOf, definition_at, rows_of, rows_at, IsTseitin}
+use Rattle.bd_tseitin.specs.Form.{definition_at, rows_of, rows_at, IsTseitin}
 use Rattle.bd_tseitin.specs.inner.Step.{known, AreKnown, Pushes, literal_in, AddsNode}
 use Rattle.bd_tseitin.proofs.Joined.{AreClauses-append}
 use Rattle.bd_tseitin.proofs.Numbering.{is_marked, has_variable, gates, literal_of, literal_for, literal-node, gates_have, have_gates, length-gates, gates_numbered}

@@ -1,9 +1,9 @@
 -- Tseitin's form of a root of a truth graph (Tseitin 1968).
-use Rattle.std.specs.Prelude.{◌≡◌, ◌↔◌, ℕ, ◌+◌, ◌<◌, Bool, true, List, [], ◌∷◌, ◌++◌, length, slice_index, slice_index_or, Contains}
+use Rattle.std.specs.Prelude.{◌≡◌, ◌↔◌, ℕ, ◌+◌, ◌<◌, Bool, true, List, [], ◌∷◌, ◌++◌, length, slice_index, Contains}
 use Rattle.std.specs.List.{flat_map}
 use Rattle.bd_prop.specs.declared.atom.Atom.{Atom}
 use Rattle.bd_prop.specs.declared.node.PropNode.{PropNode}
-use Rattle.bd_prop.specs.declared.node.PropNode.TheVariants.{True, Atom as OfAtom, Not, And, Or, Ite}
+use Rattle.bd_prop.specs.declared.node.PropNode.TheVariants.{Atom as OfAtom, Not}
 use Rattle.bd_prop.specs.Graph.{StandsAt, Reaches}
 use Rattle.bd_prop.specs.Form.{node_at}
 use Rattle.bd_prop.specs.Truth.{truth_at}

@@ -1,10 +1,8 @@
 -- What one node adds to the form of the nodes before it.
-use Rattle.std.specs.Prelude.{◌≡◌, ℕ, ◌+◌, Bool, true, false, ◌&&◌, if◌then◌else◌, List, [], ◌∷◌, ◌++◌, Option, Some, None, unwrap_or, slice_index_or, IsSome, IsTrue, All}
+use Rattle.std.specs.Prelude.{◌≡◌, ℕ, ◌+◌, true, if◌then◌else◌, List, [], ◌∷◌, ◌++◌, Option, Some, None, unwrap_or, slice_index_or, IsSome, All}
 use Rattle.bd_prop.specs.declared.node.PropNode.{PropNode}
-use Rattle.bd_prop.specs.declared.node.PropNode.TheVariants.{True, Atom as OfAtom, Not, And, Or, Ite}
-use Rattle.bd_prop.specs.Node.{children}
+use Rattle.bd_prop.specs.declared.node.PropNode.TheVariants.{Not}
 use Rattle.bd_cnf.specs.Literal.{Literal, literal, negate}
-use Rattle.bd_tseitin.specs.declared.row.AtomVar.{AtomVar}
 use Rattle.bd_tseitin.specs.declared.form.Parts.{Parts}
 use Rattle.bd_tseitin.specs.Definition.{is_gate, definition, AreClauses}
 use Rattle.bd_tseitin.specs.Form.{rows_of}

@@ -6,7 +6,7 @@ use Rattle.bd_cnf.specs.Clause.{Satisfies}
 use Rattle.bd_cnf.specs.Problem.{Problem, problem, AreWithin}
 use Rattle.bd_tseitin.specs.declared.row.AtomVar.{AtomVar}
 use Rattle.bd_tseitin.specs.Rows.{AreRows, Agree, HasAtom}
-use Rattle.bd_tseitin.specs.Form.{IsTseitin, Extends, ReachesAtom}
+use Rattle.bd_tseitin.specs.Form.{IsTseitin, Extends}
 use Rattle.bd_tseitin.proofs.Laws.{within_form, AreRows-form, denoted, denoted_satisfies, denoted_agrees, value-denoted, satisfied_holds, rows_exact}
 use Rattle.bd_tseitin.proofs.form.clauses.Goals as goal
 

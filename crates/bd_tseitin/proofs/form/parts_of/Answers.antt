@@ -1,10 +1,10 @@
-use Rattle.std.proofs.Common.{◌≡◌, ◌↔◌, ◌<◌, ◌≤◌, ◌+◌, ◌∙◌, ℕ, Bool, true, false, List, [], ◌∷◌, None, Some, IsSome, length, get_or, refl, ap, sym, subst, arith, suc, add-one}
+use Rattle.std.proofs.Common.{◌≡◌, ◌↔◌, ◌<◌, ◌≤◌, ◌∙◌, ℕ, Bool, true, false, List, [], ◌∷◌, None, IsSome, length, get_or, refl, ap, sym, subst, arith, suc, add-one}
 use Rattle.std.proofs.lemmas.Option.{slice_get-get_or, same_Some}
 use Rattle.bd_prop.specs.declared.node.PropNode.{PropNode}
 use Rattle.bd_prop.specs.declared.node.PropNode.TheVariants.{True}
 use Rattle.bd_prop.specs.Graph.{StandsAt, Reaches}
 use Rattle.bd_prop.specs.Graph.Reaches.{Itself}
-use Rattle.bd_tseitin.specs.inner.Step.{Pushes, AddsNode}
+use Rattle.bd_tseitin.specs.inner.Step.{Pushes}
 use Rattle.bd_tseitin.proofs.Numbering.{is_marked, literal_of}
 use Rattle.bd_tseitin.proofs.Stage.{IsStage, stage_start, stage_skip, stage_add, marked_children, children_known, root_known, vars_at_most, IsTseitin-stage}
 use Rattle.bd_tseitin.proofs.form.parts_of.Goals as goal

@@ -1,11 +1,11 @@
-use Rattle.std.proofs.Common.{◌≡◌, ◌<◌, ◌≤◌, ◌∙◌, ℕ, Bool, List, length, get_or, cond, Some, All, subst, sym, ap, arith}
-use Rattle.bd_prop.specs.Values.{truth_of, held, is_atom}
+use Rattle.std.proofs.Common.{◌≡◌, ◌≤◌, ◌∙◌, ℕ, Bool, List, length, get_or, cond, Some, subst, sym, ap, arith}
+use Rattle.bd_prop.specs.Values.{held, is_atom}
 use Rattle.bd_prop.specs.declared.atom.Atom.{Atom}
 use Rattle.bd_prop.specs.declared.atom.Atom.TheVariants.{Edge}
 use Rattle.std.proofs.lemmas.Option.{slice_get-get_or}
 use Rattle.bd_cnf.specs.Assignment.{value_of}
 use Rattle.bd_tseitin.specs.declared.row.AtomVar.{AtomVar}
-use Rattle.bd_tseitin.specs.Rows.{AreApart, HasAtom, Agree}
+use Rattle.bd_tseitin.specs.Rows.{AreApart}
 use Rattle.bd_tseitin.proofs.Decoded.{AreInputs, AreInputs-start, AreInputs-more, rows_held, rows_agree}
 use Rattle.bd_tseitin.proofs.inputs.inputs_of.Goals as goal
 
