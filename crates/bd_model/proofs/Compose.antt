@@ -1,5 +1,5 @@
 -- A pipeline is right over every run exactly where no fitting case breaks a condition, by any abstraction.
-use Rattle.std.proofs.Common.{◌≡◌, ℕ, zero, suc, ◌+◌, ◌<◌, ◌≤◌, List, [], ◌∷◌, length, take, refl, ap, sym, subst, arith}
+use Rattle.std.proofs.Common.{◌≡◌, ℕ, zero, suc, ◌+◌, ◌<◌, ◌≤◌, List, [], ◌∷◌, length, take, refl, ap, sym, ◌∙◌, subst, arith}
 use Rattle.std.specs.Prelude.{slice_index, slice_index_or}
 use Rattle.std.specs.List.{AllByRecursion, sum}
 use Rattle.std.proofs.lemmas.List.Sums.{sum_by-cons}
@@ -19,7 +19,7 @@ use Rattle.bd_model.specs.declared.case.Case.{Case}
 use Rattle.bd_model.specs.declared.case.Trail.{Trail}
 use Rattle.bd_model.specs.declared.case.Condition.{Condition}
 use Rattle.bd_model.specs.declared.case.Condition.TheVariants as condition
-use Rattle.bd_model.proofs.SameLemmas.{Same-refl, Same-trans, Same-spec_steps, spec_steps-add}
+use Rattle.bd_model.proofs.SameLemmas.{Same-refl, Same-sym, Same-trans, Same-spec_steps, spec_steps-add}
 use Rattle.bd_model.proofs.Settled.{IsTrue-settled, Commutes-settled, settled_holds}
 use Rattle.bd_model.proofs.SortLemmas.{StateFits-step, StateFits-after}
 
@@ -114,26 +114,41 @@ right_by d abs lawful none t fits inside =
       follows d abs t.interp t.inputs t.state (λ n h. keeps d abs none _ (Fits-cycle d t lawful fits n h) (stays n) condition.Commute),
     )
 
-sum-first : (counts : List ℕ) → length counts ≡ 1 → sum (take 1 counts) ≡ slice_index counts 0
-sum-first [] h = absurd (omega (arith, h))
-sum-first (j ∷ js) h = omega arith
+-- the state after one cycle more
+after-take_more : (d : DesignView) (interp : List Table) (inputs : List (List Scalar)) (state : List Value) (n : ℕ) → n < length inputs → after d interp state (take (suc n) inputs) ≡ step d.pipe interp (after d interp state (take n inputs)) (slice_index_or inputs n [])
+after-take_more d interp [] state n h = absurd (omega (arith, h))
+after-take_more d interp (x ∷ xs) state zero h = refl
+after-take_more d interp (x ∷ xs) state (suc n) h = after-take_more d interp xs (step d.pipe interp state x) n (omega (arith, h))
 
--- the first cycle of a run that is followed commutes
-commutes_first : (d : DesignView) (abs : Abstraction) (interp : List Table) (state : List Value) (x : List Scalar) (counts : List ℕ) → FollowsBy d abs (record { interp = interp; state = state; inputs = x ∷ [] }) counts → CommutesBy d abs interp state x
-commutes_first d abs interp state x counts run = (
-  slice_index counts 0,
-  run.few 0 (omega arith),
-  (
-    run.allowed 0 (omega arith),
-    subst (λ n. Same (abs interp (step d.pipe interp state x)) (spec_steps n d interp (abs interp state))) (sum-first counts run.each) (run.stands 1 (omega arith)),
-  ),
-)
+sum-take_more : (counts : List ℕ) (n : ℕ) → n < length counts → sum (take (suc n) counts) ≡ sum (take n counts) + slice_index counts n
+sum-take_more [] n h = absurd (omega (arith, h))
+sum-take_more (j ∷ js) zero h = omega arith
+sum-take_more (j ∷ js) (suc n) h =
+    let more : sum (j ∷ take (suc n) js) ≡ j + sum (take (suc n) js) = sum_by-cons (λ m. m) j (take (suc n) js) in
+    let before : sum (j ∷ take n js) ≡ j + sum (take n js) = sum_by-cons (λ m. m) j (take n js) in
+    let rest : sum (take (suc n) js) ≡ sum (take n js) + slice_index js n = sum-take_more js n (omega (arith, h)) in
+    more ∙ ap (λ m. j + m) rest ∙ omega (arith, before)
+
+-- each cycle of a run that is followed commutes
+pub commutes-followed : (d : DesignView) (abs : Abstraction) (t : Trail) (counts : List ℕ) → FollowsBy d abs t counts → (n : ℕ) → n < length t.inputs → CommutesBy d abs t.interp (state_after d t n) (inputs_at t n)
+commutes-followed d abs t counts run n h =
+    let i = sum (take n counts) in
+    let j = slice_index counts n in
+    let base = abs t.interp t.state in
+    let within : n < length counts = omega (arith, h, run.each) in
+    let led : Same (spec_steps j d t.interp (abs t.interp (state_after d t n))) (spec_steps (i + j) d t.interp base) =
+    subst (λ a. Same (spec_steps j d t.interp (abs t.interp (state_after d t n))) a) (spec_steps-add j i d t.interp base)
+    (Same-spec_steps j d t.interp _ _ (run.stands n (omega (arith, h)))) in
+    let there : Same (abs t.interp (step d.pipe t.interp (state_after d t n) (inputs_at t n))) (spec_steps (i + j) d t.interp base) =
+    subst (λ s. Same (abs t.interp s) (spec_steps (i + j) d t.interp base)) (after-take_more d t.interp t.inputs t.state n h)
+    (subst (λ m. Same (abs t.interp (state_after d t (suc n))) (spec_steps m d t.interp base)) (sum-take_more counts n within) (run.stands (suc n) (omega (arith, h)))) in
+    (j, run.few n h, (run.allowed n h, Same-trans _ _ _ there (Same-sym _ _ led)))
 
 -- a pipeline that is right over the run of one cycle isn't broken by it
 unbroken : (d : DesignView) (abs : Abstraction) → RightBy d abs → (c : Case) → Fits d c → MeetsInvariant d c.interp c.state → (which : Condition) → ConditionHoldsBy d abs c which
 unbroken d abs right c fits inside which =
     let run = right (record { interp = c.interp; state = c.state; inputs = c.inputs ∷ [] }) (record { interp = fits.interp; state = fits.state; inputs = (fits.inputs, tt) }) inside in
-    holds (run.0 1 (omega arith)) (commutes_first d abs c.interp c.state c.inputs run.1.0 run.1.1) which where
+    holds (run.0 1 (omega arith)) (commutes-followed d abs _ run.1.0 run.1.1 0 (omega arith)) which where
       holds : KeepsInvariant d c.interp c.state c.inputs → CommutesBy d abs c.interp c.state c.inputs → (which : Condition) → ConditionHoldsBy d abs c which
       holds kept commutes condition.Invariant = kept
       holds kept commutes condition.Commute = commutes

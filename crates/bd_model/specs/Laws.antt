@@ -1,15 +1,18 @@
 -- The laws of designs, cases and runs.
-use Rattle.std.specs.Prelude.{◌≡◌, ◌↔◌}
+use Rattle.std.specs.Prelude.{◌≡◌, ◌↔◌, ◌≤◌, ℕ, length}
 use Rattle.bd_model.specs.DesignView.{DesignView}
-use Rattle.bd_model.specs.Fits.{Fits}
+use Rattle.bd_model.specs.Fits.{Fits, TrailFits}
 use Rattle.bd_model.specs.Lawful.{IsLawful}
 use Rattle.bd_model.specs.Cycle.{flushed}
 use Rattle.bd_model.specs.Conditions.{Abstraction, BreaksBy, JudgedBy}
-use Rattle.bd_model.specs.Right.{RightBy, IsRight, Agrees}
+use Rattle.bd_model.specs.Right.{RightBy, IsRight, BoundedRight, Agrees}
+use Rattle.bd_model.specs.TrailJudged.{IsTrailJudged}
 use Rattle.bd_model.specs.declared.case.Case.{Case}
 use Rattle.bd_model.specs.declared.case.Condition.{Condition}
 use Rattle.bd_model.specs.declared.case.Judged.{Judged}
 use Rattle.bd_model.specs.declared.case.Judged.TheVariants as judged
+use Rattle.bd_model.specs.declared.case.Trail.{Trail}
+use Rattle.bd_model.specs.declared.case.TrailJudged.TheVariants as trail
 
 -- no fitting case breaks a condition
 abbrev pub NoCaseBreaksBy : DesignView → Abstraction → Type 0
@@ -31,6 +34,14 @@ CyclesComposeBy =
 abbrev pub AgreementKeepsRight : Type 0
 AgreementKeepsRight =
     (d : DesignView) (abs : Abstraction) → IsLawful d → Agrees d abs → IsRight d → RightBy d abs
+
+-- a pipeline is right over so many cycles exactly where no fitting trail of at most so many is judged broken
+abbrev pub TrailsDecide : Type 0
+TrailsDecide =
+    (d : DesignView) (cycles : ℕ) →
+    ((t : Trail) → TrailFits d t → length t.inputs ≤ cycles →
+    (cycle : ℕ) → ¬ IsTrailJudged d t (trail.Broken cycle))
+    ↔ BoundedRight d cycles
 
 -- no case is judged in two ways
 abbrev pub JudgedOnce : Type 0

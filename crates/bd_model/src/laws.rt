@@ -5,7 +5,7 @@
 //! Steps of the specification take states that can't be told apart to such states, so the numbers of steps of two
 //! cycles add up, and by induction over the inputs those of a whole run follow it. Nothing of this rests on what the
 //! abstraction is: flushing is one, and completion functions are another.
-ghost use Rattle.bd_model.specs.Laws.{CyclesCompose, CyclesComposeBy, AgreementKeepsRight, JudgedOnce, AlwaysJudged, BrokenBreaks};
+ghost use Rattle.bd_model.specs.Laws.{CyclesCompose, CyclesComposeBy, AgreementKeepsRight, TrailsDecide, JudgedOnce, AlwaysJudged, BrokenBreaks};
 
 /// Cycles compose: a lawful pipeline is right over every run exactly where no single fitting case breaks a
 /// condition (Burch and Dill 1994, over finite tables and every list of inputs).
@@ -21,6 +21,12 @@ pub fn cycles_compose_by()
 /// A right pipeline is right by each abstraction that agrees with flushing.
 pub fn agreement_keeps_right()
     ensures { AgreementKeepsRight }
+{}
+
+/// A pipeline is right over a bounded number of cycles exactly where no fitting trail of at most so many is judged
+/// broken.
+pub fn trails_decide()
+    ensures { TrailsDecide }
 {}
 
 /// No two judgements are true of one case.

@@ -20,7 +20,7 @@ pub use design::{
 pub use expr::{Expr, Exprs};
 pub use laws::{
     agreement_keeps_right, always_judged, broken_breaks, cycles_compose, cycles_compose_by,
-    judged_once,
+    judged_once, trails_decide,
 };
 pub use table::{Memory, Row, Rows, Scalar, Slot, Slots, Table, Value, Words};
 

@@ -15,5 +15,7 @@ trace_of (suc n) m interp state inputs =
 -- the k-th state of a trace, from 0, is the one after k cycles with these inputs
 abbrev pub TraceIsRun : Type 0
 TraceIsRun =
-    (d : DesignView) (interp : List Table) (state : List Value) (inputs : List Scalar) (n k : ℕ) → k ≤ n →
-    slice_get (trace_of n d.pipe interp state inputs) k ≡ Some (after d interp state (replicate k inputs))
+    (d : DesignView) (interp : List Table) (state : List Value) (inputs : List Scalar) (n k : ℕ) →
+    k ≤ n →
+    slice_get (trace_of n d.pipe interp state inputs) k
+    ≡ Some (after d interp state (replicate k inputs))
