@@ -1,14 +1,14 @@
 -- Denotations stay when a graph grows.
-use Rattle.std.proofs.Common.{◌≡◌, ℕ, ◌<◌, List, [], ◌∷◌, ◌++◌, length, slice_get, take, drop, Some, ◌+◌, map, refl, ap, sym, ◌∙◌, arith, length-append, true, false, not, ◌&&◌, ◌||◌, ◌==◌, if◌then◌else◌}
+use Rattle.std.proofs.Common.{◌≡◌, ℕ, ◌<◌, List, [], ◌∷◌, ◌++◌, length, slice_get, take, drop, Some, ◌+◌, map, refl, ap, sym, ◌∙◌, false}
 use Rattle.std.specs.List.{All}
 use Rattle.std.proofs.lemmas.List.Elements.{All-head, All-tail}
-use Rattle.bd_list.proofs.Grown.{get-grown_front, get-grown_at}
+use Rattle.bd_list.proofs.Grown.{get-grown_front}
 use Rattle.bd_model.specs.declared.design.Sort.TheVariants as sort
 use Rattle.bd_terms.specs.declared.node.Node.{Node}
 use Rattle.bd_terms.specs.declared.node.Node.TheVariants.{True, Not, And, Or, Ite, Eq, App, Pred, Read, Write, Init}
 use Rattle.bd_terms.specs.Graph.{HasSort, FitsSorts, IsGraph}
 use Rattle.bd_terms.proofs.Places.{around, grown-get}
-use Rattle.bd_terms.specs.Denotation.{World, Denoted, Truth, truth_of, word_of, contents_of, at_place, node_value, values, denoted}
+use Rattle.bd_terms.specs.Denotation.{World, Truth, word_of, node_value, values, denoted}
 
 -- what a node denotes stays when the graph grows
 pub denoted-front : (w : World) (xs ys : List Node) (id : ℕ) → id < length xs → denoted w (xs ++ ys) id ≡ denoted w xs id

@@ -1,8 +1,7 @@
 -- What a graph keeps when a node is put behind the others.
-use Rattle.std.proofs.Common.{◌≡◌, ℕ, zero, suc, ◌+◌, ◌<◌, ◌≤◌, ◌⊎◌, inl, inr, List, [], ◌∷◌, ◌++◌, length, slice_get, take, drop, Some, Contains, refl, ap, sym, ◌∙◌, subst, arith, length-append}
+use Rattle.std.proofs.Common.{◌≡◌, ℕ, zero, suc, ◌+◌, ◌<◌, ◌⊎◌, inl, inr, List, [], ◌∷◌, ◌++◌, length, slice_get, take, drop, Some, Contains, refl, ap, sym, ◌∙◌, subst, arith, length-append}
 use Rattle.std.specs.List.{All}
-use Rattle.bd_list.specs.Grown.{grown}
-use Rattle.bd_list.proofs.Grown.{grown-push, length-grown, get-grown_front, get-grown_at}
+use Rattle.bd_list.proofs.Grown.{grown-push, get-grown_front}
 use Rattle.bd_model.specs.declared.design.Sort.{Sort}
 use Rattle.bd_model.specs.declared.design.Sort.TheVariants as sort
 use Rattle.bd_terms.specs.declared.node.Node.{Node}

@@ -1,5 +1,5 @@
 -- What stays when a graph grows by the calls that build terms.
-use Rattle.std.proofs.Common.{◌≡◌, ℕ, ◌<◌, ◌⊎◌, inl, inr, List, [], ◌∷◌, ◌++◌, length, slice_get, Some, Contains, refl, ap, sym, ◌∙◌, subst, arith, append_assoc, length-append}
+use Rattle.std.proofs.Common.{◌≡◌, ℕ, ◌<◌, inl, inr, List, [], ◌++◌, length, slice_get, Some, Contains, ap, sym, ◌∙◌, subst, arith, append_assoc, length-append}
 use Rattle.std.specs.List.{All}
 use Rattle.std.proofs.lemmas.List.{append-nil}
 use Rattle.std.proofs.lemmas.List.Elements.{Contains-append_cases, Contains-append_left, Contains-append_right, All-weaker}
@@ -49,22 +49,31 @@ pub AddsUses-self : (nodes : List Node) (more : List Use) → AddsUses nodes nod
 AddsUses-self nodes more = record { within = λ u p. Contains-append_left (uses nodes) more u p }
 
 pub AddsUses-more : (old new : List Node) (few many : List Use) → ((u : Use) → Contains few u → Contains many u) → AddsUses old new few → AddsUses old new many
-AddsUses-more old new few many h a = record { within = λ u p. elim (Contains-append_cases (uses old) few u (a.within u p)) [
-    inl q ↦ Contains-append_left (uses old) many u q
-  | inr q ↦ Contains-append_right (uses old) many u (h u q) ] }
+AddsUses-more old new few many h a = record {
+  within = λ u p. elim (Contains-append_cases (uses old) few u (a.within u p)) [
+    | inl q ↦ Contains-append_left (uses old) many u q
+    | inr q ↦ Contains-append_right (uses old) many u (h u q)
+  ];
+}
 
 pub AddsUses-trans : (a b c : List Node) (more : List Use) → AddsUses a b more → AddsUses b c more → AddsUses a c more
-AddsUses-trans a b c more p q = record { within = λ u h. elim (Contains-append_cases (uses b) more u (q.within u h)) [
-    inl k ↦ p.within u k
-  | inr k ↦ Contains-append_right (uses a) more u k ] }
+AddsUses-trans a b c more p q = record {
+  within = λ u h. elim (Contains-append_cases (uses b) more u (q.within u h)) [
+    | inl k ↦ p.within u k
+    | inr k ↦ Contains-append_right (uses a) more u k
+  ];
+}
 
 -- a symbol keeps its arity and sort where what is added does
 pub KeepsSymbol-AddsUses : (old new : List Node) (more : List Use) → AddsUses old new more → (symbol : Sym) (arity : ℕ) (s : Sort)
     → ((u : Use) → Contains more u → u.symbol ≡ symbol → (u.arity ≡ arity) × (u.sort ≡ s))
     → KeepsSymbol old symbol arity s → KeepsSymbol new symbol arity s
-KeepsSymbol-AddsUses old new more a symbol arity s h k = record { keeps = λ u p e. elim (Contains-append_cases (uses old) more u (a.within u p)) [
-    inl q ↦ k.keeps u q e
-  | inr q ↦ h u q e ] }
+KeepsSymbol-AddsUses old new more a symbol arity s h k = record {
+  keeps = λ u p e. elim (Contains-append_cases (uses old) more u (a.within u p)) [
+    | inl q ↦ k.keeps u q e
+    | inr q ↦ h u q e
+  ];
+}
 
 -- so it does where nothing is added
 pub KeepsSymbol-none : (old new : List Node) → AddsUses old new [] → (symbol : Sym) (arity : ℕ) (s : Sort) → KeepsSymbol old symbol arity s → KeepsSymbol new symbol arity s

@@ -7,3 +7,4 @@ pub mod Growth
 pub mod Reaching
 pub mod Resting
 pub mod Symbols
+pub mod Older

@@ -1,7 +1,7 @@
 -- One pass downwards marks what a root reaches, and a denotation rests on no other symbol.
-use Rattle.std.proofs.Common.{◌≡◌, ◌≢◌, ℕ, zero, suc, ◌+◌, ◌<◌, ◌≤◌, ◌⊎◌, inl, inr, Bool, true, false, ◌==◌, List, [], ◌∷◌, ◌++◌, length, slice_get, slice_index_or, slice_set, map, take, Some, Contains, refl, ap, sym, ◌∙◌, subst, arith, true≢false, eqb-true, eq-eqb, get_or-set_same, get_or-set_other, length-set, replicate}
+use Rattle.std.proofs.Common.{◌≡◌, ◌≢◌, ℕ, zero, suc, ◌<◌, ◌≤◌, ◌⊎◌, inl, inr, Bool, true, false, ◌==◌, List, [], ◌∷◌, length, slice_get, slice_index_or, slice_set, take, Some, Contains, refl, ap, sym, ◌∙◌, subst, arith, true≢false, eqb-true, eq-eqb, get_or-set_same, get_or-set_other, length-set, replicate}
 use Rattle.std.specs.List.{All}
-use Rattle.std.proofs.lemmas.Option.{slice_get_within, slice_get-get_or, none-some, same_Some, slice_get_past}
+use Rattle.std.proofs.lemmas.Option.{slice_get_within, none-some, same_Some, slice_get_past}
 use Rattle.std.proofs.lemmas.List.{length-take-le, length-replicate}
 use Rattle.std.proofs.lemmas.List.Elements.{All-nil, All-cons, All-contains, All-head, All-tail, All-weaker, Contains-append_right}
 use Rattle.bd_model.specs.declared.design.Sort.TheVariants as sort
@@ -83,8 +83,9 @@ marked-stays marks (c ∷ cs) k h = marked-stays (slice_set marks c true) cs k (
 marked-cases : (marks : List Bool) (cs : List ℕ) (k : ℕ) → mark_at (marked marks cs) k ≡ true → (mark_at marks k ≡ true) ⊎ Contains cs k
 marked-cases marks [] k h = inl h
 marked-cases marks (c ∷ cs) k h = elim (marked-cases (slice_set marks c true) cs k h) [
-    inl p ↦ elim (set-cases marks c k p) [ inl q ↦ inl q | inr e ↦ inr (0, omega arith, e) ]
-  | inr p ↦ inr (Contains-append_right (c ∷ []) cs k p) ]
+  | inl p ↦ elim (set-cases marks c k p) [ inl q ↦ inl q | inr e ↦ inr (0, omega arith, e) ]
+  | inr p ↦ inr (Contains-append_right (c ∷ []) cs k p)
+]
 
 -- each of those places is marked
 marked-there : (marks : List Bool) (cs : List ℕ) → All (λ c. c < length marks) cs → (k : ℕ) → Contains cs k → mark_at (marked marks cs) k ≡ true
@@ -116,8 +117,9 @@ IsMarked-root nodes root inside = record {
   size = length-set (replicate (length nodes) false) root true ∙ length-replicate (length nodes) false;
   rooted = get_or-set_same (replicate (length nodes) false) root true false (omega (arith, length-replicate (length nodes) false, inside));
   sound = λ k h. elim (set-cases (replicate (length nodes) false) root k h) [
-      inl p ↦ absurd (unmarked (length nodes) k p)
-    | inr e ↦ subst (Reaches nodes root) e Root ];
+    | inl p ↦ absurd (unmarked (length nodes) k p)
+    | inr e ↦ subst (Reaches nodes root) e Root
+  ];
   closed = λ k node le h there. absurd (none-some node (sym (slice_get_past nodes k le) ∙ there));
 }
 
@@ -134,8 +136,9 @@ IsMarked-pass nodes root place marks m none = record {
   rooted = m.rooted;
   sound = m.sound;
   closed = λ k node le h there c p. elim (le-cases place k le) [
-      inl lt ↦ m.closed k node lt h there c p
-    | inr e ↦ absurd (true≢false (sym h ∙ ap (mark_at marks) (sym e) ∙ none)) ];
+    | inl lt ↦ m.closed k node lt h there c p
+    | inr e ↦ absurd (true≢false (sym h ∙ ap (mark_at marks) (sym e) ∙ none))
+  ];
 }
 
 -- at a place with a mark what its node stands over is marked
@@ -145,17 +148,20 @@ IsMarked-mark nodes g root place marks node m here at = record {
   size = length-marked marks (children node) ∙ m.size;
   rooted = marked-stays marks (children node) root m.rooted;
   sound = λ k h. elim (marked-cases marks (children node) k h) [
-      inl p ↦ m.sound k p
-    | inr p ↦ Child place node k (m.sound place here) at p ];
+    | inl p ↦ m.sound k p
+    | inr p ↦ Child place node k (m.sound place here) at p
+  ];
   closed = λ k n le h there c p. elim (le-cases place k le) [
-      inl lt ↦ elim (marked-cases marks (children node) k h) [
-          inl q ↦ marked-stays marks (children node) c (m.closed k n lt q there c p)
-        | inr q ↦ let below = children-below nodes g place node at k q in absurd (omega (arith, below)) ]
+    | inl lt ↦ elim (marked-cases marks (children node) k h) [
+      | inl q ↦ marked-stays marks (children node) c (m.closed k n lt q there c p)
+      | inr q ↦ let below = children-below nodes g place node at k q in absurd (omega (arith, below))
+    ]
     | inr e ↦
         let same : n ≡ node = same_Some n node (sym there ∙ ap (slice_get nodes) (sym e) ∙ at) in
         marked-there marks (children node)
         (subst (λ l. All (λ j. j < l) (children node)) (sym m.size) (children-inside nodes node (FitsSorts-get nodes g place node at)))
-        c (subst (λ x. Contains (children x) c) same p) ];
+        c (subst (λ x. Contains (children x) c) same p)
+  ];
 }
 
 -- in the end all that is reached is marked

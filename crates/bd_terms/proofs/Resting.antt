@@ -1,16 +1,14 @@
 -- What a root denotes rests on no symbol but those that it reaches.
-use Rattle.std.proofs.Common.{◌≡◌, ℕ, zero, suc, ◌<◌, List, [], ◌∷◌, length, slice_get, slice_index_or, map, Some, Contains, refl, ap, sym, ◌∙◌, arith, not, ◌&&◌, ◌||◌, ◌==◌, if◌then◌else◌, Bool}
+use Rattle.std.proofs.Common.{◌≡◌, ℕ, zero, suc, ◌<◌, List, [], ◌∷◌, length, slice_get, slice_index_or, map, Some, Contains, refl, ap, sym, ◌∙◌, arith}
 use Rattle.std.proofs.lemmas.Option.{slice_get-get_or}
 use Rattle.std.proofs.lemmas.List.Elements.{Contains-append_right}
 use Rattle.bd_model.specs.Table.{at}
 use Rattle.bd_model.specs.Value.{scalar_truth, scalar_word}
-use Rattle.bd_model.specs.declared.design.Sort.TheVariants as sort
-use Rattle.bd_terms.specs.declared.node.Sym.TheVariants as sym
 use Rattle.bd_terms.specs.declared.node.Node.{Node}
 use Rattle.bd_terms.specs.declared.node.Node.TheVariants.{True, Not, And, Or, Ite, Eq, App, Pred, Read, Write, Init}
 use Rattle.bd_terms.specs.Graph.{IsGraph, Use, children, node_uses}
-use Rattle.bd_terms.specs.Denotation.{World, Denoted, Truth, Word, Contents, truth_of, word_of, contents_of, at_place, written, node_value, values, denoted, applied, holds}
-use Rattle.bd_terms.specs.Reaches.{Reaches, Root, Child, ReachesUse, AgreeBelow}
+use Rattle.bd_terms.specs.Denotation.{World, Denoted, Truth, Word, Contents, word_of, at_place, node_value, values, denoted, applied, holds}
+use Rattle.bd_terms.specs.Reaches.{Reaches, Root, Child, AgreeBelow}
 use Rattle.bd_terms.proofs.Denotations.{denoted-get}
 use Rattle.bd_terms.proofs.Reaching.{children-below}
 
@@ -60,9 +58,9 @@ denoted-alike_below v w nodes g root agree (suc n) i lt inside r =
     let there : slice_get nodes i ≡ Some node = slice_get-get_or nodes i True inside in
     denoted-get v nodes g i node there
     ∙ node_value-alike v w (values v nodes) (values w nodes) node
-      (λ c p. let below = children-below nodes g i node there c p in
-        denoted-alike_below v w nodes g root agree n c (omega (arith, below)) (omega (arith, below)) (Child i node c r there p))
-      (λ u p. agree.alike u (record { id = i; node = node; reached = r; there = there; applies = p }))
+    (λ c p. let below = children-below nodes g i node there c p in
+    denoted-alike_below v w nodes g root agree n c (omega (arith, below)) (omega (arith, below)) (Child i node c r there p))
+    (λ u p. agree.alike u (record { id = i; node = node; reached = r; there = there; applies = p }))
     ∙ sym (denoted-get w nodes g i node there)
 
 -- worlds that agree on the symbols that the root reaches give the root one denotation

@@ -1,6 +1,6 @@
 -- A simplified term has the sort and the denotation of the term.
-use Rattle.std.proofs.Common.{◌≡◌, ℕ, zero, suc, ◌<◌, ◌≤◌, ◌⊎◌, inl, inr, Bool, true, false, not, ◌&&◌, ◌||◌, ◌==◌, if◌then◌else◌, List, [], ◌∷◌, ◌++◌, length, slice_get, slice_index_or, Option, Some, None, take, drop, refl, ap, sym, ◌∙◌, subst, arith, true≢false, eqb-true, eq-eqb}
-use Rattle.std.proofs.lemmas.Option.{slice_get_within, slice_get-get_or}
+use Rattle.std.proofs.Common.{◌≡◌, ℕ, zero, suc, ◌<◌, ◌≤◌, ◌⊎◌, inl, inr, Bool, true, false, not, ◌&&◌, ◌||◌, ◌==◌, if◌then◌else◌, List, [], length, slice_get, slice_index_or, Option, Some, None, take, drop, refl, ap, sym, ◌∙◌, arith, true≢false, eqb-true, eq-eqb}
+use Rattle.std.proofs.lemmas.Option.{slice_get-get_or}
 use Rattle.std.proofs.lemmas.List.{length-take-le, take-append-drop}
 use Rattle.bd_model.specs.declared.design.Sort.{Sort}
 use Rattle.bd_model.specs.declared.design.Sort.TheVariants as sort
@@ -9,9 +9,9 @@ use Rattle.bd_terms.specs.declared.node.Node.TheVariants.{True, Not, And, Or, It
 use Rattle.bd_terms.specs.declared.simplify.Form.{Form}
 use Rattle.bd_terms.specs.declared.simplify.Form.TheVariants.{Same, Built}
 use Rattle.bd_terms.specs.Graph.{HasSort, FitsSorts, IsGraph, sorts, sort_at, node_sort, node_uses}
-use Rattle.bd_terms.specs.Denotation.{World, Denoted, Truth, Word, Contents, truth_of, word_of, contents_of, at_place, node_value, values, denoted, denoted_sort, truth, word, contents}
+use Rattle.bd_terms.specs.Denotation.{World, Denoted, Truth, Word, Contents, truth_of, word_of, contents_of, node_value, values, denoted, denoted_sort, truth, word, contents}
 use Rattle.bd_terms.specs.Simplified.{node_is_true, node_is_false, is_true, is_false, negated, simplified}
-use Rattle.bd_terms.proofs.Graphs.{FitsSorts-get, sort_at-get, HasSort-front, sort_at-front}
+use Rattle.bd_terms.proofs.Graphs.{FitsSorts-get, sort_at-get, sort_at-front}
 use Rattle.bd_terms.proofs.Denotations.{denoted-get}
 
 if-sort : (t : Bool) (x y : Denoted) (s : Sort) → denoted_sort x ≡ s → denoted_sort y ≡ s → denoted_sort (if t then x else y) ≡ s
@@ -196,28 +196,28 @@ simplified-value w nodes g (And a b) fits =
     let P : Form → Type 0 = λ f. form_value w nodes f ≡ Truth (truth w nodes a && truth w nodes b) in
     if-either P (is_true nodes a || is_false nodes b || a == b) (Same b) (if is_false nodes a || is_true nodes b then Same a else Built (And a b))
     (λ h. denoted-truth w nodes g b fits.1 ∙ ap Truth (and-second (truth w nodes a) (truth w nodes b)
-      (or-three (is_true nodes a) (is_false nodes b) (a == b) h (truth-true w nodes g a) (truth-false w nodes g b) (λ e. ap (truth w nodes) (eqb-true a b e)))))
+    (or-three (is_true nodes a) (is_false nodes b) (a == b) h (truth-true w nodes g a) (truth-false w nodes g b) (λ e. ap (truth w nodes) (eqb-true a b e)))))
     (λ _. if-either P (is_false nodes a || is_true nodes b) (Same a) (Built (And a b))
-      (λ h. denoted-truth w nodes g a fits.0 ∙ ap Truth (and-first (truth w nodes a) (truth w nodes b)
-        (or-two (is_false nodes a) (is_true nodes b) h (truth-false w nodes g a) (truth-true w nodes g b))))
-      (λ _. refl))
+    (λ h. denoted-truth w nodes g a fits.0 ∙ ap Truth (and-first (truth w nodes a) (truth w nodes b)
+    (or-two (is_false nodes a) (is_true nodes b) h (truth-false w nodes g a) (truth-true w nodes g b))))
+    (λ _. refl))
 simplified-value w nodes g (Or a b) fits =
     let P : Form → Type 0 = λ f. form_value w nodes f ≡ Truth (truth w nodes a || truth w nodes b) in
     if-either P (is_false nodes a || is_true nodes b || a == b) (Same b) (if is_true nodes a || is_false nodes b then Same a else Built (Or a b))
     (λ h. denoted-truth w nodes g b fits.1 ∙ ap Truth (or-second (truth w nodes a) (truth w nodes b)
-      (or-three (is_false nodes a) (is_true nodes b) (a == b) h (truth-false w nodes g a) (truth-true w nodes g b) (λ e. ap (truth w nodes) (eqb-true a b e)))))
+    (or-three (is_false nodes a) (is_true nodes b) (a == b) h (truth-false w nodes g a) (truth-true w nodes g b) (λ e. ap (truth w nodes) (eqb-true a b e)))))
     (λ _. if-either P (is_true nodes a || is_false nodes b) (Same a) (Built (Or a b))
-      (λ h. denoted-truth w nodes g a fits.0 ∙ ap Truth (or-first (truth w nodes a) (truth w nodes b)
-        (or-two (is_true nodes a) (is_false nodes b) h (truth-true w nodes g a) (truth-false w nodes g b))))
-      (λ _. refl))
+    (λ h. denoted-truth w nodes g a fits.0 ∙ ap Truth (or-first (truth w nodes a) (truth w nodes b)
+    (or-two (is_true nodes a) (is_false nodes b) h (truth-true w nodes g a) (truth-false w nodes g b))))
+    (λ _. refl))
 simplified-value w nodes g (Ite c a b) fits =
     let P : Form → Type 0 = λ f. form_value w nodes f ≡ (if truth w nodes c then denoted w nodes a else denoted w nodes b) in
     if-either P (is_true nodes c || a == b) (Same a) (if is_false nodes c then Same b else Built (Ite c a b))
     (λ h. if-first (truth w nodes c) (denoted w nodes a) (denoted w nodes b)
-      (or-two (is_true nodes c) (a == b) h (truth-true w nodes g c) (λ e. ap (denoted w nodes) (eqb-true a b e))))
+    (or-two (is_true nodes c) (a == b) h (truth-true w nodes g c) (λ e. ap (denoted w nodes) (eqb-true a b e))))
     (λ _. if-either P (is_false nodes c) (Same b) (Built (Ite c a b))
-      (λ h. if-second (truth w nodes c) (denoted w nodes a) (denoted w nodes b) (truth-false w nodes g c h))
-      (λ _. refl))
+    (λ h. if-second (truth w nodes c) (denoted w nodes a) (denoted w nodes b) (truth-false w nodes g c h))
+    (λ _. refl))
 simplified-value w nodes g (Eq a b) fits =
     let P : Form → Type 0 = λ f. form_value w nodes f ≡ Truth (word w nodes a == word w nodes b) in
     if-either P (a == b) (Built True) (Built (Eq a b))

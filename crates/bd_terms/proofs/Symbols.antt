@@ -1,14 +1,14 @@
 -- A graph keeps a symbol's arity and sort where each of its nodes does.
-use Rattle.std.proofs.Common.{◌≡◌, ℕ, ◌+◌, ◌<◌, inl, inr, List, [], ◌∷◌, ◌++◌, length, slice_get, take, drop, Some, Contains, refl, ap, sym, ◌∙◌, subst, arith}
+use Rattle.std.proofs.Common.{◌≡◌, ℕ, ◌+◌, inl, inr, List, [], ◌∷◌, ◌++◌, slice_get, take, drop, Some, Contains, refl, ap, sym, ◌∙◌, subst, arith}
 use Rattle.std.specs.List.{AllByRecursion}
 use Rattle.std.proofs.lemmas.Grind.{flat_map-append}
-use Rattle.std.proofs.lemmas.List.Elements.{Contains-append_cases, Contains-append_left, Contains-append_right, All-contains, All-from_recursion, recursion_from_All, All-from_get_or}
+use Rattle.std.proofs.lemmas.List.Elements.{Contains-append_cases, Contains-append_left, Contains-append_right, All-contains, All-from_recursion}
 use Rattle.bd_model.specs.declared.design.Sort.{Sort}
 use Rattle.bd_terms.specs.declared.node.Sym.{Sym}
 use Rattle.bd_terms.specs.declared.node.Node.{Node}
 use Rattle.bd_terms.specs.Graph.{KeepsSymbol, Use, node_uses, uses}
 use Rattle.bd_terms.specs.inner.Kept.{NodeKeepsSymbol}
-use Rattle.bd_terms.proofs.Places.{around, Contains-get}
+use Rattle.bd_terms.proofs.Places.{around}
 use Rattle.bd_terms.proofs.Graphs.{uses-push}
 
 -- what a node of the graph applies the graph applies
@@ -26,7 +26,10 @@ KeepsSymbol-get nodes symbol arity s k i node h =
     each (λ u. u.symbol ≡ symbol → (u.arity ≡ arity) × (u.sort ≡ s)) (node_uses node) (λ u p. k.keeps u (uses-get nodes i node h u p))
 
 pub KeepsSymbol-push : (nodes : List Node) (symbol : Sym) (arity : ℕ) (s : Sort) (node : Node) → KeepsSymbol nodes symbol arity s → NodeKeepsSymbol node symbol arity s → KeepsSymbol (nodes ++ node ∷ []) symbol arity s
-KeepsSymbol-push nodes symbol arity s node k h = record { keeps = λ u p.
-  elim (Contains-append_cases (uses nodes) (node_uses node) u (subst (λ l. Contains l u) (uses-push nodes node) p)) [
-    inl q ↦ k.keeps u q
-  | inr q ↦ All-contains (λ (x : Use). x.symbol ≡ symbol → (x.arity ≡ arity) × (x.sort ≡ s)) (node_uses node) u (All-from_recursion _ (node_uses node) h) q ] }
+KeepsSymbol-push nodes symbol arity s node k h = record {
+  keeps = λ u p.
+      elim (Contains-append_cases (uses nodes) (node_uses node) u (subst (λ l. Contains l u) (uses-push nodes node) p)) [
+        | inl q ↦ k.keeps u q
+        | inr q ↦ All-contains (λ (x : Use). x.symbol ≡ symbol → (x.arity ≡ arity) × (x.sort ≡ s)) (node_uses node) u (All-from_recursion _ (node_uses node) h) q
+      ];
+}

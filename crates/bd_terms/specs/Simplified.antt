@@ -1,10 +1,10 @@
 -- The rules by which terms are simplified as they are built, and no others: no rule looks below a child, but to
 -- see a negation.
-use Rattle.std.specs.Prelude.{◌≡◌, ℕ, Bool, true, false, ◌||◌, ◌==◌, List, [], ◌∷◌, ◌++◌, ◌⊎◌, Option, Some, None, slice_get, if◌then◌else◌}
+use Rattle.std.specs.Prelude.{◌≡◌, ℕ, Bool, true, false, ◌||◌, ◌==◌, List, [], ◌∷◌, ◌++◌, ◌⊎◌, Option, Some, slice_get, if◌then◌else◌}
 use Rattle.bd_terms.specs.declared.simplify.Form.{Form}
 use Rattle.bd_terms.specs.declared.simplify.Form.TheVariants.{Same, Built}
 use Rattle.bd_terms.specs.declared.node.Node.{Node}
-use Rattle.bd_terms.specs.declared.node.Node.TheVariants.{True, Not, And, Or, Ite, Eq, App, Pred, Read, Write, Init}
+use Rattle.bd_terms.specs.declared.node.Node.TheVariants.{True, Not, And, Or, Ite, Eq}
 
 abbrev pub node_is_true : Option Node → Bool
 node_is_true (Some True) = true
@@ -46,11 +46,11 @@ simplified nodes (Eq a b) = if a == b then Built True else Built (Eq a b)
 simplified nodes node = Built node
 
 -- the graph with the node at the place: where it was, or behind the others
-pub record Holds (old new : List Node) (id : ℕ) (node : Node) : Type 0 where
+pub record KeptAt (old new : List Node) (id : ℕ) (node : Node) : Type 0 where
   pub stored : slice_get new id ≡ Some node
   pub adds : (new ≡ old) ⊎ (new ≡ old ++ node ∷ [])
 
 -- the graph with the term at the place
 abbrev pub Gives : List Node → List Node → ℕ → Form → Type 0
 Gives old new id (Same a) = (new ≡ old) × (id ≡ a)
-Gives old new id (Built node) = Holds old new id node
+Gives old new id (Built node) = KeptAt old new id node

@@ -89,7 +89,7 @@ impl Graph {
         requires no { HasSort self.old no (sort_at self.old yes) }
         ensures denotes { IfOk result (λ id. Denotes self.new id
             (λ w. if truth w self.old control
-                then denoted w self.old yes else denoted w self.old no)) }
+            then denoted w self.old yes else denoted w self.old no)) }
         ensures sorted { IfOk result (λ id. HasSort self.new id (sort_at self.old yes)) }
         ensures simplified { IfOk result (λ id.
             Gives self.old self.new id (simplified self.old (node.Ite control yes no))) }
@@ -178,7 +178,7 @@ impl Graph {
         requires word { HasSort self.old word sort.Word }
         ensures denotes { IfOk result (λ id. Denotes self.new id
             (λ w. Contents (written (contents w self.old mem)
-                (word_at w self.old addr) (word_at w self.old word)))) }
+            (word_at w self.old addr) (word_at w self.old word)))) }
         ensures sorted { IfOk result (λ id. HasSort self.new id sort.Memory) }
         ensures simplified { IfOk result (λ id.
             Gives self.old self.new id (simplified self.old (node.Write mem addr word))) }

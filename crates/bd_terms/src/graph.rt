@@ -3,7 +3,7 @@
 ghost use Rattle.std.specs.Prelude.{◌≡◌, ◌<◌, ◌∷◌, [], length, slice_get, ◌↔◌, IsTrue, Some, IfOk, OnErr};
 ghost use Rattle.bd_terms.specs.Graph.{FitsSorts, KeepsSymbol, node_sort, sorts, sort_at};
 ghost use Rattle.bd_terms.specs.inner.Kept.{KeepsUses};
-ghost use Rattle.bd_terms.specs.Simplified.{Holds};
+ghost use Rattle.bd_terms.specs.Simplified.{KeptAt};
 
 use crate::id::Id;
 use crate::node::{Node, Sym};
@@ -93,7 +93,7 @@ impl Graph {
     pub(crate) fn keep(&mut self, node: Node) -> Result<Id, AllocError>
         requires fits { FitsSorts self.old node }
         requires symbols { KeepsUses self.old node }
-        ensures holds { IfOk result (λ id. Holds self.old self.new id node) }
+        ensures holds { IfOk result (λ id. KeptAt self.old self.new id node) }
         ensures inside { IfOk result (λ id. id < length self.new) }
         ensures graph { IsGraph self.new }
         ensures err { OnErr result (self.new ≡ self.old) }

@@ -129,23 +129,13 @@ fn operands(
     Ok(args)
 }
 
-fn build_app(
-    rt: &impl Abort,
-    graph: &mut Graph,
-    sym: Sym,
-    args: &[Id],
-) -> Result<Id, AllocError> {
+fn build_app(rt: &impl Abort, graph: &mut Graph, sym: Sym, args: &[Id]) -> Result<Id, AllocError> {
     assert!(rt; are_words(graph, args));
     assert!(rt; graph.keeps_symbol(sym, args.len(), Sort::Word));
     graph.mk_app(sym, args)
 }
 
-fn build_pred(
-    rt: &impl Abort,
-    graph: &mut Graph,
-    sym: Sym,
-    args: &[Id],
-) -> Result<Id, AllocError> {
+fn build_pred(rt: &impl Abort, graph: &mut Graph, sym: Sym, args: &[Id]) -> Result<Id, AllocError> {
     assert!(rt; are_words(graph, args));
     assert!(rt; graph.keeps_symbol(sym, args.len(), Sort::Bool));
     graph.mk_pred(sym, args)

@@ -1,5 +1,5 @@
 -- The pass downwards keeps what is marked reached, and marks what marked nodes stand over.
-use Rattle.std.proofs.Common.{◌≡◌, ℕ, suc, ◌-◌, ◌<◌, ◌++◌, false, true, length, slice_get, slice_set, take, drop, Some, refl, ap, sym, ◌∙◌, subst, arith, replicate}
+use Rattle.std.proofs.Common.{◌≡◌, ℕ, suc, ◌-◌, ◌<◌, ◌++◌, false, true, length, slice_get, take, drop, Some, ap, sym, ◌∙◌, subst, arith, replicate}
 use Rattle.std.proofs.lemmas.Grind.{common_steps}
 use Rattle.std.specs.List.{All}
 use Rattle.bd_terms.specs.Graph.{children}
@@ -31,10 +31,10 @@ loop-index-preserved-then-index c =
     let next : suc place ≡ c.loop-index.index = omega arith in
     let size : c.loop-index.items.len ≡ length c.mark_children.new.marks = grind (arith, common_steps) in
     let whole = ap (λ n. take n (c.mark_children.new.marks ++ drop (length c.mark_children.new.marks) items)) size
-      ∙ take-append_seam c.mark_children.new.marks (drop (length c.mark_children.new.marks) items)
-      ∙ c.mark_children.ensures ∙ ap (λ l. marked l (children c.node.result.now)) c.deref_mut.ensures.value in
+    ∙ take-append_seam c.mark_children.new.marks (drop (length c.mark_children.new.marks) items)
+    ∙ c.mark_children.ensures ∙ ap (λ l. marked l (children c.node.result.now)) c.deref_mut.ensures.value in
     let here : mark_at items place ≡ true =
-      get_or_default items place false c.index-in-loop-index.result.now inside ∙ sym c.index-in-loop-index.ensures ∙ c.if-index.true in
+    get_or_default items place false c.index-in-loop-index.result.now inside ∙ sym c.index-in-loop-index.ensures ∙ c.if-index.true in
     subst (IsMarked c.args.graph.now c.args.root place) (sym whole)
     (IsMarked-mark c.args.graph.now c.node.ensures.graph c.args.root place items c.node.result.now
     (subst (λ i. IsMarked c.args.graph.now c.args.root i items) (sym next) c.loop-index.invariant) here there)

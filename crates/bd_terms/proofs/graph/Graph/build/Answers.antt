@@ -1,5 +1,5 @@
 -- What comes out is there, or is kept.
-use Rattle.std.proofs.Common.{◌≡◌, refl, subst}
+use Rattle.std.proofs.Common.{refl, subst}
 use Rattle.bd_terms.specs.declared.simplify.Form.TheVariants.{Built}
 use Rattle.bd_terms.specs.Simplified.{Gives}
 use Rattle.bd_terms.proofs.Building.{Gives-Denotes, Gives-HasSort, simplified-FitsSorts, simplified-KeepsUses, kept-Denotes, kept-HasSort, kept-AddsUses}

@@ -1,5 +1,5 @@
 -- A node that isn't there goes behind the others, with its sort beside it.
-use Rattle.std.proofs.Common.{◌≡◌, [], ◌∷◌, ◌++◌, refl, ap, sym, ◌∙◌, subst, arith, rules}
+use Rattle.std.proofs.Common.{◌≡◌, [], ◌∷◌, ◌++◌, ap, sym, ◌∙◌, subst, arith}
 use Rattle.std.proofs.lemmas.Grind.{common_steps}
 use Rattle.bd_terms.specs.Graph.{sorts, node_sort, FitsSorts, IsGraph}
 use Rattle.bd_terms.specs.inner.Kept.{KeepsUses}
