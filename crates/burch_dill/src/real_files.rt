@@ -169,8 +169,8 @@ fn read_piece<R: Read>(source: &mut R, room: usize, bytes: &mut Vec<u8>) -> Resu
 /// One read, made again where a signal interrupted it, up to 2^64 - 1 times.
 fn read_some<R: Read>(source: &mut R, piece: &mut [u8]) -> io::Result<usize>
     ensures fits { ReadsAtMost result piece.new }
-    ensures bytes {
-        ReadConsumes (R.remaining source.old) (R.remaining source.new) result piece.new }
+    ensures bytes { ReadConsumes (R.remaining source.old) (R.remaining source.new)
+        result piece.new }
 {
     for _ in 0..u64::MAX {
         match source.read(piece) {

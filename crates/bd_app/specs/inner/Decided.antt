@@ -1,5 +1,5 @@
 -- What a decision by splitting says.
-use Rattle.std.specs.Prelude.{◌≡◌, Bool, true, false, not, ◌&&◌, List, [], ◌∷◌, if◌then◌else◌}
+use Rattle.std.specs.Prelude.{◌≡◌, Bool, true, false, not, ◌&&◌, [], ◌∷◌, if◌then◌else◌}
 use mathlib.Core.Bool.{beq}
 use Rattle.bd_model.specs.Value.{truth}
 use Rattle.bd_model.specs.declared.case.Case.{Case}
