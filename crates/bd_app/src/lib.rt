@@ -5,7 +5,6 @@ mod answer;
 mod command;
 mod form;
 mod machines;
-mod name;
 mod program;
 mod text;
 mod truth;

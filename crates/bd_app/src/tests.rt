@@ -1,7 +1,7 @@
 //! Examples over files and sinks in memory.
 
 use crate::answer::Ended;
-use crate::name::is_name;
+use bd_syntax::is_name;
 use crate::run;
 use bd_files::{Files, LoadError, Page, PutError, SaveError, Shelf, Sink};
 use bd_model::{Condition, Scalar};

@@ -5,7 +5,8 @@ use Rattle.std.specs.List.{list_any}
 use lib.Pointwise.{pointwise}
 use Rattle.std.proofs.lemmas.Bool.{leb-true, not-true}
 use Rattle.std.proofs.lemmas.Bool.Decides.{nat_tests}
-use Rattle.bd_syntax.specs.Name.{IsName, is_name, spells_name, words}
+use Rattle.bd_model.specs.Name.{IsName, spells_name, words}
+use Rattle.bd_syntax.specs.Name.{is_name}
 use Rattle.bd_syntax.proofs.Holding.{split_and}
 
 pub is_name-true : (text : List ℕ) → is_name text ≡ true → IsName text

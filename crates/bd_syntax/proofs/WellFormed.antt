@@ -17,7 +17,7 @@ use Rattle.bd_syntax.specs.declared.head.Head.TheVariants as heads
 use Rattle.bd_syntax.specs.declared.head.Place.{Place}
 use Rattle.bd_syntax.specs.declared.head.Place.TheVariants as places
 use Rattle.bd_syntax.specs.declared.operator.Operator.{Operator}
-use Rattle.bd_syntax.specs.declared.item.Sort.TheVariants as sorts
+use Rattle.bd_model.specs.declared.design.Sort.TheVariants as sorts
 use Rattle.bd_syntax.specs.declared.ast.Kind.{Kind}
 use Rattle.bd_text.specs.declared.code.Code.TheVariants.{WrongHead, Malformed, NotName, NotNumber, NotOfThisFile}
 use Rattle.bd_syntax.proofs.Names.{is_name-true}

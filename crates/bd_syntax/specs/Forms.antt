@@ -5,7 +5,7 @@ use Rattle.bd_syntax.specs.declared.form.Form.{Form}
 use Rattle.bd_syntax.specs.declared.form.Form.TheOpen.{Form-F, Forms-F}
 use Rattle.bd_syntax.specs.declared.form.Form.TheFolds.{fold-Form, fold-Forms}
 use Rattle.bd_syntax.specs.declared.form.Forms.{Forms}
-use Rattle.bd_syntax.specs.declared.item.Sort.{Sort}
+use Rattle.bd_model.specs.declared.design.Sort.{Sort}
 use Rattle.bd_syntax.specs.declared.item.Item.{Item}
 use Rattle.bd_syntax.specs.declared.item.Item.TheVariants.{Latch, Memory, Input, Function, Predicate, Let, Next, Flush, Steps, Exact, Distinct}
 use Rattle.bd_syntax.specs.declared.ast.Kind.{Kind}

@@ -1,39 +1,9 @@
--- Names: a letter or `_`, then letters, digits, `_`, `.` and `-`, at most 64 bytes, and none of the words of
--- expressions.
-use Rattle.std.specs.Prelude.{◌≡◌, ◌≤◌, ◌==◌, ℕ, Bool, true, false, not, ◌&&◌, ◌||◌, List, [], ◌∷◌, length, nat_le, nat_eq, codes}
-use Rattle.std.specs.List.{list_all, list_any}
+-- The test of a name. This project's own.
+use Rattle.std.specs.Prelude.{ℕ, Bool, not, ◌&&◌, List, length, nat_le, nat_eq}
+use Rattle.std.specs.List.{list_any}
 use lib.Pointwise.{pointwise}
+use Rattle.bd_model.specs.Name.{spells_name, words}
 
-abbrev pub is_letter : ℕ → Bool
-is_letter b = (nat_le 65 b && nat_le b 90) || (nat_le 97 b && nat_le b 122)
-
-abbrev pub is_digit : ℕ → Bool
-is_digit b = nat_le 48 b && nat_le b 57
-
--- a letter or `_`
-abbrev pub begins_name : ℕ → Bool
-begins_name b = is_letter b || b == 95
-
--- also a digit, `.` or `-`
-abbrev pub continues_name : ℕ → Bool
-continues_name b = ((begins_name b || is_digit b) || b == 46) || b == 45
-
--- the words that expressions are written with
-abbrev pub words : List (List ℕ)
-words =
-    codes "true" ∷ codes "false" ∷ codes "not" ∷ codes "and" ∷ codes "or" ∷ codes "implies" ∷ codes "iff"
-    ∷ codes "ite" ∷ codes "read" ∷ codes "write" ∷ codes "let" ∷ []
-
-abbrev pub spells_name : List ℕ → Bool
-spells_name [] = false
-spells_name (b ∷ bs) = begins_name b && list_all continues_name bs
-
-pub record IsName (name : List ℕ) : Type 0 where
-  pub spelled : spells_name name ≡ true
-  pub short : length name ≤ 64
-  pub no_word : list_any (pointwise nat_eq name) words ≡ false
-
--- the test of it
 abbrev pub is_name : List ℕ → Bool
 is_name name =
     (spells_name name && nat_le (length name) 64) && not (list_any (pointwise nat_eq name) words)

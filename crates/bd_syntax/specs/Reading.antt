@@ -5,7 +5,8 @@ use Rattle.std.specs.List.{list_all}
 use Rattle.bd_text.specs.Nodes.{Node, atom, list, Nodes, no_nodes, node, node_count}
 use Rattle.bd_text.specs.declared.code.Code.{Code}
 use Rattle.bd_text.specs.declared.code.Code.TheVariants.{WrongHead, Malformed, NotName, NotNumber, NotOfThisFile}
-use Rattle.bd_syntax.specs.Name.{is_digit, is_name}
+use Rattle.bd_model.specs.Name.{is_digit}
+use Rattle.bd_syntax.specs.Name.{is_name}
 use Rattle.bd_syntax.specs.Words.{is_word, is_truth, head_of, head_takes, is_item_of, operator_of, operator_takes}
 use Rattle.bd_syntax.specs.Forms.{Expression, word, application, Expressions, no_expressions, expression, ItemView, latch_item, memory_item, input_item, function_item, predicate_item, let_item, next_item, flush_item, steps_item, exact_item, distinct_item, AstView, InvView}
 use Rattle.bd_syntax.specs.declared.form.Spot.{Spot}
@@ -16,8 +17,8 @@ use Rattle.bd_syntax.specs.declared.head.Head.TheVariants as heads
 use Rattle.bd_syntax.specs.declared.head.Place.{Place}
 use Rattle.bd_syntax.specs.declared.head.Place.TheVariants as places
 use Rattle.bd_syntax.specs.declared.operator.Operator.{Operator}
-use Rattle.bd_syntax.specs.declared.item.Sort.{Sort}
-use Rattle.bd_syntax.specs.declared.item.Sort.TheVariants as sorts
+use Rattle.bd_model.specs.declared.design.Sort.{Sort}
+use Rattle.bd_model.specs.declared.design.Sort.TheVariants as sorts
 use Rattle.bd_syntax.specs.declared.ast.Kind.{Kind}
 use Rattle.bd_syntax.specs.declared.ast.Kind.TheVariants as kinds
 

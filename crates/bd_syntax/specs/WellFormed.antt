@@ -3,7 +3,8 @@ use Rattle.std.specs.Prelude.{◌≢◌, ℕ, ◌+◌, ◌≤◌, ◌||◌, max,
 use Rattle.std.specs.List.{AllByRecursion}
 use Rattle.bd_text.specs.Nodes.{Node, atom, list, Nodes, no_nodes, node, node_count}
 use Rattle.bd_text.specs.Written.{nesting_inside}
-use Rattle.bd_syntax.specs.Name.{IsName, is_name}
+use Rattle.bd_model.specs.Name.{IsName}
+use Rattle.bd_syntax.specs.Name.{is_name}
 use Rattle.bd_syntax.specs.Words.{is_truth, is_item_of, operator_of, operator_takes}
 use Rattle.bd_syntax.specs.Forms.{Expression, word, application, Expressions, no_expressions, expression, expression_count, ItemView, latch_item, memory_item, input_item, function_item, predicate_item, let_item, next_item, flush_item, steps_item, exact_item, distinct_item, AstView, InvView}
 use Rattle.bd_syntax.specs.Reading.{kind_place}
@@ -13,8 +14,8 @@ use Rattle.bd_syntax.specs.declared.head.Head.TheVariants as heads
 use Rattle.bd_syntax.specs.declared.head.Place.{Place}
 use Rattle.bd_syntax.specs.declared.head.Place.TheVariants as places
 use Rattle.bd_syntax.specs.declared.operator.Operator.{Operator}
-use Rattle.bd_syntax.specs.declared.item.Sort.{Sort}
-use Rattle.bd_syntax.specs.declared.item.Sort.TheVariants as sorts
+use Rattle.bd_model.specs.declared.design.Sort.{Sort}
+use Rattle.bd_model.specs.declared.design.Sort.TheVariants as sorts
 
 -- an operator with as many parts as it takes, or a name
 abbrev pub IsHead : List ℕ → ℕ → Option Operator → Type 0

@@ -7,7 +7,8 @@ ghost use Rattle.bd_syntax.specs.Reading.{Gives, atom_form, name_form, number_fo
 use crate::fault::bad;
 use crate::name::is_name;
 use crate::number::number_within;
-use crate::{FormFault, Sort, Spot};
+use crate::{FormFault, Spot};
+use bd_model::Sort;
 use bd_text::{Bytes, Code, Tree};
 use std::alloc::Global;
 

@@ -2,17 +2,7 @@
 
 use crate::{Form, Spot};
 use bd_list::Sequence;
-
-/// The sort of a value.
-#[derive(Clone, Copy, Debug, PartialEq, Eq)]
-pub enum Sort {
-    /// A truth value.
-    Bool,
-    /// A word.
-    Word,
-    /// A memory.
-    Memory,
-}
+use bd_model::Sort;
 
 /// Words of a file, in its order.
 pub type Spots = Sequence<Spot>;

@@ -24,7 +24,7 @@ mod read_item;
 pub use ast::{Ast, InvAst, Kind};
 pub use fault::FormFault;
 pub use form::{Form, Forms, Spot};
-pub use item::{Item, Items, Sort, Spots};
+pub use item::{Item, Items, Spots};
 pub use name::is_name;
 pub use operator::Operator;
 pub use read::{read_invariant, read_machine, read_start};

@@ -2,7 +2,8 @@
 ghost use Rattle.std.specs.Prelude.{◌≡◌, ◌↔◌, IsTrue, nat_eq};
 ghost use Rattle.std.specs.List.{list_all, list_any};
 ghost use lib.Pointwise.{pointwise};
-ghost use Rattle.bd_syntax.specs.Name.{IsName, begins_name, continues_name, is_name, spells_name};
+ghost use Rattle.bd_model.specs.Name.{IsName, begins_name, continues_name, spells_name};
+ghost use Rattle.bd_syntax.specs.Name.{is_name};
 
 /// The longest name, in bytes.
 const MAX_NAME: usize = 64;

@@ -1,7 +1,7 @@
 //! Numbers.
 ghost use Rattle.std.specs.Prelude.{◌≡◌, ◌≤◌, ◌&&◌, true, Some, None, nat_le, if◌then◌else◌};
 ghost use Rattle.std.specs.List.{list_all};
-ghost use Rattle.bd_syntax.specs.Name.{is_digit};
+ghost use Rattle.bd_model.specs.Name.{is_digit};
 ghost use Rattle.bd_syntax.specs.Reading.{is_number, number_of};
 
 fn are_digits(text: &[u8]) -> bool
