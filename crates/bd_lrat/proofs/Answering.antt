@@ -1,5 +1,5 @@
 -- The answer to a line is Ok exactly where the line is accepted.
-use Rattle.std.proofs.Common.{◌≡◌, ℕ, ◌+◌, ◌<◌, ◌≤◌, Bool, true, false, cond, List, [], ◌∷◌, Option, None, Some, Result, Ok, Err, is_ok, IsOk, ◌↔◌, map, leb, ltb, refl, sym, ap, ◌∙◌, arith, inl, inr}
+use Rattle.std.proofs.Common.{◌≡◌, ℕ, ◌+◌, ◌^◌, ◌<◌, ◌≤◌, Bool, true, false, cond, List, [], ◌∷◌, Option, None, Some, Result, Ok, Err, is_ok, IsOk, ◌↔◌, map, leb, ltb, refl, sym, ap, ◌∙◌, arith, inl, inr}
 use Rattle.std.proofs.lemmas.Bool.{false≢true, lt-leb, leb-false, le-ltb, ltb-false, cases_Bool}
 use Rattle.std.proofs.lemmas.List.Elements.{All-nil, All-cons, All-head, All-tail, All-weaker}
 use Rattle.bd_cnf.specs.Literal.{Literal, negate}
@@ -73,3 +73,7 @@ accepted_is_ok db line r e = (
 pub addition_is_line : (db : Database) (id : ℕ) (clause clause' : List Literal) (hints hints' : List Hint) (line : Line) → clause ≡ clause' → hints ≡ hints' → line ≡ Add id clause' hints' → addition_answer db id clause hints ≡ line_answer db line
 addition_is_line db id clause clause' hints hints' line e f g =
     ap (λ (c : List Literal). addition_answer db id c hints) e ∙ ap (addition_answer db id clause') f ∙ ap (line_answer db) (sym g)
+
+-- where variables are few enough, each literal within them has a code
+pub below_codes : (vars : ℕ) (c : List Literal) → vars < 2 ^ 31 → IsWithin vars c → IsBelow (2 ^ 31) c
+below_codes vars c few h = All-weaker (λ (l : Literal). l.var ≤ vars) (λ l. l.var < 2 ^ 31) (λ l k. omega (arith, few)) c h

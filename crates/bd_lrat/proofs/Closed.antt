@@ -1,8 +1,8 @@
 -- Where a trail is closed under unit propagation, propagation from a part of it stays in it: the core of why what a solver adds is fresh.
-use Rattle.std.proofs.Common.{◌≡◌, ◌≢◌, ℕ, ◌+◌, ◌<◌, ◌≤◌, Bool, true, false, not, cond, List, [], ◌∷◌, ◌++◌, Option, None, Some, IfSome, map, refl, sym, ap, ◌∙◌, subst, inl, inr, length, get_or}
-use Rattle.std.specs.List.{All, filter, list_all}
+use Rattle.std.proofs.Common.{◌≡◌, ◌≢◌, ℕ, Bool, true, false, not, cond, List, [], ◌∷◌, ◌++◌, Option, None, Some, IfSome, map, refl, sym, ap, ◌∙◌, subst, inl, inr, get_or}
+use Rattle.std.specs.List.{All, list_all}
 use Rattle.std.specs.FinMap.{get}
-use Rattle.std.proofs.lemmas.Bool.{false≢true, true≢false, cases_Bool, or_cases, or_left, or_right, and_parts}
+use Rattle.std.proofs.lemmas.Bool.{false≢true, cases_Bool, or_cases, or_left, or_right, and_parts}
 use Rattle.bd_cnf.specs.Literal.{Literal, negate, literal_eq, has_literal, has_variable}
 use Rattle.bd_cnf.specs.Clause.{IsRising}
 use Rattle.bd_cnf.specs.Standing.{Standing}
@@ -11,7 +11,7 @@ use Rattle.bd_cnf.proofs.Literals.{literal_eq-true, literal_eq-refl, filter_has}
 use Rattle.bd_cnf.proofs.Closed.{IsOpenWithin, closed_open, part_push, part_variable, closed_not_false}
 use Rattle.bd_lrat.specs.declared.line.Hint.{Hint}
 use Rattle.bd_lrat.specs.declared.line.Hint.TheVariants as hint
-use Rattle.bd_lrat.specs.Propagation.{Outcome, Conflict, Reached, Stopped, assign, unit_outcome, clause_outcome, hint_outcome, and_then, propagate, reaches}
+use Rattle.bd_lrat.specs.Propagation.{Outcome, Conflict, Reached, Stopped, unit_outcome, clause_outcome, hint_outcome, and_then, propagate, reaches}
 use Rattle.bd_lrat.specs.Log.{includes, others, NeverReaches, IsFreshClause}
 
 -- hints behind others go on from where those came to

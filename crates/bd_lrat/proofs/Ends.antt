@@ -1,5 +1,5 @@
 -- Logs taken apart at their end: the definitions go down a log from its front, and a solver adds lines behind it.
-use Rattle.std.proofs.Common.{◌≡◌, ◌≢◌, ◌↔◌, ℕ, ◌+◌, Bool, true, false, cond, List, [], ◌∷◌, ◌++◌, refl, sym, ap, ◌∙◌, subst, inl, inr, arith, count_by}
+use Rattle.std.proofs.Common.{◌≡◌, ◌≢◌, ℕ, ◌+◌, true, cond, List, [], ◌∷◌, ◌++◌, refl, ◌∙◌}
 use Rattle.std.specs.List.{list_any}
 use Rattle.std.proofs.lemmas.List.Folds.{list_any-append}
 use Rattle.std.proofs.lemmas.Bool.{or_right}
@@ -11,7 +11,7 @@ use Rattle.bd_lrat.specs.declared.line.Hint.{Hint}
 use Rattle.bd_lrat.specs.declared.line.Line.{Line}
 use Rattle.bd_lrat.specs.declared.line.Line.TheVariants.{Add, Delete}
 use Rattle.bd_lrat.specs.Database.{Database, database_of, IsAccepted, after}
-use Rattle.bd_lrat.specs.Log.{IsAcceptedLog, after_all, adds_empty, adds_literals, additions, IsRefutation, IsFreshClause, with_added, AddsFresh, IsFresh}
+use Rattle.bd_lrat.specs.Log.{IsAcceptedLog, after_all, adds_empty, adds_literals, additions, IsRefutation, IsFreshClause, with_added, AddsFresh}
 
 -- what stands after two logs
 pub after_all-append : (db : Database) (xs ys : List Line) → after_all db (xs ++ ys) ≡ after_all (after_all db xs) ys

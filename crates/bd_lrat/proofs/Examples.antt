@@ -1,19 +1,18 @@
 -- What the laws say of the small examples.
-use Rattle.std.proofs.Common.{◌≡◌, ◌≢◌, ℕ, ◌+◌, ◌<◌, ◌≤◌, Bool, true, false, not, cond, ◌||◌, eqb, List, [], ◌∷◌, ◌++◌, Option, None, Some, refl, sym, ap, ◌∙◌, subst, inl, inr, arith, length}
-use Rattle.std.specs.List.{All, filter, list_any}
-use Rattle.std.proofs.lemmas.Bool.{false≢true, true≢false, cases_Bool, or_cases, or_left, or_right, eqb-true}
+use Rattle.std.proofs.Common.{◌≡◌, ◌≢◌, ℕ, Bool, true, false, not, cond, ◌||◌, eqb, List, [], ◌∷◌, ◌++◌, Option, Some, refl, sym, ap, ◌∙◌, inl, inr, arith}
+use Rattle.std.proofs.lemmas.Bool.{false≢true, true≢false, cases_Bool, or_cases, or_left, or_right}
 use Rattle.std.proofs.lemmas.List.Elements.{All-from_recursion}
 use Rattle.std.specs.FinMap.{get}
 use Rattle.bd_cnf.specs.Literal.{Literal, negate, literal_eq, has_literal, has_variable}
 use Rattle.bd_cnf.specs.Problem.{problem}
 use Rattle.bd_cnf.specs.Standing.{Standing}
-use Rattle.bd_cnf.specs.Trail.{is_false, open_literals, IsConsistent, IsPartOf, IsClosed, AreClosed}
+use Rattle.bd_cnf.specs.Trail.{IsConsistent, IsPartOf, IsClosed, AreClosed}
 use Rattle.bd_cnf.proofs.Literals.{literal_eq-true, literal_eq-refl, has-push, negate_apart, negate_twice, any_from_has}
 use Rattle.bd_cnf.proofs.Closed.{has_variable_of, consistent_from, consistent_push}
 use Rattle.bd_lrat.specs.declared.line.Hint.{Hint}
 use Rattle.bd_lrat.specs.declared.line.Hint.TheVariants as hint
 use Rattle.bd_lrat.specs.Propagation.{Outcome, Conflict, Reached, and_then, assign, unit_outcome, clause_outcome, propagate, reaches}
-use Rattle.bd_lrat.specs.Database.{database_of, numbered}
+use Rattle.bd_lrat.specs.Database.{numbered}
 use Rattle.bd_lrat.specs.Log.{includes, IsFreshClause, IsFresh, HaveDifferentVariables, IsUnsettled}
 use Rattle.bd_lrat.specs.Examples.{yes, no, square, square_line, weakened_line, forced_apart, not_both}
 use Rattle.bd_lrat.proofs.Standings.{each_numbered, get-numbered}

@@ -1,59 +1,26 @@
 -- Hints as they are kept: numbers, and the places of those for resolutions on asymmetric tautologies.
-use Rattle.std.proofs.Common.{◌≡◌, ℕ, zero, suc, ◌+◌, ◌<◌, ◌≤◌, Bool, true, false, cond, ◌||◌, eqb, List, [], ◌∷◌, ◌++◌, Some, length, get_or, map, refl, sym, ap, ◌∙◌, subst, inl, inr, arith}
+use Rattle.std.proofs.Common.{◌≡◌, ℕ, zero, suc, ◌+◌, ◌<◌, ◌≤◌, Bool, true, false, cond, ◌||◌, eqb, List, [], ◌∷◌, ◌++◌, Some, length, get_or, map, refl, sym, ap, ◌∙◌, arith}
 use Rattle.std.specs.List.{list_any, slice_get}
-use Rattle.std.proofs.lemmas.Bool.{false≢true, cases_Bool, eqb-true, ne_eqb, eq-eqb, or_from}
+use Rattle.std.proofs.lemmas.Bool.{false≢true, eqb-true, ne_eqb, eq-eqb, or_from}
 use Rattle.bd_lrat.specs.declared.line.Hint.{Hint}
 use Rattle.bd_lrat.specs.declared.line.Hint.TheVariants.{Unit as UnitHint, Rat}
-use Rattle.bd_lrat.specs.inner.Hints.{hints_from, ArePlaces}
-
-pub places_in_order : (low high : ℕ) (rats : List ℕ) → ArePlaces low high rats → low ≤ high
-places_in_order low high [] so = so
-places_in_order low high (r ∷ rats) so =
-    let first : low ≤ r = so.0 in
-    let rest : r + 1 ≤ high = places_in_order (r + 1) high rats so.1 in
-    omega arith
-
-places_from : (low high : ℕ) (rats : List ℕ) → ArePlaces low high rats → (j : ℕ) → j < length rats → low ≤ get_or rats j 0
-places_from low high [] so j h = absurd (omega arith)
-places_from low high (r ∷ rats) so zero h = so.0
-places_from low high (r ∷ rats) so (suc j) h =
-    let first : low ≤ r = so.0 in
-    let rest : r + 1 ≤ get_or rats j 0 = places_from (r + 1) high rats so.1 j (omega arith) in
-    omega arith
-
--- the places rise
-pub places_rise : (low high : ℕ) (rats : List ℕ) → ArePlaces low high rats → (i j : ℕ) → i ≤ j → j < length rats → get_or rats i 0 ≤ get_or rats j 0
-places_rise low high [] so i j le h = absurd (omega arith)
-places_rise low high (r ∷ rats) so zero zero le h = omega arith
-places_rise low high (r ∷ rats) so zero (suc j) le h = let rest : r + 1 ≤ get_or rats j 0 = places_from (r + 1) high rats so.1 j (omega arith) in omega arith
-places_rise low high (r ∷ rats) so (suc i) zero le h = absurd (omega arith)
-places_rise low high (r ∷ rats) so (suc i) (suc j) le h = places_rise (r + 1) high rats so.1 i j (omega arith) (omega arith)
-
--- what stands nowhere in a list isn't found
-pub none_found : (rats : List ℕ) (x : ℕ) → ((k : ℕ) → k < length rats → get_or rats k 0 ≡ x → ⊥) → list_any (λ r. eqb r x) rats ≡ false
-none_found [] x all = refl
-none_found (r ∷ rats) x all = or_from _ _ (ne_eqb r x (all zero (omega arith))) (none_found rats x (λ k h e. all (suc k) (omega arith) e))
-
-below_places : (low high : ℕ) (rats : List ℕ) (x : ℕ) → ArePlaces low high rats → x < low → list_any (λ r. eqb r x) rats ≡ false
-below_places low high rats x so h = none_found rats x (λ k here e. let above : low ≤ get_or rats k 0 = places_from low high rats so k here in absurd (omega arith))
-
--- places between equal bounds
-pub places_same : (low low' high high' : ℕ) (rats : List ℕ) → low ≡ low' → high ≡ high' → ArePlaces low high rats → ArePlaces low' high' rats
-places_same low low' high high' rats e f so = subst (λ l. ArePlaces l high' rats) e (subst (λ h. ArePlaces low h rats) f so)
+use Rattle.bd_lrat.specs.inner.Rising.{RisesWithin}
+use Rattle.bd_lrat.specs.inner.Hints.{hints_from}
+use Rattle.bd_lrat.proofs.Rising.{rises_bounds, none_below, rises_same}
 
 -- a hint by the kind that its place has
 abbrev pub hint_of : Bool → ℕ → Hint
 hint_of b id = cond b (Rat id) (UnitHint id)
 
 -- the hint at a place
-pub hint_at : (n : ℕ) (ids rats : List ℕ) (k p d : ℕ) → p ≡ n + k → k < length ids → ArePlaces n (n + length ids) rats → slice_get (hints_from n ids rats) k ≡ Some (hint_of (list_any (λ r. eqb r p) rats) (get_or ids k d))
+pub hint_at : (n : ℕ) (ids rats : List ℕ) (k p d : ℕ) → p ≡ n + k → k < length ids → RisesWithin n (n + length ids) rats → slice_get (hints_from n ids rats) k ≡ Some (hint_of (list_any (λ r. eqb r p) rats) (get_or ids k d))
 hint_at n [] rats k p d e h so = absurd (omega arith)
 hint_at n (id ∷ ids) [] zero p d e h so = refl
 hint_at n (id ∷ ids) [] (suc k) p d e h so = hint_at (n + 1) ids [] k p d (omega arith) (omega arith) (omega arith)
 hint_at n (id ∷ ids) (r ∷ rats) k p d e h so = go (λ k. hint_at (n + 1) ids rats k p d) (λ k. hint_at (n + 1) ids (r ∷ rats) k p d) (eqb r n) refl k e h
   where
     Says : List ℕ → ℕ → Type 0
-    Says rs k = p ≡ (n + 1) + k → k < length ids → ArePlaces (n + 1) ((n + 1) + length ids) rs → slice_get (hints_from (n + 1) ids rs) k ≡ Some (hint_of (list_any (λ x. eqb x p) rs) (get_or ids k d))
+    Says rs k = p ≡ (n + 1) + k → k < length ids → RisesWithin (n + 1) ((n + 1) + length ids) rs → slice_get (hints_from (n + 1) ids rs) k ≡ Some (hint_of (list_any (λ x. eqb x p) rs) (get_or ids k d))
 
     Goal : Bool → ℕ → Type 0
     Goal b k = slice_get (cond b (Rat id ∷ hints_from (n + 1) ids rats) (UnitHint id ∷ hints_from (n + 1) ids (r ∷ rats))) k ≡ Some (hint_of (eqb r p || list_any (λ x. eqb x p) rats) (get_or (id ∷ ids) k d))
@@ -65,17 +32,17 @@ hint_at n (id ∷ ids) (r ∷ rats) k p d e h so = go (λ k. hint_at (n + 1) ids
         ap (λ b. Some (hint_of (b || list_any (λ x. eqb x p) rats) id)) (sym (eq-eqb r p found))
     go past here true is (suc k) e h =
         let same : r ≡ n = eqb-true r n is in
-        let moved : ArePlaces (n + 1) ((n + 1) + length ids) rats = places_same (r + 1) (n + 1) (n + length (id ∷ ids)) ((n + 1) + length ids) rats (omega arith) (omega arith) so.1 in
+        let moved : RisesWithin (n + 1) ((n + 1) + length ids) rats = rises_same (r + 1) (n + 1) (n + length (id ∷ ids)) ((n + 1) + length ids) rats (omega arith) (omega arith) so.1 in
         past k (omega arith) (omega arith) moved ∙ ap (λ b. Some (hint_of (b || list_any (λ x. eqb x p) rats) (get_or ids k d))) (sym (ne_eqb r p (λ f. absurd (omega arith))))
     go past here false is zero e h =
         let apart : r ≡ n → ⊥ = λ f. false≢true (sym is ∙ eq-eqb r n f) in
         let low : n ≤ r = so.0 in
-        let none : (eqb r p || list_any (λ x. eqb x p) rats) ≡ false = or_from _ _ (ne_eqb r p (λ f. absurd (omega (arith, apart)))) (below_places (r + 1) (n + length (id ∷ ids)) rats p so.1 (omega arith)) in
+        let none : (eqb r p || list_any (λ x. eqb x p) rats) ≡ false = or_from _ _ (ne_eqb r p (λ f. absurd (omega (arith, apart)))) (none_below (r + 1) (n + length (id ∷ ids)) rats p so.1 (omega arith)) in
         ap (λ b. Some (hint_of b id)) (sym none)
     go past here false is (suc k) e h =
         let apart : r ≡ n → ⊥ = λ f. false≢true (sym is ∙ eq-eqb r n f) in
         let low : n ≤ r = so.0 in
-        here k (omega arith) (omega arith) (omega (arith, apart), places_same (r + 1) (r + 1) (n + length (id ∷ ids)) ((n + 1) + length ids) rats refl (omega arith) so.1)
+        here k (omega arith) (omega arith) (omega (arith, apart), rises_same (r + 1) (r + 1) (n + length (id ∷ ids)) ((n + 1) + length ids) rats refl (omega arith) so.1)
 
 -- as many hints as numbers
 pub length-hints_from : (n : ℕ) (ids rats : List ℕ) → length (hints_from n ids rats) ≡ length ids
@@ -92,50 +59,41 @@ hints_from-none n [] = refl
 hints_from-none n (id ∷ ids) = ap (λ hs. UnitHint id ∷ hs) (hints_from-none (n + 1) ids)
 
 -- one more number is one more `Unit` hint
-pub hints_from-push_unit : (n : ℕ) (ids rats : List ℕ) (id : ℕ) → ArePlaces n (n + length ids) rats → hints_from n (ids ++ id ∷ []) rats ≡ hints_from n ids rats ++ UnitHint id ∷ []
+pub hints_from-push_unit : (n : ℕ) (ids rats : List ℕ) (id : ℕ) → RisesWithin n (n + length ids) rats → hints_from n (ids ++ id ∷ []) rats ≡ hints_from n ids rats ++ UnitHint id ∷ []
 hints_from-push_unit n [] [] id so = refl
-hints_from-push_unit n [] (r ∷ rats) id so = let low : n ≤ r = so.0 in let high : r + 1 ≤ n + 0 = places_in_order (r + 1) (n + 0) rats so.1 in absurd (omega arith)
+hints_from-push_unit n [] (r ∷ rats) id so = let low : n ≤ r = so.0 in let high : r + 1 ≤ n + 0 = rises_bounds (r + 1) (n + 0) rats so.1 in absurd (omega arith)
 hints_from-push_unit n (x ∷ xs) [] id so = ap (λ hs. UnitHint x ∷ hs) (hints_from-push_unit (n + 1) xs [] id (omega arith))
 hints_from-push_unit n (x ∷ xs) (r ∷ rats) id so = go (hints_from-push_unit (n + 1) xs rats id) (hints_from-push_unit (n + 1) xs (r ∷ rats) id) (eqb r n) refl
   where
     Says : List ℕ → Type 0
-    Says rs = ArePlaces (n + 1) ((n + 1) + length xs) rs → hints_from (n + 1) (xs ++ id ∷ []) rs ≡ hints_from (n + 1) xs rs ++ UnitHint id ∷ []
+    Says rs = RisesWithin (n + 1) ((n + 1) + length xs) rs → hints_from (n + 1) (xs ++ id ∷ []) rs ≡ hints_from (n + 1) xs rs ++ UnitHint id ∷ []
 
     go : Says rats → Says (r ∷ rats) → (b : Bool) → eqb r n ≡ b → cond b (Rat x ∷ hints_from (n + 1) (xs ++ id ∷ []) rats) (UnitHint x ∷ hints_from (n + 1) (xs ++ id ∷ []) (r ∷ rats)) ≡ cond b (Rat x ∷ hints_from (n + 1) xs rats) (UnitHint x ∷ hints_from (n + 1) xs (r ∷ rats)) ++ UnitHint id ∷ []
     go past here true is =
         let same : r ≡ n = eqb-true r n is in
-        ap (λ hs. Rat x ∷ hs) (past (places_same (r + 1) (n + 1) (n + length (x ∷ xs)) ((n + 1) + length xs) rats (omega arith) (omega arith) so.1))
+        ap (λ hs. Rat x ∷ hs) (past (rises_same (r + 1) (n + 1) (n + length (x ∷ xs)) ((n + 1) + length xs) rats (omega arith) (omega arith) so.1))
     go past here false is =
         let apart : r ≡ n → ⊥ = λ f. false≢true (sym is ∙ eq-eqb r n f) in
         let low : n ≤ r = so.0 in
-        ap (λ hs. UnitHint x ∷ hs) (here (omega (arith, apart), places_same (r + 1) (r + 1) (n + length (x ∷ xs)) ((n + 1) + length xs) rats refl (omega arith) so.1))
+        ap (λ hs. UnitHint x ∷ hs) (here (omega (arith, apart), rises_same (r + 1) (r + 1) (n + length (x ∷ xs)) ((n + 1) + length xs) rats refl (omega arith) so.1))
 
 -- and with its place one more `Rat` hint
-pub hints_from-push_rat : (n : ℕ) (ids rats : List ℕ) (id p : ℕ) → p ≡ n + length ids → ArePlaces n (n + length ids) rats → hints_from n (ids ++ id ∷ []) (rats ++ p ∷ []) ≡ hints_from n ids rats ++ Rat id ∷ []
+pub hints_from-push_rat : (n : ℕ) (ids rats : List ℕ) (id p : ℕ) → p ≡ n + length ids → RisesWithin n (n + length ids) rats → hints_from n (ids ++ id ∷ []) (rats ++ p ∷ []) ≡ hints_from n ids rats ++ Rat id ∷ []
 hints_from-push_rat n [] [] id p e so = ap (λ b. cond b (Rat id ∷ []) (UnitHint id ∷ [])) (eq-eqb p n (omega arith))
-hints_from-push_rat n [] (r ∷ rats) id p e so = let low : n ≤ r = so.0 in let high : r + 1 ≤ n + 0 = places_in_order (r + 1) (n + 0) rats so.1 in absurd (omega arith)
+hints_from-push_rat n [] (r ∷ rats) id p e so = let low : n ≤ r = so.0 in let high : r + 1 ≤ n + 0 = rises_bounds (r + 1) (n + 0) rats so.1 in absurd (omega arith)
 hints_from-push_rat n (x ∷ xs) [] id p e so =
     ap (λ b. cond b (Rat x ∷ hints_from (n + 1) (xs ++ id ∷ []) []) (UnitHint x ∷ hints_from (n + 1) (xs ++ id ∷ []) (p ∷ []))) (ne_eqb p n (λ f. absurd (omega arith)))
     ∙ ap (λ hs. UnitHint x ∷ hs) (hints_from-push_rat (n + 1) xs [] id p (omega arith) (omega arith))
 hints_from-push_rat n (x ∷ xs) (r ∷ rats) id p e so = go (hints_from-push_rat (n + 1) xs rats id p (omega arith)) (hints_from-push_rat (n + 1) xs (r ∷ rats) id p (omega arith)) (eqb r n) refl
   where
     Says : List ℕ → Type 0
-    Says rs = ArePlaces (n + 1) ((n + 1) + length xs) rs → hints_from (n + 1) (xs ++ id ∷ []) (rs ++ p ∷ []) ≡ hints_from (n + 1) xs rs ++ Rat id ∷ []
+    Says rs = RisesWithin (n + 1) ((n + 1) + length xs) rs → hints_from (n + 1) (xs ++ id ∷ []) (rs ++ p ∷ []) ≡ hints_from (n + 1) xs rs ++ Rat id ∷ []
 
     go : Says rats → Says (r ∷ rats) → (b : Bool) → eqb r n ≡ b → cond b (Rat x ∷ hints_from (n + 1) (xs ++ id ∷ []) (rats ++ p ∷ [])) (UnitHint x ∷ hints_from (n + 1) (xs ++ id ∷ []) (r ∷ rats ++ p ∷ [])) ≡ cond b (Rat x ∷ hints_from (n + 1) xs rats) (UnitHint x ∷ hints_from (n + 1) xs (r ∷ rats)) ++ Rat id ∷ []
     go past here true is =
         let same : r ≡ n = eqb-true r n is in
-        ap (λ hs. Rat x ∷ hs) (past (places_same (r + 1) (n + 1) (n + length (x ∷ xs)) ((n + 1) + length xs) rats (omega arith) (omega arith) so.1))
+        ap (λ hs. Rat x ∷ hs) (past (rises_same (r + 1) (n + 1) (n + length (x ∷ xs)) ((n + 1) + length xs) rats (omega arith) (omega arith) so.1))
     go past here false is =
         let apart : r ≡ n → ⊥ = λ f. false≢true (sym is ∙ eq-eqb r n f) in
         let low : n ≤ r = so.0 in
-        ap (λ hs. UnitHint x ∷ hs) (here (omega (arith, apart), places_same (r + 1) (r + 1) (n + length (x ∷ xs)) ((n + 1) + length xs) rats refl (omega arith) so.1))
-
--- the next place behind the others
-pub places_push : (low high : ℕ) (rats : List ℕ) → ArePlaces low high rats → ArePlaces low (high + 1) (rats ++ high ∷ [])
-places_push low high [] so = (so, omega arith)
-places_push low high (r ∷ rats) so = (so.0, places_push (r + 1) high rats so.1)
-
-pub places_more : (low high more : ℕ) (rats : List ℕ) → high ≤ more → ArePlaces low high rats → ArePlaces low more rats
-places_more low high more [] h so = omega arith
-places_more low high more (r ∷ rats) h so = (so.0, places_more (r + 1) high more rats h so.1)
+        ap (λ hs. UnitHint x ∷ hs) (here (omega (arith, apart), rises_same (r + 1) (r + 1) (n + length (x ∷ xs)) ((n + 1) + length xs) rats refl (omega arith) so.1))

@@ -1,5 +1,5 @@
 -- The ids under which clauses stand are at most the last one.
-use Rattle.std.proofs.Common.{◌≡◌, ℕ, ◌+◌, ◌<◌, ◌≤◌, Bool, true, false, cond, List, [], ◌∷◌, Option, None, Some, IsSome, IfSome, is_some, length, refl, sym, ap, ◌∙◌, subst, inl, inr, arith}
+use Rattle.std.proofs.Common.{◌≡◌, ℕ, ◌+◌, ◌<◌, ◌≤◌, cond, List, [], ◌∷◌, None, Some, IsSome, is_some, length, sym, ap, ◌∙◌, inl, inr, arith}
 use Rattle.std.specs.List.{enumerate_from}
 use Rattle.std.specs.Ordering.{nat_cmp, eq_by_cmp}
 use Rattle.std.specs.Cmp.{nat_cmp_total}
@@ -10,9 +10,9 @@ use Rattle.bd_cnf.specs.Standing.{Standing}
 use Rattle.bd_lrat.specs.declared.line.Line.{Line}
 use Rattle.bd_lrat.specs.declared.line.Line.TheVariants.{Add, Delete}
 use Rattle.bd_cnf.specs.Problem.{Problem}
-use Rattle.bd_lrat.specs.Database.{Database, database_of, numbered, IsAccepted, after, remove_all}
+use Rattle.bd_lrat.specs.Database.{Database, database_of, IsAccepted, after, remove_all}
 use Rattle.bd_lrat.specs.Log.{IsAcceptedLog, after_all}
-use Rattle.bd_lrat.proofs.StandingMap.{tied}
+use Rattle.bd_lrat.proofs.Keys.{tied}
 
 -- no clause stands above an id
 abbrev pub StandsUpTo : ℕ → Standing → Type 0

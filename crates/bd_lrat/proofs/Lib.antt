@@ -1,4 +1,4 @@
-pub mod StandingMap
+pub mod Keys
 pub mod Standings
 pub mod Answering
 pub mod Soundness
@@ -7,4 +7,7 @@ pub mod Ends
 pub mod Ids
 pub mod Closed
 pub mod Examples
+pub mod Rising
+pub mod Codes
+pub mod Arenas
 pub mod HintLists

@@ -1,8 +1,8 @@
 -- An accepted line keeps each assignment that makes what stands true.
 use Rattle.std.proofs.Common.{◌≡◌, ℕ, Bool, true, false, not, cond, List, [], ◌∷◌, ◌++◌, Option, None, Some, IfSome, map, sym, ap, ◌∙◌, subst, inl, inr}
-use Rattle.std.specs.List.{All, filter, list_any}
+use Rattle.std.specs.List.{All, list_any}
 use Rattle.std.specs.FinMap.{get}
-use Rattle.std.proofs.lemmas.Bool.{false≢true, cases_Bool, or_cases, or_left, or_right, or_parts, and_parts}
+use Rattle.std.proofs.lemmas.Bool.{false≢true, cases_Bool, or_cases, or_parts, and_parts}
 use Rattle.std.proofs.lemmas.List.Elements.{All-nil, All-cons}
 use Rattle.bd_cnf.specs.Literal.{Literal, negate, literal_eq, has_literal, literal_value}
 use Rattle.bd_cnf.specs.Clause.{clause_value, clauses_value, Satisfies}

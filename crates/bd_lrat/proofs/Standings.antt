@@ -1,9 +1,9 @@
 -- What holds of each clause that stands, through additions and deletions.
-use Rattle.std.proofs.Common.{◌≡◌, ℕ, ◌+◌, ◌<◌, ◌≤◌, Bool, true, false, cond, List, [], ◌∷◌, ◌++◌, Option, None, Some, IfSome, length, refl, sym, ap, ◌∙◌, subst, arith, take, get_or}
+use Rattle.std.proofs.Common.{◌≡◌, ℕ, ◌+◌, ◌<◌, ◌≤◌, cond, List, [], ◌∷◌, ◌++◌, None, Some, IfSome, length, refl, sym, ap, ◌∙◌, subst, arith, take, get_or}
 use Rattle.std.specs.List.{All, enumerate_from}
 use Rattle.std.specs.Ordering.{nat_cmp, eq_by_cmp}
 use Rattle.std.specs.Cmp.{nat_cmp_total}
-use Rattle.std.specs.FinMap.{get, insert, remove, find, from_entries, get-from_entries, get-insert, get-remove, from_entries_push, nat_cmp-IsAntisymmetric}
+use Rattle.std.specs.FinMap.{get, insert, remove, find, from_entries, get-from_entries, from_entries_push, nat_cmp-IsAntisymmetric}
 use Rattle.std.proofs.lemmas.Bool.{ne_eqb}
 use Rattle.std.proofs.lemmas.List.{take_more}
 use Rattle.std.proofs.lemmas.List.Elements.{All-head, All-tail}
@@ -11,7 +11,7 @@ use Rattle.bd_cnf.specs.Literal.{Literal}
 use Rattle.bd_cnf.specs.Standing.{Standing, EachStanding}
 use Rattle.bd_cnf.proofs.Standings.{either, each_remove}
 use Rattle.bd_lrat.specs.Database.{numbered, remove_all}
-use Rattle.bd_lrat.proofs.StandingMap.{tied}
+use Rattle.bd_lrat.proofs.Keys.{tied}
 
 module _ (P : List Literal → Type 0) where
   pub each_remove_all : (ids : List ℕ) (standing : Standing) → EachStanding P standing → EachStanding P (remove_all standing ids)

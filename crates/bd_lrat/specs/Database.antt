@@ -1,12 +1,12 @@
 -- The database of a check, and the lines that it accepts (textual LRAT, without lines that need resolution on asymmetric tautologies).
-use Rattle.std.specs.Prelude.{refl, ◌≡◌, ℕ, ◌<◌, List, [], ◌∷◌, Option, None, Some, Result, Ok, Err, map, length, nat_lt, nat_le, if◌then◌else◌}
+use Rattle.std.specs.Prelude.{refl, ◌≡◌, ℕ, ◌<◌, Bool, List, [], ◌∷◌, Option, None, Some, Result, Ok, Err, map, length, nat_lt, nat_le, if◌then◌else◌}
 use Rattle.std.specs.List.{enumerate_from}
 use Rattle.std.specs.Coded.{Coded, code_by, coded×, coded_ℕ}
 use Rattle.std.specs.FinMap.{insert, remove, from_entries}
 use Rattle.bd_cnf.specs.Literal.{Literal, negate}
 use Rattle.bd_cnf.specs.Clause.{IsWithin}
 use Rattle.bd_cnf.specs.Problem.{Problem}
-use Rattle.bd_cnf.specs.Standing.{Standing, coded_standing}
+use Rattle.bd_cnf.specs.Standing.{Standing, coded_standing, Models}
 use Rattle.bd_lrat.specs.declared.line.Hint.{Hint}
 use Rattle.bd_lrat.specs.declared.line.Line.{Line}
 use Rattle.bd_lrat.specs.declared.line.Line.TheVariants.{Add, Delete}
@@ -82,3 +82,12 @@ after db (Delete id ids) = database db.vars db.last (remove_all db.clauses ids)
 abbrev pub IsAddError : Database → Line → AddError → Type 0
 IsAddError db line (add.Refused r) = line_answer db line ≡ Err r
 IsAddError db line add.Memory = IsAccepted db line
+
+-- the line takes clauses out
+abbrev pub IsDeletion : Line → Type 0
+IsDeletion (Add id clause hints) = ⊥
+IsDeletion (Delete id ids) = Unit {0}
+
+-- each assignment that makes what stands in the one database true does so in the other
+abbrev pub KeepsModels : Database → Database → Type 0
+KeepsModels old new = (v : ℕ → Bool) → Models v old.clauses → Models v new.clauses

@@ -1,7 +1,6 @@
 -- Small formulas and lines, at which laws show what fresh and unsettled mean.
 use Rattle.std.specs.Prelude.{ℕ, true, false, List, [], ◌∷◌}
 use Rattle.bd_cnf.specs.Literal.{Literal, literal}
-use Rattle.bd_cnf.specs.Problem.{Problem, problem}
 use Rattle.bd_lrat.specs.declared.line.Hint.TheVariants.{Unit as UnitHint}
 use Rattle.bd_lrat.specs.declared.line.Line.{Line}
 use Rattle.bd_lrat.specs.declared.line.Line.TheVariants.{Add}

@@ -2,6 +2,7 @@
 use Rattle.std.specs.Prelude.{◌≡◌, ◌≢◌, ℕ, Bool, true, false, List, [], ◌∷◌, ◌++◌, not, IsTrue, map, count_by}
 use Rattle.std.specs.List.{All, filter, list_any, list_all}
 use Rattle.bd_cnf.specs.Literal.{Literal, negate, literal_eq, has_literal, has_variable}
+use Rattle.bd_cnf.specs.Clause.{Satisfies}
 use Rattle.bd_cnf.specs.Problem.{Problem}
 use Rattle.bd_cnf.specs.Standing.{Standing}
 use Rattle.bd_lrat.specs.declared.line.Hint.{Hint}
@@ -39,6 +40,10 @@ additions lines = count_by adds_literals lines
 -- an accepted log that adds the empty clause
 abbrev pub IsRefutation : Problem → List Line → Type 0
 IsRefutation p lines = IsAcceptedLog (database_of p) lines × IsTrue (list_any adds_empty lines)
+
+-- no assignment satisfies the formula (propositional logic)
+abbrev pub IsUnsatisfiable : Problem → Type 0
+IsUnsatisfiable p = (v : ℕ → Bool) → Satisfies v p.clauses → ⊥
 
 -- whether a clause has each literal of another
 abbrev pub includes : List Literal → List Literal → Bool

@@ -1,3 +1,6 @@
 pub mod Steps
 pub mod Ready
+pub mod Rising
 pub mod Hints
+pub mod Arena
+pub mod Codes

@@ -1,9 +1,13 @@
-ghost use Rattle.std.specs.Prelude.{◌≡◌, ◌↔◌, ℕ, Bool, IfOk, IfErr, OnOk, OnErr, IsOk};
+//! The check of a log. What stands is the formula's clauses and those that accepted lines added. An
+//! addition is accepted where its hints lead from the negations of its literals to a conflict. No
+//! assignment then makes all that stands true and the clause false, so whatever satisfies the formula
+//! satisfies the clause too, and once the empty clause is added nothing satisfies the formula. That
+//! takes no trust in whoever wrote the log: wrong hints are refused, and missing ones aren't looked for.
+ghost use Rattle.std.specs.Prelude.{◌≡◌, ◌↔◌, IfOk, IfErr, OnOk, OnErr, IsOk};
 ghost use Rattle.bd_cnf.specs.Clause.{IsRising};
-ghost use Rattle.bd_cnf.specs.Standing.{Models};
-ghost use Rattle.bd_lrat.specs.Database.{database_of, addition_answer, line_answer, variable_past, after, IsAccepted, IsAddError};
+ghost use Rattle.bd_lrat.specs.Database.{database_of, addition_answer, line_answer, variable_past, after, IsAccepted, IsAddError, IsDeletion, KeepsModels};
 
-use crate::clause_map::ClauseMap;
+use crate::arena::Arena;
 use crate::hints::Hints;
 use crate::line::Line;
 use crate::propagation::propagate;
@@ -13,14 +17,15 @@ use bd_cnf::{Cnf, Lit};
 use std::alloc::{AllocError, Global};
 use std::marker::Model;
 
+/// As many variables as literals have codes for.
+const VARIABLES: u64 = 1 << 31;
+
 /// The clauses of a formula and of the lines that were added, by their ids, each of which follows
 /// from the formula.
 #[derive(Debug, Drop)]
 pub struct Checker {
     vars: u64,
-    /// The greatest id that the formula or an addition has given.
-    last: u64,
-    clauses: ClauseMap,
+    clauses: Arena,
     /// No literal between two calls.
     trail: Trail,
 }
@@ -33,27 +38,30 @@ impl Model for Checker {
 
     ghost coded = { coded_database };
 
-    ghost view = { λ a. database a.vars a.last a.clauses };
+    ghost view = { λ a. database a.vars a.clauses.last a.clauses.clauses };
 
-    ghost invariant = { λ a. IsReady a.vars a.clauses a.trail };
+    ghost invariant = { λ a. IsReady a.vars a.clauses.clauses a.trail };
 }
 
 impl Checker {
-    /// Holds the formula's clauses, with the ids from 1.
+    /// Holds the formula's clauses, with the ids from 1. A formula of 2,147,483,648 variables or more
+    /// ends as want of memory.
     pub fn new(alloc: Global, cnf: &Cnf) -> Result<Checker, AllocError>
         ensures { IfOk result (λ checker. checker ≡ database_of cnf.now) }
     {
         let vars = cnf.vars();
+        if vars >= VARIABLES {
+            return Err(AllocError);
+        }
         let trail = Trail::new(alloc, vars)?;
-        let mut clauses = ClauseMap::new(alloc);
+        let mut clauses = Arena::new(alloc);
         let mut last = 0;
         for clause in cnf.clauses() {
             last += 1;
-            clauses.insert(last, clause)?;
+            clauses.insert(last, clause.lits())?;
         }
         Ok(Checker {
             vars,
-            last,
             clauses,
             trail,
         })
@@ -65,7 +73,7 @@ impl Checker {
         ensures accepted { IsOk result ↔ IsAccepted self.old line.now }
         ensures answer { result ≡ line_answer self.old line.now }
         ensures unchanged { self.new ≡ self.old }
-        ensures sound { OnOk result ((v : ℕ → Bool) → Models v self.old.clauses → Models v (after self.old line.now).clauses) }
+        ensures sound { OnOk result (KeepsModels self.old (after self.old line.now)) }
     {
         match line {
             Line::Add { id, clause, hints } => { self.check_addition(*id, clause.lits(), hints) }
@@ -78,7 +86,7 @@ impl Checker {
         ensures answer { result ≡ addition_answer self.old id clause.now hints.now }
         ensures unchanged { self.new ≡ self.old }
     {
-        if id <= self.last {
+        if id <= self.clauses.last() {
             return Err(Refused::NotRising);
         }
         if let Some(var) = variable_past(clause, self.vars) {
@@ -97,13 +105,13 @@ impl Checker {
         ensures accepted { OnOk result (IsAccepted self.old line.now) }
         ensures refused { IfErr result (IsAddError self.old line.now) }
         ensures err { OnErr result (self.new ≡ self.old) }
-        ensures sound { OnOk result ((v : ℕ → Bool) → Models v self.old.clauses → Models v self.new.clauses) }
+        ensures sound { OnOk result (KeepsModels self.old self.new) }
+        ensures deletion { IsDeletion line.now → IsOk result }
     {
         self.check_line(line)?;
         match line {
             Line::Add { id, clause, .. } => {
-                self.clauses.insert(*id, clause)?;
-                self.last = *id;
+                self.clauses.insert(*id, clause.lits())?;
             }
             Line::Delete { ids, .. } => self.clauses.remove_all(ids.as_slice()),
         }

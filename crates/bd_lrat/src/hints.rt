@@ -23,11 +23,22 @@ impl Model for Hints {
 
     ghost Value = { List Hint };
 
-    ghost use Rattle.bd_lrat.specs.inner.Hints.{hints_from, ArePlaces};
+    ghost use Rattle.bd_lrat.specs.inner.Rising.{RisesWithin};
+    ghost use Rattle.bd_lrat.specs.inner.Hints.{hints_from};
 
     ghost view = { λ h. hints_from 0 h.ids.items h.rats.items };
 
-    ghost invariant = { λ h. ArePlaces 0 (length h.ids.items) h.rats.items };
+    ghost invariant = { λ h. RisesWithin 0 (length h.ids.items) h.rats.items };
+}
+
+impl Clone for Hints {
+    ghost is_clone = { λ a b. b ≡ a };
+
+    fn clone(&self) -> Result<Self, AllocError> {
+        let ids = self.ids.clone()?;
+        let rats = self.rats.clone()?;
+        Ok(Hints { ids, rats })
+    }
 }
 
 impl Hints {

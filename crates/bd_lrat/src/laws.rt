@@ -1,17 +1,16 @@
 //! Laws of logs, each the contract of a function that does nothing: what a refutation means, and at
 //! small examples what *fresh* and *unsettled* take and what they don't.
-ghost use Rattle.std.specs.Prelude.{ℕ, Bool, List, [], ◌∷◌};
-ghost use Rattle.bd_cnf.specs.Clause.{Satisfies};
+ghost use Rattle.std.specs.Prelude.{List, [], ◌∷◌};
 ghost use Rattle.bd_cnf.specs.Problem.{Problem, problem};
 ghost use Rattle.bd_lrat.specs.declared.line.Line.{Line};
 ghost use Rattle.bd_lrat.specs.Database.{numbered};
-ghost use Rattle.bd_lrat.specs.Log.{IsRefutation, IsFresh, IsUnsettled};
+ghost use Rattle.bd_lrat.specs.Log.{IsRefutation, IsUnsatisfiable, IsFresh, IsUnsettled};
 ghost use Rattle.bd_lrat.specs.Examples.{square, square_line, weakened_line, forced_apart, not_both};
 
 /// Over a formula with an accepted log that adds the empty clause, no assignment makes every clause
 /// true.
 pub fn refutation_law()
-    ensures { (p : Problem) (lines : List Line) → IsRefutation p lines → (v : ℕ → Bool) → Satisfies v p.clauses → ⊥ }
+    ensures { (p : Problem) (lines : List Line) → IsRefutation p lines → IsUnsatisfiable p }
 {}
 
 /// Propagation from nothing finds no conflict in the square, and one decision leads to one.

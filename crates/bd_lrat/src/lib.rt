@@ -1,8 +1,9 @@
 //! Logs of clausal proofs, the check of their lines, and the textual LRAT.
 #![tactic(auto)]
 
+mod arena;
 mod checker;
-mod clause_map;
+mod code;
 mod hints;
 mod laws;
 mod line;

@@ -2,6 +2,7 @@ ghost use Rattle.std.specs.Prelude.{◌≡◌};
 
 use crate::hints::Hints;
 use bd_cnf::{Clause, Words};
+use std::alloc::AllocError;
 
 /// A hint of an addition.
 #[derive(Clone, Copy, Debug, PartialEq, Eq, Hash)]
@@ -26,6 +27,28 @@ pub enum Line {
         id: u64,
         ids: Words,
     },
+}
+
+impl Clone for Line {
+    ghost is_clone = { λ a b. b ≡ a };
+
+    fn clone(&self) -> Result<Self, AllocError> {
+        match self {
+            Line::Add { id, clause, hints } => {
+                let clause = clause.clone()?;
+                let hints = hints.clone()?;
+                Ok(Line::Add {
+                    id: *id,
+                    clause,
+                    hints,
+                })
+            }
+            Line::Delete { id, ids } => {
+                let ids = ids.clone()?;
+                Ok(Line::Delete { id: *id, ids })
+            }
+        }
+    }
 }
 
 impl Line {

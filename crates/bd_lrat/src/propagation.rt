@@ -1,11 +1,15 @@
+//! Propagation along hints. A hint names a clause; what counts is how many of its literals aren't
+//! false: none is a conflict, one makes that literal true, and with two the scan stops at once. So a
+//! check reads no more than the clauses that its hints name, allocates nothing, and looks for no
+//! clause by itself.
 ghost use Rattle.std.specs.Prelude.{◌≡◌};
 ghost use Rattle.bd_cnf.specs.Standing.{IsBelow, StandsBelow};
 ghost use Rattle.bd_cnf.specs.Trail.{open_literals};
-ghost use Rattle.bd_lrat.specs.Propagation.{hint_outcome, propagate};
 ghost use Rattle.bd_lrat.specs.Database.{outcome_answer};
-ghost use Rattle.bd_lrat.specs.inner.Steps.{IsOpen, IsStep};
+ghost use Rattle.bd_lrat.specs.inner.Steps.{IsOpen, IsStep, step_of, reached_by};
 
-use crate::clause_map::ClauseMap;
+use crate::arena::Arena;
+use crate::code::Code;
 use crate::hints::Hints;
 use crate::line::Hint;
 use crate::refused::Refused;
@@ -19,12 +23,13 @@ pub(crate) enum Open {
     Unresolved,
 }
 
-fn open_part(trail: &Trail, clause: &[Lit]) -> Open
+fn open_part(trail: &Trail, clause: &[Code]) -> Open
     requires { IsBelow trail.now.limit clause.now }
     ensures { IsOpen result (open_literals trail.now.literals clause.now) }
 {
     let mut found: Option<Lit> = None;
-    for &lit in clause {
+    for code in clause {
+        let lit = code.lit();
         if trail.is_false(lit) {
             continue;
         }
@@ -40,10 +45,10 @@ fn open_part(trail: &Trail, clause: &[Lit]) -> Open
 }
 
 /// Follows one hint, and answers whether it is a conflict.
-fn step(clauses: &ClauseMap, trail: &mut Trail, hint: Hint) -> Result<bool, Refused>
-    requires { StandsBelow trail.old.limit clauses.now }
+fn step(clauses: &Arena, trail: &mut Trail, hint: Hint) -> Result<bool, Refused>
+    requires { StandsBelow trail.old.limit clauses.now.clauses }
     ensures limit { trail.new.limit ≡ trail.old.limit }
-    ensures outcome { IsStep result (hint_outcome clauses.now trail.old.literals hint) trail.new.literals }
+    ensures outcome { IsStep result (step_of clauses.now trail.old hint) trail.new.literals }
 {
     let Hint::Unit(id) = hint else {
         return Err(Refused::Rat);
@@ -51,7 +56,7 @@ fn step(clauses: &ClauseMap, trail: &mut Trail, hint: Hint) -> Result<bool, Refu
     let Some(clause) = clauses.get(id) else {
         return Err(Refused::NoSuch(id));
     };
-    match open_part(trail, clause.lits()) {
+    match open_part(trail, clause) {
         Open::Falsified => Ok(true),
         Open::Unit(lit) => {
             if !trail.is_true(lit) {
@@ -64,14 +69,10 @@ fn step(clauses: &ClauseMap, trail: &mut Trail, hint: Hint) -> Result<bool, Refu
 }
 
 /// Follows the hints in order, until one is a conflict.
-pub(crate) fn propagate(
-    clauses: &ClauseMap,
-    trail: &mut Trail,
-    hints: &Hints,
-) -> Result<(), Refused>
-    requires { StandsBelow trail.old.limit clauses.now }
+pub(crate) fn propagate(clauses: &Arena, trail: &mut Trail, hints: &Hints) -> Result<(), Refused>
+    requires { StandsBelow trail.old.limit clauses.now.clauses }
     ensures limit { trail.new.limit ≡ trail.old.limit }
-    ensures answer { result ≡ outcome_answer (propagate clauses.now trail.old.literals hints.now) }
+    ensures answer { result ≡ outcome_answer (reached_by clauses.now trail.old hints.now) }
 {
     for hint in hints.iter() {
         if step(clauses, trail, hint)? {

@@ -1,6 +1,5 @@
-ghost use Rattle.std.specs.Prelude.{◌↔◌, ℕ, Bool, IsTrue, IfOk};
-ghost use Rattle.bd_cnf.specs.Clause.{Satisfies};
-ghost use Rattle.bd_lrat.specs.Log.{IsRefutation};
+ghost use Rattle.std.specs.Prelude.{◌↔◌, IsTrue, IfOk};
+ghost use Rattle.bd_lrat.specs.Log.{IsRefutation, IsUnsatisfiable};
 
 use crate::checker::Checker;
 use crate::log::Log;
@@ -12,7 +11,7 @@ use std::alloc::{AllocError, Global};
 /// satisfies the formula.
 pub fn refutes(alloc: Global, cnf: &Cnf, log: &Log) -> Result<bool, AllocError>
     ensures refutation { IfOk result (λ yes. IsTrue yes ↔ IsRefutation cnf.now log.now) }
-    ensures sound { IfOk result (λ yes. IsTrue yes → (v : ℕ → Bool) → Satisfies v cnf.now.clauses → ⊥) }
+    ensures sound { IfOk result (λ yes. IsTrue yes → IsUnsatisfiable cnf.now) }
 {
     let mut checker = Checker::new(alloc, cnf)?;
     let mut empty = false;

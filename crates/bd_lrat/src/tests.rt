@@ -90,7 +90,7 @@ fn the_square_is_refuted(rt: HostRuntime) -> Result<(), Fail> {
     assert!(rt; !refutes(rt.alloc(), &cnf, &log)?);
     log.push(addition(&rt, 6, &[], &[Unit(5), Unit(1), Unit(2)])?)?;
     log.push(deletion(&rt, 6, &[1, 2])?)?;
-    assert!(rt; refutes(rt.alloc(), &cnf, &log)?);
+    assert!(rt; refutes(rt.alloc(), &cnf, &log.clone()?)?);
     let text = lrat_text(rt.alloc(), &log)?;
     assert_eq!(rt;
         text.as_slice(),
@@ -108,8 +108,8 @@ fn ids_rise_and_deleted_clauses_are_gone(rt: HostRuntime) -> Result<(), Fail> {
     use Hint::Unit;
     let mut checker = Checker::new(rt.alloc(), &square(&rt)?)?;
     let unit = addition(&rt, 5, NEGATIVE, &[Unit(3), Unit(4)])?;
-    assert!(rt; checker.add_line(&unit) == Ok(()));
-    assert!(rt; checker.add_line(&deletion(&rt, 0, &[1, 77])?) == Ok(()));
+    assert!(rt; checker.add_line(&unit.clone()?) == Ok(()));
+    assert!(rt; checker.add_line(&deletion(&rt, 0, &[1, 77])?.clone()?) == Ok(()));
     let empty = addition(&rt, 6, &[], &[Unit(5), Unit(1), Unit(2)])?;
     assert!(rt; checker.add_line(&empty) == Err(AddError::Refused(Refused::NoSuch(1))));
     let last = addition(&rt, u64::MAX, NEGATIVE, &[Unit(5)])?;

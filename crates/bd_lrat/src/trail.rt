@@ -1,3 +1,6 @@
+//! The literals that a check takes as true: a value for each variable, and a trail of the literals in
+//! order. The trail has room for one literal of each variable from the start, so a check takes no
+//! memory, and clearing goes along the trail, not over all variables.
 ghost use Rattle.std.specs.Prelude.{◌≡◌, ◌<◌, ◌+◌, ◌++◌, ◌∷◌, [], length, map, false, IfOk};
 ghost use Rattle.std.specs.List.{All};
 ghost use Rattle.bd_cnf.specs.Literal.{Literal, has_literal, negate};

@@ -1,5 +1,5 @@
 -- How hints are kept: their numbers, and the places of those for resolutions on asymmetric tautologies.
-use Rattle.std.specs.Prelude.{ℕ, ◌+◌, ◌≤◌, ◌==◌, List, [], ◌∷◌, if◌then◌else◌}
+use Rattle.std.specs.Prelude.{ℕ, ◌+◌, ◌==◌, List, [], ◌∷◌, if◌then◌else◌}
 use Rattle.bd_lrat.specs.declared.line.Hint.{Hint}
 use Rattle.bd_lrat.specs.declared.line.Hint.TheVariants.{Unit as UnitHint, Rat}
 
@@ -8,8 +8,3 @@ abbrev pub hints_from : ℕ → List ℕ → List ℕ → List Hint
 hints_from place [] rats = []
 hints_from place (id ∷ ids) [] = UnitHint id ∷ hints_from (place + 1) ids []
 hints_from place (id ∷ ids) (r ∷ rats) = if r == place then Rat id ∷ hints_from (place + 1) ids rats else UnitHint id ∷ hints_from (place + 1) ids (r ∷ rats)
-
--- places that rise, from low to below high
-abbrev pub ArePlaces : ℕ → ℕ → List ℕ → Type 0
-ArePlaces low high [] = low ≤ high
-ArePlaces low high (r ∷ rats) = (low ≤ r) × ArePlaces (r + 1) high rats

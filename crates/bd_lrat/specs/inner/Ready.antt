@@ -1,9 +1,10 @@
 -- A check's trail between two lines.
-use Rattle.std.specs.Prelude.{◌≡◌, ℕ, ◌+◌, []}
+use Rattle.std.specs.Prelude.{◌≡◌, ℕ, ◌+◌, ◌<◌, ◌^◌, []}
 use Rattle.bd_cnf.specs.Standing.{Standing, StandsBelow}
 use Rattle.bd_cnf.specs.Trail.{TrailView, trail_of}
 
--- between two checks no literal is on the trail, and there is room for each variable that stands
+-- between two checks no literal is on the trail, there is room for each variable that stands, and each has a code
 pub record IsReady (vars : ℕ) (standing : Standing) (trail : TrailView) : Type 0 where
   pub none : trail ≡ trail_of (vars + 1) []
   pub below : StandsBelow (vars + 1) standing
+  pub coded : vars < 2 ^ 31

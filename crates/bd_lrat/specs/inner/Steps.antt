@@ -4,7 +4,10 @@ use Rattle.bd_cnf.specs.Literal.{Literal}
 use Rattle.bd_lrat.specs.declared.propagation.Open.{Open}
 use Rattle.bd_lrat.specs.declared.propagation.Open.TheVariants.{Falsified, Unit as UnitIn, Unresolved}
 use Rattle.bd_lrat.specs.declared.refused.Refused.{Refused}
-use Rattle.bd_lrat.specs.Propagation.{Outcome, Conflict, Reached, Stopped}
+use Rattle.bd_cnf.specs.Trail.{TrailView}
+use Rattle.bd_lrat.specs.declared.line.Hint.{Hint}
+use Rattle.bd_lrat.specs.inner.Arena.{Store}
+use Rattle.bd_lrat.specs.Propagation.{Outcome, Conflict, Reached, Stopped, hint_outcome, propagate}
 
 -- how many literals are open, and which where it is one
 abbrev pub IsOpen : Open → List Literal → Type 0
@@ -17,3 +20,11 @@ abbrev pub IsStep : Result Bool Refused → Outcome → List Literal → Type 0
 IsStep (Ok true) outcome trail = outcome ≡ Conflict
 IsStep (Ok false) outcome trail = outcome ≡ Reached trail
 IsStep (Err r) outcome trail = outcome ≡ Stopped r
+
+-- a hint over what is stored, from a trail
+abbrev pub step_of : Store → TrailView → Hint → Outcome
+step_of s trail h = hint_outcome s.clauses trail.literals h
+
+-- hints over what is stored, from a trail
+abbrev pub reached_by : Store → TrailView → List Hint → Outcome
+reached_by s trail hints = propagate s.clauses trail.literals hints

@@ -1,7 +1,11 @@
-use Rattle.std.proofs.Common.{arith, sym}
+use Rattle.std.proofs.Common.{◌≡◌, arith, get_or, subst, sym}
+use Rattle.bd_cnf.specs.Literal.{Literal}
 use Rattle.bd_cnf.proofs.Opens.{two_open}
 use Rattle.bd_lrat.proofs.propagation.open_part.Goals as goal
 
 pub returns-then-is_some : goal.returns-then-is_some
 returns-then-is_some c =
-    two_open c.args.trail.now.literals c.args.clause.now c.loop-lit.lit-index c.lit-item.result c.loop-lit.found (omega arith) c.lit-item.is (sym c.if-is_false.ensures) c.loop-lit.invariant (sym c.if-is_some.ensures)
+    let clause = c.args.clause.now in
+    let i = c.loop-code.code-index in
+    let is : c.lit-lit.result ≡ get_or clause i c.lit-lit.result = subst (λ (l : Literal). l ≡ get_or clause i l) (sym c.lit-lit.ensures) c.code-item.is in
+    two_open c.args.trail.now.literals clause i c.lit-lit.result c.loop-code.found (omega arith) is (sym c.if-is_false.ensures) c.loop-code.invariant (sym c.if-is_some.ensures)

@@ -3,5 +3,5 @@ use Rattle.std.specs.Option.{option_to_list}
 use Rattle.bd_cnf.specs.Trail.{open_literals}
 use Rattle.bd_lrat.proofs.propagation.open_part.Given as goal
 
-abbrev pub invariant-loop-lit : goal.invariant-loop-lit
-invariant-loop-lit l = open_literals l.trail.literals (take l.lit-index l.clause) ≡ option_to_list l.found
+abbrev pub invariant-loop-code : goal.invariant-loop-code
+invariant-loop-code l = open_literals l.trail.literals (take l.code-index l.clause) ≡ option_to_list l.found
