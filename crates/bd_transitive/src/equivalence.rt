@@ -50,7 +50,8 @@ fn links(
 {
     let mut links = own_places(alloc, count)?;
     for (e, span) in spans.iter().enumerate() {
-        if values[e] {
+        let is_true = values[e];
+        if is_true {
             links[span.low] = span.high as u64;
         }
     }
