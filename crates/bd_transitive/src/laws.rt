@@ -11,6 +11,7 @@ pub fn classes_meet_triangles()
 
 /// Only the values of the order's edges count.
 pub fn meets_by_edges()
-    ensures { (order : AnyOrder) (value other : ℕ → Bool) → ((e : ℕ) → e < length order.edges → value e ≡ other e) →
+    ensures { (order : AnyOrder) (value other : ℕ → Bool) →
+        ((e : ℕ) → e < length order.edges → value e ≡ other e) →
         MeetsTriangles order value → MeetsTriangles order other }
 {}
