@@ -1,10 +1,9 @@
 -- The places at which links end are classes of an order's vertices.
-use Rattle.std.proofs.Common.{◌≡◌, ◌↔◌, ℕ, ◌<◌, Bool, true, List, All, Some, length, get_or, map, sym, ap, ◌∙◌, ⊎_elim, arith}
+use Rattle.std.proofs.Common.{◌≡◌, ℕ, ◌<◌, Bool, List, All, Some, length, map, sym, ap, ◌∙◌, ⊎_elim, arith}
 use Rattle.std.proofs.lemmas.Bool.{cases_order}
 use Rattle.std.proofs.lemmas.List.Elements.{All-contains, All-from_get_or}
 use Rattle.bd_transitive.specs.declared.graph.Order.{Order}
 use Rattle.bd_transitive.specs.declared.span.Span.{Span}
-use Rattle.bd_transitive.specs.Edges.{JoinsAt}
 use Rattle.bd_transitive.specs.Orders.{place, IsOrder}
 use Rattle.bd_transitive.specs.Triangle.{MeetsTriangles, AgreesWithClasses, class_of}
 use Rattle.bd_transitive.specs.inner.Spans.{span_between, span_of, IsSpan}

@@ -1,11 +1,11 @@
 -- The triangles of spans, gone through one by one.
-use Rattle.std.proofs.Common.{◌≡◌, ◌≢◌, ◌⊎◌, ◌↔◌, ℕ, zero, suc, ◌+◌, ◌*◌, ◌<◌, ◌≤◌, Bool, true, false, List, [], ◌∷◌, ◌++◌, All, AllPairs, Contains, Some, length, get_or, min, max, slice_get, inl, inr, refl, sym, ap, subst, ◌∙◌, ⊎_elim, arith}
+use Rattle.std.proofs.Common.{◌≡◌, ◌≢◌, ℕ, ◌<◌, Bool, List, [], ◌∷◌, ◌++◌, Contains, Some, get_or, slice_get, sym, ap, subst, ◌∙◌, ⊎_elim, arith}
 use Rattle.std.proofs.lemmas.Bool.{cases_order}
 use Rattle.std.proofs.lemmas.List.Elements.{All-contains, Contains-push, Contains-push_cases, Contains-append_left}
 use Rattle.std.proofs.lemmas.Option.{same_Some, get_or_from_slice_get}
 use Rattle.bd_transitive.specs.declared.span.Span.{Span}
 use Rattle.bd_transitive.specs.Triangle.{IsNotTwo}
-use Rattle.bd_transitive.specs.inner.Spans.{span, span_between, IsSpan, IsComplete, IsSpanTriangle, IsEarlier, MeetsSpans, MeetsFan}
+use Rattle.bd_transitive.specs.inner.Spans.{span, span_between, IsSpan, IsComplete, IsSpanTriangle, IsEarlier, MeetsFan}
 use Rattle.bd_transitive.proofs.Linking.{same_number}
 use Rattle.bd_transitive.proofs.OrderSpans.{Contains-from_at, span_between_lt, span_between_comm}
 

@@ -1,14 +1,14 @@
 -- Why the places at which links end are classes.
-use Rattle.std.proofs.Common.{◌≡◌, ◌≢◌, ◌⊎◌, ◌↔◌, ℕ, zero, suc, ◌+◌, ◌<◌, ◌≤◌, Bool, true, false, List, All, AllPairs, Contains, Some, length, get_or, set, min, max, slice_get, inl, inr, refl, sym, ap, subst, ◌∙◌, ⊎_elim, arith}
-use Rattle.std.proofs.lemmas.Bool.{cases_eq, cases_lt, cases_order, false≢true, true≢false}
+use Rattle.std.proofs.Common.{◌≡◌, ◌≢◌, ◌⊎◌, ◌↔◌, ℕ, zero, suc, ◌+◌, ◌<◌, ◌≤◌, Bool, true, false, List, AllPairs, Some, length, get_or, set, slice_get, inl, inr, sym, ap, ◌∙◌, ⊎_elim, arith}
+use Rattle.std.proofs.lemmas.Bool.{cases_eq, cases_lt, cases_order, false≢true}
 use Rattle.std.proofs.lemmas.List.{get_or-set_same, get_or-set_other, length-set}
 use Rattle.std.proofs.lemmas.List.Elements.{All-contains}
 use Rattle.std.proofs.lemmas.Option.{slice_get_within, get_or_from_slice_get, same_Some}
 use Rattle.bd_transitive.specs.declared.span.Span.{Span}
 use Rattle.bd_transitive.specs.Triangle.{IsNotTwo}
-use Rattle.bd_transitive.specs.inner.Spans.{span, span_between, IsSpan, IsComplete, IsSpanTriangle, MeetsSpans}
+use Rattle.bd_transitive.specs.inner.Spans.{span, span_between, IsSpan, IsComplete, MeetsSpans}
 use Rattle.bd_transitive.specs.inner.Links.{HasNone, HasOne, AreLinks, AreFollowed}
-use Rattle.bd_transitive.proofs.NotTwo.{third_true, not_two_swap, not_two_turn}
+use Rattle.bd_transitive.proofs.NotTwo.{third_true, not_two_turn}
 use Rattle.bd_transitive.proofs.OrderSpans.{Contains-from_at, at_from_Contains, span_between_lt, span_between_comm}
 
 -- two spans that are the same have one number

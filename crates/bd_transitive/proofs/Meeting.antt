@@ -1,13 +1,12 @@
 -- Triangles of an order and those of its spans.
-use Rattle.std.proofs.Common.{◌≡◌, ◌↔◌, ℕ, ◌<◌, Bool, true, List, All, Contains, Some, length, get_or, map, slice_get, sym, ap, ◌∙◌, arith}
+use Rattle.std.proofs.Common.{◌≡◌, ℕ, ◌<◌, Bool, List, Some, length, get_or, map, sym, ap, subst, ◌∙◌, arith}
 use Rattle.std.proofs.lemmas.List.Elements.{All-contains}
-use Rattle.bd_transitive.specs.declared.graph.Edge.{Edge}
 use Rattle.bd_transitive.specs.declared.graph.Order.{Order}
 use Rattle.bd_transitive.specs.declared.span.Span.{Span}
-use Rattle.bd_transitive.specs.Edges.{JoinsAt}
 use Rattle.bd_transitive.specs.Orders.{place, IsOrder}
 use Rattle.bd_transitive.specs.Triangle.{IsNotTwo, IsTriangle, MeetsTriangles, AgreesWithClasses}
 use Rattle.bd_transitive.specs.inner.Spans.{span, span_between, span_of, IsSpan, IsSpanTriangle, MeetsSpans}
+use Rattle.bd_transitive.proofs.Ends.{joins_at-within}
 use Rattle.bd_transitive.proofs.NotTwo.{not_two_from}
 use Rattle.bd_transitive.proofs.Places.{place-get}
 use Rattle.bd_transitive.proofs.OrderSpans.{Contains-from_at, spans_bounded, span_at, span_between_lt, joins_at_places, joins_at_from_span}
@@ -67,3 +66,11 @@ classes_meet order value class agrees d e f t =
     (λ a b. across.1 (sym (left.0 a) ∙ right.0 b))
     (λ a b. right.1 (left.0 a ∙ across.0 b))
     (λ a b. left.1 (right.0 a ∙ sym (across.0 b)))
+
+-- values that are the same for each edge meet the triangles alike
+pub meets_alike : (order : Order) (value other : ℕ → Bool) → ((e : ℕ) → e < length order.edges → value e ≡ other e) → MeetsTriangles order value → MeetsTriangles order other
+meets_alike order value other same h d e f t =
+    let same_d = same d (joins_at-within order.edges d t.vertex t.left t.to_left) in
+    let same_e = same e (joins_at-within order.edges e t.vertex t.right t.to_right) in
+    let same_f = same f (joins_at-within order.edges f t.left t.right t.across) in
+    subst (λ x. IsNotTwo x (other e) (other f)) same_d (subst (λ x. IsNotTwo (value d) x (other f)) same_e (subst (λ x. IsNotTwo (value d) (value e) x) same_f (h d e f t)))

@@ -1,5 +1,5 @@
 -- Three truth values of which not exactly two are true.
-use Rattle.std.proofs.Common.{◌≡◌, ℕ, Bool, true, false, refl, sym, ap, ◌∙◌, arith}
+use Rattle.std.proofs.Common.{◌≡◌, Bool, true, false, refl, arith}
 use Rattle.std.proofs.lemmas.Bool.{false≢true}
 use Rattle.bd_transitive.specs.Triangle.{IsNotTwo}
 

@@ -1,11 +1,10 @@
 -- The order that is made of complete spans.
-use Rattle.std.proofs.Common.{◌≡◌, ◌≢◌, ℕ, ◌+◌, ◌-◌, ◌<◌, ◌≤◌, List, [], ◌∷◌, ◌++◌, All, AllPairs, Contains, Some, Ok, Err, Result, length, get_or, map, take, drop, slice_get, refl, sym, ap, subst, ◌∙◌, arith}
+use Rattle.std.proofs.Common.{◌≡◌, ◌≢◌, ℕ, ◌-◌, ◌<◌, ◌≤◌, List, ◌++◌, AllPairs, Contains, Some, Ok, Err, Result, length, get_or, map, take, drop, slice_get, refl, sym, ap, subst, ◌∙◌, arith}
 use Rattle.std.specs.Result.{IfOk}
 use Rattle.std.proofs.lemmas.List.{length-map, length-append, map-append, take_at, drop_at, get_or-append_right}
 use Rattle.std.proofs.lemmas.List.Elements.{All-drop, All-contains, Contains-get_or}
 use Rattle.std.proofs.lemmas.Option.{slice_get-get_or}
 use Rattle.bd_transitive.specs.declared.graph.Edge.{Edge}
-use Rattle.bd_transitive.specs.declared.graph.Order.{Order}
 use Rattle.bd_transitive.specs.declared.span.Span.{Span}
 use Rattle.bd_transitive.specs.Edges.{JoinsAt}
 use Rattle.bd_transitive.specs.Orders.{IsOrder, IsFillIn}

@@ -1,5 +1,5 @@
 -- Edges and their spans: what is said of vertices of an order, said of places, and back.
-use Rattle.std.proofs.Common.{◌≡◌, ◌≢◌, ◌⊎◌, ℕ, ◌+◌, ◌<◌, ◌≤◌, List, [], ◌∷◌, ◌++◌, All, AllPairs, Contains, Some, length, get_or, map, min, max, slice_get, inl, inr, refl, sym, ap, subst, ◌∙◌, ⊎_elim, arith}
+use Rattle.std.proofs.Common.{◌≡◌, ◌≢◌, ℕ, ◌<◌, List, [], ◌∷◌, All, AllPairs, Contains, Some, length, get_or, map, min, max, slice_get, inl, inr, refl, sym, ap, subst, ◌∙◌, ⊎_elim, arith}
 use Rattle.std.specs.Option.{option_map}
 use Rattle.std.proofs.lemmas.Bool.{cases_eq, cases_order}
 use Rattle.std.proofs.lemmas.List.{length-map, get_or-map}
@@ -8,7 +8,7 @@ use Rattle.std.proofs.lemmas.Option.{slice_get-map, slice_get_within, slice_get-
 use Rattle.bd_transitive.specs.declared.graph.Edge.{Edge}
 use Rattle.bd_transitive.specs.declared.graph.Order.{Order}
 use Rattle.bd_transitive.specs.declared.span.Span.{Span}
-use Rattle.bd_transitive.specs.Edges.{Joins, JoinsAt, AreJoined, IsEnd, AreEdges}
+use Rattle.bd_transitive.specs.Edges.{Joins, JoinsAt, IsEnd, AreEdges}
 use Rattle.bd_transitive.specs.Orders.{place, IsLaterNeighbour, IsOrder}
 use Rattle.bd_transitive.specs.inner.Spans.{span, span_between, span_of, edge_at, IsSpan, IsComplete}
 use Rattle.bd_transitive.proofs.Ends.{no_edge, joins_at, joins_at-within, joins_at-get}

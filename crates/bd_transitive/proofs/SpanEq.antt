@@ -1,5 +1,5 @@
 -- Equality of spans, as the sets of spans use it.
-use Rattle.std.proofs.Common.{◌≡◌, ◌<◌, ℕ, Bool, true, false, Some, None, length, get_or, position, slice_get, ⊎_elim, arith, List, [], ◌∷◌, ◌++◌, Contains, eqb, cond, not, refl, sym, ap, subst, ◌∙◌}
+use Rattle.std.proofs.Common.{◌≡◌, ◌<◌, Bool, true, false, Some, None, length, get_or, position, slice_get, ⊎_elim, arith, List, [], ◌∷◌, ◌++◌, Contains, eqb, cond, not, refl, sym, ap, ◌∙◌}
 use Rattle.std.specs.Bool.{Decides}
 use Rattle.std.specs.List.{list_any, position_or_len}
 use Rattle.std.specs.Prelude.{unwrap_or}

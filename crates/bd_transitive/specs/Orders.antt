@@ -1,5 +1,5 @@
 -- Elimination orders (Bryant and Velev 2000: the completed comparison graph; perfect elimination of chordal graphs).
-use Rattle.std.specs.Prelude.{◌≡◌, ◌≢◌, ◌<◌, ℕ, List, AllPairs, Contains, nat_eq}
+use Rattle.std.specs.Prelude.{◌≢◌, ◌<◌, ℕ, List, AllPairs, Contains, nat_eq}
 use Rattle.std.specs.List.{position_or_len}
 use Rattle.bd_transitive.specs.Edges.{JoinsAt, AreJoined, IsEnd, AreEdges}
 use Rattle.bd_transitive.specs.declared.graph.Order.{Order}

@@ -19,7 +19,8 @@ use std::alloc::{AllocError, Global};
 /// triangle are true. The variable of an edge is its number from 1.
 pub fn triangles(alloc: Global, order: &Order) -> Result<Triangles, AllocError>
     requires { IsOrder order.now }
-    ensures meets { IfOk result (λ t. (v : ℕ → Bool) → Satisfies v t ↔ MeetsTriangles order.now (edge_value v)) }
+    ensures meets { IfOk result (λ t. (v : ℕ → Bool) →
+        Satisfies v t ↔ MeetsTriangles order.now (edge_value v)) }
     ensures three { IfOk result (λ t. length t ≡ 3 * triangle_count order.now) }
     ensures within { IfOk result (λ t. AreWithin (length order.now.edges) t) }
 {
@@ -32,7 +33,8 @@ pub fn triangles(alloc: Global, order: &Order) -> Result<Triangles, AllocError>
 /// The clauses for the triangles of these spans.
 fn clauses(alloc: Global, count: usize, spans: &IndexSet<Span>) -> Result<Triangles, AllocError>
     requires { IsComplete count spans.now.keys }
-    ensures meets { IfOk result (λ t. (v : ℕ → Bool) → Satisfies v t ↔ MeetsSpans spans.now.keys (edge_value v)) }
+    ensures meets { IfOk result (λ t. (v : ℕ → Bool) →
+        Satisfies v t ↔ MeetsSpans spans.now.keys (edge_value v)) }
     ensures three { IfOk result (λ t. length t ≡ 3 * pair_count same_low spans.now.keys) }
     ensures within { IfOk result (λ t. AreWithin (length spans.now.keys) t) }
 {
@@ -57,9 +59,11 @@ fn push_fan(
     requires number { e < length spans.now.keys }
     requires complete { (count : ℕ) × IsComplete count spans.now.keys }
     ensures meets { OnOk result ((v : ℕ → Bool) →
-        Satisfies v clauses.new ↔ (Satisfies v clauses.old × MeetsFan spans.now.keys row.now e (edge_value v))) }
+        Satisfies v clauses.new ↔
+        (Satisfies v clauses.old × MeetsFan spans.now.keys row.now e (edge_value v))) }
     ensures three { OnOk result (length clauses.new ≡ length clauses.old + 3 * length row.now) }
-    ensures within { OnOk result (AreWithin (length spans.now.keys) clauses.old → AreWithin (length spans.now.keys) clauses.new) }
+    ensures within { OnOk result (AreWithin (length spans.now.keys) clauses.old →
+        AreWithin (length spans.now.keys) clauses.new) }
 {
     let all = spans.as_slice();
     for &d in row {
@@ -90,9 +94,11 @@ fn push_triangle(
     requires third { (f ≢ d) × (f ≢ e) }
     requires fits { (e < usize.MAX) × (f < usize.MAX) }
     ensures meets { OnOk result ((v : ℕ → Bool) →
-        Satisfies v clauses.new ↔ (Satisfies v clauses.old × IsNotTwo (edge_value v d) (edge_value v e) (edge_value v f))) }
+        Satisfies v clauses.new ↔
+        (Satisfies v clauses.old × IsNotTwo (edge_value v d) (edge_value v e) (edge_value v f))) }
     ensures three { OnOk result (length clauses.new ≡ length clauses.old + 3) }
-    ensures within { OnOk result ((n : ℕ) → e < n → f < n → AreWithin n clauses.old → AreWithin n clauses.new) }
+    ensures within { OnOk result ((n : ℕ) → e < n → f < n →
+        AreWithin n clauses.old → AreWithin n clauses.new) }
 {
     let low = d.min(f);
     let high = e.max(f);
@@ -112,7 +118,8 @@ fn clause(
 ) -> Result<Clause, AllocError>
     requires rising { (low.0 < middle.0) × (middle.0 < high.0) }
     requires fits { high.0 < usize.MAX }
-    ensures { IfOk result (λ c. c ≡ literal (low.0 + 1) low.1 ∷ literal (middle.0 + 1) middle.1 ∷ literal (high.0 + 1) high.1 ∷ []) }
+    ensures { IfOk result (λ c. c ≡
+        literal (low.0 + 1) low.1 ∷ literal (middle.0 + 1) middle.1 ∷ literal (high.0 + 1) high.1 ∷ []) }
 {
     let lits = vec![in alloc;
         literal(low.0, low.1),

@@ -20,7 +20,8 @@ pub fn order(alloc: Global, edges: &Edges) -> Result<Order, AllocError>
     ensures order { IfOk result IsOrder }
     ensures vertices { IfOk result (λ o. (v : ℕ) → Contains o.vertices v ↔ IsEnd edges.now v) }
     ensures given { IfOk result (λ o. take (length edges.now) o.edges ≡ edges.now) }
-    ensures further { IfOk result (λ o. (e : ℕ) → length edges.now ≤ e → e < length o.edges → IsFillIn o e) }
+    ensures further { IfOk result (λ o. (e : ℕ) →
+        length edges.now ≤ e → e < length o.edges → IsFillIn o e) }
 {
     let best = fewest_first(alloc, edges.as_slice())?;
     let vertices = ends(alloc, edges.as_slice(), &best)?;

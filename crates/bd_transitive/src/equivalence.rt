@@ -15,7 +15,8 @@ pub fn classes(alloc: Global, order: &Order, values: &EdgeValues) -> Result<Clas
     requires order { IsOrder order.now }
     requires values { length values.now ≡ length order.now.edges }
     requires meets { MeetsTriangles order.now (value_at values.now) }
-    ensures agrees { IfOk result (λ c. AgreesWithClasses order.now.edges (value_at values.now) (class_of order.now.vertices c)) }
+    ensures agrees { IfOk result (λ c.
+        AgreesWithClasses order.now.edges (value_at values.now) (class_of order.now.vertices c)) }
     ensures all { IfOk result (λ c. length c ≡ length order.now.vertices) }
     ensures below { IfOk result (λ c. All (λ class. class < length order.now.vertices) c) }
 {
@@ -46,11 +47,13 @@ fn links(
 ) -> Result<Vec<u64>, AllocError>
     requires bounded { All (IsSpan count) spans.now }
     requires values { length values.now ≡ length spans.now }
-    ensures { IfOk result (λ links. AreLinks spans.now (value_at values.now) count (length spans.now) links.items) }
+    ensures { IfOk result (λ links.
+        AreLinks spans.now (value_at values.now) count (length spans.now) links.items) }
 {
     let mut links = own_places(alloc, count)?;
     for (e, span) in spans.iter().enumerate() {
-        if values[e] {
+        let is_true = values[e];
+        if is_true {
             links[span.low] = span.high as u64;
         }
     }
@@ -59,7 +62,8 @@ fn links(
 
 /// The place at which each place ends that follows the links.
 fn followed(alloc: Global, links: &[u64]) -> Result<Vec<u64>, AllocError>
-    requires { (p : ℕ) → p < length links.now → (p ≤ slice_index links.now p) × (slice_index links.now p < length links.now) }
+    requires { (p : ℕ) → p < length links.now →
+        (p ≤ slice_index links.now p) × (slice_index links.now p < length links.now) }
     ensures { IfOk result (λ ends. AreFollowed links.now ends.items 0) }
 {
     let mut ends = own_places(alloc, links.len())?;

@@ -34,7 +34,9 @@ pub(crate) fn fill(
 
 /// The least of the numbers.
 fn least(numbers: &[usize]) -> Option<usize>
-    ensures { MatchOption result (numbers.now ≡ []) (λ m. Contains numbers.now m × All (λ n. m ≤ n) numbers.now) }
+    ensures { MatchOption result
+        (numbers.now ≡ [])
+        (λ m. Contains numbers.now m × All (λ n. m ≤ n) numbers.now) }
 {
     numbers.iter().copied().min()
 }
@@ -64,7 +66,8 @@ fn join_to_all(
     requires distinct { AllPairs (λ s t. s ≢ t) spans.old.keys }
     ensures joined { OnOk result (JoinedToAll spans.old.keys spans.new.keys low all.now) }
     ensures distinct { OnOk result (AllPairs (λ s t. s ≢ t) spans.new.keys) }
-    ensures ends { OnOk result ((from : ℕ) → HaveEnds spans.old.keys rows.old.items from → HaveEnds spans.new.keys rows.new.items from) }
+    ensures ends { OnOk result ((from : ℕ) →
+        HaveEnds spans.old.keys rows.old.items from → HaveEnds spans.new.keys rows.new.items from) }
     ensures size { OnOk result (length rows.new.items ≡ length rows.old.items) }
 {
     for &high in all {

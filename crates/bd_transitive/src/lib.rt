@@ -21,4 +21,7 @@ pub use clauses::triangles;
 pub use elimination::order;
 pub use equivalence::classes;
 pub use graph::{Classes, Edge, EdgeValues, Edges, Order, Triangles, Words};
-pub use laws::classes_meet_triangles;
+pub use laws::{classes_meet_triangles, meets_by_edges};
+
+#[cfg(test)]
+mod tests;

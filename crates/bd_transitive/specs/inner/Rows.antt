@@ -1,7 +1,7 @@
 -- Rows: for each place a list of what leads from it to later places.
-use Rattle.std.specs.Prelude.{◌≡◌, ◌⊎◌, ◌<◌, ◌≤◌, ◌==◌, ◌++◌, ℕ, Some, List, [], All, Contains, length, take, count_by, slice_get, slice_index_or}
+use Rattle.std.specs.Prelude.{◌≡◌, ◌⊎◌, ◌<◌, ◌≤◌, ◌==◌, ◌++◌, ℕ, Some, List, [], Contains, length, take, count_by, slice_get, slice_index_or}
 use Rattle.bd_transitive.specs.declared.span.Span.{Span}
-use Rattle.bd_transitive.specs.inner.Spans.{span, IsSpan}
+use Rattle.bd_transitive.specs.inner.Spans.{span}
 
 -- the row of a place
 abbrev pub row : List (List ℕ) → ℕ → List ℕ

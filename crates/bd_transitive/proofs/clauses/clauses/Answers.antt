@@ -1,17 +1,16 @@
-use Rattle.std.proofs.Common.{◌≡◌, ◌+◌, ◌*◌, ◌<◌, ◌≤◌, ◌↔◌, ◌∷◌, ◌++◌, ◌∙◌, ℕ, Bool, List, [], Some, All, get_or, length, slice_get, take, sym, ap, subst, arith}
-use Rattle.std.proofs.lemmas.List.{get_or_read, length-replicate, take_more, take_all}
+use Rattle.std.proofs.Common.{◌≡◌, ◌+◌, ◌<◌, ◌≤◌, ◌↔◌, ◌∷◌, ◌++◌, ◌∙◌, ℕ, Bool, List, [], Some, All, get_or, length, slice_get, take, sym, ap, subst, arith}
+use Rattle.std.proofs.lemmas.List.{get_or_read, take_more}
 use Rattle.std.proofs.lemmas.Option.{slice_get-get_or, slice_get_within, get_or_from_slice_get}
 use Rattle.std.proofs.lemmas.List.Elements.{All-contains}
 use Rattle.bd_cnf.specs.Clause.{Satisfies}
-use Rattle.bd_cnf.specs.Problem.{AreWithin}
 use Rattle.bd_transitive.specs.declared.span.Span.{Span}
 use Rattle.bd_transitive.specs.Triangle.{edge_value, pair_count}
-use Rattle.bd_transitive.specs.inner.Spans.{span, same_low, IsSpan, IsEarlier, MeetsBelow, MeetsFan, MeetsSpans}
+use Rattle.bd_transitive.specs.inner.Spans.{span, same_low, IsSpan, IsEarlier, MeetsFan}
 use Rattle.bd_transitive.specs.inner.Rows.{row, HaveNumbers}
 use Rattle.bd_transitive.proofs.Counting.{pair_count_push}
-use Rattle.bd_transitive.proofs.Numbered.{HaveNumbers-empty, HaveNumbers-pushed, row_earlier, below_more_spans, below_less_spans, meets_from_below}
+use Rattle.bd_transitive.proofs.Numbered.{HaveNumbers-pushed, row_earlier, below_more_spans, below_less_spans, meets_from_below}
 use Rattle.bd_transitive.proofs.OrderSpans.{Contains-from_at}
-use Rattle.bd_transitive.proofs.Pushed.{pushed, pushed_is, length-pushed}
+use Rattle.bd_transitive.proofs.Pushed.{pushed_is, length-pushed}
 use Rattle.bd_transitive.proofs.clauses.clauses.Goals as goal
 
 pub push_fan-requires-clause-row : goal.push_fan-requires-clause-row

@@ -1,4 +1,4 @@
-use Rattle.std.proofs.Common.{◌≡◌, ◌*◌, ◌<◌, ◌↔◌, ℕ, Bool, length, take}
+use Rattle.std.proofs.Common.{◌≡◌, ◌*◌, ◌↔◌, ℕ, Bool, length, take}
 use Rattle.bd_cnf.specs.Clause.{Satisfies}
 use Rattle.bd_cnf.specs.Problem.{AreWithin}
 use Rattle.bd_transitive.specs.Triangle.{edge_value, pair_count}

@@ -1,9 +1,8 @@
-use Rattle.std.proofs.Common.{◌≡◌, ◌≢◌, ◌+◌, ◌*◌, ◌∷◌, ◌++◌, ◌∙◌, ◌<◌, ◌↔◌, [], ℕ, Bool, List, Some, Contains, get_or, length, slice_get, take, sym, ap, subst, arith}
+use Rattle.std.proofs.Common.{◌≡◌, ◌+◌, ◌∷◌, ◌++◌, ◌∙◌, ◌↔◌, [], ℕ, Bool, List, Some, Contains, get_or, length, take, sym, ap, subst, arith}
 use Rattle.std.proofs.lemmas.List.{take_more, take_all}
 use Rattle.bd_cnf.specs.Clause.{Satisfies}
-use Rattle.bd_cnf.specs.Problem.{AreWithin}
 use Rattle.bd_transitive.specs.declared.span.Span.{Span}
-use Rattle.bd_transitive.specs.Triangle.{IsNotTwo, edge_value}
+use Rattle.bd_transitive.specs.Triangle.{edge_value}
 use Rattle.bd_transitive.specs.inner.Spans.{span, span_between, IsEarlier, MeetsFan}
 use Rattle.bd_transitive.proofs.Fans.{across_there, triangle_made, third_apart, fan_more, fan_less, fan_none}
 use Rattle.bd_transitive.proofs.clauses.push_fan.Goals as goal

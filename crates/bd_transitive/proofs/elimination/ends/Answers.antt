@@ -1,4 +1,4 @@
-use Rattle.std.proofs.Common.{◌≡◌, ℕ, All, Contains, get_or, eqb, sym, subst, below_more, ◌∙◌, arith}
+use Rattle.std.proofs.Common.{All, Contains, get_or, eqb, sym, subst, below_more, ◌∙◌, arith}
 use Rattle.std.specs.List.{IsDistinct}
 use Rattle.std.proofs.lemmas.Bool.{eqb-true}
 use Rattle.std.proofs.lemmas.List.Elements.{All-contains, Contains-get_or}

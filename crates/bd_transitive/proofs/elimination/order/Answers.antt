@@ -1,10 +1,8 @@
-use Rattle.std.proofs.Common.{◌≡◌, ◌≢◌, ◌≤◌, ◌<◌, ◌∙◌, ◌↔◌, ◌++◌, ℕ, List, All, AllPairs, Contains, length, map, take, drop, sym, ap, subst}
+use Rattle.std.proofs.Common.{◌≡◌, ◌≤◌, ◌<◌, ◌∙◌, ◌↔◌, ℕ, All, Contains, length, map, take, sym, ap, subst}
 use Rattle.std.specs.List.{IsDistinct}
 use Rattle.std.specs.Result.{IfOk}
 use Rattle.std.proofs.lemmas.Bool.Decides.{Decides-eqb}
 use Rattle.std.proofs.lemmas.Map.Made.{AllPairs-from_IsDistinct, IsDistinct-from_AllPairs}
-use Rattle.bd_transitive.specs.declared.graph.Order.{Order}
-use Rattle.bd_transitive.specs.declared.span.Span.{Span}
 use Rattle.bd_transitive.specs.Edges.{IsEnd}
 use Rattle.bd_transitive.specs.Orders.{IsOrder, IsFillIn}
 use Rattle.bd_transitive.specs.inner.Spans.{span_of, filled_order, IsSpan, IsComplete, IsFilled}

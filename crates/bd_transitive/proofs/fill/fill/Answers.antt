@@ -1,4 +1,4 @@
-use Rattle.std.proofs.Common.{◌≡◌, ◌≢◌, ◌≤◌, ◌+◌, ◌<◌, ◌∙◌, ℕ, List, [], All, AllPairs, Contains, get_or, set, length, refl, sym, ap, subst, below_more, arith}
+use Rattle.std.proofs.Common.{◌≡◌, ◌≢◌, ◌≤◌, ◌+◌, ◌<◌, ◌∙◌, ℕ, List, [], All, AllPairs, Contains, set, length, sym, subst, below_more, arith}
 use Rattle.std.proofs.lemmas.List.{get_or_read, length-set}
 use Rattle.std.proofs.lemmas.Map.Made.{AllPairs-from_IsDistinct}
 use Rattle.bd_transitive.specs.declared.span.Span.{Span}

@@ -1,10 +1,10 @@
-use Rattle.std.proofs.Common.{◌≡◌, ◌≢◌, ◌⊎◌, ◌+◌, ◌<◌, ℕ, Bool, true, false, AllPairs, Contains, refl, List, [], ◌∷◌, ◌++◌, get_or, length, inl, inr, sym, ap, subst, ◌∙◌, arith, take, set}
+use Rattle.std.proofs.Common.{◌≡◌, ◌≢◌, ◌⊎◌, ◌+◌, ◌<◌, ℕ, AllPairs, Contains, refl, List, [], ◌∷◌, ◌++◌, get_or, length, inl, inr, sym, subst, ◌∙◌, arith, take, set}
 use Rattle.std.proofs.lemmas.List.{take_more}
 use Rattle.std.proofs.lemmas.Map.Made.{AllPairs-from_IsDistinct}
 use Rattle.bd_transitive.specs.declared.span.Span.{Span}
 use Rattle.bd_transitive.specs.inner.Spans.{span}
 use Rattle.bd_transitive.specs.inner.Rows.{HaveEnds, JoinedToAll}
-use Rattle.bd_transitive.proofs.Pushed.{pushed_is, pushed, HaveEnds-pushed, length-pushed, joined_none, joined_more, joined_added}
+use Rattle.bd_transitive.proofs.Pushed.{pushed_is, HaveEnds-pushed, length-pushed, joined_none, joined_more, joined_added}
 use Rattle.bd_transitive.proofs.SpanEq.{inserted_new, inserted_there, span_decides}
 use Rattle.bd_transitive.proofs.fill.join_to_all.Goals as goal
 use Rattle.bd_transitive.proofs.fill.join_to_all.Goals.{then-high-low+in_ok-insert+then-branch+in_ok-push, else-high-low, else-high-low-via-then-high-low+in_ok-insert+else-branch, else-high-low-via-else-high-low}

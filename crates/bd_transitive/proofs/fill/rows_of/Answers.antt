@@ -1,4 +1,4 @@
-use Rattle.std.proofs.Common.{◌≡◌, ◌+◌, ◌<◌, [], ◌∷◌, ◌++◌, get_or, length, replicate, sym, ap, subst, ◌∙◌, arith, take}
+use Rattle.std.proofs.Common.{◌+◌, ◌<◌, [], get_or, length, sym, ap, subst, ◌∙◌, arith, take}
 use Rattle.std.proofs.lemmas.List.{take_more, length-replicate}
 use Rattle.bd_transitive.specs.declared.span.Span.{Span}
 use Rattle.bd_transitive.specs.inner.Spans.{span}

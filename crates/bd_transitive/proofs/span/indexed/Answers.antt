@@ -1,4 +1,4 @@
-use Rattle.std.proofs.Common.{[], ◌++◌, ◌∷◌, sym, ap, take, ◌∙◌, arith, get_or}
+use Rattle.std.proofs.Common.{[], ◌++◌, ◌∷◌, sym, ap, take, ◌∙◌, arith}
 use Rattle.std.proofs.lemmas.List.{take_more, take_all}
 use Rattle.indexmap.specs.IndexSet.{insert_all, insert_key}
 use Rattle.indexmap.proofs.SetLemmas.{set_all_push, set_all_distinct}
