@@ -1,0 +1,154 @@
+-- Clauses learned from a conflict: they follow, they are fresh, and they keep the trail complete that the solver goes back to.
+use Rattle.std.proofs.Common.{◌≡◌, ℕ, true, false, not, List, [], ◌∷◌, ◌++◌, Option, None, Some, map, sym, ap, ◌∙◌, subst, inl, inr}
+use Rattle.std.specs.Prelude.{IsSomeAnd}
+use Rattle.std.specs.List.{All, cons_option}
+use Rattle.std.specs.FinMap.{get, insert}
+use Rattle.std.proofs.lemmas.Bool.{or_cases, or_left, or_right, false≢true, true≢false, cases_Bool}
+use Rattle.bd_cnf.specs.Literal.{Literal, negate, literal_eq, has_literal, has_variable}
+use Rattle.bd_cnf.specs.Clause.{IsRising, SameLiterals}
+use Rattle.bd_cnf.specs.Standing.{Standing}
+use Rattle.bd_cnf.specs.Trail.{is_false, open_literals, IsConsistent, IsClosed, AreClosed, IsPartOf}
+use Rattle.bd_cnf.proofs.Literals.{literal_eq-true, literal_eq-refl}
+use Rattle.bd_cnf.proofs.Closed.{has_variable_of, part_variable}
+use Rattle.bd_lrat.specs.declared.line.Hint.TheVariants as hint
+use Rattle.bd_lrat.specs.Propagation.{Conflict, propagate}
+use Rattle.bd_lrat.specs.Log.{IsFreshClause}
+use Rattle.bd_lrat.proofs.Closed.{fresh_from_closed}
+use Rattle.bd_cdcl.specs.Levels.{Assigned, assigned, literals, decided, decisions, reasons, IsPlaced, IsComplete}
+use Rattle.bd_cdcl.specs.inner.Trails.{IsLastDecision}
+use Rattle.bd_cdcl.proofs.Parts.{has_here, has_left, has_right, has_either, has_single, not_false, negate_twice, open_from, open_has, two_of, rises_filter, rising_alone, has_negated, negated_has}
+use Rattle.bd_cdcl.proofs.Placed.{literals-append, decisions-append, decisions_part, complete_front, complete_at, complete_push, complete_insert, added_stands, IsClosedAtDecisions}
+use Rattle.bd_cdcl.proofs.Replay.{replay_conflict}
+
+-- a clause is false at the end of a level, but for one literal, whose variable has no value there
+pub record IsAsserting (front : List Literal) (clause : List Literal) (u : Literal) : Type 0 where
+  pub here : has_literal clause u ≡ true
+  pub free : has_variable front u.var ≡ false
+  pub others : (l : Literal) → has_literal clause l ≡ true → (l ≡ u → ⊥) → is_false front l ≡ true
+
+-- where that end is closed, the clause is fresh
+pub asserting_fresh : (standing : Standing) (front : List Literal) (earlier : List (List Literal)) (clause : List Literal) (u : Literal) → IsConsistent front → AreClosed standing front → All (λ other. IsRising other × IsClosed front other) earlier → IsAsserting front clause u → IsFreshClause standing earlier clause
+asserting_fresh standing front earlier clause u consistent closed known is = fresh_from_closed standing front consistent closed earlier clause u is.here is.free is.others known
+
+-- and it is unit there
+pub asserting_unit : (front clause : List Literal) (u : Literal) → IsRising clause → IsAsserting front clause u → open_literals front clause ≡ u ∷ []
+asserting_unit front clause u rising is =
+    rising_alone 0 (open_literals front clause) u (rises_filter (λ l. not (is_false front l)) 0 clause rising) only (open_from front clause u is.here (not_false front u is.free))
+  where
+    only : (l : Literal) → has_literal (open_literals front clause) l ≡ true → l ≡ u
+    only l h =
+        let both = open_has front clause l h in
+        elim (cases_Bool (literal_eq l u)) [
+          | inl e ↦ literal_eq-true l u e
+          | inr e ↦ absurd (false≢true (sym both.1 ∙ is.others l both.0 (λ same. true≢false (sym (subst (λ (k : Literal). literal_eq l k ≡ true) same (literal_eq-refl l)) ∙ e))))
+        ]
+
+-- a clause with two literals whose variables have no value is neither unit nor false
+pub two_free_closed : (front clause : List Literal) (u w : Literal) → has_literal clause u ≡ true → has_literal clause w ≡ true → (u ≡ w → ⊥) → has_variable front u.var ≡ false → has_variable front w.var ≡ false → IsClosed front clause
+two_free_closed front clause u w here there apart free also = inr (two_of (open_literals front clause) u w (open_from front clause u here (not_false front u free)) (open_from front clause w there (not_false front w also)) apart)
+
+-- what stands in front of a decision stands in front of the last one
+before_last : (xs : List Assigned) (a : Assigned) (ys front : List Assigned) (d : Literal) (rest : List Assigned) → xs ++ a ∷ ys ≡ front ++ assigned d None ∷ rest → a.reason ≡ None → decisions rest ≡ [] → IsPartOf (literals xs) (literals front)
+before_last [] a ys front d rest e no_reason implied l h = absurd (false≢true h)
+before_last (x ∷ xs) a ys [] d rest e no_reason implied l h = absurd (first a.reason no_reason (subst (λ ds. ds ≡ []) (decisions-append xs (a ∷ ys)) (ap decisions tail ∙ implied)))
+  where
+    tail : xs ++ a ∷ ys ≡ rest
+    tail = cc
+
+    none : (ds es : List Literal) (k : Literal) → ds ++ k ∷ es ≡ [] → ⊥
+    none [] es k h = cc
+    none (m ∷ ds) es k h = cc
+
+    first : (r : Option ℕ) → r ≡ None → decisions xs ++ cons_option (decided a.literal r) (decisions ys) ≡ [] → ⊥
+    first None h k = none (decisions xs) (decisions ys) a.literal k
+    first (Some id) h k = cc
+before_last (x ∷ xs) a ys (y ∷ front) d rest e no_reason implied l h =
+    let same : x ≡ y = cc in
+    let tail : xs ++ a ∷ ys ≡ front ++ assigned d None ∷ rest = cc in
+    elim (or_cases (literal_eq l x.literal) _ h) [
+      | inl here ↦ or_left _ _ (subst (λ (z : Assigned). literal_eq l z.literal ≡ true) same here)
+      | inr there ↦ or_right (literal_eq l y.literal) _ (before_last xs a ys front d rest tail no_reason implied l there)
+    ]
+
+-- a clause is neither unit nor false at any decision where two of its literals have no value at the end of the level before the last: so a learned clause, at the levels below the one that the solver goes back to
+pub two_free_at_decisions : (trail front : List Assigned) (d : Literal) (rest : List Assigned) (clause : List Literal) (u w : Literal) → IsLastDecision trail front d rest → has_literal clause u ≡ true → has_literal clause w ≡ true → (u ≡ w → ⊥) → has_variable (literals front) u.var ≡ false → has_variable (literals front) w.var ≡ false → IsClosedAtDecisions trail clause
+two_free_at_decisions trail front d rest clause u w at here there apart free also xs a ys e no_reason =
+    let part : IsPartOf (literals xs) (literals front) = before_last xs a ys front d rest (sym e ∙ at.whole) no_reason at.implied in
+    two_free_closed (literals xs) clause u w here there apart (part_variable (literals xs) (literals front) u.var part free) (part_variable (literals xs) (literals front) w.var part also)
+
+-- the trail that the solver goes back to stays complete over the clause, which implies its literal there
+pub asserted_complete : (standing : Standing) (front : List Assigned) (id : ℕ) (clause : List Literal) (u : Literal) → get standing id ≡ None → IsRising clause → IsComplete standing front → IsClosedAtDecisions front clause → IsAsserting (literals front) clause u → IsComplete (insert standing id clause) (front ++ assigned u (Some id) ∷ [])
+asserted_complete standing front id clause u none rising all closed is =
+    complete_push (insert standing id clause) front (assigned u (Some id)) (complete_insert standing id clause front none closed all) (record {
+      unassigned = is.free;
+      reason = subst (λ o. IsSomeAnd o (λ c. open_literals (literals front) c ≡ u ∷ [])) (sym (added_stands standing id clause)) (asserting_unit (literals front) clause u rising is);
+    })
+
+pub decisions_at : (trail front : List Assigned) (d : Literal) (rest : List Assigned) → IsLastDecision trail front d rest → decisions trail ≡ decisions front ++ d ∷ []
+decisions_at trail front d rest is = ap decisions is.whole ∙ decisions-append front (assigned d None ∷ rest) ∙ ap (λ ds. decisions front ++ d ∷ ds) is.implied
+
+module _ (standing : Standing) (trail front : List Assigned) (d : Literal) (rest : List Assigned) (all : IsComplete standing trail) (at : IsLastDecision trail front d rest) where
+  placed : IsPlaced standing (literals front) (assigned d None)
+  placed = complete_at standing front (assigned d None) rest (subst (IsComplete standing) at.whole all)
+
+  -- the end of the level before is complete and closed, and gives the decision's variable no value
+  pub front_complete : IsComplete standing front
+  front_complete = complete_front standing front (assigned d None ∷ rest) (subst (IsComplete standing) at.whole all)
+
+  pub front_closed : AreClosed standing (literals front)
+  front_closed = placed.reason
+
+  pub front_free : has_variable (literals front) d.var ≡ false
+  front_free = placed.unassigned
+
+  module _ (clause : List Literal) (same : SameLiterals clause (map negate (decisions trail))) where
+    -- the negation of a decision is in the decision clause, and no other literal
+    has_decision : (l : Literal) → has_literal clause l ≡ true → has_literal (decisions trail) (negate l) ≡ true
+    has_decision l h = has_negated (decisions trail) l (sym (same l) ∙ h)
+
+    decision_has : (l : Literal) → has_literal (decisions trail) l ≡ true → has_literal clause (negate l) ≡ true
+    decision_has l h = same (negate l) ∙ negated_has (decisions trail) l h
+
+    last_there : has_literal (decisions trail) d ≡ true
+    last_there = subst (λ ds. has_literal ds d ≡ true) (sym (decisions_at trail front d rest at)) (has_right (decisions front) (d ∷ []) d (has_here d []))
+
+    -- the decision clause follows, by the reasons and the conflict
+    pub decision_follows : (id : ℕ) (conflict : List Literal) → get standing id ≡ Some conflict → open_literals (literals trail) conflict ≡ [] → propagate standing (map negate clause) (reasons trail ++ hint.Unit id ∷ []) ≡ Conflict
+    decision_follows id conflict stands is_false =
+        replay_conflict standing trail (map negate clause) id conflict all
+        (λ l h. decisions_part trail l (subst (λ (k : Literal). has_literal (decisions trail) k ≡ true) (negate_twice l) (has_decision (negate l) (has_negated clause l h))))
+        (λ l h. subst (λ (k : Literal). has_literal (map negate clause) k ≡ true) (negate_twice l) (negated_has clause (negate l) (decision_has l h)))
+        stands is_false
+
+    -- it is false at the end of the level before, but for the last decision's negation
+    pub decision_asserting : IsAsserting (literals front) clause (negate d)
+    decision_asserting = record {
+      here = decision_has d last_there;
+      free = front_free;
+      others = λ l h apart. has_either (decisions front) (d ∷ []) (negate l) (subst (λ ds. has_literal ds (negate l) ≡ true) (decisions_at trail front d rest at) (has_decision l h))
+          (λ old. decisions_part front (negate l) old)
+          (λ new. absurd (apart (sym (negate_twice l) ∙ ap negate (has_single (negate l) d new))));
+    }
+
+    -- at each decision in front of the last, its negation and the last one's have no value
+    pub decision_closed : IsClosedAtDecisions front clause
+    decision_closed xs a ys e no_reason =
+        two_free_closed (literals xs) clause (negate d) (negate a.literal) (decision_has d last_there) (decision_has a.literal (subst (λ ds. has_literal ds a.literal ≡ true) (sym (decisions_at trail front d rest at)) (has_left (decisions front) (d ∷ []) a.literal here)))
+        apart
+        (part_variable (literals xs) (literals front) d.var (λ l h. subst (λ ls. has_literal ls l ≡ true) (sym split) (has_left (literals xs) (a.literal ∷ literals ys) l h)) front_free)
+        (complete_at standing xs a ys (subst (IsComplete standing) e front_complete)).unassigned
+      where
+        split : literals front ≡ literals xs ++ a.literal ∷ literals ys
+        split = ap literals e ∙ literals-append xs (a ∷ ys)
+
+        kept : (l : Literal) (r : Option ℕ) (ds : List Literal) → r ≡ None → has_literal (cons_option (decided l r) ds) l ≡ true
+        kept l None ds h = has_here l ds
+        kept l (Some id) ds h = cc
+
+        here : has_literal (decisions front) a.literal ≡ true
+        here = subst (λ ls. has_literal ls a.literal ≡ true) (sym (ap decisions e ∙ decisions-append xs (a ∷ ys))) (has_right (decisions xs) (decisions (a ∷ ys)) a.literal (kept a.literal a.reason (decisions ys) no_reason))
+
+        apart : negate d ≡ negate a.literal → ⊥
+        apart same_literals =
+            let there : has_variable (literals front) a.literal.var ≡ true = has_variable_of (literals front) a.literal (subst (λ ls. has_literal ls a.literal ≡ true) (sym split) (has_right (literals xs) (a.literal ∷ literals ys) a.literal (has_here a.literal (literals ys)))) in
+            false≢true (sym front_free ∙ subst (λ v. has_variable (literals front) v ≡ true) (sym (ap (λ (l : Literal). l.var) same_literals)) there)

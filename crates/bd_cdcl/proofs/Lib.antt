@@ -1,0 +1,10 @@
+pub mod Parts
+pub mod Placed
+pub mod Replay
+pub mod Learned
+pub mod Settled
+pub mod Values
+pub mod Entries
+pub mod Passing
+pub mod Searching
+pub mod Laws

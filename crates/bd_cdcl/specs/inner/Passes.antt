@@ -1,0 +1,44 @@
+-- What a pass over the clauses reports.
+use Rattle.std.specs.Prelude.{◌≡◌, ℕ, ◌<◌, ◌≤◌, Bool, true, false, List, [], ◌∷◌, length, IsSomeAnd}
+use Rattle.std.specs.List.{All}
+use Rattle.std.specs.FinMap.{get}
+use Rattle.bd_cnf.specs.Literal.{Literal}
+use Rattle.bd_cnf.specs.Standing.{Standing}
+use Rattle.bd_lrat.specs.Database.{numbered}
+use Rattle.bd_cnf.specs.Trail.{open_literals, IsClosed}
+use Rattle.bd_cdcl.specs.declared.propagation.Open.{Open}
+use Rattle.bd_cdcl.specs.declared.propagation.Open.TheVariants.{Falsified, Unit as UnitOpen, Unresolved}
+use Rattle.bd_cdcl.specs.declared.propagation.Passed.{Passed}
+use Rattle.bd_cdcl.specs.declared.propagation.Passed.TheVariants.{Conflict, Extended, Closed}
+use Rattle.bd_cdcl.specs.Levels.{Assigned, literals}
+use Rattle.bd_cdcl.specs.inner.Trails.{LeveledTrail}
+
+-- how many literals are open, and which where it is one
+abbrev pub IsOpen : Open → List Literal → Type 0
+IsOpen Falsified ls = ls ≡ []
+IsOpen (UnitOpen l) ls = ls ≡ l ∷ []
+IsOpen Unresolved ls = 2 ≤ length ls
+
+-- the clause that stands under that id is false
+abbrev pub IsConflict : Standing → List Assigned → ℕ → Type 0
+IsConflict standing trail id = IsSomeAnd (get standing id) (λ clause. open_literals (literals trail) clause ≡ [])
+
+-- no clause is false or unit
+abbrev pub AllClosed : List (List Literal) → List Assigned → Type 0
+AllClosed clauses trail = All (IsClosed (literals trail)) clauses
+
+-- the trail is longer than it was, and no longer than there are variables
+pub record IsLonger (before trail : LeveledTrail) : Type 0 where
+  pub longer : length before.entries < length trail.entries
+  pub room : length trail.entries ≤ trail.limit
+
+-- a pass came to a false clause, or made the trail longer, or found no clause false or unit
+abbrev pub IsPassed : List (List Literal) → LeveledTrail → LeveledTrail → Passed → Type 0
+IsPassed clauses before trail (Conflict id) = IsConflict (numbered clauses) trail.entries id × (length before.entries ≤ length trail.entries)
+IsPassed clauses before trail Extended = IsLonger before trail
+IsPassed clauses before trail Closed = (trail ≡ before) × AllClosed clauses trail.entries
+
+-- how far a pass has come
+abbrev pub IsPassing : List (List Literal) → LeveledTrail → LeveledTrail → Bool → Type 0
+IsPassing done before trail true = IsLonger before trail
+IsPassing done before trail false = (trail ≡ before) × AllClosed done trail.entries

@@ -1,0 +1,65 @@
+//! A solver that is small rather than fast: it finds units by passes over all clauses, decides the
+//! least variable without a value, learns decision clauses, and goes back one level at each conflict.
+//! It ends, since each conflict above level 0 adds a clause of the budget, and between two conflicts
+//! the variables without a value become fewer.
+ghost use Rattle.std.specs.Prelude.{true};
+
+use crate::propagation::propagate;
+use crate::search::{Search, copied};
+use crate::solver::{Found, HonestSolver, Solver};
+use crate::trail::Trail;
+use bd_cnf::Cnf;
+use bd_lrat::Log;
+use std::alloc::{AllocError, Global};
+
+/// A solver by decisions and decision clauses, which it never deletes.
+#[derive(Drop)]
+pub struct Plain {
+    alloc: Global,
+}
+
+impl Plain {
+    /// Takes no memory.
+    pub fn new(alloc: Global) -> Plain {
+        Plain { alloc }
+    }
+}
+
+impl Solver for Plain {
+    ghost use Rattle.bd_cdcl.specs.Law.{IsLaw};
+
+    ghost honest = { λ _. true };
+
+    ghost says = { λ _ problem budget found log. IsLaw problem budget found log };
+
+    fn solve(&mut self, cnf: &Cnf, budget: u32, log: &mut Log) -> Result<Found, AllocError> {
+        let alloc = self.alloc;
+        let mut search = Search {
+            clauses: copied(alloc, cnf)?,
+            learned: 0,
+            trail: Trail::new(alloc, cnf.vars())?,
+        };
+        loop {
+            match propagate(&search.clauses, &mut search.trail) {
+                Some(conflict) => {
+                    if let Some(found) = search.learn(alloc, conflict, budget, log)? {
+                        return Ok(found);
+                    }
+                }
+                None => {
+                    if !search.decide() {
+                        return Ok(Found::Model(search.trail.assignment(alloc)?));
+                    }
+                }
+            }
+        }
+    }
+}
+
+impl HonestSolver for Plain {
+    ghost use Rattle.std.specs.Prelude.{refl};
+
+    ghost is_honest = { λ _. refl };
+
+    ghost law = { λ _ _ _ _ _ said. said };
+}

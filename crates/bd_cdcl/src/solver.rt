@@ -1,0 +1,54 @@
+//! What a solver is: it answers a formula and logs the clauses that it adds. Whoever calls it need not
+//! believe it, since the log can be checked line by line. An honest solver has a law beside: its answer
+//! and log mean what they say, so that no caller of one has to provide for a wrong answer.
+ghost use Rattle.std.specs.Prelude.{◌≡◌, ℕ, Bool, List, [], IfOk, OnErr, IsTrue};
+ghost use Rattle.bd_cnf.specs.Problem.{Problem};
+ghost use Rattle.bd_lrat.specs.declared.line.Line.{Line};
+ghost use Rattle.bd_lrat.specs.Database.{database_of};
+ghost use Rattle.bd_lrat.specs.Log.{IsAcceptedLog};
+
+use bd_cnf::{Assignment, Cnf};
+use bd_lrat::Log;
+use std::alloc::AllocError;
+
+/// What a solver says of a formula.
+#[derive(Debug, Drop)]
+pub enum Found {
+    /// The assignment satisfies it.
+    Model(Assignment),
+    /// No assignment satisfies it.
+    Refuted,
+    /// As many clauses were added as the budget allows, and one more conflict has come.
+    Spent,
+}
+
+/// Settles formulas.
+pub trait Solver {
+    ghost use Rattle.bd_cdcl.specs.declared.solver.Found.{Found};
+
+    /// Whether it is honest: where it is, what it says is true.
+    ghost honest: { Self → Bool };
+
+    /// What it may say of a formula within a budget, with which log.
+    ghost says: { Self → Problem → ℕ → Found → List Line → Type 0 };
+
+    /// Settles the formula, or adds `budget` clauses of one literal or more, which it logs with their
+    /// hints. It starts anew each time. After an error nothing is said of the log of a solver that
+    /// isn't honest.
+    fn solve(&mut self, cnf: &Cnf, budget: u32, log: &mut Log) -> Result<Found, AllocError>
+        requires { log.old ≡ [] }
+        ensures says { IfOk result (λ found. says self.old cnf.now budget found log.new) }
+        ensures refused { OnErr result (IsTrue (honest self.old) → IsAcceptedLog (database_of cnf.now) log.new) };
+}
+
+/// A solver that is honest.
+pub trait HonestSolver: Solver {
+    ghost use Rattle.bd_cdcl.specs.declared.solver.Found.{Found};
+    ghost use Rattle.bd_cdcl.specs.Law.{IsLaw};
+
+    /// It always is.
+    ghost is_honest: { (solver : Self) → IsTrue (Self.honest solver) };
+
+    /// Whatever it says meets the law.
+    ghost law: { (solver : Self) (problem : Problem) (budget : ℕ) (found : Found) (log : List Line) → Self.says solver problem budget found log → IsLaw problem budget found log };
+}

@@ -1,0 +1,166 @@
+use crate::{Found, HonestSolver, Plain, Scripted, Solver};
+use bd_cnf::{Assignment, Clause, Clauses, Cnf, Lit};
+use bd_lrat::{Checker, Log, lrat_text, refutes};
+use std::alloc::{AllocError, Global};
+use std::process::Abort;
+use std::test::Fail;
+
+type Parts = &'static [(u64, bool)];
+
+/// What is to be said.
+#[derive(Clone, Copy, PartialEq, Eq, Debug)]
+enum Said {
+    Model,
+    Refuted,
+    Spent,
+}
+
+/// The number of variables, the clauses, the budget, and what is said, with which log.
+type Row = (u64, &'static [Parts], u32, Said, &'static str);
+
+const SQUARE: &[Parts] = &[
+    &[(1, true), (2, true)],
+    &[(1, true), (2, false)],
+    &[(1, false), (2, true)],
+    &[(1, false), (2, false)],
+];
+
+const CUBE: &[Parts] = &[
+    &[(1, true), (2, true), (3, true)],
+    &[(1, true), (2, true), (3, false)],
+    &[(1, true), (2, false), (3, true)],
+    &[(1, true), (2, false), (3, false)],
+    &[(1, false), (2, true), (3, true)],
+    &[(1, false), (2, true), (3, false)],
+    &[(1, false), (2, false), (3, true)],
+    &[(1, false), (2, false), (3, false)],
+];
+
+const CONTRADICTION: &[Parts] = &[&[(1, true)], &[(1, false)]];
+
+const CHAIN: &[Parts] = &[&[(1, true)], &[(1, false), (2, true)]];
+
+const BROKEN_CHAIN: &[Parts] = &[&[(1, true)], &[(1, false), (2, true)], &[(2, false)]];
+
+const HALF_SQUARE: &[Parts] = &[&[(1, true), (2, true)], &[(1, true), (2, false)]];
+
+const CUBE_LOG: &str = "9 1 2 0 1 2 0\n10 1 0 9 3 4 0\n11 2 0 10 5 6 0\n12 0 10 11 7 8 0\n";
+
+static ROWS: [Row; 14] = [
+    (2, SQUARE, 0, Said::Spent, ""),
+    (2, SQUARE, 1, Said::Refuted, "5 1 0 1 2 0\n6 0 5 3 4 0\n"),
+    (2, SQUARE, 2, Said::Refuted, "5 1 0 1 2 0\n6 0 5 3 4 0\n"),
+    (0, &[], 0, Said::Model, ""),
+    (1, &[&[]], 0, Said::Refuted, "2 0 1 0\n"),
+    (1, CONTRADICTION, 0, Said::Refuted, "3 0 1 2 0\n"),
+    (2, BROKEN_CHAIN, 0, Said::Refuted, "4 0 1 2 3 0\n"),
+    (2, CHAIN, 0, Said::Model, ""),
+    (2, HALF_SQUARE, 0, Said::Spent, ""),
+    (2, HALF_SQUARE, 1, Said::Model, "3 1 0 1 2 0\n"),
+    (5, &[&[(3, true)]], 7, Said::Model, ""),
+    (3, CUBE, 2, Said::Spent, "9 1 2 0 1 2 0\n10 1 0 9 3 4 0\n"),
+    (3, CUBE, 3, Said::Refuted, CUBE_LOG),
+    (3, CUBE, 4, Said::Refuted, CUBE_LOG),
+];
+
+fn clause(rt: &(impl Abort + AllocGlobal), parts: &[(u64, bool)]) -> Result<Clause, AllocError> {
+    let mut lits = Vec::new(rt.alloc());
+    for &(var, positive) in parts {
+        lits.push(Lit::new(var.max(1), positive))?;
+    }
+    Ok(Clause::of(rt.alloc(), &lits)?.expect(rt, "no tautology"))
+}
+
+fn formula(
+    rt: &(impl Abort + AllocGlobal),
+    vars: u64,
+    clauses: &[Parts],
+) -> Result<Cnf, AllocError> {
+    let mut cnf = Cnf::new(vars, Clauses::new(rt.alloc()));
+    for parts in clauses {
+        let clause = clause(rt, parts)?;
+        assert!(rt; clause.is_within(cnf.vars()));
+        cnf.push(clause)?;
+    }
+    Ok(cnf)
+}
+
+fn told(found: &Found, cnf: &Cnf) -> Option<Said> {
+    match found {
+        Found::Model(a) if cnf.satisfied(a) => Some(Said::Model),
+        Found::Model(_) => None,
+        Found::Refuted => Some(Said::Refuted),
+        Found::Spent => Some(Said::Spent),
+    }
+}
+
+/// Whether a fresh checker accepts each line.
+fn accepted(alloc: Global, cnf: &Cnf, log: &Log) -> Result<bool, AllocError> {
+    let mut checker = Checker::new(alloc, cnf)?;
+    for line in log.as_slice() {
+        if checker.add_line(line).is_err() {
+            return Ok(false);
+        }
+    }
+    Ok(true)
+}
+
+fn is_as_said(
+    rt: &(impl Abort + AllocGlobal),
+    (_, _, _, want, lines): Row,
+    cnf: &Cnf,
+    found: &Found,
+    log: &Log,
+) -> Result<(), AllocError> {
+    let text = lrat_text(rt.alloc(), log)?;
+    assert!(rt; text.as_slice() == lines.as_bytes());
+    assert!(rt; told(found, cnf) == Some(want));
+    assert!(rt; accepted(rt.alloc(), cnf, log)?);
+    assert!(rt; refutes(rt.alloc(), cnf, log)? == (want == Said::Refuted));
+    Ok(())
+}
+
+fn solves<S: HonestSolver>(
+    rt: &(impl Abort + AllocGlobal),
+    solver: &mut S,
+    row: Row,
+) -> Result<(), AllocError> {
+    let (vars, clauses, budget, _, _) = row;
+    let cnf = formula(rt, vars, clauses)?;
+    let mut log = Log::new(rt.alloc());
+    let found = solver.solve(&cnf, budget, &mut log)?;
+    is_as_said(rt, row, &cnf, &found, &log)
+}
+
+/// Each formula twice: equal input gives equal output.
+#[test]
+fn formulas_are_settled_within_the_budget(rt: HostRuntime) -> Result<(), Fail> {
+    let mut solver = Plain::new(rt.alloc());
+    for &row in &ROWS {
+        solves(&rt, &mut solver, row)?;
+        solves(&rt, &mut solver, row)?;
+    }
+    Ok(())
+}
+
+fn says<S: Solver>(
+    rt: &impl AllocGlobal,
+    solver: &mut S,
+    cnf: &Cnf,
+) -> Result<(bool, usize), AllocError> {
+    let mut log = Log::new(rt.alloc());
+    let found = solver.solve(cnf, 3, &mut log)?;
+    Ok((told(&found, cnf) == Some(Said::Refuted), log.len()))
+}
+
+#[test]
+fn a_script_is_said_once(rt: HostRuntime) -> Result<(), Fail> {
+    let cnf = Cnf::new(1, Clauses::new(rt.alloc()));
+    let mut solver = Scripted {
+        found: Found::Refuted,
+        lines: Log::new(rt.alloc()),
+    };
+    assert!(rt; says(&rt, &mut solver, &cnf)? == (true, 0));
+    assert!(rt; says(&rt, &mut solver, &cnf)? == (false, 0));
+    Ok(())
+}
