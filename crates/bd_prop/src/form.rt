@@ -37,7 +37,8 @@ pub(crate) fn not_form(nodes: &[PropNode], a: usize) -> Form
     requires within { a < length nodes.now }
     ensures form { result ≡ not_form nodes.now a }
     ensures below { IsFormBelow (length nodes.now) result }
-    ensures truth { (v : Atom → Bool) → form_truth v nodes.now result ≡ not (truth_at v nodes.now a) }
+    ensures truth { (v : Atom → Bool) →
+        form_truth v nodes.now result ≡ not (truth_at v nodes.now a) }
 {
     match nodes[a] {
         PropNode::Not(b) => Form::Kept(b),
@@ -89,7 +90,8 @@ pub(crate) fn ite_form(nodes: &[PropNode], control: usize, first: usize, second:
     ensures form { result ≡ ite_form nodes.now control first second }
     ensures below { IsFormBelow (length nodes.now) result }
     ensures truth { (v : Atom → Bool) → form_truth v nodes.now result ≡
-        (if truth_at v nodes.now control then truth_at v nodes.now first else truth_at v nodes.now second) }
+        (if truth_at v nodes.now control
+        then truth_at v nodes.now first else truth_at v nodes.now second) }
 {
     if is_true(nodes, control) || first == second {
         Form::Kept(first)

@@ -147,7 +147,8 @@ impl Prop {
         ensures within { IfOk result (λ id. id < length self.new) }
         ensures form { IfOk result (HasForm self.old (ite_form self.old control yes no) self.new) }
         ensures truth { IfOk result (λ id. (v : Atom → Bool) → truth_at v self.new id ≡
-            (if truth_at v self.old control then truth_at v self.old yes else truth_at v self.old no)) }
+            (if truth_at v self.old control
+            then truth_at v self.old yes else truth_at v self.old no)) }
         ensures err { OnErr result (self.new ≡ self.old) }
     {
         let form = ite_form(self.nodes(), control, yes, no);

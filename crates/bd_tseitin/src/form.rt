@@ -105,7 +105,8 @@ pub fn clauses(alloc: Global, prop: &Prop, root: usize) -> Result<Formula, Alloc
         Satisfies a f.cnf.clauses → Agree a v f.atoms → truth_at v prop.now root ≡ true) }
 
     // The rows are those of the atoms that the root reaches.
-    ensures atoms { IfOk result (λ f. (a : Atom) → HasAtom f.atoms a ↔ ReachesAtom prop.now root a) }
+    ensures atoms { IfOk result (λ f. (a : Atom) →
+        HasAtom f.atoms a ↔ ReachesAtom prop.now root a) }
 {
     let parts = parts_of(alloc, prop, root)?;
     Ok(Formula {
