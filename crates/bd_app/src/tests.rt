@@ -1,10 +1,10 @@
 //! Examples over files and sinks in memory.
 
 use crate::answer::Ended;
-use bd_syntax::is_name;
 use crate::run;
 use bd_files::{Files, LoadError, Page, PutError, SaveError, Shelf, Sink};
 use bd_model::{Condition, Scalar};
+use bd_syntax::is_name;
 use std::alloc::{AllocError, Global};
 use std::test::Fail;
 

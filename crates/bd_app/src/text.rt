@@ -10,8 +10,8 @@ ghost use Rattle.bd_app.specs.Form.{IsText, IsPipelineTree, IsSpecificationTree,
 
 use crate::form::{FormError, Names, bit};
 use crate::machines::{PipelineParts, pipeline_parts, specification_value};
-use bd_syntax::is_name;
 use crate::truth::Truth;
+use bd_syntax::is_name;
 use bd_text::laws::one_reading;
 use bd_text::{TextFault, Tree, Trees, read_trees};
 use std::alloc::Global;
