@@ -16,7 +16,7 @@ use Rattle.std.proofs.lemmas.List.Elements.{filter_map-append}
 use Rattle.bd_lrat.specs.declared.line.Hint.{Hint}
 use Rattle.bd_lrat.specs.declared.line.Hint.TheVariants as hint
 use Rattle.bd_lrat.specs.Log.{HaveDifferentVariables}
-use Rattle.bd_lrat.proofs.StandingMap.{tied}
+use Rattle.bd_lrat.proofs.Keys.{tied}
 use Rattle.bd_cdcl.specs.Levels.{Assigned, literals, decided, decisions, reasons}
 use Rattle.bd_cdcl.specs.inner.Trails.{LeveledTrail, leveled, IsLeveled, MakesTrue}
 use Rattle.bd_cdcl.proofs.Parts.{has_either, has_single, all_part}

@@ -15,7 +15,7 @@ use Rattle.bd_cnf.specs.Trail.{open_literals, IsClosed, AreClosed}
 use Rattle.bd_cnf.proofs.Literals.{any_from_has}
 use Rattle.bd_cnf.proofs.Opens.{open_is_open, open_is_below}
 use Rattle.bd_lrat.specs.Database.{numbered}
-use Rattle.bd_lrat.proofs.StandingMap.{tied}
+use Rattle.bd_lrat.proofs.Keys.{tied}
 use Rattle.bd_lrat.proofs.Standings.{each_numbered}
 use Rattle.bd_lrat.proofs.Ids.{up_to_formula}
 use Rattle.bd_cdcl.specs.Levels.{Assigned, assigned, literals, IsComplete}

@@ -11,7 +11,7 @@ use Rattle.bd_cnf.specs.Literal.{Literal, literal_eq}
 use Rattle.bd_cnf.specs.Standing.{Standing}
 use Rattle.bd_cnf.specs.Trail.{open_literals, IsConsistent, IsClosed, IsPartOf}
 use Rattle.bd_cnf.proofs.Standings.{each_insert}
-use Rattle.bd_lrat.proofs.StandingMap.{tied}
+use Rattle.bd_lrat.proofs.Keys.{tied}
 use Rattle.bd_cdcl.specs.Levels.{Assigned, assigned, literals, decided, decisions, IsReason, IsPlaced, ArePlaced, IsComplete}
 use Rattle.bd_cdcl.proofs.Parts.{part_nil, has_behind, consistent_push, consistent_nil}
 

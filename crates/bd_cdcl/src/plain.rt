@@ -1,7 +1,7 @@
 //! A solver that is small rather than fast: it finds units by passes over all clauses, decides the
-//! least variable without a value, learns decision clauses, and goes back one level at each conflict.
-//! It ends, since each conflict above level 0 adds a clause of the budget, and between two conflicts
-//! the variables without a value become fewer.
+//! least variable without a value, learns decision clauses, and goes back one level at each
+//! conflict. It ends, since each conflict above level 0 adds a clause of the budget, and between
+//! two conflicts the variables without a value become fewer.
 ghost use Rattle.std.specs.Prelude.{true};
 
 use crate::propagation::propagate;

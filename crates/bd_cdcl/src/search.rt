@@ -1,19 +1,19 @@
-//! A search for an assignment by decisions. A conflict above level 0 teaches the decision clause: the
-//! negations of all decisions, one of which must be wrong. It follows by the reasons on the trail, it
-//! is false but for the last decision's negation at the end of the level before, and there it implies
-//! that negation. Propagation was complete there, so nothing known said so before: the clause is fresh.
+//! A search for an assignment by decisions. A conflict above level 0 teaches the decision clause:
+//! the negations of all decisions, one of which must be wrong. It follows by the reasons on the
+//! trail, it is false but for the last decision's negation at the end of the level before, and
+//! there it implies that negation. Propagation was complete there, so nothing known said so before:
+//! the clause is fresh.
 ghost use Rattle.std.specs.Prelude.{◌≡◌, ◌≤◌, length, map, IfOk, OnErr};
 ghost use Rattle.std.specs.Bool.{OnTrue, OnFalse};
 ghost use Rattle.std.specs.List.{All};
-ghost use Rattle.bd_cnf.specs.Literal.{has_variable, negate, literal};
+ghost use Rattle.bd_cnf.specs.Literal.{negate};
 ghost use Rattle.bd_cnf.specs.Clause.{IsRising, SameLiterals};
 ghost use Rattle.bd_cnf.specs.Problem.{AreWithin};
 ghost use Rattle.bd_lrat.specs.Log.{HaveDifferentVariables};
 ghost use Rattle.bd_lrat.specs.Database.{numbered};
-ghost use Rattle.bd_cdcl.specs.Levels.{assigned, literals, reasons, decisions, IsComplete};
+ghost use Rattle.bd_cdcl.specs.Levels.{IsComplete};
 ghost use Rattle.bd_cdcl.specs.inner.Trails.{Decides, AllAssigned};
-ghost use Rattle.bd_cdcl.specs.inner.Passes.{IsConflict};
-ghost use Rattle.bd_cdcl.specs.inner.Search.{conflict_hints, IsResolved};
+ghost use Rattle.bd_cdcl.specs.inner.Search.{conflict_hints, Resolves};
 
 use crate::solver::Found;
 use crate::trail::Trail;
@@ -21,7 +21,8 @@ use bd_cnf::{Clause, Cnf, Lit};
 use bd_lrat::{Hint, Hints, Line, Log};
 use std::alloc::{AllocError, Global};
 
-/// The clauses so far, with the ids from 1, the formula's first, how many were learned, and the trail.
+/// The clauses so far, with the ids from 1 and the formula's first, how many were learned, and the
+/// trail.
 #[derive(Drop)]
 pub(crate) struct Search {
     pub(crate) clauses: Vec<Clause>,
@@ -76,7 +77,7 @@ fn decision_clause(alloc: Global, decisions: &[Lit]) -> Result<Clause, AllocErro
     ensures same { IfOk result (λ clause. SameLiterals clause (map negate decisions.now)) }
     ensures rising { IfOk result IsRising }
 {
-    match Clause::of(alloc, &negations(alloc, decisions)?)? {
+    match Clause::from_vec(negations(alloc, decisions)?) {
         Some(clause) => Ok(clause),
         None => unreachable!(),
     }
@@ -111,7 +112,8 @@ impl Search {
     ) -> Result<Option<Found>, AllocError>
         requires complete { IsComplete (numbered self.old.clauses.items) self.old.trail.entries }
         requires within { self.old.learned ≤ budget }
-        ensures resolved { IfOk result (IsResolved self.old.clauses.items self.new.clauses.items self.old.trail self.new.trail log.old log.new conflict self.old.learned self.new.learned budget) }
+        ensures resolved { IfOk result
+            (Resolves self.old self.new log.old log.new conflict budget) }
         ensures refused { OnErr result (log.new ≡ log.old) }
     {
         let hints = hints(alloc, &self.trail, conflict)?;

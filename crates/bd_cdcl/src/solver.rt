@@ -1,6 +1,6 @@
-//! What a solver is: it answers a formula and logs the clauses that it adds. Whoever calls it need not
-//! believe it, since the log can be checked line by line. An honest solver has a law beside: its answer
-//! and log mean what they say, so that no caller of one has to provide for a wrong answer.
+//! What a solver is: it answers a formula and logs the clauses that it adds. Whoever calls it need
+//! not believe it, since the log can be checked line by line. An honest solver has a law beside:
+//! its answer and log mean what they say, so that no caller has to provide for a wrong answer.
 ghost use Rattle.std.specs.Prelude.{◌≡◌, ℕ, Bool, List, [], IfOk, OnErr, IsTrue};
 ghost use Rattle.bd_cnf.specs.Problem.{Problem};
 ghost use Rattle.bd_lrat.specs.declared.line.Line.{Line};
@@ -22,6 +22,18 @@ pub enum Found {
     Spent,
 }
 
+impl Clone for Found {
+    ghost is_clone = { λ a b. b ≡ a };
+
+    fn clone(&self) -> Result<Self, AllocError> {
+        match self {
+            Found::Model(assignment) => Ok(Found::Model(assignment.clone()?)),
+            Found::Refuted => Ok(Found::Refuted),
+            Found::Spent => Ok(Found::Spent),
+        }
+    }
+}
+
 /// Settles formulas.
 pub trait Solver {
     ghost use Rattle.bd_cdcl.specs.declared.solver.Found.{Found};
@@ -32,13 +44,14 @@ pub trait Solver {
     /// What it may say of a formula within a budget, with which log.
     ghost says: { Self → Problem → ℕ → Found → List Line → Type 0 };
 
-    /// Settles the formula, or adds `budget` clauses of one literal or more, which it logs with their
-    /// hints. It starts anew each time. After an error nothing is said of the log of a solver that
-    /// isn't honest.
+    /// Settles the formula, or adds `budget` clauses of one literal or more, which it logs with
+    /// their hints. It starts anew each time. After an error nothing is said of the log of a solver
+    /// that isn't honest.
     fn solve(&mut self, cnf: &Cnf, budget: u32, log: &mut Log) -> Result<Found, AllocError>
         requires { log.old ≡ [] }
         ensures says { IfOk result (λ found. says self.old cnf.now budget found log.new) }
-        ensures refused { OnErr result (IsTrue (honest self.old) → IsAcceptedLog (database_of cnf.now) log.new) };
+        ensures refused { OnErr result (IsTrue (honest self.old) →
+            IsAcceptedLog (database_of cnf.now) log.new) };
 }
 
 /// A solver that is honest.
@@ -50,5 +63,7 @@ pub trait HonestSolver: Solver {
     ghost is_honest: { (solver : Self) → IsTrue (Self.honest solver) };
 
     /// Whatever it says meets the law.
-    ghost law: { (solver : Self) (problem : Problem) (budget : ℕ) (found : Found) (log : List Line) → Self.says solver problem budget found log → IsLaw problem budget found log };
+    ghost law: { (solver : Self) (problem : Problem) (budget : ℕ) (found : Found)
+        (log : List Line) → Self.says solver problem budget found log →
+        IsLaw problem budget found log };
 }

@@ -1,3 +1,6 @@
+ghost use Rattle.std.specs.Prelude.{◌≡◌, [], IfOk};
+ghost use Rattle.bd_cdcl.specs.Law.{IsLaw};
+
 use crate::{Found, HonestSolver, Plain, Scripted, Solver};
 use bd_cnf::{Assignment, Clause, Clauses, Cnf, Lit};
 use bd_lrat::{Checker, Log, lrat_text, refutes};
@@ -120,6 +123,19 @@ fn is_as_said(
     Ok(())
 }
 
+/// Whatever the honest solver, its answer and log meet the law.
+fn answer<S: HonestSolver>(
+    solver: &mut S,
+    cnf: &Cnf,
+    budget: u32,
+    log: &mut Log,
+) -> Result<Found, AllocError>
+    requires { log.old ≡ [] }
+    ensures { IfOk result (λ found. IsLaw cnf.now budget found log.new) }
+{
+    solver.solve(cnf, budget, log)
+}
+
 fn solves<S: HonestSolver>(
     rt: &(impl Abort + AllocGlobal),
     solver: &mut S,
@@ -128,7 +144,7 @@ fn solves<S: HonestSolver>(
     let (vars, clauses, budget, _, _) = row;
     let cnf = formula(rt, vars, clauses)?;
     let mut log = Log::new(rt.alloc());
-    let found = solver.solve(&cnf, budget, &mut log)?;
+    let found = answer(solver, &cnf, budget, &mut log)?;
     is_as_said(rt, row, &cnf, &found, &log)
 }
 
@@ -154,13 +170,13 @@ fn says<S: Solver>(
 }
 
 #[test]
-fn a_script_is_said_once(rt: HostRuntime) -> Result<(), Fail> {
+fn a_script_is_said_each_time(rt: HostRuntime) -> Result<(), Fail> {
     let cnf = Cnf::new(1, Clauses::new(rt.alloc()));
     let mut solver = Scripted {
         found: Found::Refuted,
         lines: Log::new(rt.alloc()),
     };
     assert!(rt; says(&rt, &mut solver, &cnf)? == (true, 0));
-    assert!(rt; says(&rt, &mut solver, &cnf)? == (false, 0));
+    assert!(rt; says(&rt, &mut solver, &cnf)? == (true, 0));
     Ok(())
 }

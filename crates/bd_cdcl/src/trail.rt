@@ -1,10 +1,14 @@
-ghost use Rattle.std.specs.Prelude.{◌≡◌, ◌<◌, ◌≤◌, ◌+◌, length, ◌++◌, ◌∷◌, [], ℕ, List, true, false, IfOk, OnOk, IfSome, IfNone, option_to_list};
-ghost use Rattle.bd_cnf.specs.Literal.{Literal, has_literal, has_variable};
+//! The trail of a solver: the literals that it takes as true, in order, each with the clause that
+//! implied it or, for a decision, none. A value for each variable stands beside it, so that a
+//! literal is tested in one step, and going back costs what is taken off.
+ghost use Rattle.std.specs.Prelude.{◌≡◌, ◌<◌, ◌≤◌, ◌+◌, ◌++◌, [], length, false};
+ghost use Rattle.std.specs.Prelude.{IfOk, OnOk, IfSome, IfNone, option_to_list};
+ghost use Rattle.bd_cnf.specs.Literal.{has_literal, has_variable};
 ghost use Rattle.bd_cnf.specs.Assignment.{value_of};
 ghost use Rattle.bd_cnf.specs.Standing.{IsBelow};
 ghost use Rattle.bd_cnf.specs.Trail.{is_false};
 ghost use Rattle.bd_cdcl.specs.Levels.{assigned, literals, decisions};
-ghost use Rattle.bd_cdcl.specs.inner.Trails.{leveled, GoesBack, MakesTrue};
+ghost use Rattle.bd_cdcl.specs.inner.Trails.{leveled, extended, GoesBack, MakesTrue, AllAssigned};
 
 use bd_cnf::{Assignment, Lit};
 use std::alloc::{AllocError, Global};
@@ -91,7 +95,7 @@ impl Trail {
     pub(crate) fn assign(&mut self, lit: Lit, reason: Option<u64>)
         requires within { lit.var < self.old.limit }
         requires unassigned { has_variable (literals self.old.entries) lit.var ≡ false }
-        ensures assigned { self.new ≡ leveled self.old.limit (self.old.entries ++ assigned lit reason ∷ []) }
+        ensures assigned { self.new ≡ extended self.old (assigned lit reason) }
         ensures room { length self.new.entries ≤ self.new.limit }
     {
         self.values[lit.var() as usize] = Some(lit.is_positive());
@@ -109,6 +113,7 @@ impl Trail {
         self.values[last.lit.var() as usize] = None;
         Some(last)
     }
+
     /// Takes the last decision back, and all that came behind it: what it led to.
     pub(crate) fn go_back(&mut self) -> Option<Lit>
         ensures limit { self.new.limit ≡ self.old.limit }
@@ -143,7 +148,7 @@ impl Trail {
         ensures from_one { IfSome result (λ var. 0 < var) }
         ensures below { IfSome result (λ var. var < self.now.limit) }
         ensures free { IfSome result (λ var. has_variable (literals self.now.entries) var ≡ false) }
-        ensures none { IfNone result ((var : ℕ) → 0 < var → var < self.now.limit → has_variable (literals self.now.entries) var ≡ true) }
+        ensures none { IfNone result (AllAssigned self.now) }
     {
         for var in 1..self.values.len() {
             if self.values[var].is_none() {

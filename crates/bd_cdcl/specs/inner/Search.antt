@@ -11,6 +11,7 @@ use Rattle.bd_lrat.specs.declared.line.Line.{Line}
 use Rattle.bd_lrat.specs.declared.line.Line.TheVariants.{Add}
 use Rattle.bd_lrat.specs.Database.{database, database_of, numbered}
 use Rattle.bd_lrat.specs.Log.{IsAcceptedLog, IsFresh, after_all, additions, with_added}
+use Rattle.bd_cdcl.specs.declared.search.Search.{Search}
 use Rattle.bd_cdcl.specs.declared.solver.Found.{Found}
 use Rattle.bd_cdcl.specs.declared.solver.Found.TheVariants.{Model, Refuted, Spent}
 use Rattle.bd_cdcl.specs.Levels.{Assigned, assigned, decisions, reasons, IsComplete}
@@ -44,6 +45,10 @@ IsResolved clauses new trail after log lines conflict added count budget None = 
 IsResolved clauses new trail after log lines conflict added count budget (Some (Model a)) = ⊥
 IsResolved clauses new trail after log lines conflict added count budget (Some Refuted) = (decisions trail.entries ≡ []) × (lines ≡ log ++ addition clauses [] (conflict_hints trail.entries conflict) ∷ [])
 IsResolved clauses new trail after log lines conflict added count budget (Some Spent) = (lines ≡ log) × (added ≡ budget) × ((front : List Assigned) × (last : Literal) × (rest : List Assigned) × IsLastDecision trail.entries front last rest)
+
+-- the same of two states of a search
+abbrev pub Resolves : Search → Search → List Line → List Line → ℕ → ℕ → Option Found → Type 0
+Resolves old new log lines conflict budget found = IsResolved old.clauses.items new.clauses.items old.trail new.trail log lines conflict old.learned new.learned budget found
 
 -- a search over a formula, as far as it has come
 pub record IsSearching (problem : Problem) (clauses : List (List Literal)) (trail : LeveledTrail) (count : ℕ) (log : List Line) : Type 0 where

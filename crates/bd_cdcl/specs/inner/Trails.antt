@@ -14,6 +14,10 @@ pub record LeveledTrail : Type 0 where
 abbrev pub leveled : ℕ → List Assigned → LeveledTrail
 leveled limit entries = record { limit = limit; entries = entries }
 
+-- a trail with one more literal
+abbrev pub extended : LeveledTrail → Assigned → LeveledTrail
+extended trail a = leveled trail.limit (trail.entries ++ a ∷ [])
+
 -- the values and the trail say the same, and no two literals have one variable
 pub record IsLeveled (values : List (Option Bool)) (entries : List Assigned) (capacity : ℕ) : Type 0 where
   pub kept : IsTrail values (literals entries) capacity
@@ -34,7 +38,7 @@ MakesTrue v ls = (l : Literal) → has_literal ls l ≡ true → literal_value v
 
 -- a literal without a value was decided
 abbrev pub Decides : LeveledTrail → LeveledTrail → Type 0
-Decides trail after = (d : Literal) × (d.var < trail.limit) × (has_variable (literals trail.entries) d.var ≡ false) × (after ≡ leveled trail.limit (trail.entries ++ assigned d None ∷ []))
+Decides trail after = (d : Literal) × (d.var < trail.limit) × (has_variable (literals trail.entries) d.var ≡ false) × (after ≡ extended trail (assigned d None))
 
 -- each variable has a value
 abbrev pub AllAssigned : LeveledTrail → Type 0
