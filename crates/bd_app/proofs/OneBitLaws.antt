@@ -4,7 +4,7 @@ use Rattle.std.specs.Prelude.{max, Some, slice_get, not, ◌&&◌, if◌then◌e
 use Rattle.std.specs.List.{AllPairs}
 use Rattle.std.specs.Cmp.{booleans_Decides}
 use mathlib.Core.Bool.{beq}
-use Rattle.bd_model.specs.ExprView as term
+use Rattle.bd_model.specs.ExprView as expr
 use Rattle.bd_model.specs.Value.{Env, value_of, truth, is_true}
 use Rattle.bd_model.specs.Cycle.{step, flushed, spec_steps}
 use Rattle.bd_model.specs.Fits.{Fits, StateFits, InputsFit}
@@ -22,7 +22,7 @@ use Rattle.bd_model.specs.declared.design.Sort.TheVariants as sort
 use Rattle.bd_model.specs.declared.case.Condition.{Condition}
 use Rattle.bd_model.specs.declared.case.Condition.TheVariants as condition
 use Rattle.bd_model.specs.declared.case.Judged.TheVariants as judged
-use Rattle.bd_app.specs.Bit.{Bit, latch, input, negation, choice, uses_no_input, term_of_bit}
+use Rattle.bd_app.specs.Bit.{Bit, latch, input, negation, choice, uses_no_input, expr_of_bit}
 use Rattle.bd_app.specs.inner.Decided.{bit_value, is_broken, IsUnbroken, case_at}
 use Rattle.bd_app.specs.OneBit.{design_of}
 
@@ -35,7 +35,7 @@ truth-ite true x y = refl
 truth-ite false x y = refl
 
 -- an expression has the value that its terms have
-value_of-bit : (interp : List Table) (a b : Bool) (e : Bit) → value_of (env_at interp a b) (term_of_bit e) ≡ truth (bit_value a b e)
+value_of-bit : (interp : List Table) (a b : Bool) (e : Bit) → value_of (env_at interp a b) (expr_of_bit e) ≡ truth (bit_value a b e)
 value_of-bit interp a b latch = refl
 value_of-bit interp a b input = refl
 value_of-bit interp a b (negation e) = ap (λ v. truth (not (is_true v))) (value_of-bit interp a b e)
@@ -43,7 +43,7 @@ value_of-bit interp a b (choice p e f) =
     rw (value_of-bit interp a b p, value_of-bit interp a b e, value_of-bit interp a b f) (truth-ite (bit_value a b p) (bit_value a b e) (bit_value a b f))
 
 -- without inputs, for an expression that uses none
-value_of-bit_alone : (interp : List Table) (a b : Bool) (e : Bit) → uses_no_input e ≡ true → value_of (record { interp = interp; state = truth a ∷ []; inputs = []; locals = [] }) (term_of_bit e) ≡ truth (bit_value a b e)
+value_of-bit_alone : (interp : List Table) (a b : Bool) (e : Bit) → uses_no_input e ≡ true → value_of (record { interp = interp; state = truth a ∷ []; inputs = []; locals = [] }) (expr_of_bit e) ≡ truth (bit_value a b e)
 value_of-bit_alone interp a b latch h = refl
 value_of-bit_alone interp a b input h = absurd (cc h)
 value_of-bit_alone interp a b (negation e) h = ap (λ v. truth (not (is_true v))) (value_of-bit_alone interp a b e h)
@@ -128,25 +128,25 @@ bit_depth input = 0
 bit_depth (negation e) = suc (bit_depth e)
 bit_depth (choice p e f) = suc (max (bit_depth p) (max (bit_depth e) (bit_depth f)))
 
-depth-bit : (e : Bit) → term.depth (term_of_bit e) ≡ bit_depth e
+depth-bit : (e : Bit) → expr.depth (expr_of_bit e) ≡ bit_depth e
 depth-bit latch = refl
 depth-bit input = refl
 depth-bit (negation e) = ap suc (depth-bit e)
 depth-bit (choice p e f) = rw (depth-bit p, depth-bit e, depth-bit f) refl
 
-width-bit : (e : Bit) → term.width (term_of_bit e) ≡ 0
+width-bit : (e : Bit) → expr.width (expr_of_bit e) ≡ 0
 width-bit latch = refl
 width-bit input = refl
 width-bit (negation e) = width-bit e
 width-bit (choice p e f) = rw (width-bit p, width-bit e, width-bit f) refl
 
-sorted-bit : (c : Context) → slice_get c.entries 0 ≡ Some sort.Bool → slice_get c.inputs 0 ≡ Some sort.Bool → (e : Bit) → HasSort c (term_of_bit e) sort.Bool
+sorted-bit : (c : Context) → slice_get c.entries 0 ≡ Some sort.Bool → slice_get c.inputs 0 ≡ Some sort.Bool → (e : Bit) → HasSort c (expr_of_bit e) sort.Bool
 sorted-bit c h k latch = h
 sorted-bit c h k input = k
 sorted-bit c h k (negation e) = (refl, sorted-bit c h k e)
 sorted-bit c h k (choice p e f) = (sorted-bit c h k p, sorted-bit c h k e, sorted-bit c h k f)
 
-sorted-bit_alone : (c : Context) → slice_get c.entries 0 ≡ Some sort.Bool → (e : Bit) → uses_no_input e ≡ true → HasSort c (term_of_bit e) sort.Bool
+sorted-bit_alone : (c : Context) → slice_get c.entries 0 ≡ Some sort.Bool → (e : Bit) → uses_no_input e ≡ true → HasSort c (expr_of_bit e) sort.Bool
 sorted-bit_alone c h latch k = h
 sorted-bit_alone c h input k = absurd (cc k)
 sorted-bit_alone c h (negation e) k = (refl, sorted-bit_alone c h e k)
@@ -165,7 +165,7 @@ two_different a b h (suc i) (suc (suc j)) d i<j j<n = absurd (omega (arith, j<n)
 one_only : {X : Type 0} (R : X → X → Type 0) (x : X) → AllPairs R (x ∷ [])
 one_only R x i j d i<j j<n = absurd (omega (arith, i<j, j<n))
 
-within : (e : Bit) → bit_depth e ≤ 200 → (term.depth (term_of_bit e) ≤ 200) × (term.width (term_of_bit e) ≤ 2097152)
+within : (e : Bit) → bit_depth e ≤ 200 → (expr.depth (expr_of_bit e) ≤ 200) × (expr.width (expr_of_bit e) ≤ 2097152)
 within e h = (omega (arith, h, depth-bit e), omega (arith, width-bit e))
 
 -- a one-bit design whose names are different names and whose expressions don't nest too deep is lawful

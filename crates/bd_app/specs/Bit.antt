@@ -1,6 +1,6 @@
 -- Truth expressions over the one latch and the one input of a one-bit machine.
 use Rattle.std.specs.Prelude.{Bool, true, false, ◌&&◌}
-use Rattle.bd_model.specs.ExprView as term
+use Rattle.bd_model.specs.ExprView as expr
 
 pub data Bit : Type 0 where
   latch : Bit
@@ -16,8 +16,8 @@ uses_no_input (negation e) = uses_no_input e
 uses_no_input (choice p e f) = (uses_no_input p && uses_no_input e) && uses_no_input f
 
 -- the expression of the machine that it stands for
-abbrev pub term_of_bit : Bit → term.Term
-term_of_bit latch = term.Entry 0
-term_of_bit input = term.Input 0
-term_of_bit (negation e) = term.Not (term_of_bit e)
-term_of_bit (choice p e f) = term.Ite (term_of_bit p) (term_of_bit e) (term_of_bit f)
+abbrev pub expr_of_bit : Bit → expr.ExprView
+expr_of_bit latch = expr.Entry 0
+expr_of_bit input = expr.Input 0
+expr_of_bit (negation e) = expr.Not (expr_of_bit e)
+expr_of_bit (choice p e f) = expr.Ite (expr_of_bit p) (expr_of_bit e) (expr_of_bit f)
