@@ -1,0 +1,8 @@
+pub mod Known
+pub mod Plain
+pub mod Moving
+pub mod Growing
+pub mod Stepping
+pub mod Waiting
+pub mod Loop
+pub mod Next

@@ -1,0 +1,25 @@
+-- The equality is built, and the ite over it.
+use Rattle.std.proofs.Common.{◌∙◌, subst, sym}
+use Rattle.bd_model.specs.declared.design.Sort.TheVariants as sort
+use Rattle.bd_terms.specs.Graph.{HasSort}
+use Rattle.bd_terms.proofs.Growth.{HasSort-Extends, sort_at-Extends}
+use Rattle.bd_memory.proofs.Stepping.{written-Grows, written-Means}
+use Rattle.bd_memory.proofs.forwarding.written.Goals as goal
+
+pub mk_ite-requires-clause-no : goal.mk_ite-requires-clause-no
+mk_ite-requires-clause-no c =
+    subst (HasSort c.mk_eq.new.self c.args.rest)
+    (sym (sort_at-Extends c.args.graph.now c.mk_eq.new.self c.mk_eq.ensures.extends c.args.word c.requires.word.inside ∙ c.requires.word.sorted))
+    (HasSort-Extends c.args.graph.now c.mk_eq.new.self c.mk_eq.ensures.extends c.args.rest sort.Word c.requires.rest)
+
+pub returns-clause-means : goal.returns-clause-means
+returns-clause-means c =
+    written-Means c.args.graph.now c.mk_eq.new.self c.mk_ite.new.self c.mk_eq.ensures.extends c.mk_eq.ensures.graph
+    c.in_ok-same.same c.args.at c.args.address c.args.word c.args.rest c.in_ok-same.ensures.denotes c.requires.word c.requires.rest
+    c.mk_ite.result c.mk_ite.ensures.denotes c.mk_ite.ensures.sorted
+
+pub returns-clause-grows : goal.returns-clause-grows
+returns-clause-grows c =
+    written-Grows c.args.graph.now c.mk_eq.new.self c.mk_ite.new.self c.in_ok-same.same c.args.at c.args.address c.args.word c.args.rest
+    c.in_ok-same.ensures.simplified c.mk_eq.ensures.extends c.mk_eq.ensures.uses c.mk_eq.ensures.graph
+    c.mk_ite.result c.mk_ite.ensures.simplified c.mk_ite.ensures.extends c.mk_ite.ensures.uses c.mk_ite.ensures.graph

@@ -1,0 +1,72 @@
+-- What is forwarded so far.
+use Rattle.std.specs.Prelude.{◌≡◌, ◌≢◌, ◌↔◌, IsTrue, ℕ, ◌<◌, List, None, Some, length, slice_index_or, slice_get, Bool, true, false}
+use Rattle.bd_model.specs.declared.design.Sort.{Sort}
+use Rattle.bd_model.specs.declared.design.Sort.TheVariants as sort
+use Rattle.bd_terms.specs.declared.node.Node.{Node}
+use Rattle.bd_terms.specs.declared.node.Node.TheVariants.{Read, Write, Init}
+use Rattle.bd_terms.specs.Graph.{AddsUses, Extends, Use, HasSort, IsGraph, sort_at}
+use Rattle.bd_terms.specs.Reaches.{Reaches}
+use Rattle.bd_terms.specs.Denotation.{World, Denoted, Denotes, Word, contents, denoted, word}
+use Rattle.bd_memory.specs.Forward.{AppliesReached}
+use Rattle.bd_memory.specs.inner.Reads.{known}
+use Rattle.bd_memory.specs.declared.reads.ReadKey.{ReadKey}
+use Rattle.bd_memory.specs.declared.forwarding.Forwarding.{Forwarding}
+use Rattle.bd_memory.specs.declared.forwarding.Step.{Step}
+use Rattle.bd_memory.specs.declared.forwarding.Step.TheVariants.{Waits, Word as Given}
+
+-- neither a read nor a write nor first contents
+abbrev pub is_plain : Node → Bool
+is_plain (Read m a) = false
+is_plain (Write m a d) = false
+is_plain (Init e) = false
+is_plain _ = true
+
+pub record IsPlain (nodes : List Node) : Type 0 where
+  pub plain : (id : ℕ) (node : Node) → slice_get nodes id ≡ Some node → is_plain node ≡ true
+
+-- a term of this sort that denotes this
+pub record Means (nodes : List Node) (id : ℕ) (s : Sort) (value : World → Denoted) : Type 0 where
+  pub sorted : HasSort nodes id s
+  pub denotes : Denotes nodes id value
+
+-- the word that a memory of the old graph has at an address of the new one
+abbrev pub word_at : List Node → List Node → ℕ → ℕ → World → Denoted
+word_at old new m b w = Word (contents w old m (word w new b))
+
+-- the place in the new graph of a place in the old one
+abbrev pub place : List ℕ → ℕ → ℕ
+place places k = slice_index_or places k 0
+
+-- the new graph, what each reached term so far that is no memory is there, and what each read that is built is
+pub record IsForwarding (old : List Node) (root : ℕ) (new : List Node) (places : List ℕ) (reads : List (ReadKey × ℕ)) : Type 0 where
+  pub source : IsGraph old
+  pub graph : IsGraph new
+  pub plain : IsPlain new
+  pub applies : AppliesReached old root new
+  pub terms : (k : ℕ) → k < length places → Reaches old root k → sort_at old k ≢ sort.Memory → Means new (place places k) (sort_at old k) (λ w. denoted w old k)
+  pub addresses : (m b id : ℕ) → known reads m b ≡ Some id → HasSort new b sort.Word
+  pub words : (m b id : ℕ) → known reads m b ≡ Some id → Means new id sort.Word (word_at old new m b)
+
+-- the same of the record that the code keeps
+abbrev pub Holds : List Node → ℕ → Forwarding → Type 0
+Holds old root f = IsForwarding old root f.graph f.places.items f.reads
+
+-- the read of the memory at the address waits for that of a memory below it, or is this word
+abbrev pub IsStep : List Node → Forwarding → ℕ → ℕ → Step → Type 0
+IsStep old f m b (Waits c) = (c < m) × HasSort old c sort.Memory × Reaches old m c × (known f.reads c b ≡ None)
+IsStep old f m b (Given id) = Means f.graph id sort.Word (word_at old f.graph m b)
+
+-- the graph grew by plain terms that apply no more than these
+pub record Grows (new new' : List Node) (more : List Use) : Type 0 where
+  pub extends : Extends new new'
+  pub uses : AddsUses new new' more
+  pub graph : IsGraph new'
+  pub plain : IsPlain new → IsPlain new'
+
+-- what the root reaches is marked, and nothing else
+abbrev pub MarksReached : List Node → ℕ → List Bool → Type 0
+MarksReached old root marks = (id : ℕ) → IsTrue (slice_index_or marks id false) ↔ Reaches old root id
+
+-- a reached term that is no memory is at this place
+abbrev pub Follows : List Node → ℕ → List Node → ℕ → ℕ → Type 0
+Follows old root new id place = Reaches old root id → sort_at old id ≢ sort.Memory → Means new place (sort_at old id) (λ w. denoted w old id)

@@ -1,0 +1,228 @@
+//! What is forwarded so far, and how a term follows those that it stands over.
+ghost use Rattle.std.specs.Prelude.{◌≡◌, ◌≢◌, ◌<◌, ℕ, [], ◌∷◌, length, map, slice_get, if◌then◌else◌, ◌==◌, Some, IfOk, OnOk};
+ghost use Rattle.std.specs.List.{All};
+ghost use Rattle.bd_model.specs.declared.design.Sort.TheVariants as sort;
+ghost use Rattle.bd_terms.specs.declared.node.Node.TheVariants as node;
+ghost use Rattle.bd_terms.specs.Graph.{HasSort, IsGraph, sort_at};
+ghost use Rattle.bd_terms.specs.Reaches.{Reaches};
+ghost use Rattle.bd_terms.specs.Denotation.{Word, denoted, word as word_in};
+ghost use Rattle.bd_memory.specs.inner.Forwarding.{Follows, Grows, Holds, IsStep, MarksReached, Means, place, word_at};
+
+use crate::reads::Reads;
+use bd_model::Sort;
+use bd_terms::{Graph, Id, Marks, Node, Sym};
+use std::alloc::{AllocError, Global};
+
+// The new graph, the new place of each old term that is passed (0 for memories and what isn't reached), and the
+// reads that are built.
+#[derive(Drop)]
+pub(crate) struct Forwarding {
+    pub(crate) graph: Graph,
+    pub(crate) places: Vec<Id>,
+    pub(crate) reads: Reads,
+}
+
+// The read of a memory waits for the read of one below it, or is this word.
+#[derive(Drop)]
+pub(crate) enum Step {
+    Waits(Id),
+    Word(Id),
+}
+
+impl Forwarding {
+    pub(crate) fn new(alloc: Global) -> Forwarding
+        ensures graph { result.graph ≡ [] }
+        ensures places { result.places.items ≡ [] }
+        ensures reads { result.reads ≡ [] }
+    {
+        Forwarding {
+            graph: Graph::new(alloc),
+            places: Vec::new(alloc),
+            reads: Reads::new(alloc),
+        }
+    }
+
+    // The new place of an old term.
+    pub(crate) fn place(&self, id: Id) -> Id
+        requires { id < length self.now.places.items }
+        ensures { result ≡ place self.now.places.items id }
+    {
+        self.places[id.index()]
+    }
+
+    // The place of the next term of the old graph: one of no meaning for a memory and what isn't marked.
+    pub(crate) fn next(&mut self, old: &Graph, marks: &Marks, id: Id) -> Result<Id, AllocError>
+        ghost root: { ℕ }
+        requires holds { Holds old.now root self.old }
+        requires next { id ≡ length self.old.places.items }
+        requires inside { id < length old.now }
+        requires marked { MarksReached old.now root marks.now }
+        ensures means { IfOk result (λ place. Follows old.now root self.new.graph id place) }
+        ensures holds { OnOk result (Holds old.now root self.new) }
+        ensures places { OnOk result (self.new.places.items ≡ self.old.places.items) }
+    {
+        if !marks.has(id) {
+            return Ok(Id::default());
+        }
+        if old.sort(id) == Sort::Memory {
+            return Ok(Id::default());
+        }
+        self.term(old, old.node(id))
+    }
+
+    // The next term of the old graph, in the new one.
+    fn term(&mut self, old: &Graph, node: &Node) -> Result<Id, AllocError>
+        ghost root: { ℕ }
+        requires holds { Holds old.now root self.old }
+        requires next { slice_get old.now (length self.old.places.items) ≡ Some node.now }
+        requires reached { Reaches old.now root (length self.old.places.items) }
+        requires sorted { sort_at old.now (length self.old.places.items) ≢ sort.Memory }
+        ensures means { IfOk result (λ id. Means self.new.graph id
+            (sort_at old.now (length self.old.places.items))
+            (λ w. denoted w old.now (length self.old.places.items))) }
+        ensures holds { OnOk result (Holds old.now root self.new) }
+        ensures places { OnOk result (self.new.places.items ≡ self.old.places.items) }
+    {
+        match node {
+            Node::True => self.graph.mk_true(),
+            Node::Not(a) => {
+                let a = self.place(*a);
+                self.graph.mk_not(a)
+            }
+            Node::And(a, b) => {
+                let (a, b) = (self.place(*a), self.place(*b));
+                self.graph.mk_and(a, b)
+            }
+            Node::Or(a, b) => {
+                let (a, b) = (self.place(*a), self.place(*b));
+                self.graph.mk_or(a, b)
+            }
+            Node::Ite(control, yes, no) => {
+                let (control, yes) = (self.place(*control), self.place(*yes));
+                let no = self.place(*no);
+                self.graph.mk_ite(control, yes, no)
+            }
+            Node::Eq(a, b) => {
+                let (a, b) = (self.place(*a), self.place(*b));
+                self.graph.mk_eq(a, b)
+            }
+            Node::App(sym, args) => {
+                let args = self.arguments(args.as_slice())?;
+                self.graph.mk_app(*sym, &args)
+            }
+            Node::Pred(sym, args) => {
+                let args = self.arguments(args.as_slice())?;
+                self.graph.mk_pred(*sym, &args)
+            }
+            Node::Read(memory, address) => {
+                let address = self.place(*address);
+                self.read(old, *memory, address)
+            }
+            Node::Write(..) => Ok(Id::default()),
+            Node::Init(_) => Ok(Id::default()),
+        }
+    }
+
+    // The new places of arguments.
+    fn arguments(&self, args: &[Id]) -> Result<Vec<Id>, AllocError>
+        requires { All (λ a. a < length self.now.places.items) args.now }
+        ensures { IfOk result (λ places. places.items ≡ map (place self.now.places.items) args.now) }
+    {
+        let mut places = Vec::new(*self.places.allocator());
+        for arg in args {
+            places.push(self.place(*arg))?;
+        }
+        Ok(places)
+    }
+
+    // The read of a memory of the old graph at an address of the new one. Memories whose reads wait for that of
+    // the one at hand stand in a stack, each below the one before it.
+    fn read(&mut self, old: &Graph, memory: Id, address: Id) -> Result<Id, AllocError>
+        ghost root: { ℕ }
+        requires holds { Holds old.now root self.old }
+        requires reached { Reaches old.now root memory }
+        requires sorted { HasSort old.now memory sort.Memory }
+        requires passed { memory < length self.old.places.items }
+        requires address { HasSort self.old.graph address sort.Word }
+        ensures means { IfOk result (λ id. Means self.new.graph id sort.Word
+            (word_at old.now self.new.graph memory address)) }
+        ensures holds { OnOk result (Holds old.now root self.new) }
+        ensures places { OnOk result (self.new.places.items ≡ self.old.places.items) }
+    {
+        if let Some(word) = self.reads.get(memory, address) {
+            return Ok(word);
+        }
+        let mut waiting: Vec<Id> = Vec::new(*self.places.allocator());
+        let mut here = memory;
+        loop {
+            match self.step(old, here, address)? {
+                Step::Waits(below) => {
+                    waiting.push(here)?;
+                    here = below;
+                }
+                Step::Word(word) => {
+                    self.reads.keep(here, address, word)?;
+                    match waiting.pop() {
+                        Some(above) => here = above,
+                        None => return Ok(word),
+                    }
+                }
+            }
+        }
+    }
+
+    // The read of a memory, from the reads of those right below it.
+    fn step(&mut self, old: &Graph, memory: Id, address: Id) -> Result<Step, AllocError>
+        ghost root: { ℕ }
+        requires holds { Holds old.now root self.old }
+        requires reached { Reaches old.now root memory }
+        requires sorted { HasSort old.now memory sort.Memory }
+        requires passed { memory < length self.old.places.items }
+        requires address { HasSort self.old.graph address sort.Word }
+        ensures step { IfOk result (IsStep old.now self.new memory address) }
+        ensures holds { OnOk result (Holds old.now root self.new) }
+        ensures address { OnOk result (HasSort self.new.graph address sort.Word) }
+        ensures places { OnOk result (self.new.places.items ≡ self.old.places.items) }
+        ensures reads { OnOk result (self.new.reads ≡ self.old.reads) }
+    {
+        match old.node(memory) {
+            Node::Write(below, at, word) => {
+                let Some(rest) = self.reads.get(*below, address) else {
+                    return Ok(Step::Waits(*below));
+                };
+                let at = self.place(*at);
+                let word = self.place(*word);
+                Ok(Step::Word(written(&mut self.graph, at, word, address, rest)?))
+            }
+            Node::Ite(control, yes, no) => {
+                let Some(if_so) = self.reads.get(*yes, address) else {
+                    return Ok(Step::Waits(*yes));
+                };
+                let Some(if_not) = self.reads.get(*no, address) else {
+                    return Ok(Step::Waits(*no));
+                };
+                let control = self.place(*control);
+                Ok(Step::Word(self.graph.mk_ite(control, if_so, if_not)?))
+            }
+            Node::Init(entry) => {
+                Ok(Step::Word(self.graph.mk_app(Sym::Entry(*entry), &[address])?))
+            }
+            _ => Ok(Step::Word(address)),
+        }
+    }
+}
+
+// The word at an address after a word is written: that word if the addresses are equal, else what was there.
+fn written(graph: &mut Graph, at: Id, word: Id, address: Id, rest: Id) -> Result<Id, AllocError>
+    requires at { HasSort graph.old at sort.Word }
+    requires word { HasSort graph.old word sort.Word }
+    requires address { HasSort graph.old address sort.Word }
+    requires rest { HasSort graph.old rest sort.Word }
+    ensures means { IfOk result (λ id. Means graph.new id sort.Word (λ w.
+        Word (if word_in w graph.old address == word_in w graph.old at
+        then word_in w graph.old word else word_in w graph.old rest))) }
+    ensures grows { OnOk result (Grows graph.old graph.new []) }
+{
+    let same = graph.mk_eq(address, at)?;
+    graph.mk_ite(same, word, rest)
+}
