@@ -1,0 +1,129 @@
+-- A term that is taken over into the new graph.
+use Rattle.std.proofs.Common.{◌≡◌, ℕ, suc, inl, inr, List, [], ◌∷◌, length, map, slice_get, Some, Contains, Result, Ok, Err, IfOk, refl, ap, sym, ◌∙◌, subst, arith}
+use Rattle.std.specs.declared.alloc.AllocError.{AllocError}
+use Rattle.std.proofs.lemmas.List.Elements.{Contains-append_cases}
+use Rattle.bd_model.specs.declared.design.Sort.{Sort}
+use Rattle.bd_model.specs.declared.design.Sort.TheVariants as sort
+use Rattle.bd_model.specs.declared.table.Scalar.{Scalar}
+use Rattle.bd_model.specs.Table.{at}
+use Rattle.bd_terms.specs.declared.node.Sym.{Sym}
+use Rattle.bd_terms.specs.declared.node.Sym.TheVariants.{Var}
+use Rattle.bd_terms.specs.declared.node.Node.{Node}
+use Rattle.bd_terms.specs.declared.node.Node.TheVariants.{True, Not, And, Or, Ite, Eq, App, Pred, Read, Write, Init}
+use Rattle.bd_terms.specs.Graph.{AddsUses, Extends, HasSort, Use, node_sort, node_uses, sorts, uses}
+use Rattle.bd_terms.specs.Denotation.{World, Denoted, Denotes, denoted, node_value, values, words}
+use Rattle.bd_terms.proofs.Growth.{All-HasSort-Extends, denoted-Extends, inside-Extends, sort_at-Extends}
+use Rattle.bd_function.specs.declared.flat.FlatRow.{FlatRow}
+use Rattle.bd_function.specs.declared.flat.FlatSym.{FlatSym}
+use Rattle.bd_function.specs.declared.eliminate.Taken.{Taken}
+use Rattle.bd_function.specs.Flat.{under}
+use Rattle.bd_function.specs.inner.Nested.{id_at, renamed}
+use Rattle.bd_function.specs.inner.Taken.{AreAlike, HasRow, IsPlain, IsRow, IsTaken, IsVariableBelow, Steps, as_sort, row_sort, use_of}
+use Rattle.bd_function.proofs.Applying.{Contains-none, uses-Extends}
+use Rattle.bd_function.proofs.Stepping.{first_before}
+use Rattle.std.proofs.lemmas.List.{append-nil}
+
+pub same-length : {X Y : Type 0} → (f : X → Y) (xs : List X) → length (map f xs) ≡ length xs
+same-length f [] = refl
+same-length f (x ∷ xs) = ap suc (same-length f xs)
+
+-- a node that applies no symbol denotes the same in each world
+pub node_value-none : (v w : World) (done : List Denoted) (ids : List ℕ) (node : Node) → IsPlain node → node_uses node ≡ [] → node_value v done (renamed ids node) ≡ node_value w done (renamed ids node)
+node_value-none v w done ids True p h = refl
+node_value-none v w done ids (Not a) p h = refl
+node_value-none v w done ids (And a b) p h = refl
+node_value-none v w done ids (Or a b) p h = refl
+node_value-none v w done ids (Ite c a b) p h = refl
+node_value-none v w done ids (Eq a b) p h = refl
+node_value-none v w done ids (App s args) p h = absurd (Contains-none (use_of s (length args) sort.Word) (subst (λ l. Contains l (use_of s (length args) sort.Word)) h (0, omega arith, refl)))
+node_value-none v w done ids (Pred s args) p h = absurd (Contains-none (use_of s (length args) sort.Bool) (subst (λ l. Contains l (use_of s (length args) sort.Bool)) h (0, omega arith, refl)))
+node_value-none v w done ids (Read m a) p h = refl
+node_value-none v w done ids (Write m a d) p h = refl
+node_value-none v w done ids (Init e) p h = absurd p
+
+-- a node of no memory that is no application applies no symbol
+pub node_uses-none : (node : Node) → IsPlain node → ((s : Sym) (args : List ℕ) → node ≡ App s args → ⊥) → ((s : Sym) (args : List ℕ) → node ≡ Pred s args → ⊥) → node_uses node ≡ []
+node_uses-none True p h k = refl
+node_uses-none (Not a) p h k = refl
+node_uses-none (And a b) p h k = refl
+node_uses-none (Or a b) p h k = refl
+node_uses-none (Ite c a b) p h k = refl
+node_uses-none (Eq a b) p h k = refl
+node_uses-none (App s args) p h k = absurd (h s args refl)
+node_uses-none (Pred s args) p h k = absurd (k s args refl)
+node_uses-none (Read m a) p h k = refl
+node_uses-none (Write m a d) p h k = refl
+node_uses-none (Init e) p h k = absurd p
+
+row_sort-Extends : (old new : List Node) → Extends old new → (variables : List ℕ) (r : FlatRow) → IsRow old variables r → row_sort new variables r ≡ row_sort old variables r
+row_sort-Extends old new e variables r h = sort_at-Extends old new e (id_at variables r.var) h.inside
+
+IsRow-Extends : (old new : List Node) → Extends old new → (variables : List ℕ) (r : FlatRow) → IsRow old variables r → IsRow new variables r
+IsRow-Extends old new e variables r h =
+    let kind = row_sort-Extends old new e variables r h in
+    record {
+      words = All-HasSort-Extends old new e sort.Word r.args h.words;
+      known = h.known;
+      inside = inside-Extends old new e (id_at variables r.var) h.inside;
+      applied = subst (λ s. Contains (uses new) (use_of (Var r.var) 0 s)) (sym kind) (uses-Extends old new e _ h.applied);
+      value = λ v. denoted-Extends (under v) old new e (id_at variables r.var) h.inside ∙ h.value v ∙ ap (λ s. as_sort s (v r.var)) (sym kind);
+    }
+
+-- a term that applies no symbol is a step
+pub Steps-none : (t t' : Taken) (us : List Use) (id : ℕ) (s : Sort) (value : World → (ℕ → Scalar) → Denoted) → IsTaken t
+    → Extends t.graph t'.graph → AddsUses t.graph t'.graph [] → HasSort t'.graph id s → ((w : World) (v : ℕ → Scalar) → denoted (under v) t'.graph id ≡ value w v)
+    → t'.variables.items ≡ t.variables.items → t'.symbols.keys ≡ t.symbols.keys → t'.rows.items ≡ t.rows.items → Steps t t' us id s value
+Steps-none t t' us id s value taken e u has means vars keys rows = record {
+  extends = e;
+  taken = record {
+    rows = λ x p r q. subst (λ l. IsRow t'.graph l r) (sym vars) (IsRow-Extends t.graph t'.graph e t.variables.items r (taken.rows x (subst (λ l. Contains l x) rows p) r q));
+    applied = λ x p. subst (λ l. IsVariableBelow (length l) x) (sym vars) (elim (Contains-append_cases (uses t.graph) [] x (u.within x p)) [ inl q ↦ taken.applied x q | inr q ↦ absurd (Contains-none x q) ]);
+    named = ap (map (λ (x : FlatSym). x.sym)) rows ∙ taken.named ∙ sym keys;
+    once = λ i j x h l. taken.once i j x (subst (λ ks. slice_get ks i ≡ Some x) keys h) (subst (λ ks. slice_get ks j ≡ Some x) keys l);
+    different = λ x y q r h l e. taken.different x y q r (subst (λ rs. HasRow rs x q) rows h) (subst (λ rs. HasRow rs y r) rows l) e;
+  };
+  rows = λ symbol r h. let old = subst (λ l. HasRow l symbol r) rows h in
+      record { from = inl (old, ap (λ l. row_sort t'.graph l r) vars ∙ row_sort-Extends t.graph t'.graph e t.variables.items r (taken.rows old.holder old.listed r old.has)) };
+  first = λ w v keeps. first_before w v t.graph t'.graph e t.rows.items t'.rows.items (λ x p r q. (taken.rows x p r q).words)
+      (λ x p. record { later = x; listed = subst (λ l. Contains l x) (sym rows) p; same = refl; more = []; grows = sym (append-nil x.rows) }) keeps;
+  sorted = has;
+  means = λ w v keeps. means w v;
+}
+
+-- the step of an application, by the node
+abbrev pub StepsNode : Taken → Taken → List ℕ → Node → ℕ → Type 0
+StepsNode t t' ids node id = Steps t t' (node_uses node) id (node_sort (sorts t.graph) (renamed ids node)) (λ w v. node_value w (values (under v) t.graph) (renamed ids node))
+
+pub Steps-App : (t t' : Taken) (ids : List ℕ) (node : Node) (k : Sym) (args xs : List ℕ) (r : Result ℕ AllocError) → node ≡ App k args → xs ≡ map (id_at ids) args
+    → IfOk r (λ id. Steps t t' (use_of k (length xs) sort.Word ∷ []) id sort.Word (λ w v. as_sort sort.Word (at (w k) (words (under v) t.graph xs))))
+    → IfOk r (λ id. StepsNode t t' ids node id)
+Steps-App t t' ids node k args xs (Err x) e f h = tt
+Steps-App t t' ids node k args xs (Ok id) e f h =
+    subst (λ n. StepsNode t t' ids n id) (sym e)
+    (subst (λ n. Steps t t' (use_of k n sort.Word ∷ []) id sort.Word (λ w v. as_sort sort.Word (at (w k) (words (under v) t.graph (map (id_at ids) args))))) (same-length (id_at ids) args)
+    (subst (λ l. Steps t t' (use_of k (length l) sort.Word ∷ []) id sort.Word (λ w v. as_sort sort.Word (at (w k) (words (under v) t.graph l)))) f h))
+
+pub Steps-Pred : (t t' : Taken) (ids : List ℕ) (node : Node) (k : Sym) (args xs : List ℕ) (r : Result ℕ AllocError) → node ≡ Pred k args → xs ≡ map (id_at ids) args
+    → IfOk r (λ id. Steps t t' (use_of k (length xs) sort.Bool ∷ []) id sort.Bool (λ w v. as_sort sort.Bool (at (w k) (words (under v) t.graph xs))))
+    → IfOk r (λ id. StepsNode t t' ids node id)
+Steps-Pred t t' ids node k args xs (Err x) e f h = tt
+Steps-Pred t t' ids node k args xs (Ok id) e f h =
+    subst (λ n. StepsNode t t' ids n id) (sym e)
+    (subst (λ n. Steps t t' (use_of k n sort.Bool ∷ []) id sort.Bool (λ w v. as_sort sort.Bool (at (w k) (words (under v) t.graph (map (id_at ids) args))))) (same-length (id_at ids) args)
+    (subst (λ l. Steps t t' (use_of k (length l) sort.Bool ∷ []) id sort.Bool (λ w v. as_sort sort.Bool (at (w k) (words (under v) t.graph l)))) f h))
+
+-- the rows are alike for the arguments in the new graph
+pub alike_renamed : (t : Taken) (ids : List ℕ) (k : Sym) (args xs : List ℕ) (s : Sort) → xs ≡ map (id_at ids) args → AreAlike t (use_of k (length args) s ∷ []) → AreAlike t (use_of k (length xs) s ∷ [])
+alike_renamed t ids k args xs s e h = subst (λ n. AreAlike t (use_of k n s ∷ [])) (sym (ap length e ∙ same-length (id_at ids) args)) h
+
+-- a copied term is a step
+pub Steps-copy : (t t' : Taken) (ids : List ℕ) (node : Node) (r : Result ℕ AllocError) → IsTaken t → IsPlain node → node_uses node ≡ []
+    → IfOk r (λ id. Denotes t'.graph id (λ w. node_value w (values w t.graph) (renamed ids node)))
+    → IfOk r (λ id. HasSort t'.graph id (node_sort (sorts t.graph) (renamed ids node)))
+    → IfOk r (λ id. Extends t.graph t'.graph) → IfOk r (λ id. AddsUses t.graph t'.graph [])
+    → t'.variables.items ≡ t.variables.items → t'.symbols.keys ≡ t.symbols.keys → t'.rows.items ≡ t.rows.items
+    → IfOk r (λ id. StepsNode t t' ids node id)
+Steps-copy t t' ids node (Err x) taken plain none d s e u vars keys rows = tt
+Steps-copy t t' ids node (Ok id) taken plain none d s e u vars keys rows =
+    Steps-none t t' (node_uses node) id (node_sort (sorts t.graph) (renamed ids node)) (λ w v. node_value w (values (under v) t.graph) (renamed ids node)) taken e u s
+    (λ w v. d.is (under v) ∙ node_value-none (under v) w (values (under v) t.graph) ids node plain none) vars keys rows

@@ -1,0 +1,132 @@
+-- What holds of the terms, variables and rows that have been taken so far.
+use Rattle.std.specs.Prelude.{◌≡◌, ◌<◌, ◌⊎◌, ℕ, suc, zero, Bool, true, false, List, [], ◌∷◌, ◌++◌, Contains, length, map, slice_get, Some}
+use Rattle.std.specs.List.{All}
+use Rattle.bd_model.specs.declared.design.Sort.{Sort}
+use Rattle.bd_model.specs.declared.design.Sort.TheVariants as sort
+use Rattle.bd_model.specs.declared.table.Scalar.{Scalar}
+use Rattle.bd_model.specs.Table.{at}
+use Rattle.bd_model.specs.Value.{scalar_truth, scalar_word}
+use Rattle.bd_terms.specs.declared.node.Sym.{Sym}
+use Rattle.bd_terms.specs.declared.node.Sym.TheVariants.{Var}
+use Rattle.bd_terms.specs.declared.node.Node.{Node}
+use Rattle.bd_terms.specs.declared.node.Node.TheVariants.{Read, Write, Init}
+use Rattle.bd_terms.specs.Graph.{AddsUses, Extends, HasSort, Use, sort_at, uses}
+use Rattle.bd_terms.specs.Denotation.{World, Denoted, Denotes, Truth, Word, denoted}
+use Rattle.bd_function.specs.declared.flat.FlatRow.{FlatRow}
+use Rattle.bd_function.specs.declared.flat.FlatSym.{FlatSym}
+use Rattle.bd_function.specs.declared.eliminate.Taken.{Taken}
+use Rattle.bd_function.specs.Flat.{KeepsFirst, under}
+use Rattle.bd_function.specs.inner.Nested.{id_at}
+
+-- the node is of no memory
+abbrev pub IsPlain : Node → Type 0
+IsPlain (Read m a) = ⊥
+IsPlain (Write m a d) = ⊥
+IsPlain (Init e) = ⊥
+IsPlain _ = Unit {0}
+
+-- a word or a truth value
+abbrev pub is_scalar : Sort → Bool
+is_scalar sort.Bool = true
+is_scalar sort.Word = true
+is_scalar sort.Memory = false
+
+-- a scalar read as one of the sort
+abbrev pub as_sort : Sort → Scalar → Denoted
+as_sort sort.Bool x = Truth (scalar_truth x)
+as_sort sort.Word x = Word (scalar_word x)
+as_sort sort.Memory x = Truth false
+
+abbrev pub use_of : Sym → ℕ → Sort → Use
+use_of symbol arity s = record { symbol = symbol; arity = arity; sort = s }
+
+-- the sort of a row's variable
+abbrev pub row_sort : List Node → List ℕ → FlatRow → Sort
+row_sort nodes variables r = sort_at nodes (id_at variables r.var)
+
+-- a row over words of the graph, whose variable is a term of it
+pub record IsRow (nodes : List Node) (variables : List ℕ) (r : FlatRow) : Type 0 where
+  pub words : All (λ a. HasSort nodes a sort.Word) r.args
+  pub known : r.var < length variables
+  pub inside : id_at variables r.var < length nodes
+  pub applied : Contains (uses nodes) (use_of (Var r.var) 0 (row_sort nodes variables r))
+  pub value : (v : ℕ → Scalar) → denoted (under v) nodes (id_at variables r.var) ≡ as_sort (row_sort nodes variables r) (v r.var)
+
+-- a variable below the number
+pub record IsVariableBelow (n : ℕ) (u : Use) : Type 0 where
+  pub number : ℕ
+  pub below : number < n
+  pub same : u.symbol ≡ Var number
+  pub plain : u.arity ≡ 0
+
+-- a symbol with the row
+pub record HasRow (syms : List FlatSym) (symbol : Sym) (r : FlatRow) : Type 0 where
+  pub holder : FlatSym
+  pub listed : Contains syms holder
+  pub same : holder.sym ≡ symbol
+  pub has : Contains holder.rows r
+
+pub record IsTaken (t : Taken) : Type 0 where
+  pub rows : (s : FlatSym) → Contains t.rows.items s → (r : FlatRow) → Contains s.rows r → IsRow t.graph t.variables.items r
+  pub applied : (u : Use) → Contains (uses t.graph) u → IsVariableBelow (length t.variables.items) u
+  pub named : map (λ s. s.sym) t.rows.items ≡ t.symbols.keys
+  pub once : (i j : ℕ) (k : Sym) → slice_get t.symbols.keys i ≡ Some k → slice_get t.symbols.keys j ≡ Some k → i ≡ j
+  pub different : (k l : Sym) (q r : FlatRow) → HasRow t.rows.items k q → HasRow t.rows.items l r → q.var ≡ r.var → (k ≡ l) × (q ≡ r)
+
+-- the rows of the symbols have these arities and sorts
+pub record AreAlike (t : Taken) (us : List Use) : Type 0 where
+  pub alike : (u : Use) → Contains us u → (s : FlatSym) → Contains t.rows.items s → s.sym ≡ u.symbol → (r : FlatRow) → Contains s.rows r
+      → (length r.args ≡ u.arity) × (row_sort t.graph t.variables.items r ≡ u.sort)
+
+-- a row of one of these uses
+pub record IsNewRow (t : Taken) (us : List Use) (symbol : Sym) (r : FlatRow) : Type 0 where
+  pub use_ : Use
+  pub among : Contains us use_
+  pub same : use_.symbol ≡ symbol
+  pub arity : length r.args ≡ use_.arity
+  pub sorted : row_sort t.graph t.variables.items r ≡ use_.sort
+
+-- a row that was there keeps its sort, and another one is of these uses
+pub record StepsRow (t t' : Taken) (us : List Use) (symbol : Sym) (r : FlatRow) : Type 0 where
+  pub from : (HasRow t.rows.items symbol r × (row_sort t'.graph t'.variables.items r ≡ row_sort t.graph t.variables.items r)) ⊎ IsNewRow t' us symbol r
+
+-- a term more: it has this sort, and denotes this wherever the first rows are kept
+pub record Steps (t t' : Taken) (us : List Use) (id : ℕ) (s : Sort) (value : World → (ℕ → Scalar) → Denoted) : Type 0 where
+  pub extends : Extends t.graph t'.graph
+  pub taken : IsTaken t'
+  pub rows : (symbol : Sym) (r : FlatRow) → HasRow t'.rows.items symbol r → StepsRow t t' us symbol r
+  pub first : (w : World) (v : ℕ → Scalar) → KeepsFirst w v t'.graph t'.rows.items → KeepsFirst w v t.graph t.rows.items
+  pub sorted : HasSort t'.graph id s
+  pub means : (w : World) (v : ℕ → Scalar) → KeepsFirst w v t'.graph t'.rows.items → denoted (under v) t'.graph id ≡ value w v
+
+-- the term of a variable
+pub record AddsTerm (old new : List Node) (var id : ℕ) (s : Sort) : Type 0 where
+  pub extends : Extends old new
+  pub adds : AddsUses old new (use_of (Var var) 0 s ∷ [])
+  pub applied : Contains (uses new) (use_of (Var var) 0 s)
+  pub sorted : HasSort new id s
+  pub denotes : Denotes new id (λ w. as_sort s (at (w (Var var)) []))
+
+-- a variable more
+pub record AddsVariable (t t' : Taken) (id : ℕ) (s : Sort) : Type 0 where
+  pub term : AddsTerm t.graph t'.graph (length t.variables.items) id s
+  pub variables : t'.variables.items ≡ t.variables.items ++ id ∷ []
+  pub symbols : t'.symbols.keys ≡ t.symbols.keys
+  pub rows : t'.rows.items ≡ t.rows.items
+
+-- the symbol at the place
+pub record AddsSymbol (t t' : Taken) (symbol : Sym) (place : ℕ) : Type 0 where
+  pub graph : t'.graph ≡ t.graph
+  pub variables : t'.variables.items ≡ t.variables.items
+  pub named : map (λ s. s.sym) t'.rows.items ≡ t'.symbols.keys
+  pub once : (i j : ℕ) (k : Sym) → slice_get t'.symbols.keys i ≡ Some k → slice_get t'.symbols.keys j ≡ Some k → i ≡ j
+  pub holder : FlatSym
+  pub there : slice_get t'.rows.items place ≡ Some holder
+  pub same : holder.sym ≡ symbol
+  pub adds : (t'.rows.items ≡ t.rows.items) ⊎ (t'.rows.items ≡ t.rows.items ++ (record { sym = symbol; rows = [] }) ∷ [])
+
+-- a row behind those of the symbol at the place
+abbrev pub with_row : List FlatSym → ℕ → FlatRow → List FlatSym
+with_row [] place r = []
+with_row (s ∷ ss) zero r = record { sym = s.sym; rows = s.rows ++ r ∷ [] } ∷ ss
+with_row (s ∷ ss) (suc place) r = s ∷ with_row ss place r

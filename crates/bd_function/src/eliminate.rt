@@ -1,0 +1,202 @@
+//! Each application becomes a variable where no earlier one of its symbol has equal arguments, and else the earlier
+//! one's variable. One pass in rising order takes arguments before the applications of them, so it needs no
+//! recursion.
+ghost use Rattle.std.specs.Prelude.{◌≡◌, ◌<◌, ◌∷◌, [], true, length, map, IfOk, OnOk};
+ghost use Rattle.std.specs.List.{All};
+ghost use Rattle.bd_model.specs.Table.{at};
+ghost use Rattle.bd_model.specs.declared.design.Sort.TheVariants as kind;
+ghost use Rattle.bd_terms.specs.declared.node.Sym.TheVariants as symbol;
+ghost use Rattle.bd_terms.specs.Graph.{AddsUses, Extends, FitsSorts, HasSort, KeepsSymbol, children, node_sort, node_uses, sorts};
+ghost use Rattle.bd_terms.specs.Denotation.{Denotes, node_value, values, words};
+ghost use Rattle.bd_function.specs.Flat.{AreApplications, Flattens, ReachesNoMemory, under};
+ghost use Rattle.bd_function.specs.inner.Nested.{id_at, renamed};
+ghost use Rattle.bd_function.specs.inner.Taken.{AddsSymbol, AddsTerm, AddsVariable, AreAlike, IsPlain, IsTaken, Steps, as_sort, is_scalar, use_of, with_row};
+
+use crate::flat::{Flat, FlatRow, FlatRows, FlatSym, FlatSyms};
+use crate::nested::nested;
+use bd_model::Sort;
+use bd_terms::{Graph, Id, Ids, Node, Sym, reached};
+use indexmap::IndexSet;
+use std::alloc::{AllocError, Global};
+
+/// What has been taken so far.
+#[derive(Drop)]
+struct Taken {
+    graph: Graph,
+    /// The term of each variable.
+    variables: Vec<Id>,
+    /// The symbols, in the order of their rows.
+    symbols: IndexSet<Sym>,
+    rows: Vec<FlatSym>,
+}
+
+/// The formula with a variable for each application that the root reaches.
+pub fn flatten(alloc: Global, graph: &Graph, root: Id) -> Result<Flat, AllocError>
+    requires sorted { HasSort graph.now root kind.Bool }
+    requires memory { ReachesNoMemory graph.now root }
+    ensures flattens { IfOk result (λ f. Flattens graph.now root f.graph f.root f.syms) }
+    ensures rows { IfOk result (λ f. AreApplications graph.now root f.graph f.syms) }
+{
+    let marks = reached(graph, root)?;
+    let mut ids = Vec::with_capacity(alloc, graph.len())?;
+    let mut taken = Taken {
+        graph: Graph::new(alloc),
+        variables: Vec::new(alloc),
+        symbols: IndexSet::new(alloc),
+        rows: Vec::new(alloc),
+    };
+    for index in 0..graph.len() {
+        let old = graph.id(index);
+        let id = if marks.has(old) {
+            take(alloc, &mut taken, &ids, graph.node(old))?
+        } else {
+            Id::default()
+        };
+        ids.push(id)?;
+    }
+    Ok(Flat {
+        graph: taken.graph,
+        root: id_of(&ids, root),
+        syms: FlatSyms::from_vec(taken.rows),
+    })
+}
+
+// The term in the new graph.
+fn take(alloc: Global, taken: &mut Taken, ids: &[Id], node: &Node) -> Result<Id, AllocError>
+    requires inside { All (λ c. c < length ids.now) (children node.now) }
+    requires fits { FitsSorts taken.old.graph (renamed ids.now node.now) }
+    requires plain { IsPlain node.now }
+    requires taken { IsTaken taken.old }
+    requires rows { AreAlike taken.old (node_uses node.now) }
+    ensures { IfOk result (λ id. Steps taken.old taken.new (node_uses node.now) id
+        (node_sort (sorts taken.old.graph) (renamed ids.now node.now))
+        (λ w v. node_value w (values (under v) taken.old.graph) (renamed ids.now node.now))) }
+{
+    match node {
+        Node::App(sym, args) => {
+            let args = rename(alloc, ids, args.as_slice())?;
+            apply(alloc, taken, *sym, &args, Sort::Word)
+        }
+        Node::Pred(sym, args) => {
+            let args = rename(alloc, ids, args.as_slice())?;
+            apply(alloc, taken, *sym, &args, Sort::Bool)
+        }
+        _ => copy(&mut taken.graph, ids, node),
+    }
+}
+
+// The Ids in the new graph.
+fn rename(alloc: Global, ids: &[Id], args: &[Id]) -> Result<Vec<Id>, AllocError>
+    requires { All (λ c. c < length ids.now) args.now }
+    ensures { IfOk result (λ v. v.items ≡ map (id_at ids.now) args.now) }
+{
+    let mut renamed = Vec::with_capacity(alloc, args.len())?;
+    for arg in args.iter() {
+        renamed.push(id_of(ids, *arg))?;
+    }
+    Ok(renamed)
+}
+
+// The Id in the new graph.
+fn id_of(ids: &[Id], old: Id) -> Id
+    requires { old < length ids.now }
+    ensures { result ≡ id_at ids.now old }
+{
+    ids[old.index()]
+}
+
+// A term that applies no symbol, over the new Ids.
+fn copy(graph: &mut Graph, ids: &[Id], node: &Node) -> Result<Id, AllocError>
+    requires inside { All (λ c. c < length ids.now) (children node.now) }
+    requires fits { FitsSorts graph.old (renamed ids.now node.now) }
+    requires plain { IsPlain node.now }
+    requires uses { node_uses node.now ≡ [] }
+    ensures denotes { IfOk result (λ id. Denotes graph.new id
+        (λ w. node_value w (values w graph.old) (renamed ids.now node.now))) }
+    ensures sorted { IfOk result (λ id.
+        HasSort graph.new id (node_sort (sorts graph.old) (renamed ids.now node.now))) }
+    ensures extends { OnOk result (Extends graph.old graph.new) }
+    ensures uses { OnOk result (AddsUses graph.old graph.new []) }
+{
+    match node {
+        Node::Not(a) => graph.mk_not(id_of(ids, *a)),
+        Node::And(a, b) => graph.mk_and(id_of(ids, *a), id_of(ids, *b)),
+        Node::Or(a, b) => graph.mk_or(id_of(ids, *a), id_of(ids, *b)),
+        Node::Ite(c, a, b) => graph.mk_ite(id_of(ids, *c), id_of(ids, *a), id_of(ids, *b)),
+        Node::Eq(a, b) => graph.mk_eq(id_of(ids, *a), id_of(ids, *b)),
+        _ => graph.mk_true(),
+    }
+}
+
+// The term of a variable.
+fn variable(graph: &mut Graph, var: u64, sort: Sort) -> Result<Id, AllocError>
+    requires symbol { KeepsSymbol graph.old (symbol.Var var) 0 sort }
+    requires sort { is_scalar sort ≡ true }
+    ensures { IfOk result (λ id. AddsTerm graph.old graph.new var id sort) }
+{
+    let id = match sort {
+        Sort::Word => graph.mk_app(Sym::Var(var), &[])?,
+        _ => graph.mk_pred(Sym::Var(var), &[])?,
+    };
+    Ok(id)
+}
+
+// A variable of this sort that is in no earlier term.
+fn add_variable(taken: &mut Taken, sort: Sort) -> Result<Id, AllocError>
+    requires taken { IsTaken taken.old }
+    requires sort { is_scalar sort ≡ true }
+    ensures { IfOk result (λ id. AddsVariable taken.old taken.new id sort) }
+{
+    let var = taken.variables.len() as u64;
+    let id = variable(&mut taken.graph, var, sort)?;
+    taken.variables.push(id)?;
+    Ok(id)
+}
+
+// The place of the symbol's rows.
+fn place(alloc: Global, taken: &mut Taken, sym: Sym) -> Result<usize, AllocError>
+    requires { map (λ s. s.sym) taken.old.rows.items ≡ taken.old.symbols.keys }
+    ensures { IfOk result (λ place. AddsSymbol taken.old taken.new sym place) }
+{
+    let (place, is_new) = taken.symbols.insert_full(sym)?;
+    if is_new {
+        let rows = FlatRows::new(alloc);
+        taken.rows.push(FlatSym { sym, rows })?;
+    }
+    Ok(place)
+}
+
+// Puts a row behind the others of its symbol.
+fn push(rows: &mut Vec<FlatSym>, place: usize, row: FlatRow) -> Result<(), AllocError>
+    requires { place < length rows.old.items }
+    ensures { OnOk result (rows.new.items ≡ with_row rows.old.items place row) }
+{
+    rows[place].rows.push(row)?;
+    Ok(())
+}
+
+// The application of the symbol, with a row behind its others.
+fn apply(
+    alloc: Global,
+    taken: &mut Taken,
+    sym: Sym,
+    args: &[Id],
+    sort: Sort,
+) -> Result<Id, AllocError>
+    requires arguments { All (λ a. HasSort taken.old.graph a kind.Word) args.now }
+    requires sort { is_scalar sort ≡ true }
+    requires taken { IsTaken taken.old }
+    requires rows { AreAlike taken.old (use_of sym (length args.now) sort ∷ []) }
+    ensures { IfOk result (λ id.
+        Steps taken.old taken.new (use_of sym (length args.now) sort ∷ []) id sort
+        (λ w v. as_sort sort (at (w sym) (words (under v) taken.old.graph args.now)))) }
+{
+    let var = taken.variables.len() as u64;
+    let own = add_variable(taken, sort)?;
+    let place = place(alloc, taken, sym)?;
+    let rows = taken.rows[place].rows.as_slice();
+    let id = nested(&mut taken.graph, &taken.variables, rows, args, own)?;
+    let args = Ids::from_slice(alloc, args)?;
+    push(&mut taken.rows, place, FlatRow { args, var })?;
+    Ok(id)
+}
