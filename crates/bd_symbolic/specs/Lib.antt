@@ -1,0 +1,4 @@
+pub mod World
+pub mod DesignSymbols
+pub mod Symbolic
+pub mod inner
