@@ -7,7 +7,7 @@ use Rattle.bd_model.specs.Value.{Env}
 use Rattle.bd_terms.specs.declared.node.Node.{Node}
 use Rattle.bd_terms.specs.Graph.{AddsUses, Extends, Use, sort_at, uses}
 use Rattle.bd_terms.specs.Denotation.{World, Denoted, denoted}
-use Rattle.bd_terms.proofs.Growth.{Extends-self, Extends-trans, inside-Extends, sort_at-Extends, denoted-Extends}
+use Rattle.bd_terms.proofs.Growth.{Extends-self, Extends-trans, inside-Extends, sort_at-Extends, denoted-Extends, KeepsSymbol-empty}
 use Rattle.bd_symbolic.specs.DesignSymbols.{IsDeclared, KeepsDesign, GrowsWithin}
 use Rattle.bd_symbolic.specs.Symbolic.{Terms, AreInside, AreTerms, DenoteEnv, context_in}
 
@@ -44,6 +44,10 @@ KeepsDesign-Grows d old new g k = record {
 } where
   same_declared : (d : DesignView) (u v : Use) → IsDeclared d u → IsDeclared d v → v.symbol ≡ u.symbol → v ≡ u
   same_declared d u v p q e = cc
+
+-- a graph of no term keeps every symbol
+pub KeepsDesign-none : (d : DesignView) → KeepsDesign d []
+KeepsDesign-none d = record { keeps = λ u is. KeepsSymbol-empty u.symbol u.arity u.sort }
 
 pub AreInside-Extends : (old new : List Node) → Extends old new → (ids : List ℕ) → AreInside old ids → AreInside new ids
 AreInside-Extends old new e [] h = tt

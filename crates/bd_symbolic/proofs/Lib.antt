@@ -6,3 +6,9 @@ pub mod Leaves
 pub mod Parts
 pub mod Looking
 pub mod Worlds
+pub mod States
+pub mod Gathering
+pub mod Firsts
+pub mod Cycles
+pub mod Forms
+pub mod ExampleLawful

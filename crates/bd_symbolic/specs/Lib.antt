@@ -1,4 +1,5 @@
 pub mod World
 pub mod DesignSymbols
 pub mod Symbolic
+pub mod States
 pub mod inner

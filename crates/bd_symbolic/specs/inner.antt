@@ -1,2 +1,5 @@
+pub mod Cycles
 pub mod Evaluates
+pub mod Example
+pub mod First
 pub mod Names

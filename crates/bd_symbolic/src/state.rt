@@ -1,6 +1,9 @@
 //! States of terms.
+ghost use Rattle.std.specs.Prelude.{◌≡◌, IfOk};
+
 use bd_list::Sequence;
 use bd_terms::Id;
+use std::alloc::AllocError;
 
 /// A list of terms.
 pub type Ids = Sequence<Id>;
@@ -10,4 +13,11 @@ pub type Ids = Sequence<Id>;
 pub struct SymState {
     pub entries: Ids,
     pub inputs: Ids,
+}
+
+// The same terms.
+pub(crate) fn copy_of(ids: &Ids) -> Result<Ids, AllocError>
+    ensures { IfOk result (λ copy. copy ≡ ids.now) }
+{
+    ids.clone()
 }

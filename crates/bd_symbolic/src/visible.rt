@@ -2,11 +2,11 @@
 ghost use Rattle.std.specs.Prelude.{◌≡◌, IfOk, List, [], length, map, slice_index_or};
 ghost use Rattle.bd_model.specs.Cycle.{look};
 ghost use Rattle.bd_model.specs.DesignView.{design_view};
-ghost use Rattle.bd_model.specs.Lawful.{IsLawful};
+ghost use Rattle.bd_model.specs.Lawful.{IsLawful, entry_sorts};
 ghost use Rattle.bd_model.specs.declared.table.Value.{Value};
 ghost use Rattle.bd_terms.specs.Denotation.{World};
 ghost use Rattle.bd_terms.specs.declared.node.Node.{Node};
-ghost use Rattle.bd_symbolic.specs.Symbolic.{DenoteValues};
+ghost use Rattle.bd_symbolic.specs.Symbolic.{DenoteValues, HaveSorts};
 
 use crate::state::{Ids, SymState};
 use bd_list::Sequence;
@@ -19,6 +19,10 @@ pub fn project(alloc: Global, design: &Design, state: &SymState) -> Result<SymSt
     requires lawful { IsLawful (design_view design.now) }
     requires entries { length state.now.entries ≡ length design.now.pipe.entries }
     ensures inputs { IfOk result (λ visible. visible.inputs ≡ []) }
+    ensures sorted { IfOk result (λ visible.
+        (nodes : List Node)
+        → HaveSorts nodes state.now.entries (entry_sorts (design_view design.now).pipe)
+        → HaveSorts nodes visible.entries (entry_sorts (design_view design.now).spec)) }
     ensures denotes { IfOk result (λ visible.
         (w : World) (nodes : List Node) (values : List Value)
         → DenoteValues w nodes state.now.entries values

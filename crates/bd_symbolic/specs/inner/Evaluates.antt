@@ -1,11 +1,11 @@
 -- What a call that builds the terms of expressions needs and gives.
 use Rattle.std.specs.Prelude.{◌≡◌, ◌<◌, length, ℕ, List, Result, IfOk, map, Vec, slice_get, Some}
-use Rattle.std.specs.List.{All}
+use Rattle.std.specs.List.{All, AllZip}
 use Rattle.std.specs.declared.alloc.AllocError.{AllocError}
 use Rattle.std.specs.declared.alloc.Global.{Global}
 use Rattle.bd_model.specs.ExprView.{ExprView, ExprViews, count_of}
 use Rattle.bd_model.specs.Value.{Env, values_of, word_of}
-use Rattle.bd_model.specs.Lawful.{HasSort, HaveSort}
+use Rattle.bd_model.specs.Lawful.{Context, HasSort, HaveSort}
 use Rattle.bd_model.specs.declared.design.Sort.{Sort}
 use Rattle.bd_model.specs.declared.design.Sort.TheVariants as sort
 use Rattle.bd_terms.specs.declared.node.Node.{Node}
@@ -61,3 +61,10 @@ pub record DenoteWords (old new : List Node) (t : Terms) (es : ExprViews) (ids :
 pub record EvaluatesWords (old new : List Node) (t : Terms) (es : ExprViews) (r : Result (Vec ℕ Global) AllocError) : Type 0 where
   pub grows : GrowsWithin t.design old new
   pub words : IfOk r (λ v. DenoteWords old new t es v.items)
+
+abbrev pub HasSomeSort : Context → ExprView → Type 0
+HasSomeSort c e = (s : Sort) × HasSort c e s
+
+-- a term for each expression, in order
+abbrev pub DenoteExprs : List Node → List Node → Terms → List ExprView → List ℕ → Type 0
+DenoteExprs old new t es ids = AllZip (DenotesExpr old new t) es ids

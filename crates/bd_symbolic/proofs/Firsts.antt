@@ -1,0 +1,200 @@
+-- The terms of entries and inputs before the first cycle.
+use Rattle.std.proofs.Common.{◌≡◌, ℕ, zero, suc, ◌+◌, ◌&&◌, true, false, ◌++◌, List, [], ◌∷◌, map, length, Some, Result, Ok, Err, IfOk, refl, ap, sym, ◌∙◌, subst, arith, append-nil, append_assoc, length-append, zero-add, get_or, ◌<◌}
+use Rattle.std.specs.Prelude.{◌==◌, slice_get, slice_index_or, if◌then◌else◌}
+use Rattle.std.specs.List.{AllZip, AllByRecursion}
+use Rattle.std.specs.declared.alloc.AllocError.{AllocError}
+use Rattle.std.proofs.Math.Path.{fun_ext}
+use Rattle.std.proofs.lemmas.Option.{slice_get-get_or}
+use Rattle.bd_model.specs.DesignView.{DesignView, PortView}
+use Rattle.bd_model.specs.Table.{at, read, row_value, slot_value}
+use Rattle.bd_model.specs.Value.{scalar_word, scalar_truth, truth}
+use Rattle.bd_model.specs.Fits.{scalar_sort, value_sort}
+use Rattle.bd_model.specs.Lawful.{entry_sorts}
+use Rattle.bd_model.specs.declared.design.Sort.{Sort}
+use Rattle.bd_model.specs.declared.design.Sort.TheVariants as sort
+use Rattle.bd_model.specs.declared.design.Entry as entry
+use Rattle.bd_model.specs.declared.table.Scalar.TheVariants as scalar
+use Rattle.bd_model.specs.declared.table.Slot.{Slot}
+use Rattle.bd_model.specs.declared.table.Memory.{Memory}
+use Rattle.bd_model.specs.declared.table.Value.{Value}
+use Rattle.bd_model.specs.declared.table.Value.TheVariants as value
+use Rattle.bd_model.proofs.Pairs.{AllZip-map_first}
+use Rattle.bd_terms.specs.declared.node.Node.{Node}
+use Rattle.bd_terms.specs.declared.node.Sym.{Sym}
+use Rattle.bd_terms.specs.declared.node.Sym.TheVariants as symbol
+use Rattle.bd_terms.specs.Graph.{AddsUses, Extends, Use}
+use Rattle.bd_terms.specs.Graph.{HasSort as TermHasSort}
+use Rattle.bd_terms.specs.Denotation.{World, Denotes, Truth, Word, Contents, applied, holds, denoted}
+use Rattle.bd_terms.proofs.Growth.{HasSort-Extends, denoted-Extends}
+use Rattle.bd_symbolic.specs.World.{slot_row, value_table, denotes_value, world_of}
+use Rattle.bd_symbolic.specs.DesignSymbols.{IsDeclared, KeepsDesign, GrowsWithin, sort_use, entry_use, port_use}
+use Rattle.bd_symbolic.specs.Symbolic.{HaveSorts}
+use Rattle.bd_symbolic.specs.States.{StateHasSorts, DenotesCases, port_sorts}
+use Rattle.bd_symbolic.specs.inner.First.{KeepsUse, IsFirstTerm, FirstTerms}
+use Rattle.bd_symbolic.specs.declared.state.SymState.{SymState}
+use Rattle.bd_symbolic.proofs.Growing.{Grows-self, Grows-trans, KeepsDesign-Grows}
+use Rattle.bd_symbolic.proofs.Applying.{Grows-one}
+use Rattle.bd_symbolic.proofs.Worlds.{IsWorldOf-world_of}
+
+-- a predicate symbol of arity 0, in a world in which its table is that of a truth value
+pub first_bool : (nodes : List Node) (s : Sym) (r : Result ℕ AllocError) → IfOk r (λ id. Denotes nodes id (λ w. Truth (holds w s []))) → IfOk r (λ id. TermHasSort nodes id sort.Bool) → IfOk r (IsFirstTerm nodes s sort.Bool)
+first_bool nodes s (Err e) d h = tt
+first_bool nodes s (Ok id) d h = record { sorted = h; denotes = λ w v k is. d.is w ∙ ap (λ t. Truth (scalar_truth (at t []))) is ∙ same v k } where
+  same : (v : Value) → value_sort v ≡ sort.Bool → Truth (scalar_truth (at (value_table v) [])) ≡ denotes_value v
+  same (value.Scalar (scalar.Bool b)) k = refl
+  same (value.Scalar (scalar.Word n)) k = absurd (cc k)
+  same (value.Memory m) k = absurd (cc k)
+
+-- a function symbol of arity 0, where its table is that of a word
+pub first_word : (nodes : List Node) (s : Sym) (r : Result ℕ AllocError) → IfOk r (λ id. Denotes nodes id (λ w. Word (applied w s []))) → IfOk r (λ id. TermHasSort nodes id sort.Word) → IfOk r (IsFirstTerm nodes s sort.Word)
+first_word nodes s (Err e) d h = tt
+first_word nodes s (Ok id) d h = record { sorted = h; denotes = λ w v k is. d.is w ∙ ap (λ t. Word (scalar_word (at t []))) is ∙ same v k } where
+  same : (v : Value) → value_sort v ≡ sort.Word → Word (scalar_word (at (value_table v) [])) ≡ denotes_value v
+  same (value.Scalar (scalar.Word n)) k = refl
+  same (value.Scalar (scalar.Bool b)) k = absurd (cc k)
+  same (value.Memory m) k = absurd (cc k)
+
+-- the table of a memory has at an address what the memory reads there
+slots_read : (rows : List Slot) (a default : ℕ) → scalar_word (row_value (map slot_row rows) (a ∷ []) (scalar.Word default)) ≡ slot_value rows a default
+slots_read [] a default = refl
+slots_read (s ∷ rows) a default =
+    elim (s.address == a) as (λ b. scalar_word (if b && true then scalar.Word s.value else row_value (map slot_row rows) (a ∷ []) (scalar.Word default)) ≡ (if b then s.value else slot_value rows a default)) [ true ↦ refl | false ↦ slots_read rows a default ]
+
+memory_read : (m : Memory) → (λ a. scalar_word (at (value_table (value.Memory m)) (a ∷ []))) ≡ read m
+memory_read m = fun_ext (λ a. slots_read m.rows a m.default)
+
+-- the first contents of a memory, where their table is that of the memory
+pub first_memory : (nodes : List Node) (e : ℕ) (r : Result ℕ AllocError) → IfOk r (λ id. Denotes nodes id (λ w. Contents (λ a. applied w (symbol.Entry e) (a ∷ [])))) → IfOk r (λ id. TermHasSort nodes id sort.Memory)
+    → IfOk r (IsFirstTerm nodes (symbol.Entry e) sort.Memory)
+first_memory nodes e (Err x) d h = tt
+first_memory nodes e (Ok id) d h = record { sorted = h; denotes = λ w v k is. d.is w ∙ ap (λ t. Contents (λ a. scalar_word (at t (a ∷ [])))) is ∙ same v k } where
+  same : (v : Value) → value_sort v ≡ sort.Memory → Contents (λ a. scalar_word (at (value_table v) (a ∷ []))) ≡ denotes_value v
+  same (value.Memory m) k = ap Contents (memory_read m)
+  same (value.Scalar (scalar.Bool b)) k = absurd (cc k)
+  same (value.Scalar (scalar.Word n)) k = absurd (cc k)
+
+first-Extends : (old new : List Node) → Extends old new → (s : Sym) (t : Sort) (id : ℕ) → IsFirstTerm old s t id → IsFirstTerm new s t id
+first-Extends old new e s t id h = record {
+  sorted = HasSort-Extends old new e id t h.sorted;
+  denotes = λ w v k is. denoted-Extends w old new e id h.sorted.inside ∙ h.denotes w v k is;
+}
+
+-- one term more, where the graph has grown
+pub firsts_push : (symbols : ℕ → Sym) (old new : List Node) → Extends old new → (n : ℕ) (ids : List ℕ) (sorts : List Sort) (id : ℕ) (s : Sort) → FirstTerms symbols old n ids sorts → IsFirstTerm new (symbols (n + length ids)) s id
+    → FirstTerms symbols new n (ids ++ id ∷ []) (sorts ++ s ∷ [])
+firsts_push symbols old new e n [] [] id s h k = (subst (λ m. IsFirstTerm new (symbols m) s id) (omega arith) k, tt)
+firsts_push symbols old new e n [] (t ∷ sorts) id s h k = absurd h
+firsts_push symbols old new e n (x ∷ ids) [] id s h k = absurd h
+firsts_push symbols old new e n (x ∷ ids) (t ∷ sorts) id s h k =
+    (first-Extends old new e (symbols n) t x h.0, firsts_push symbols old new e (suc n) ids sorts id s h.1 (subst (λ m. IsFirstTerm new (symbols m) s id) (omega arith) k))
+
+pub firsts-Extends : (symbols : ℕ → Sym) (old new : List Node) → Extends old new → (n : ℕ) (ids : List ℕ) (sorts : List Sort) → FirstTerms symbols old n ids sorts → FirstTerms symbols new n ids sorts
+firsts-Extends symbols old new e n [] [] h = tt
+firsts-Extends symbols old new e n [] (t ∷ sorts) h = absurd h
+firsts-Extends symbols old new e n (x ∷ ids) [] h = absurd h
+firsts-Extends symbols old new e n (x ∷ ids) (t ∷ sorts) h = (first-Extends old new e (symbols n) t x h.0, firsts-Extends symbols old new e (suc n) ids sorts h.1)
+
+pub firsts_sorted : (symbols : ℕ → Sym) (nodes : List Node) (n : ℕ) (ids : List ℕ) (sorts : List Sort) → FirstTerms symbols nodes n ids sorts → HaveSorts nodes ids sorts
+firsts_sorted symbols nodes n [] [] h = tt
+firsts_sorted symbols nodes n [] (t ∷ sorts) h = absurd h
+firsts_sorted symbols nodes n (x ∷ ids) [] h = absurd h
+firsts_sorted symbols nodes n (x ∷ ids) (t ∷ sorts) h = (h.0.sorted, firsts_sorted symbols nodes (suc n) ids sorts h.1)
+
+-- what they denote in a world that has the values' tables for the symbols
+firsts_denote : {V : Type 0} (f : V → Value) (d : V) (symbols : ℕ → Sym) (nodes : List Node) (w : World) (n : ℕ) (ids : List ℕ) (sorts : List Sort) (values : List V) → FirstTerms symbols nodes n ids sorts
+    → AllZip (λ s v. value_sort (f v) ≡ s) sorts values → ((k : ℕ) → w (symbols (n + k)) ≡ value_table (f (slice_index_or values k d))) → AllZip (λ id v. denoted w nodes id ≡ denotes_value (f v)) ids values
+firsts_denote f d symbols nodes w n [] [] [] h k is = tt
+firsts_denote f d symbols nodes w n [] [] (v ∷ values) h k is = absurd k
+firsts_denote f d symbols nodes w n [] (t ∷ sorts) values h k is = absurd h
+firsts_denote f d symbols nodes w n (x ∷ ids) [] values h k is = absurd h
+firsts_denote f d symbols nodes w n (x ∷ ids) (t ∷ sorts) [] h k is = absurd k
+firsts_denote f d symbols nodes w n (x ∷ ids) (t ∷ sorts) (v ∷ values) h k is = (
+  h.0.denotes w (f v) k.0 (subst (λ m. w (symbols m) ≡ value_table (f v)) (omega arith) (is zero)),
+  firsts_denote f d symbols nodes w (suc n) ids sorts values h.1 k.1
+      (λ i. subst (λ m. w (symbols m) ≡ value_table (f (slice_index_or values i d))) (omega arith) (is (suc i))),
+)
+
+-- the sort of each entry and input, and the terms before the first cycle
+pub state_sorted : (d : DesignView) (nodes : List Node) (state : SymState) → FirstTerms symbol.Entry nodes 0 state.entries (entry_sorts d.pipe) → FirstTerms symbol.Input nodes 0 state.inputs (port_sorts d.pipe) → StateHasSorts d.pipe nodes state
+state_sorted d nodes state h k = record {
+  entries = firsts_sorted symbol.Entry nodes 0 state.entries (entry_sorts d.pipe) h;
+  inputs = firsts_sorted symbol.Input nodes 0 state.inputs (port_sorts d.pipe) k;
+}
+
+pub state_denotes : (d : DesignView) (nodes : List Node) (state : SymState) → FirstTerms symbol.Entry nodes 0 state.entries (entry_sorts d.pipe) → FirstTerms symbol.Input nodes 0 state.inputs (port_sorts d.pipe) → DenotesCases d nodes state
+state_denotes d nodes state h k = record {
+  denotes = λ c addresses fits. record {
+    world = IsWorldOf-world_of d c.interp c.state c.inputs addresses fits.interp;
+    entries = firsts_denote (λ v. v) (truth false) symbol.Entry nodes (world_of c.interp c.state c.inputs addresses) 0 state.entries (entry_sorts d.pipe) c.state h
+        ((AllZip-map_first (λ s v. value_sort v ≡ s) (λ (x : entry.Entry). x.sort) d.pipe.entries c.state).1 fits.state) (λ i. subst (λ m. world_of c.interp c.state c.inputs addresses (symbol.Entry m) ≡ value_table (slice_index_or c.state i (truth false))) (sym (zero-add i)) refl);
+    inputs = firsts_denote value.Scalar (scalar.Bool false) symbol.Input nodes (world_of c.interp c.state c.inputs addresses) 0 state.inputs (port_sorts d.pipe) c.inputs k
+        ((AllZip-map_first (λ s x. scalar_sort x ≡ s) (λ (p : PortView). p.sort) d.pipe.ports c.inputs).1 fits.inputs) (λ i. subst (λ m. world_of c.interp c.state c.inputs addresses (symbol.Input m) ≡ value_table (value.Scalar (slice_index_or c.inputs i (scalar.Bool false)))) (sym (zero-add i)) refl);
+  };
+}
+
+-- the design declares the symbol of each entry, and of each input
+pub entry_declared : (d : DesignView) (i : ℕ) (x : entry.Entry) (s : Sort) → slice_get d.pipe.entries i ≡ Some x → x.sort ≡ s → IsDeclared d (sort_use (symbol.Entry i) s)
+entry_declared d i x sort.Bool h e = ap (entry_use i) h ∙ ap (λ t. Some (sort_use (symbol.Entry i) t)) e
+entry_declared d i x sort.Word h e = ap (entry_use i) h ∙ ap (λ t. Some (sort_use (symbol.Entry i) t)) e
+entry_declared d i x sort.Memory h e = ap (entry_use i) h ∙ ap (λ t. Some (sort_use (symbol.Entry i) t)) e
+
+pub port_declared : (d : DesignView) (i : ℕ) (p : PortView) (s : Sort) → slice_get d.pipe.ports i ≡ Some p → p.sort ≡ s → IsDeclared d (sort_use (symbol.Input i) s)
+port_declared d i p sort.Bool h e = ap (port_use i) h ∙ ap (λ t. Some (sort_use (symbol.Input i) t)) e
+port_declared d i p sort.Word h e = ap (port_use i) h ∙ ap (λ t. Some (sort_use (symbol.Input i) t)) e
+port_declared d i p sort.Memory h e = ap (port_use i) h ∙ ap (λ t. Some (sort_use (symbol.Input i) t)) e
+
+abbrev pub sorts_of_ports : List PortView → List Sort
+sorts_of_ports ports = map (λ (p : PortView). p.sort) ports
+
+-- the first n entries, or inputs, have their terms, and the rest is to come
+pub record FirstsDone (d : DesignView) (symbols : ℕ → Sym) (old new : List Node) (sorts rest : List Sort) (n : ℕ) (ids : List ℕ) : Type 0 where
+  pub grows : GrowsWithin d old new
+  pub done : List Sort
+  pub whole : done ++ rest ≡ sorts
+  pub count : length ids ≡ n
+  pub terms : FirstTerms symbols new 0 ids done
+
+pub firsts_init : (d : DesignView) (symbols : ℕ → Sym) (old : List Node) (sorts : List Sort) → FirstsDone d symbols old old sorts sorts 0 []
+firsts_init d symbols old sorts = record { grows = Grows-self d old; done = []; whole = refl; count = refl; terms = tt }
+
+pub firsts_keep : (d : DesignView) (symbols : ℕ → Sym) (old mid : List Node) (sorts rest : List Sort) (n : ℕ) (ids : List ℕ) (u : Use) → KeepsDesign d old → FirstsDone d symbols old mid sorts rest n ids → IsDeclared d u → KeepsUse mid u
+firsts_keep d symbols old mid sorts rest n ids u k h is = (KeepsDesign-Grows d old mid h.grows k).keeps u is
+
+-- an item of a list, at its place
+pub item_there : {A : Type 0} (all items : List A) (i : ℕ) (x : A) → items ≡ all → i < length items → x ≡ get_or items i x → slice_get all i ≡ Some x
+item_there all items i x same within is = subst (λ xs. slice_get xs i ≡ Some x) same (slice_get-get_or items i x within ∙ ap Some (sym is))
+
+get_seen : {A B : Type 0} (f : A → B) (xs : List A) (i : ℕ) (x : A) → slice_get xs i ≡ Some x → slice_get (map f xs) i ≡ Some (f x)
+get_seen f [] i x h = absurd (cc h)
+get_seen f (y ∷ xs) zero x h = let same : y ≡ x = cc in ap (λ z. Some (f z)) same
+get_seen f (y ∷ xs) (suc i) x h = get_seen f xs i x h
+
+-- the same as it is seen
+pub item_seen : {A B : Type 0} (f : A → B) (all items : List A) (i : ℕ) (x : A) → items ≡ all → i < length items → x ≡ get_or items i x → slice_get (map f all) i ≡ Some (f x)
+item_seen f all items i x same within is = get_seen f all i x (item_there all items i x same within is)
+
+-- what is true of each item
+pub item_of_all : {A : Type 0} (P : A → Type 0) (xs : List A) (i : ℕ) (x : A) → AllByRecursion P xs → slice_get xs i ≡ Some x → P x
+item_of_all P [] i x h k = absurd (cc k)
+item_of_all P (y ∷ xs) zero x h k = let same : y ≡ x = cc in subst P same h.0
+item_of_all P (y ∷ xs) (suc i) x h k = item_of_all P xs i x h.1 k
+
+-- the graph, grown by the term of the symbol at a place
+pub firsts_grow : (d : DesignView) (symbols : ℕ → Sym) (old mid next : List Node) (sorts rest : List Sort) (n : ℕ) (ids : List ℕ) (place : ℕ) (s : Sort) → place ≡ n → FirstsDone d symbols old mid sorts rest n ids → IsDeclared d (sort_use (symbols n) s)
+    → Extends mid next → AddsUses mid next (sort_use (symbols place) s ∷ []) → GrowsWithin d old next
+firsts_grow d symbols old mid next sorts rest n ids place s same h is e u =
+    Grows-trans d old mid next h.grows (Grows-one d mid next (sort_use (symbols n) s) is e (subst (λ m. AddsUses mid next (sort_use (symbols m) s ∷ [])) same u))
+
+-- one term more
+pub firsts_step : (d : DesignView) (symbols : ℕ → Sym) (old mid next : List Node) (sorts : List Sort) (s : Sort) (rest : List Sort) (n : ℕ) (ids : List ℕ) (id place : ℕ) → place ≡ n → FirstsDone d symbols old mid sorts (s ∷ rest) n ids
+    → IsDeclared d (sort_use (symbols n) s) → Extends mid next → AddsUses mid next (sort_use (symbols place) s ∷ []) → IsFirstTerm next (symbols place) s id → FirstsDone d symbols old next sorts rest (n + 1) (ids ++ id ∷ [])
+firsts_step d symbols old mid next sorts s rest n ids id place same h is e u k = record {
+  grows = firsts_grow d symbols old mid next sorts (s ∷ rest) n ids place s same h is e u;
+  done = h.done ++ s ∷ [];
+  whole = append_assoc h.done (s ∷ []) rest ∙ h.whole;
+  count = omega (arith, length-append ids (id ∷ []), h.count);
+  terms = firsts_push symbols mid next e 0 ids h.done id s h.terms (subst (λ m. IsFirstTerm next (symbols m) s id) (omega (arith, h.count)) k);
+}
+
+pub firsts_done : (d : DesignView) (symbols : ℕ → Sym) (old new : List Node) (sorts : List Sort) (n : ℕ) (ids : List ℕ) → FirstsDone d symbols old new sorts [] n ids → FirstTerms symbols new 0 ids sorts
+firsts_done d symbols old new sorts n ids h = subst (FirstTerms symbols new 0 ids) (sym (append-nil h.done) ∙ h.whole) h.terms

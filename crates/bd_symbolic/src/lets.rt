@@ -1,0 +1,39 @@
+//! Terms of lets.
+ghost use Rattle.std.specs.Prelude.{IfOk, [], map};
+ghost use Rattle.bd_model.specs.DesignView.{design_view, local_view};
+ghost use Rattle.bd_model.specs.Lawful.{LetsHaveSorts};
+ghost use Rattle.bd_symbolic.specs.DesignSymbols.{GrowsWithin};
+ghost use Rattle.bd_symbolic.specs.Symbolic.{AreTerms, context_in, terms_of};
+ghost use Rattle.bd_symbolic.specs.States.{DenoteLets};
+
+use crate::eval::sym_eval;
+use crate::state::{Ids, SymState};
+use bd_list::Sequence;
+use bd_model::{Design, Locals};
+use bd_terms::Graph;
+use std::alloc::{AllocError, Global};
+
+/// The terms of lets in a state, in order, each built once over those of the earlier lets. Refused for want of memory,
+/// the graph may keep further nodes.
+pub fn sym_lets(
+    alloc: Global,
+    graph: &mut Graph,
+    design: &Design,
+    locals: &Locals,
+    state: &SymState,
+) -> Result<Ids, AllocError>
+    requires terms { AreTerms graph.old (terms_of (design_view design.now) state.now []) }
+    requires sorted { LetsHaveSorts
+        (context_in graph.old (terms_of (design_view design.now) state.now []))
+        (map local_view locals.now) }
+    ensures lets { IfOk result (DenoteLets (design_view design.now) graph.old graph.new
+        state.now (map local_view locals.now)) }
+    ensures grows { GrowsWithin (design_view design.now) graph.old graph.new }
+{
+    let mut lets = Sequence::new(alloc);
+    for local in locals.as_slice() {
+        let id = sym_eval(alloc, graph, design, &local.value, state, &lets)?;
+        lets.push(id)?;
+    }
+    Ok(lets)
+}
