@@ -1,5 +1,5 @@
 -- One pass in rising order flattens what the root reaches.
-use Rattle.std.proofs.Common.{◌≡◌, ℕ, zero, suc, ◌+◌, ◌<◌, ◌⊎◌, inl, inr, ◌&&◌, ◌||◌, ◌==◌, not, if◌then◌else◌, List, [], ◌∷◌, ◌++◌, length, map, slice_get, Some, Contains, refl, ap, sym, ◌∙◌, subst, arith, length-append}
+use Rattle.std.proofs.Common.{◌≡◌, ℕ, zero, suc, ◌+◌, ◌<◌, ◌⊎◌, inl, inr, ◌&&◌, ◌||◌, ◌==◌, not, if◌then◌else◌, false, List, [], ◌∷◌, ◌++◌, length, map, slice_get, Some, Contains, refl, ap, sym, ◌∙◌, subst, arith, length-append}
 use Rattle.std.specs.List.{All}
 use Rattle.std.proofs.lemmas.Option.{none-some, same_Some}
 use Rattle.std.proofs.lemmas.List.{get_or_append_left}
@@ -8,6 +8,7 @@ use Rattle.std.proofs.Math.Seq.{get_or-append_seam}
 use Rattle.bd_model.specs.declared.design.Sort.{Sort}
 use Rattle.bd_model.specs.declared.design.Sort.TheVariants as sort
 use Rattle.bd_model.specs.declared.table.Scalar.{Scalar}
+use Rattle.bd_model.specs.declared.table.Scalar.TheVariants as scalar
 use Rattle.bd_terms.specs.declared.node.Sym.{Sym}
 use Rattle.bd_terms.specs.declared.node.Sym.TheVariants.{Var}
 use Rattle.bd_terms.specs.declared.node.Node.{Node}
@@ -18,15 +19,17 @@ use Rattle.bd_terms.specs.Reaches.{Reaches, Root, Child, ReachesUse}
 use Rattle.bd_terms.proofs.Denotations.{denoted-get}
 use Rattle.bd_terms.proofs.Graphs.{FitsSorts-get, sort_at-get}
 use Rattle.bd_terms.proofs.Growth.{HasSort-Extends, denoted-Extends}
+use Rattle.bd_terms.proofs.Older.{Reaches-below}
 use Rattle.bd_terms.proofs.Reaching.{children-below}
 use Rattle.bd_terms.proofs.Symbols.{uses-get}
 use Rattle.bd_function.specs.declared.flat.FlatRow.{FlatRow}
 use Rattle.bd_function.specs.declared.flat.FlatSym.{FlatSym}
 use Rattle.bd_function.specs.declared.eliminate.Taken.{Taken}
-use Rattle.bd_function.specs.Flat.{AreApplications, Flattens, IsFlat, KeepsFirst, ReachesNoMemory, is_variable, under}
+use Rattle.bd_function.specs.Flat.{AreApplications, Flattens, GivesSorts, HasAllApplications, HaveSorts, IsFlat, IsRealized, KeepsFirst, ReachesNoMemory, Realizes, is_variable, under}
 use Rattle.bd_function.specs.inner.Nested.{id_at, renamed}
-use Rattle.bd_function.specs.inner.Taken.{AreAlike, HasRow, IsPlain, IsTaken, row_sort, use_of}
+use Rattle.bd_function.specs.inner.Taken.{AreAlike, HasRow, HasUse, IsPlain, KeepsRow, IsTaken, row_sort, use_of}
 use Rattle.bd_function.proofs.Applying.{Contains-later, Contains-none}
+use Rattle.bd_function.proofs.Realizing.{Realizes-KeepsFirst}
 use Rattle.bd_function.proofs.Stepping.{All-of}
 use Rattle.bd_function.proofs.Taking.{StepsNode}
 
@@ -47,10 +50,18 @@ pub record IsKnown (old : List Node) (root : ℕ) (t : Taken) (symbol : Sym) (r 
   pub arity : length r.args ≡ applied.arity
   pub sorted : row_sort t.graph t.variables.items r ≡ applied.sort
 
+-- values of the variables so far that are those of the applications in the world
+pub record Realizing (old : List Node) (root : ℕ) (t : Taken) (w : World) : Type 0 where
+  pub values : ℕ → Scalar
+  pub realizes : Realizes w values t.graph t.rows.items
+  pub sorted : GivesSorts old root w → HaveSorts values t.graph
+
 -- the terms that the root reaches have been taken as far as there are Ids
 pub record IsFlattened (old : List Node) (root : ℕ) (ids : List ℕ) (t : Taken) : Type 0 where
   pub taken : IsTaken t
   pub known : (symbol : Sym) (r : FlatRow) → HasRow t.rows.items symbol r → IsKnown old root t symbol r
+  pub all : (k : ℕ) → k < length ids → Reaches old root k → (node : Node) → slice_get old k ≡ Some node → (u : Use) → Contains (node_uses node) u → HasUse t u
+  pub realized : (w : World) → Realizing old root t w
   pub sorted : (k : ℕ) → k < length ids → Reaches old root k → HasSort t.graph (id_at ids k) (sort_at old k)
   pub means : (w : World) (v : ℕ → Scalar) → KeepsFirst w v t.graph t.rows.items → (k : ℕ) → k < length ids → Reaches old root k
       → denoted (under v) t.graph (id_at ids k) ≡ denoted w old k
@@ -172,6 +183,12 @@ IsFlattened-start old root t g r s = record {
     different = λ x y p q h l e. absurd (Contains-none h.holder (subst (λ rs. Contains rs h.holder) r h.listed));
   };
   known = λ symbol x h. absurd (Contains-none h.holder (subst (λ l. Contains l h.holder) r h.listed));
+  all = λ k h. absurd (omega (arith, h));
+  realized = λ w. record {
+    values = λ x. scalar.Bool false;
+    realizes = record { applied = λ x p. absurd (Contains-none x (subst (λ l. Contains l x) r p)) };
+    sorted = λ gives. record { sorted = λ x k p. absurd (Contains-none (use_of (Var x) 0 k) (subst (λ l. Contains (uses l) (use_of (Var x) 0 k)) g p)) };
+  };
   sorted = λ k h. absurd (omega (arith, h));
   means = λ w v keeps k h. absurd (omega (arith, h));
 }
@@ -181,6 +198,11 @@ pub IsFlattened-pass : (old : List Node) (root : ℕ) (ids : List ℕ) (t : Take
 IsFlattened-pass old root ids t id f none = record {
   taken = f.taken;
   known = f.known;
+  all = λ k h r. elim (below_last k (length ids) (omega (arith, h, length-append ids (id ∷ [])))) [
+    | inl p ↦ f.all k p r
+    | inr e ↦ absurd (none (subst (Reaches old root) e r))
+  ];
+  realized = f.realized;
   sorted = λ k h r. elim (below_last k (length ids) (omega (arith, h, length-append ids (id ∷ [])))) [
     | inl p ↦ subst (λ j. HasSort t.graph j (sort_at old k)) (sym (get_or_append_left ids (id ∷ []) 0 k p)) (f.sorted k p r)
     | inr e ↦ absurd (none (subst (Reaches old root) e r))
@@ -190,6 +212,10 @@ IsFlattened-pass old root ids t id f none = record {
     | inr e ↦ absurd (none (subst (Reaches old root) e r))
   ];
 }
+
+-- a use keeps its row
+HasUse-kept : (t t' : Taken) (u : Use) → HasUse t u → ((r : FlatRow) → HasRow t.rows.items u.symbol r → KeepsRow t t' u.symbol r) → HasUse t' u
+HasUse-kept t t' u h kept = let k = kept h.row h.has in record { row = h.row; has = k.has; arity = h.arity; sorted = k.sorted ∙ h.sorted }
 
 -- a node that is reached is taken
 pub IsFlattened-take : (old : List Node) → IsGraph old → (root : ℕ) → ReachesNoMemory old root → (ids : List ℕ) (t t' : Taken) (id : ℕ) (node : Node) → IsFlattened old root ids t
@@ -204,6 +230,20 @@ IsFlattened-take old g root none ids t t' id node f r at st =
         | inl q ↦ let k = f.known symbol x q.0 in record { applied = k.applied; reached = k.reached; same = k.same; arity = k.arity; sorted = q.1 ∙ k.sorted }
         | inr q ↦ record { applied = q.use_; reached = record { id = n; node = node; reached = r; there = at; applies = q.among }; same = q.same; arity = q.arity; sorted = q.sorted }
       ];
+      all = λ k h s m there u p. elim (below_last k n (omega (arith, h, length-append ids (id ∷ [])))) [
+        | inl q ↦ HasUse-kept t t' u (f.all k q s m there u p) (st.kept u.symbol)
+        | inr e ↦ st.all u (subst (λ x. Contains (node_uses x) u) (same_Some m node (sym there ∙ ap (slice_get old) e ∙ at)) p)
+      ];
+      realized = λ w.
+          let before = f.realized w in
+          let next = st.further w before.values before.realizes in
+          record {
+            values = next.values;
+            realizes = next.realizes;
+            sorted = λ gives. next.sorted
+                (record { sorted = λ u p. gives.sorted u (record { id = n; node = node; reached = r; there = at; applies = p }) })
+                (before.sorted gives);
+          };
       sorted = λ k h s. elim (below_last k n (omega (arith, h, length-append ids (id ∷ [])))) [
         | inl p ↦ subst (λ j. HasSort t'.graph j (sort_at old k)) (sym (get_or_append_left ids (id ∷ []) 0 k p)) (HasSort-Extends t.graph t'.graph st.extends (id_at ids k) (sort_at old k) (f.sorted k p s))
         | inr e ↦ subst (λ j. HasSort t'.graph (id_at (ids ++ id ∷ []) j) (sort_at old j)) (sym e)
@@ -238,6 +278,29 @@ IsFlattened-rows old root ids t f = record {
         variable = subst (λ s. Contains (uses t.graph) (use_of (Var r.var) 0 s)) k.sorted (f.taken.rows x p r q).applied;
       };
 }
+
+-- each use that the root reaches has a row
+pub IsFlattened-all : (old : List Node) (root : ℕ) (ids : List ℕ) (t : Taken) → IsGraph old → IsFlattened old root ids t → root < length ids → HasAllApplications old root t.graph t.rows.items
+IsFlattened-all old root ids t g f inside = record {
+  each = λ u r.
+      let below = Reaches-below old g root r.id r.reached in
+      let h = f.all r.id (omega (arith, below, inside)) r.reached r.node r.there u r.applies in
+      record {
+        holder = h.has.holder;
+        listed = h.has.listed;
+        same = h.has.same;
+        row = h.row;
+        has = h.has.has;
+        arity = h.arity;
+        variable = subst (λ s. Contains (uses t.graph) (use_of (Var h.row.var) 0 s)) h.sorted (f.taken.rows h.has.holder h.has.listed h.row h.has.has).applied;
+      };
+}
+
+-- each world is realized
+pub IsFlattened-realized : (old : List Node) (root : ℕ) (ids : List ℕ) (t : Taken) → IsFlattened old root ids t → (w : World) → IsRealized old root t.graph t.rows.items w
+IsFlattened-realized old root ids t f w =
+    let r = f.realized w in
+    record { values = r.values; realizes = r.realizes; first = Realizes-KeepsFirst w r.values t.graph t.rows.items r.realizes; sorted = r.sorted }
 
 get-named : (ss : List FlatSym) (i : ℕ) (x : FlatSym) → slice_get ss i ≡ Some x → slice_get (map (λ (s : FlatSym). s.sym) ss) i ≡ Some x.sym
 get-named [] i x h = absurd (none-some x h)

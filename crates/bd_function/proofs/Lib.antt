@@ -2,6 +2,9 @@ pub mod Rows
 pub mod Nesting
 pub mod Terms
 pub mod Applying
+pub mod Realizing
 pub mod Stepping
 pub mod Taking
 pub mod Flattening
+pub mod Evaluating
+pub mod Tabling

@@ -34,7 +34,7 @@ number_of : Sym → ℕ
 number_of (Var x) = x
 number_of _ = 0
 
-same-number : (x y : ℕ) → Var x ≡ Var y → x ≡ y
+pub same-number : (x y : ℕ) → Var x ≡ Var y → x ≡ y
 unfolding number_of
 same-number x y e = ap number_of e
 

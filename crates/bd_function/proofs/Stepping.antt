@@ -1,5 +1,5 @@
 -- An application that is put behind the others keeps what holds of those before it.
-use Rattle.std.proofs.Common.{◌≡◌, ℕ, ◌<◌, ◌⊎◌, inl, inr, false, List, [], ◌∷◌, ◌++◌, length, map, slice_get, Some, Contains, get_or, refl, ap, sym, ◌∙◌, subst, arith, length-append}
+use Rattle.std.proofs.Common.{◌≡◌, ℕ, suc, ◌<◌, ◌⊎◌, inl, inr, false, List, [], ◌∷◌, ◌++◌, length, map, slice_get, Some, Contains, get_or, refl, ap, sym, ◌∙◌, subst, arith, length-append}
 use Rattle.std.specs.List.{All}
 use Rattle.std.proofs.lemmas.Option.{get_or_from_slice_get, slice_get_within}
 use Rattle.std.proofs.lemmas.List.{get_or_default}
@@ -19,10 +19,11 @@ use Rattle.bd_terms.proofs.Growth.{All-HasSort-Extends, Extends-trans, HasSort-E
 use Rattle.bd_function.specs.declared.flat.FlatRow.{FlatRow}
 use Rattle.bd_function.specs.declared.flat.FlatSym.{FlatSym}
 use Rattle.bd_function.specs.declared.eliminate.Taken.{Taken}
-use Rattle.bd_function.specs.Flat.{KeepsFirst, arguments, first_value, under}
+use Rattle.bd_function.specs.Flat.{KeepsFirst, Realizes, arguments, first_value, under}
 use Rattle.bd_function.specs.inner.Nested.{AreEarlier, IsEarlier, chosen, id_at}
-use Rattle.bd_function.specs.inner.Taken.{AddsSymbol, AddsVariable, AreAlike, HasRow, IsRow, IsTaken, IsVariableBelow, Steps, as_sort, row_sort, use_of, with_row}
+use Rattle.bd_function.specs.inner.Taken.{AddsSymbol, AddsVariable, AreAlike, Further, HasRow, HasUse, IsRow, IsTaken, IsVariableBelow, Steps, as_sort, row_sort, use_of, with_row}
 use Rattle.bd_function.proofs.Nesting.{words-Extends}
+use Rattle.bd_function.proofs.Realizing.{HaveSorts-more, HaveSorts-none, with_value, with_value-agree, with_value-other, with_value-same, words-agree}
 use Rattle.bd_function.proofs.Applying.{Contains-none, Contains-one, IsRow-later, Later, chosen-first, first_value-front, row_sort-later, rows_of-Extends, uses-Extends, with_row-cases, with_row-later, with_row-named, with_row-there}
 
 pub All-of : {X : Type 0} → (P : X → Type 0) (xs : List X) → ((x : X) → Contains xs x → P x) → All P xs
@@ -130,6 +131,48 @@ first_before w v old new e before after h later keeps = record {
       ∙ k ∙ (λ i. at (w (l.same i)) (args i));
 }
 
+-- a row is still there when one is put behind the others
+HasRow-later : (t t1 t2 : Taken) (own : ℕ) (s : Sort) (k : Sym) (place : ℕ) (new : FlatRow) → AddsVariable t t1 own s → AddsSymbol t1 t2 k place
+    → (symbol : Sym) (r : FlatRow) → HasRow t.rows.items symbol r → HasRow (with_row t2.rows.items place new) symbol r
+HasRow-later t t1 t2 own s k place new v a symbol r h =
+    let l = with_row-later t2.rows.items place new h.holder (Contains-old t t1 t2 own s k place v a h.holder h.listed) in
+    record { holder = l.later; listed = l.listed; same = l.same ∙ h.same; has = subst (λ rs. Contains rs r) (sym l.grows) (Contains-append_left h.holder.rows l.more r h.has) }
+
+-- a further variable has the value of the application
+Applies-Further : (t t1 t2 t4 : Taken) (own id place : ℕ) (args : List ℕ) (s : Sort) (k : Sym) → IsTaken t → All (λ a. HasSort t.graph a sort.Word) args → AddsVariable t t1 own s
+    → (a : AddsSymbol t1 t2 k place) → Applies t2 t4 own id place (length t.variables.items) args a.holder → (w : World) (v : ℕ → Scalar) → Realizes w v t.graph t.rows.items
+    → Further t t4 (use_of k (length args) s ∷ []) w v
+Applies-Further t t1 t2 t4 own id place args s k taken inside v a ap4 w b h =
+    let n : ℕ = length t.variables.items in
+    let new : FlatRow = record { args = args; var = n } in
+    let e04 = Extends-trans t.graph t2.graph t4.graph (extends_two t t1 t2 own s k place v a) ap4.extends in
+    let x : Scalar = at (w k) (words (under b) t.graph args) in
+    let more : ℕ → Scalar = with_value b n x in
+    let agree = with_value-agree b n x (uses t.graph) taken.applied in
+    let own_words : arguments more t4.graph new ≡ words (under b) t.graph args =
+    words-Extends (under more) t.graph t4.graph e04 args inside ∙ words-agree (under more) (under b) t.graph args agree in
+    record {
+      values = more;
+      realizes = record {
+        applied = λ y p r q. elim (HasRow-cases t t1 t2 own s k place new v a y.sym r (record { holder = y; listed = subst (λ l. Contains l y) ap4.rows p; same = refl; has = q })) [
+          | inl old ↦
+              let row = taken.rows old.holder old.listed r old.has in
+              let args_old : arguments more t4.graph r ≡ arguments b t.graph r = words-Extends (under more) t.graph t4.graph e04 r.args row.words ∙ words-agree (under more) (under b) t.graph r.args agree in
+              with_value-other b n x r.var row.known ∙ h.applied old.holder old.listed r old.has ∙ (λ i. at (w (old.same i)) (sym args_old i))
+          | inr here ↦
+              ap (λ (z : FlatRow). more z.var) here.1 ∙ with_value-same b n x
+              ∙ (λ i. at (w (sym here.0 i)) (sym own_words i)) ∙ ap (λ (z : FlatRow). at (w y.sym) (arguments more t4.graph z)) (sym here.1)
+        ];
+      };
+      sorted = λ gives sorts. HaveSorts-none more t1.graph t4.graph
+          (record { within = λ u p. subst (λ l. Contains (uses l ++ []) u) a.graph (ap4.adds.within u p) })
+          (HaveSorts-more b t.graph t1.graph n s x taken.applied v.term.adds (gives.sorted (use_of k (length args) s) (0, omega arith, refl) (words (under b) t.graph args) (length-words (under b) t.graph args)) sorts);
+    }
+  where
+    length-words : (u : World) (nodes : List Node) (xs : List ℕ) → length (words u nodes xs) ≡ length xs
+    length-words u nodes [] = refl
+    length-words u nodes (y ∷ ys) = ap suc (length-words u nodes ys)
+
 -- an earlier row has an earlier variable
 different_more : (t : Taken) → IsTaken t → (k : Sym) (new : FlatRow) → new.var ≡ length t.variables.items → (x y : Sym) (q r : FlatRow) → q.var ≡ r.var
     → HasRow t.rows.items x q ⊎ ((x ≡ k) × (q ≡ new)) → HasRow t.rows.items y r ⊎ ((y ≡ k) × (r ≡ new)) → (x ≡ y) × (q ≡ r)
@@ -191,6 +234,24 @@ Applies-Steps t t1 t2 t4 own id place args s k taken alike inside v a ap4 =
           });
         }
       ];
+      kept = λ symbol r h. record {
+        has = subst (λ l. HasRow l symbol r) (sym ap4.rows) (HasRow-later t t1 t2 own s k place new v a symbol r h);
+        sorted = ap (λ l. row_sort t4.graph l r) vars ∙ row_sort-later t.graph t4.graph e04 t.variables.items own r (taken.rows h.holder h.listed r h.has);
+      };
+      all = λ u p.
+          let is : use_of k (length args) s ≡ u = Contains-one _ u p in
+          subst (HasUse t4) is (record {
+            row = new;
+            has = record {
+              holder = record { sym = a.holder.sym; rows = a.holder.rows ++ new ∷ [] };
+              listed = subst (λ l. Contains l (record { sym = a.holder.sym; rows = a.holder.rows ++ new ∷ [] })) (sym ap4.rows) (with_row-there t2.rows.items place a.holder new a.there);
+              same = a.same;
+              has = Contains-append_right a.holder.rows (new ∷ []) new (0, omega arith, refl);
+            };
+            arity = refl;
+            sorted = ap (λ l. row_sort t4.graph l new) vars ∙ kind;
+          });
+      further = Applies-Further t t1 t2 t4 own id place args s k taken inside v a ap4;
       first = λ w b keeps. first_before w b t.graph t4.graph e04 t.rows.items (with_row t2.rows.items place new)
           (λ x p r q. (taken.rows x p r q).words)
           (λ x p. with_row-later t2.rows.items place new x (Contains-old t t1 t2 own s k place v a x p))

@@ -16,10 +16,12 @@ use Rattle.bd_terms.proofs.Growth.{All-HasSort-Extends, denoted-Extends, inside-
 use Rattle.bd_function.specs.declared.flat.FlatRow.{FlatRow}
 use Rattle.bd_function.specs.declared.flat.FlatSym.{FlatSym}
 use Rattle.bd_function.specs.declared.eliminate.Taken.{Taken}
-use Rattle.bd_function.specs.Flat.{under}
+use Rattle.bd_function.specs.Flat.{Realizes, under}
 use Rattle.bd_function.specs.inner.Nested.{id_at, renamed}
-use Rattle.bd_function.specs.inner.Taken.{AreAlike, HasRow, IsPlain, IsRow, IsTaken, IsVariableBelow, Steps, as_sort, row_sort, use_of}
+use Rattle.bd_function.specs.inner.Taken.{AreAlike, Further, HasRow, IsPlain, IsRow, IsTaken, IsVariableBelow, Steps, as_sort, row_sort, use_of}
 use Rattle.bd_function.proofs.Applying.{Contains-none, uses-Extends}
+use Rattle.bd_function.proofs.Nesting.{words-Extends}
+use Rattle.bd_function.proofs.Realizing.{HaveSorts-none}
 use Rattle.bd_function.proofs.Stepping.{first_before}
 use Rattle.std.proofs.lemmas.List.{append-nil}
 
@@ -69,11 +71,24 @@ IsRow-Extends old new e variables r h =
       value = λ v. denoted-Extends (under v) old new e (id_at variables r.var) h.inside ∙ h.value v ∙ ap (λ s. as_sort s (v r.var)) (sym kind);
     }
 
+-- the same values serve where no row is added
+Further-none : (t t' : Taken) (us : List Use) → IsTaken t → Extends t.graph t'.graph → AddsUses t.graph t'.graph [] → t'.rows.items ≡ t.rows.items
+    → (w : World) (v : ℕ → Scalar) → Realizes w v t.graph t.rows.items → Further t t' us w v
+Further-none t t' us taken e u rows w v h = record {
+  values = v;
+  realizes = record {
+    applied = λ x p r q.
+        let there = subst (λ l. Contains l x) rows p in
+        h.applied x there r q ∙ ap (at (w x.sym)) (sym (words-Extends (under v) t.graph t'.graph e r.args (taken.rows x there r q).words));
+  };
+  sorted = λ gives sorts. HaveSorts-none v t.graph t'.graph u sorts;
+}
+
 -- a term that applies no symbol is a step
-pub Steps-none : (t t' : Taken) (us : List Use) (id : ℕ) (s : Sort) (value : World → (ℕ → Scalar) → Denoted) → IsTaken t
+pub Steps-none : (t t' : Taken) (us : List Use) (id : ℕ) (s : Sort) (value : World → (ℕ → Scalar) → Denoted) → IsTaken t → us ≡ []
     → Extends t.graph t'.graph → AddsUses t.graph t'.graph [] → HasSort t'.graph id s → ((w : World) (v : ℕ → Scalar) → denoted (under v) t'.graph id ≡ value w v)
     → t'.variables.items ≡ t.variables.items → t'.symbols.keys ≡ t.symbols.keys → t'.rows.items ≡ t.rows.items → Steps t t' us id s value
-Steps-none t t' us id s value taken e u has means vars keys rows = record {
+Steps-none t t' us id s value taken none e u has means vars keys rows = record {
   extends = e;
   taken = record {
     rows = λ x p r q. subst (λ l. IsRow t'.graph l r) (sym vars) (IsRow-Extends t.graph t'.graph e t.variables.items r (taken.rows x (subst (λ l. Contains l x) rows p) r q));
@@ -84,6 +99,12 @@ Steps-none t t' us id s value taken e u has means vars keys rows = record {
   };
   rows = λ symbol r h. let old = subst (λ l. HasRow l symbol r) rows h in
       record { from = inl (old, ap (λ l. row_sort t'.graph l r) vars ∙ row_sort-Extends t.graph t'.graph e t.variables.items r (taken.rows old.holder old.listed r old.has)) };
+  kept = λ symbol r h. record {
+    has = subst (λ l. HasRow l symbol r) (sym rows) h;
+    sorted = ap (λ l. row_sort t'.graph l r) vars ∙ row_sort-Extends t.graph t'.graph e t.variables.items r (taken.rows h.holder h.listed r h.has);
+  };
+  all = λ x p. absurd (Contains-none x (subst (λ l. Contains l x) none p));
+  further = Further-none t t' us taken e u rows;
   first = λ w v keeps. first_before w v t.graph t'.graph e t.rows.items t'.rows.items (λ x p r q. (taken.rows x p r q).words)
       (λ x p. record { later = x; listed = subst (λ l. Contains l x) (sym rows) p; same = refl; more = []; grows = sym (append-nil x.rows) }) keeps;
   sorted = has;
@@ -125,5 +146,5 @@ pub Steps-copy : (t t' : Taken) (ids : List ℕ) (node : Node) (r : Result ℕ A
     → IfOk r (λ id. StepsNode t t' ids node id)
 Steps-copy t t' ids node (Err x) taken plain none d s e u vars keys rows = tt
 Steps-copy t t' ids node (Ok id) taken plain none d s e u vars keys rows =
-    Steps-none t t' (node_uses node) id (node_sort (sorts t.graph) (renamed ids node)) (λ w v. node_value w (values (under v) t.graph) (renamed ids node)) taken e u s
+    Steps-none t t' (node_uses node) id (node_sort (sorts t.graph) (renamed ids node)) (λ w v. node_value w (values (under v) t.graph) (renamed ids node)) taken none e u s
     (λ w v. d.is (under v) ∙ node_value-none (under v) w (values (under v) t.graph) ids node plain none) vars keys rows

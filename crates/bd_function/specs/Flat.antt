@@ -9,6 +9,8 @@ use Rattle.bd_model.specs.declared.table.Scalar.TheVariants as scalar
 use Rattle.bd_model.specs.declared.table.Row.{Row}
 use Rattle.bd_model.specs.Table.{row_value, at}
 use Rattle.bd_model.specs.Value.{no_table}
+use Rattle.bd_model.specs.Fits.{scalar_sort}
+use Rattle.bd_model.specs.declared.design.Sort.{Sort}
 use Rattle.bd_terms.specs.declared.node.Sym.{Sym}
 use Rattle.bd_terms.specs.declared.node.Sym.TheVariants.{Var}
 use Rattle.bd_terms.specs.declared.node.Node.{Node}
@@ -65,6 +67,39 @@ pub record IsApplication (old : List Node) (old_root : ℕ) (nodes : List Node) 
 -- each row is that of a symbol that the old root reaches
 pub record AreApplications (old : List Node) (old_root : ℕ) (nodes : List Node) (syms : List FlatSym) : Type 0 where
   pub each : (s : FlatSym) → Contains syms s → (r : FlatRow) → Contains s.rows r → IsApplication old old_root nodes s.sym r
+
+-- the application of a use has a row: one of its symbol, with its arity, whose variable has its sort
+pub record HasApplication (nodes : List Node) (syms : List FlatSym) (u : Use) : Type 0 where
+  pub holder : FlatSym
+  pub listed : Contains syms holder
+  pub same : holder.sym ≡ u.symbol
+  pub row : FlatRow
+  pub has : Contains holder.rows row
+  pub arity : length row.args ≡ u.arity
+  pub variable : Contains (uses nodes) (record { symbol = Var row.var; arity = 0; sort = u.sort })
+
+-- each use that the old root reaches has a row, so symbols without an entry aren't reached
+pub record HasAllApplications (old : List Node) (old_root : ℕ) (nodes : List Node) (syms : List FlatSym) : Type 0 where
+  pub each : (u : Use) → ReachesUse old old_root u → HasApplication nodes syms u
+
+-- the world gives each symbol that the root reaches values of its sort
+pub record GivesSorts (nodes : List Node) (root : ℕ) (w : World) : Type 0 where
+  pub sorted : (u : Use) → ReachesUse nodes root u → (args : List ℕ) → length args ≡ u.arity → scalar_sort (at (w u.symbol) args) ≡ u.sort
+
+-- the graph's variables have values of their sorts
+pub record HaveSorts (v : ℕ → Scalar) (nodes : List Node) : Type 0 where
+  pub sorted : (x : ℕ) (s : Sort) → Contains (uses nodes) (record { symbol = Var x; arity = 0; sort = s }) → scalar_sort (v x) ≡ s
+
+-- each row's variable has the value of its application in the world
+pub record Realizes (w : World) (v : ℕ → Scalar) (nodes : List Node) (syms : List FlatSym) : Type 0 where
+  pub applied : (s : FlatSym) → Contains syms s → (r : FlatRow) → Contains s.rows r → v r.var ≡ at (w s.sym) (arguments v nodes r)
+
+-- values of the variables that are those of the applications in the world, so they keep the first ones
+pub record IsRealized (old : List Node) (old_root : ℕ) (nodes : List Node) (syms : List FlatSym) (w : World) : Type 0 where
+  pub values : ℕ → Scalar
+  pub realizes : Realizes w values nodes syms
+  pub first : KeepsFirst w values nodes syms
+  pub sorted : GivesSorts old old_root w → HaveSorts values nodes
 
 -- the graph applies variables alone, no symbol has two entries, no variable two rows, and the arguments of rows are words of it
 pub record IsFlat (nodes : List Node) (root : ℕ) (syms : List FlatSym) : Type 0 where

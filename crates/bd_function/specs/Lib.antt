@@ -1,3 +1,4 @@
 pub mod Flat
 pub mod Values
+pub mod Tables
 pub mod inner

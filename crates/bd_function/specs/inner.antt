@@ -1,2 +1,3 @@
 pub mod Nested
 pub mod Taken
+pub mod Scalars

@@ -7,8 +7,8 @@ ghost use Rattle.bd_model.specs.Table.{at};
 ghost use Rattle.bd_model.specs.declared.design.Sort.TheVariants as kind;
 ghost use Rattle.bd_terms.specs.declared.node.Sym.TheVariants as symbol;
 ghost use Rattle.bd_terms.specs.Graph.{AddsUses, Extends, FitsSorts, HasSort, KeepsSymbol, children, node_sort, node_uses, sorts};
-ghost use Rattle.bd_terms.specs.Denotation.{Denotes, node_value, values, words};
-ghost use Rattle.bd_function.specs.Flat.{AreApplications, Flattens, ReachesNoMemory, under};
+ghost use Rattle.bd_terms.specs.Denotation.{Denotes, World, node_value, values, words};
+ghost use Rattle.bd_function.specs.Flat.{AreApplications, Flattens, HasAllApplications, IsRealized, ReachesNoMemory, under};
 ghost use Rattle.bd_function.specs.inner.Nested.{id_at, renamed};
 ghost use Rattle.bd_function.specs.inner.Taken.{AddsSymbol, AddsTerm, AddsVariable, AreAlike, IsPlain, IsTaken, Steps, as_sort, is_scalar, use_of, with_row};
 
@@ -36,6 +36,9 @@ pub fn flatten(alloc: Global, graph: &Graph, root: Id) -> Result<Flat, AllocErro
     requires memory { ReachesNoMemory graph.now root }
     ensures flattens { IfOk result (λ f. Flattens graph.now root f.graph f.root f.syms) }
     ensures rows { IfOk result (λ f. AreApplications graph.now root f.graph f.syms) }
+    ensures all_rows { IfOk result (λ f. HasAllApplications graph.now root f.graph f.syms) }
+    ensures realized { IfOk result (λ f. (w : World) →
+        IsRealized graph.now root f.graph f.syms w) }
 {
     let marks = reached(graph, root)?;
     let mut ids = Vec::with_capacity(alloc, graph.len())?;
@@ -196,7 +199,15 @@ fn apply(
     let place = place(alloc, taken, sym)?;
     let rows = taken.rows[place].rows.as_slice();
     let id = nested(&mut taken.graph, &taken.variables, rows, args, own)?;
-    let args = Ids::from_slice(alloc, args)?;
-    push(&mut taken.rows, place, FlatRow { args, var })?;
+    let row = row_of(alloc, args, var)?;
+    push(&mut taken.rows, place, row)?;
     Ok(id)
+}
+
+// The row of an application.
+fn row_of(alloc: Global, args: &[Id], var: u64) -> Result<FlatRow, AllocError>
+    ensures { IfOk result (λ row. row ≡ record { args = args.now; var = var }) }
+{
+    let args = Ids::from_slice(alloc, args)?;
+    Ok(FlatRow { args, var })
 }

@@ -1,16 +1,190 @@
-//! Equations of applications, flattened by hand.
+//! Formulas flattened by hand, with values of their variables and the tables that these make.
 ghost use Rattle.std.specs.Prelude.{◌<◌, IsTrue, length};
 ghost use Rattle.std.specs.List.{All};
 ghost use Rattle.bd_model.specs.declared.design.Sort.TheVariants as kind;
 ghost use Rattle.bd_terms.specs.Graph.{HasSort};
 ghost use Rattle.bd_function.specs.Flat.{ReachesNoMemory};
 
-use crate::flatten;
-use bd_model::Sort;
+use crate::{Flat, Marked, SymTable, Values, flatten, tables};
+use bd_model::{Scalar, Sort, Table};
 use bd_terms::{Graph, Id, Sym};
 use std::alloc::AllocError;
 use std::process::Abort;
 use std::test::Fail;
+
+/// A term over earlier ones, by their numbers.
+#[derive(Clone, Copy)]
+enum Term {
+    True,
+    Not(usize),
+    And(usize, usize),
+    Or(usize, usize),
+    Ite(usize, usize, usize),
+    Eq(usize, usize),
+    App(Sym, &'static [usize]),
+    Pred(Sym, &'static [usize]),
+}
+
+/// The table of a symbol, with its value at some arguments.
+#[derive(Clone, Copy)]
+struct Expected {
+    sym: Sym,
+    default: Scalar,
+    rows: &'static [(&'static [u64], Scalar)],
+    at: &'static [u64],
+    value: Scalar,
+}
+
+/// A formula, which is its last term, values of its variables, and their tables.
+#[derive(Clone, Copy)]
+struct Example {
+    terms: &'static [Term],
+    values: &'static [(u64, Scalar)],
+    tables: &'static [Expected],
+}
+
+// f(x) = f(y) with x = y = 1: the first application counts.
+static EQUAL_ARGUMENTS: Example = Example {
+    terms: &[
+        Term::App(Sym::Input(0), &[]),
+        Term::App(Sym::Input(1), &[]),
+        Term::App(Sym::Function(0), &[0]),
+        Term::App(Sym::Function(0), &[1]),
+        Term::Eq(2, 3),
+    ],
+    values: &[
+        (0, Scalar::Word(1)),
+        (1, Scalar::Word(1)),
+        (2, Scalar::Word(7)),
+        (3, Scalar::Word(9)),
+    ],
+    tables: &[
+        Expected {
+            sym: Sym::Input(0),
+            default: Scalar::Word(1),
+            rows: &[(&[], Scalar::Word(1))],
+            at: &[],
+            value: Scalar::Word(1),
+        },
+        Expected {
+            sym: Sym::Input(1),
+            default: Scalar::Word(1),
+            rows: &[(&[], Scalar::Word(1))],
+            at: &[],
+            value: Scalar::Word(1),
+        },
+        Expected {
+            sym: Sym::Function(0),
+            default: Scalar::Word(0),
+            rows: &[(&[1], Scalar::Word(7)), (&[1], Scalar::Word(9))],
+            at: &[1],
+            value: Scalar::Word(7),
+        },
+    ],
+};
+
+// p(g(x, f(x))): a predicate of an application of two arguments, one of which is an application.
+static NESTED: Example = Example {
+    terms: &[
+        Term::App(Sym::Entry(0), &[]),
+        Term::App(Sym::Function(0), &[0]),
+        Term::App(Sym::Function(1), &[0, 1]),
+        Term::Pred(Sym::Function(2), &[2]),
+    ],
+    values: &[
+        (0, Scalar::Word(5)),
+        (1, Scalar::Word(6)),
+        (2, Scalar::Word(8)),
+        (3, Scalar::Bool(true)),
+    ],
+    tables: &[
+        Expected {
+            sym: Sym::Entry(0),
+            default: Scalar::Word(5),
+            rows: &[(&[], Scalar::Word(5))],
+            at: &[],
+            value: Scalar::Word(5),
+        },
+        Expected {
+            sym: Sym::Function(0),
+            default: Scalar::Word(0),
+            rows: &[(&[5], Scalar::Word(6))],
+            at: &[6],
+            value: Scalar::Word(0),
+        },
+        Expected {
+            sym: Sym::Function(1),
+            default: Scalar::Word(0),
+            rows: &[(&[5, 6], Scalar::Word(8))],
+            at: &[5, 6],
+            value: Scalar::Word(8),
+        },
+        Expected {
+            sym: Sym::Function(2),
+            default: Scalar::Bool(false),
+            rows: &[(&[8], Scalar::Bool(true))],
+            at: &[8],
+            value: Scalar::Bool(true),
+        },
+    ],
+};
+
+// A truth value without arguments.
+static TRUTH: Example = Example {
+    terms: &[Term::Pred(Sym::Input(0), &[])],
+    values: &[(0, Scalar::Bool(true))],
+    tables: &[Expected {
+        sym: Sym::Input(0),
+        default: Scalar::Bool(true),
+        rows: &[(&[], Scalar::Bool(true))],
+        at: &[],
+        value: Scalar::Bool(true),
+    }],
+};
+
+// ((ite(not p, x, y) = x) or p) and not p.
+static CONNECTIVES: Example = Example {
+    terms: &[
+        Term::App(Sym::Input(0), &[]),
+        Term::App(Sym::Input(1), &[]),
+        Term::Pred(Sym::Input(2), &[]),
+        Term::Not(2),
+        Term::Ite(3, 0, 1),
+        Term::Eq(4, 0),
+        Term::Or(5, 2),
+        Term::And(6, 3),
+    ],
+    values: &[(0, Scalar::Word(1)), (1, Scalar::Word(2))],
+    tables: &[
+        Expected {
+            sym: Sym::Input(0),
+            default: Scalar::Word(1),
+            rows: &[(&[], Scalar::Word(1))],
+            at: &[],
+            value: Scalar::Word(1),
+        },
+        Expected {
+            sym: Sym::Input(1),
+            default: Scalar::Word(2),
+            rows: &[(&[], Scalar::Word(2))],
+            at: &[],
+            value: Scalar::Word(2),
+        },
+        Expected {
+            sym: Sym::Input(2),
+            default: Scalar::Bool(false),
+            rows: &[(&[], Scalar::Bool(false))],
+            at: &[],
+            value: Scalar::Bool(false),
+        },
+    ],
+};
+
+static ALWAYS: Example = Example {
+    terms: &[Term::True],
+    values: &[],
+    tables: &[],
+};
 
 fn has(graph: &Graph, id: Id, sort: Sort) -> bool
     ensures { IsTrue result → HasSort graph.now id sort }
@@ -36,37 +210,184 @@ fn has_no_memory(graph: &Graph, root: Id) -> bool
     true
 }
 
-fn apply(rt: &impl Abort, graph: &mut Graph, sym: Sym, args: &[Id]) -> Result<Id, AllocError> {
-    assert!(rt; are_words(graph, args));
-    assert!(rt; graph.keeps_symbol(sym, args.len(), Sort::Word));
-    graph.mk_app(sym, args)
+fn term_at(ids: &[Id], number: usize) -> Id {
+    ids.get(number).copied().unwrap_or_default()
 }
 
-// f(x) = f(y).
-fn equation(rt: &impl Abort, graph: &mut Graph) -> Result<Id, AllocError> {
-    let x = apply(rt, graph, Sym::Input(0), &[])?;
-    let y = apply(rt, graph, Sym::Input(1), &[])?;
-    let left = apply(rt, graph, Sym::Function(0), &[x])?;
-    let right = apply(rt, graph, Sym::Function(0), &[y])?;
-    assert!(rt; has(graph, left, Sort::Word) && has(graph, right, Sort::Word));
-    graph.mk_eq(left, right)
+fn arguments(rt: &impl AllocGlobal, ids: &[Id], numbers: &[usize]) -> Result<Vec<Id>, AllocError> {
+    let mut args = Vec::new(rt.alloc());
+    for number in numbers {
+        args.push(term_at(ids, *number))?;
+    }
+    Ok(args)
 }
 
-// The symbols are x, y and f, and f has the rows of variables 2 and 3.
-fn check(rt: &(impl Abort + AllocGlobal), graph: &mut Graph) -> Result<(), AllocError> {
-    let root = equation(rt, graph)?;
+fn build(
+    rt: &(impl Abort + AllocGlobal),
+    graph: &mut Graph,
+    ids: &[Id],
+    term: Term,
+) -> Result<Id, AllocError> {
+    match term {
+        Term::App(sym, numbers) => {
+            let args = arguments(rt, ids, numbers)?;
+            assert!(rt; are_words(graph, &args));
+            assert!(rt; graph.keeps_symbol(sym, args.len(), Sort::Word));
+            graph.mk_app(sym, &args)
+        }
+        Term::Pred(sym, numbers) => {
+            let args = arguments(rt, ids, numbers)?;
+            assert!(rt; are_words(graph, &args));
+            assert!(rt; graph.keeps_symbol(sym, args.len(), Sort::Bool));
+            graph.mk_pred(sym, &args)
+        }
+        Term::Ite(control, yes, no) => {
+            let control = term_at(ids, control);
+            build_ite(rt, graph, control, term_at(ids, yes), term_at(ids, no))
+        }
+        _ => connective(rt, graph, ids, term),
+    }
+}
+
+// An ite of words.
+fn build_ite(
+    rt: &impl Abort,
+    graph: &mut Graph,
+    control: Id,
+    yes: Id,
+    no: Id,
+) -> Result<Id, AllocError> {
+    assert!(rt; has(graph, control, Sort::Bool));
+    assert!(rt; has(graph, yes, Sort::Word) && has(graph, no, Sort::Word));
+    graph.mk_ite(control, yes, no)
+}
+
+fn connective(
+    rt: &impl Abort,
+    graph: &mut Graph,
+    ids: &[Id],
+    term: Term,
+) -> Result<Id, AllocError> {
+    match term {
+        Term::Not(a) => {
+            let a = term_at(ids, a);
+            assert!(rt; has(graph, a, Sort::Bool));
+            graph.mk_not(a)
+        }
+        Term::And(a, b) => {
+            let (a, b) = (term_at(ids, a), term_at(ids, b));
+            assert!(rt; has(graph, a, Sort::Bool) && has(graph, b, Sort::Bool));
+            graph.mk_and(a, b)
+        }
+        Term::Or(a, b) => {
+            let (a, b) = (term_at(ids, a), term_at(ids, b));
+            assert!(rt; has(graph, a, Sort::Bool) && has(graph, b, Sort::Bool));
+            graph.mk_or(a, b)
+        }
+        Term::Eq(a, b) => {
+            let (a, b) = (term_at(ids, a), term_at(ids, b));
+            assert!(rt; has(graph, a, Sort::Word) && has(graph, b, Sort::Word));
+            graph.mk_eq(a, b)
+        }
+        _ => graph.mk_true(),
+    }
+}
+
+// The last term.
+fn build_all(
+    rt: &(impl Abort + AllocGlobal),
+    graph: &mut Graph,
+    terms: &[Term],
+) -> Result<Id, AllocError> {
+    let mut ids = Vec::new(rt.alloc());
+    let mut last = Id::default();
+    for term in terms {
+        last = build(rt, graph, &ids, *term)?;
+        ids.push(last)?;
+    }
+    Ok(last)
+}
+
+fn is_table(table: &Table, expected: &Expected) -> bool {
+    table.default == expected.default
+        && table.at(expected.at) == expected.value
+        && table.rows.len() == expected.rows.len()
+        && table.rows.as_slice().iter().zip(expected.rows).all(|(row, (args, value))| row
+            .args
+            .as_slice()
+            == *args
+            && row.value == *value)
+}
+
+fn expect(rt: &impl Abort, tables: &[SymTable], expected: &[Expected]) {
+    assert_eq!(rt; tables.len(), expected.len());
+    for (table, expected) in tables.iter().zip(expected) {
+        assert!(rt; table.sym == expected.sym && is_table(&table.table, expected));
+    }
+}
+
+fn values_of(rt: &impl AllocGlobal, values: &[(u64, Scalar)]) -> Result<Values, AllocError> {
+    let mut map = Values::new(rt.alloc());
+    for (var, value) in values {
+        map.set(*var, *value)?;
+    }
+    Ok(map)
+}
+
+fn check_tables(
+    rt: &(impl Abort + AllocGlobal),
+    flat: &Flat,
+    values: &Values,
+    expected: &[Expected],
+) -> Result<(), AllocError> {
+    let tables = tables(rt.alloc(), flat, values)?;
+    expect(rt, tables.as_slice(), expected);
+    Ok(())
+}
+
+fn check_flat(
+    rt: &(impl Abort + AllocGlobal),
+    flat: &Flat,
+    example: &Example,
+) -> Result<(), AllocError> {
+    let values = values_of(rt, example.values)?;
+    check_tables(rt, flat, &values, example.tables)
+}
+
+fn check_graph(
+    rt: &(impl Abort + AllocGlobal),
+    graph: &mut Graph,
+    example: &Example,
+) -> Result<(), AllocError> {
+    let root = build_all(rt, graph, example.terms)?;
     assert!(rt; has(graph, root, Sort::Bool) && has_no_memory(graph, root));
     let flat = flatten(rt.alloc(), graph, root)?;
-    let syms = flat.syms.as_slice();
-    assert_eq!(rt; syms.len(), 3);
-    let rows = syms[2].rows.as_slice();
-    assert!(rt; syms[2].sym == Sym::Function(0) && rows.len() == 2);
-    assert!(rt; rows[0].var == 2 && rows[1].var == 3);
+    check_flat(rt, &flat, example)
+}
+
+fn check(rt: &(impl Abort + AllocGlobal), example: &Example) -> Result<(), AllocError> {
+    let mut graph = Graph::new(rt.alloc());
+    check_graph(rt, &mut graph, example)
+}
+
+#[test]
+fn tables_show_the_applications(rt: HostRuntime) -> Result<(), Fail> {
+    check(&rt, &EQUAL_ARGUMENTS)?;
+    check(&rt, &NESTED)?;
+    check(&rt, &TRUTH)?;
+    check(&rt, &CONNECTIVES)?;
+    check(&rt, &ALWAYS)?;
     Ok(())
 }
 
 #[test]
-fn the_applications_of_an_equation_have_rows(rt: HostRuntime) -> Result<(), Fail> {
-    let mut graph = Graph::new(rt.alloc());
-    Ok(check(&rt, &mut graph)?)
+fn values_and_sets_hold_what_was_put_in(rt: HostRuntime) -> Result<(), Fail> {
+    let mut values = Values::new(rt.alloc());
+    values.set(3, Scalar::Word(7))?;
+    values.set(3, Scalar::Word(8))?;
+    assert!(&rt; values.value(3) == Scalar::Word(8) && values.value(4) == Scalar::Bool(false));
+    let mut marked = Marked::new(rt.alloc());
+    marked.insert(3)?;
+    assert!(&rt; marked.has(3) && !marked.has(4));
+    Ok(())
 }

@@ -6,6 +6,7 @@ use Rattle.bd_model.specs.declared.design.Sort.TheVariants as sort
 use Rattle.bd_model.specs.declared.table.Scalar.{Scalar}
 use Rattle.bd_model.specs.Table.{at}
 use Rattle.bd_model.specs.Value.{scalar_truth, scalar_word}
+use Rattle.bd_model.specs.Fits.{scalar_sort}
 use Rattle.bd_terms.specs.declared.node.Sym.{Sym}
 use Rattle.bd_terms.specs.declared.node.Sym.TheVariants.{Var}
 use Rattle.bd_terms.specs.declared.node.Node.{Node}
@@ -15,7 +16,7 @@ use Rattle.bd_terms.specs.Denotation.{World, Denoted, Denotes, Truth, Word, deno
 use Rattle.bd_function.specs.declared.flat.FlatRow.{FlatRow}
 use Rattle.bd_function.specs.declared.flat.FlatSym.{FlatSym}
 use Rattle.bd_function.specs.declared.eliminate.Taken.{Taken}
-use Rattle.bd_function.specs.Flat.{KeepsFirst, under}
+use Rattle.bd_function.specs.Flat.{HaveSorts, KeepsFirst, Realizes, under}
 use Rattle.bd_function.specs.inner.Nested.{id_at}
 
 -- the node is of no memory
@@ -90,11 +91,36 @@ pub record IsNewRow (t : Taken) (us : List Use) (symbol : Sym) (r : FlatRow) : T
 pub record StepsRow (t t' : Taken) (us : List Use) (symbol : Sym) (r : FlatRow) : Type 0 where
   pub from : (HasRow t.rows.items symbol r × (row_sort t'.graph t'.variables.items r ≡ row_sort t.graph t.variables.items r)) ⊎ IsNewRow t' us symbol r
 
+-- the use has a row
+pub record HasUse (t : Taken) (u : Use) : Type 0 where
+  pub row : FlatRow
+  pub has : HasRow t.rows.items u.symbol row
+  pub arity : length row.args ≡ u.arity
+  pub sorted : row_sort t.graph t.variables.items row ≡ u.sort
+
+-- the row is still there, with its sort
+pub record KeepsRow (t t' : Taken) (symbol : Sym) (r : FlatRow) : Type 0 where
+  pub has : HasRow t'.rows.items symbol r
+  pub sorted : row_sort t'.graph t'.variables.items r ≡ row_sort t.graph t.variables.items r
+
+-- the world gives these uses values of their sorts
+pub record GivesUses (w : World) (us : List Use) : Type 0 where
+  pub sorted : (u : Use) → Contains us u → (args : List ℕ) → length args ≡ u.arity → scalar_sort (at (w u.symbol) args) ≡ u.sort
+
+-- values for the new variables too, of their sorts where the world gives these uses their sorts
+pub record Further (t t' : Taken) (us : List Use) (w : World) (v : ℕ → Scalar) : Type 0 where
+  pub values : ℕ → Scalar
+  pub realizes : Realizes w values t'.graph t'.rows.items
+  pub sorted : GivesUses w us → HaveSorts v t.graph → HaveSorts values t'.graph
+
 -- a term more: it has this sort, and denotes this wherever the first rows are kept
 pub record Steps (t t' : Taken) (us : List Use) (id : ℕ) (s : Sort) (value : World → (ℕ → Scalar) → Denoted) : Type 0 where
   pub extends : Extends t.graph t'.graph
   pub taken : IsTaken t'
   pub rows : (symbol : Sym) (r : FlatRow) → HasRow t'.rows.items symbol r → StepsRow t t' us symbol r
+  pub kept : (symbol : Sym) (r : FlatRow) → HasRow t.rows.items symbol r → KeepsRow t t' symbol r
+  pub all : (u : Use) → Contains us u → HasUse t' u
+  pub further : (w : World) (v : ℕ → Scalar) → Realizes w v t.graph t.rows.items → Further t t' us w v
   pub first : (w : World) (v : ℕ → Scalar) → KeepsFirst w v t'.graph t'.rows.items → KeepsFirst w v t.graph t.rows.items
   pub sorted : HasSort t'.graph id s
   pub means : (w : World) (v : ℕ → Scalar) → KeepsFirst w v t'.graph t'.rows.items → denoted (under v) t'.graph id ≡ value w v

@@ -45,5 +45,5 @@ returns c =
           (subst (λ l. Denotes c.nested.new.graph c.in_ok-id.id (λ w. chosen w c.place.new.taken.graph l c.as_slice-rows.result.now c.args.args.now (denoted w c.place.new.taken.graph c.in_ok-own.own))) c.deref.ensures.value c.in_ok-id.ensures.denotes);
       variables = refl;
       symbols = refl;
-      rows = c.in_ok-push.ensures ∙ (λ i. with_row c.place.new.taken.rows.items c.in_ok-place.place (record { args = c.in_ok-args.ensures i; var = size i }));
+      rows = c.in_ok-push.ensures ∙ ap (with_row c.place.new.taken.rows.items c.in_ok-place.place) (c.in_ok-row.ensures ∙ (λ i. record { args = c.args.args.now; var = size i }));
     })

@@ -5,9 +5,9 @@ use Rattle.std.specs.List.{All}
 use Rattle.bd_terms.specs.Graph.{FitsSorts, children}
 use Rattle.bd_terms.specs.Reaches.{Reaches}
 use Rattle.bd_terms.proofs.Graphs.{FitsSorts-get}
-use Rattle.bd_function.specs.Flat.{AreApplications, Flattens, IsFlat}
+use Rattle.bd_function.specs.Flat.{AreApplications, Flattens, HasAllApplications, IsFlat, IsRealized}
 use Rattle.bd_function.specs.inner.Nested.{id_at, renamed}
-use Rattle.bd_function.proofs.Flattening.{IsFlattened, IsFlattened-Flattens, IsFlattened-IsFlat, IsFlattened-pass, IsFlattened-rows, IsFlattened-start, IsFlattened-take, alike_node, children_inside, children_taken, fits_renamed, plain_reached}
+use Rattle.bd_function.proofs.Flattening.{IsFlattened, IsFlattened-Flattens, IsFlattened-IsFlat, IsFlattened-pass, IsFlattened-rows, IsFlattened-all, IsFlattened-realized, IsFlattened-start, IsFlattened-take, alike_node, children_inside, children_taken, fits_renamed, plain_reached}
 use Rattle.bd_function.proofs.Taking.{StepsNode}
 use Rattle.bd_function.proofs.eliminate.flatten.Goals as goal
 use Rattle.bd_function.proofs.eliminate.flatten.Goals.{then-has+in_ok-id, else-has}
@@ -76,6 +76,18 @@ pub returns-clause-rows : goal.returns-clause-rows
 returns-clause-rows c =
     subst (AreApplications c.args.graph.now c.args.root c.loop-index.taken.graph) (sym c.from_vec.ensures)
     (IsFlattened-rows c.args.graph.now c.args.root c.loop-index.ids.items c.loop-index.taken c.loop-index.invariant.1)
+
+pub returns-clause-all_rows : goal.returns-clause-all_rows
+returns-clause-all_rows c =
+    let ids = c.loop-index.ids.items in
+    let inside : c.args.root < length ids = omega (arith, c.requires.sorted.inside, c.loop-index.invariant.0, c.loop-index-test.false, c.len-index-end.ensures.len) in
+    subst (HasAllApplications c.args.graph.now c.args.root c.loop-index.taken.graph) (sym c.from_vec.ensures)
+    (IsFlattened-all c.args.graph.now c.args.root ids c.loop-index.taken c.len-index-end.ensures.graph c.loop-index.invariant.1 inside)
+
+pub returns-clause-realized : goal.returns-clause-realized
+returns-clause-realized c = λ w.
+    subst (λ l. IsRealized c.args.graph.now c.args.root c.loop-index.taken.graph l w) (sym c.from_vec.ensures)
+    (IsFlattened-realized c.args.graph.now c.args.root c.loop-index.ids.items c.loop-index.taken c.loop-index.invariant.1 w)
 
 pub invariant_of-result : goal.invariant_of-result
 invariant_of-result c =

@@ -1,0 +1,204 @@
+-- The tables of a case are those of its kinds, and give the case back.
+use Rattle.std.proofs.Common.{◌≡◌, ◌≢◌, ℕ, zero, suc, ◌+◌, ◌<◌, ◌≤◌, Bool, true, false, List, [], ◌∷◌, ◌++◌, length, map, take, drop, get_or, Option, Some, None, refl, sym, ap, ◌∙◌, subst, arith}
+use Rattle.std.specs.Prelude.{slice_get, ◌||◌, nat_eq}
+use Rattle.std.specs.List.{AllByRecursion, AllZip, list_any, zip}
+use Rattle.std.proofs.lemmas.Bool.{le-leb}
+use Rattle.std.proofs.lemmas.List.{length-map, length-append, append_assoc, get_or_append_left}
+use Rattle.std.proofs.Math.Seq.{take-append_seam, drop-append_seam}
+use Rattle.std.proofs.lemmas.Slice.Zip.{AllZip-long}
+use Rattle.bd_model.specs.DesignView.{DesignView, PortView}
+use Rattle.bd_model.specs.Value.{table_of}
+use Rattle.bd_model.specs.Fits.{scalar_sort, value_sort, result_sort, RowFits, TableFits, KeepsApart, InterpFits, Fits}
+use Rattle.bd_model.specs.declared.table.Scalar.{Scalar}
+use Rattle.bd_model.specs.declared.table.Scalar.TheVariants as scalar
+use Rattle.bd_model.specs.declared.table.Row.{Row}
+use Rattle.bd_model.specs.declared.table.Table.{Table}
+use Rattle.bd_model.specs.declared.table.Slot.{Slot}
+use Rattle.bd_model.specs.declared.table.Memory.{Memory}
+use Rattle.bd_model.specs.declared.table.Value.{Value}
+use Rattle.bd_model.specs.declared.table.Value.TheVariants as value
+use Rattle.bd_model.specs.declared.design.Sort.{Sort}
+use Rattle.bd_model.specs.declared.design.Sort.TheVariants as sort
+use Rattle.bd_model.specs.declared.design.Symbol.{Symbol}
+use Rattle.bd_model.specs.declared.design.Entry.{Entry}
+use Rattle.bd_model.specs.declared.case.Case.{Case}
+use Rattle.bd_case.specs.Kinds.{head_word, head_of, head_takes, is_apart, symbol_head, symbol_kind, symbol_kinds, sort_kind, entry_kind, input_kind, kinds}
+use Rattle.bd_case.specs.Content.{constant_table, row_of, table_of_value, tables_of, word_of, slot_of, value_of_table, case_from}
+use Rattle.bd_case.specs.declared.kind.Version.{Version}
+use Rattle.bd_case.specs.declared.kind.Version.TheVariants.{One, Two}
+use Rattle.bd_case.specs.declared.kind.Head.{Head}
+use Rattle.bd_case.specs.declared.kind.Head.TheVariants as heads
+use Rattle.bd_case.specs.declared.kind.Kind.{Kind}
+use Rattle.bd_case.proofs.Rows.{IsRowOf, IsTableOf}
+
+-- ---- two lists, place by place
+
+pub AllZip-append : {A B : Type 0} (R : A → B → Type 0) (xs : List A) (ys : List B) (us : List A) (vs : List B) → AllZip R xs ys → AllZip R us vs → AllZip R (xs ++ us) (ys ++ vs)
+AllZip-append R [] [] us vs h g = g
+AllZip-append R [] (y ∷ ys) us vs h g = absurd h
+AllZip-append R (x ∷ xs) [] us vs h g = absurd h
+AllZip-append R (x ∷ xs) (y ∷ ys) us vs h g = (h.0, AllZip-append R xs ys us vs h.1 g)
+
+-- ---- what an entry may hold
+
+-- a head of the version, with no more parts than it takes, and a table of the kind
+pub record IsContent (version : Version) (kind : Kind) (t : Table) : Type 0 where
+  pub known : head_of version (head_word kind.head) ≡ Some kind.head
+  pub takes : head_takes kind.head (2 + length t.rows) ≡ true
+  pub table : IsTableOf kind t
+
+symbol_head-known : (version : Version) (apart predicate : Bool) → head_of version (head_word (symbol_head version apart predicate)) ≡ Some (symbol_head version apart predicate)
+unfolding head_of
+symbol_head-known One true true = refl
+symbol_head-known One true false = refl
+symbol_head-known One false true = refl
+symbol_head-known One false false = refl
+symbol_head-known Two true predicate = refl
+symbol_head-known Two false true = refl
+symbol_head-known Two false false = refl
+
+symbol_head-takes : (version : Version) (apart predicate : Bool) (rows : List Row) → (apart ≡ true → rows ≡ []) → head_takes (symbol_head version apart predicate) (2 + length rows) ≡ true
+symbol_head-takes One true true rows h = le-leb 2 (2 + length rows) (omega arith)
+symbol_head-takes One true false rows h = le-leb 2 (2 + length rows) (omega arith)
+symbol_head-takes One false true rows h = le-leb 2 (2 + length rows) (omega arith)
+symbol_head-takes One false false rows h = le-leb 2 (2 + length rows) (omega arith)
+symbol_head-takes Two true predicate rows h = let none = h refl in rw none refl
+symbol_head-takes Two false true rows h = le-leb 2 (2 + length rows) (omega arith)
+symbol_head-takes Two false false rows h = le-leb 2 (2 + length rows) (omega arith)
+
+symbol_rows : (version : Version) (apart : Bool) (y : Symbol) (rows : List Row) → AllByRecursion (RowFits y) rows → AllByRecursion (IsRowOf (symbol_kind version apart y)) rows
+symbol_rows version apart y [] h = tt
+symbol_rows version apart y (r ∷ rs) h = (record { arity = h.0.arity; value = h.0.value }, symbol_rows version apart y rs h.1)
+
+symbol_content : (version : Version) (apart : Bool) (y : Symbol) (t : Table) → TableFits y t → (apart ≡ true → t.rows ≡ []) → IsContent version (symbol_kind version apart y) t
+symbol_content version apart y t fits none = record {
+  known = symbol_head-known version apart y.predicate;
+  takes = symbol_head-takes version apart y.predicate t.rows none;
+  table = record { default = fits.default; rows = symbol_rows version apart y t.rows fits.rows; apart = none };
+}
+
+-- a constant that is kept apart has no rows
+in_group : (P : ℕ → Type 0) (group : List ℕ) (f : ℕ) → AllByRecursion P group → list_any (nat_eq f) group ≡ true → P f
+in_group P [] f h e = absurd (cc)
+in_group P (g ∷ gs) f h e = elim (nat_eq f g) as (λ b. (nat_eq f g ≡ b) → (b || list_any (nat_eq f) gs) ≡ true → P f) [
+  | true ↦ (λ is any. let same : g ≡ f = grind (arith, is) in subst P same h.0)
+  | false ↦ (λ is any. in_group P gs f h.1 any)
+] refl e
+
+pub apart_without_rows : (distinct : List (List ℕ)) (interp : List Table) (f : ℕ) → AllByRecursion (KeepsApart interp) distinct → is_apart distinct f ≡ true → (table_of interp f).rows ≡ []
+apart_without_rows [] interp f h e = absurd (cc)
+apart_without_rows (group ∷ groups) interp f h e = elim (list_any (nat_eq f) group) as (λ b. (list_any (nat_eq f) group ≡ b) → (b || is_apart groups f) ≡ true → (table_of interp f).rows ≡ []) [
+  | true ↦ (λ is any. in_group (λ g. (table_of interp g).rows ≡ []) group f h.0.no_rows is)
+  | false ↦ (λ is any. apart_without_rows groups interp f h.1 any)
+] refl e
+
+symbol_contents : (version : Version) (distinct : List (List ℕ)) (interp : List Table) → AllByRecursion (KeepsApart interp) distinct
+    → (ys : List Symbol) (ts before : List Table) → interp ≡ before ++ ts → AllZip TableFits ys ts → AllZip (IsContent version) (symbol_kinds version distinct (length before) ys) ts
+symbol_contents version distinct interp apart [] [] before e h = tt
+symbol_contents version distinct interp apart [] (t ∷ ts) before e h = absurd h
+symbol_contents version distinct interp apart (y ∷ ys) [] before e h = absurd h
+symbol_contents version distinct interp apart (y ∷ ys) (t ∷ ts) before e h =
+    let here : table_of interp (length before) ≡ t = ap (λ (xs : List Table). table_of xs (length before)) e ∙ seam before t ts in
+    let none : is_apart distinct (length before) ≡ true → t.rows ≡ [] = λ is. ap (λ (x : Table). x.rows) (sym here) ∙ apart_without_rows distinct interp (length before) apart is in
+    let next : interp ≡ (before ++ t ∷ []) ++ ts = e ∙ sym (append_assoc before (t ∷ []) ts) in
+    let count : length (before ++ t ∷ []) ≡ length before + 1 = length-append before (t ∷ []) in
+    let rest = symbol_contents version distinct interp apart ys ts (before ++ t ∷ []) next h.1 in
+    (symbol_content version (is_apart distinct (length before)) y t h.0 none, subst (λ n. AllZip (IsContent version) (symbol_kinds version distinct n ys) ts) count rest)
+  where
+    seam : (before : List Table) (t : Table) (ts : List Table) → table_of (before ++ t ∷ ts) (length before) ≡ t
+    seam [] t ts = refl
+    seam (b ∷ bs) t ts = seam bs t ts
+
+slot_rows : (slots : List Slot) → AllByRecursion (IsRowOf (sort_kind sort.Memory)) (map row_of slots)
+slot_rows [] = tt
+slot_rows (s ∷ ss) = (record { arity = refl; value = refl }, slot_rows ss)
+
+scalar_content : (version : Version) (x : Scalar) (s : Sort) → scalar_sort x ≡ s → IsContent version (sort_kind s) (constant_table x)
+unfolding head_of
+scalar_content One (scalar.Bool b) sort.Bool e = record { known = refl; takes = refl; table = record { default = refl; rows = tt; apart = λ h. refl } }
+scalar_content Two (scalar.Bool b) sort.Bool e = record { known = refl; takes = refl; table = record { default = refl; rows = tt; apart = λ h. refl } }
+scalar_content One (scalar.Word n) sort.Word e = record { known = refl; takes = refl; table = record { default = refl; rows = tt; apart = λ h. refl } }
+scalar_content Two (scalar.Word n) sort.Word e = record { known = refl; takes = refl; table = record { default = refl; rows = tt; apart = λ h. refl } }
+scalar_content version (scalar.Bool b) sort.Word e = absurd (cc)
+scalar_content version (scalar.Bool b) sort.Memory e = absurd (cc)
+scalar_content version (scalar.Word n) sort.Bool e = absurd (cc)
+scalar_content version (scalar.Word n) sort.Memory e = absurd (cc)
+
+memory_content : (version : Version) (m : Memory) → IsContent version (sort_kind sort.Memory) (table_of_value (value.Memory m))
+unfolding head_of
+memory_content One m = record { known = refl; takes = le-leb 2 (2 + length (map row_of m.rows)) (omega arith); table = record { default = refl; rows = slot_rows m.rows; apart = λ h. absurd (cc) } }
+memory_content Two m = record { known = refl; takes = le-leb 2 (2 + length (map row_of m.rows)) (omega arith); table = record { default = refl; rows = slot_rows m.rows; apart = λ h. absurd (cc) } }
+
+value_content : (version : Version) (e : Entry) (v : Value) → value_sort v ≡ e.sort → IsContent version (entry_kind e) (table_of_value v)
+value_content version e (value.Scalar x) h = scalar_content version x e.sort h
+value_content version e (value.Memory m) h = subst (λ s. IsContent version (sort_kind s) (table_of_value (value.Memory m))) h (memory_content version m)
+
+input_content : (version : Version) (x : Scalar) (s : Sort) → scalar_sort x ≡ s → IsContent version (input_kind s) (constant_table x)
+unfolding head_of
+input_content One x s e = record { known = refl; takes = refl; table = record { default = e; rows = tt; apart = λ h. refl } }
+input_content Two x s e = record { known = refl; takes = refl; table = record { default = e; rows = tt; apart = λ h. refl } }
+
+entry_contents : (version : Version) (es : List Entry) (vs : List Value) → AllZip (λ (e : Entry) v. value_sort v ≡ e.sort) es vs → AllZip (IsContent version) (map entry_kind es) (map table_of_value vs)
+entry_contents version [] [] h = tt
+entry_contents version [] (v ∷ vs) h = absurd h
+entry_contents version (e ∷ es) [] h = absurd h
+entry_contents version (e ∷ es) (v ∷ vs) h = (value_content version e v h.0, entry_contents version es vs h.1)
+
+input_contents : (version : Version) (ps : List PortView) (xs : List Scalar) → AllZip (λ (p : PortView) x. scalar_sort x ≡ p.sort) ps xs → AllZip (IsContent version) (map (λ (p : PortView). input_kind p.sort) ps) (map constant_table xs)
+input_contents version [] [] h = tt
+input_contents version [] (x ∷ xs) h = absurd h
+input_contents version (p ∷ ps) [] h = absurd h
+input_contents version (p ∷ ps) (x ∷ xs) h = (input_content version x p.sort h.0, input_contents version ps xs h.1)
+
+-- the tables of a fitting case are those of its kinds
+pub case_contents : (version : Version) (d : DesignView) (c : Case) → Fits d c → AllZip (IsContent version) (kinds version d) (tables_of c)
+case_contents version d c fits =
+    let symbols = symbol_contents version d.distinct c.interp fits.interp.apart d.symbols c.interp [] refl fits.interp.tables in
+    let entries = entry_contents version d.pipe.entries c.state fits.state in
+    let inputs = input_contents version d.pipe.ports c.inputs fits.inputs in
+    AllZip-append (IsContent version) (symbol_kinds version d.distinct 0 d.symbols ++ map entry_kind d.pipe.entries) (c.interp ++ map table_of_value c.state) _ _
+    (AllZip-append (IsContent version) (symbol_kinds version d.distinct 0 d.symbols) c.interp _ _ symbols entries) inputs
+
+-- ---- back to the case
+
+slots_back : (slots : List Slot) → map slot_of (map row_of slots) ≡ slots
+slots_back [] = refl
+slots_back (s ∷ ss) = ap (λ rest. s ∷ rest) (slots_back ss)
+
+value_back : (v : Value) (s : Sort) → value_sort v ≡ s → value_of_table s (table_of_value v) ≡ v
+value_back (value.Scalar x) sort.Bool e = refl
+value_back (value.Scalar x) sort.Word e = refl
+value_back (value.Scalar (scalar.Bool b)) sort.Memory e = absurd (cc)
+value_back (value.Scalar (scalar.Word n)) sort.Memory e = absurd (cc)
+value_back (value.Memory m) sort.Bool e = absurd (cc)
+value_back (value.Memory m) sort.Word e = absurd (cc)
+value_back (value.Memory m) sort.Memory e = ap (λ slots. value.Memory (record { default = m.default; rows = slots })) (slots_back m.rows)
+
+state_back : (es : List Entry) (vs : List Value) (rest : List Table) → AllZip (λ (e : Entry) v. value_sort v ≡ e.sort) es vs
+    → map (λ (p : Entry × Table). value_of_table p.0.sort p.1) (zip es (map table_of_value vs ++ rest)) ≡ vs
+state_back [] [] rest h = refl
+state_back [] (v ∷ vs) rest h = absurd h
+state_back (e ∷ es) [] rest h = absurd h
+state_back (e ∷ es) (v ∷ vs) rest h =
+    let first = value_back v e.sort h.0 in
+    let others = state_back es vs rest h.1 in
+    rw (first, others) refl
+
+inputs_back : (xs : List Scalar) → map (λ (t : Table). t.default) (map constant_table xs) ≡ xs
+inputs_back [] = refl
+inputs_back (x ∷ xs) = ap (λ rest. x ∷ rest) (inputs_back xs)
+
+pub case_from-tables_of : (d : DesignView) (c : Case) → Fits d c → case_from d (tables_of c) ≡ c
+case_from-tables_of d c fits =
+    let state = map table_of_value c.state in
+    let inputs = map constant_table c.inputs in
+    let n : length c.interp ≡ length d.symbols = AllZip-long TableFits d.symbols c.interp fits.interp.tables in
+    let m : length c.state ≡ length d.pipe.entries = AllZip-long (λ (e : Entry) v. value_sort v ≡ e.sort) d.pipe.entries c.state fits.state in
+    let grouped : tables_of c ≡ c.interp ++ (state ++ inputs) = append_assoc c.interp state inputs in
+    let size : length (c.interp ++ state) ≡ length d.symbols + length d.pipe.entries = length-append c.interp state ∙ (let k = length-map c.state table_of_value in omega (arith, n, m, k)) in
+    let interp : take (length d.symbols) (tables_of c) ≡ c.interp = rw (sym n, grouped) (take-append_seam c.interp (state ++ inputs)) in
+    let rest : drop (length d.symbols) (tables_of c) ≡ state ++ inputs = rw (sym n, grouped) (drop-append_seam c.interp (state ++ inputs)) in
+    let last : drop (length d.symbols + length d.pipe.entries) (tables_of c) ≡ inputs = rw (sym size) (drop-append_seam (c.interp ++ state) inputs) in
+    let values = state_back d.pipe.entries c.state inputs fits.state in
+    let scalars = inputs_back c.inputs in
+    rw (interp, rest, last, values, scalars) refl

@@ -1,0 +1,11 @@
+pub mod Atoms
+pub mod Constants
+pub mod Contents
+pub mod Fitting
+pub mod Laid
+pub mod Lines
+pub mod Pairs
+pub mod Places
+pub mod Readings
+pub mod Rereading
+pub mod Rows

@@ -1,0 +1,9 @@
+use Rattle.std.proofs.Common.{◌≡◌, drop}
+use Rattle.bd_text.specs.View.{nodes_of_all}
+use Rattle.bd_syntax.specs.Reading.{each_form}
+use Rattle.bd_syntax.proofs.Loop.{with_front}
+use Rattle.bd_case.specs.Reading.{word_form}
+use Rattle.bd_case.proofs.value.words.Given as goal
+
+abbrev pub invariant-loop-tree : goal.invariant-loop-tree
+invariant-loop-tree l = with_front l.words.items (each_form word_form (nodes_of_all (drop l.tree-index l.trees))) ≡ each_form word_form (nodes_of_all l.trees)

@@ -1,0 +1,206 @@
+-- The case that trees are, or its first fault: entries from left to right, and of an entry first its shape, then its name,
+-- then its values. The text and its codes are this project's own.
+use Rattle.std.specs.Prelude.{◌==◌, ℕ, zero, suc, ◌+◌, Bool, true, false, not, ◌||◌, List, [], ◌∷◌, ◌++◌, map, Option, Some, None, is_some, option_map, Result, Ok, Err, codes, nat_eq, slice_index_or, slice_set, if◌then◌else◌}
+use Rattle.std.specs.List.{list_any}
+use Rattle.bd_text.specs.Nodes.{Node, atom, list, Nodes, no_nodes, node, node_count}
+use Rattle.bd_text.specs.declared.code.Code.{Code}
+use Rattle.bd_text.specs.declared.code.Code.TheVariants.{WrongHead, Malformed, DeclaredTwice, UnknownName, WrongSort, WrongArity, MissingOrTwice, NotDistinct}
+use Rattle.bd_syntax.specs.Words.{is_word}
+use Rattle.bd_syntax.specs.Reading.{Fault, ◌>>=◌, refused, atom_form, name_form, number_form, first_form, others, each_form, before_last, last_node, headed_form, end_form}
+use Rattle.bd_model.specs.DesignView.{DesignView}
+use Rattle.bd_model.specs.Lawful.{all_names}
+use Rattle.bd_model.specs.Table.{at}
+use Rattle.bd_model.specs.Value.{table_of}
+use Rattle.bd_model.specs.declared.table.Scalar.{Scalar}
+use Rattle.bd_model.specs.declared.table.Scalar.TheVariants as scalar
+use Rattle.bd_model.specs.declared.table.Row.{Row}
+use Rattle.bd_model.specs.declared.table.Table.{Table}
+use Rattle.bd_model.specs.declared.design.Sort.{Sort}
+use Rattle.bd_model.specs.declared.design.Sort.TheVariants as sort
+use Rattle.bd_model.specs.declared.case.Case.{Case}
+use Rattle.bd_case.specs.Kinds.{head_word, head_of, head_takes, may_lack, kinds}
+use Rattle.bd_case.specs.Content.{constant_table, word_of, case_from}
+use Rattle.bd_case.specs.declared.kind.Version.{Version}
+use Rattle.bd_case.specs.declared.kind.Version.TheVariants.{One, Two}
+use Rattle.bd_case.specs.declared.kind.Head.{Head}
+use Rattle.bd_case.specs.declared.kind.Head.TheVariants as heads
+use Rattle.bd_case.specs.declared.kind.Kind.{Kind}
+
+-- ---- values and rows
+
+-- true or false
+unfoldable pub truth_form : Node → Result Scalar Fault
+truth_form t = do
+  truth ← atom_form t
+  if is_word truth.text (codes "true") then Ok (scalar.Bool true)
+      else (if is_word truth.text (codes "false") then Ok (scalar.Bool false)
+      else refused truth.offset WrongSort)
+
+-- a number of at most 64 bits
+abbrev pub word_form : Node → Result ℕ Fault
+word_form t = number_form 18446744073709551615 t
+
+unfoldable pub scalar_form : Sort → Node → Result Scalar Fault
+scalar_form sort.Bool t = truth_form t
+scalar_form s t = do
+  word ← word_form t
+  Ok (scalar.Word word)
+
+-- the last part of a list, which must be there
+abbrev pub last_form : Sort → ℕ → Option Node → Result Scalar Fault
+last_form s offset None = refused offset WrongArity
+last_form s offset (Some t) = scalar_form s t
+
+-- (ARG .. VALUE)
+unfoldable pub row_parts : Sort → ℕ → Nodes → Result Row Fault
+row_parts s offset parts = do
+  args ← each_form word_form (before_last parts)
+  value ← last_form s offset (last_node parts)
+  Ok (record { args = args; value = value })
+
+-- one part more than the arity
+unfoldable pub counted_form : Kind → ℕ → Nodes → Result Row Fault
+counted_form kind offset parts =
+    if node_count parts == kind.arity + 1 then row_parts kind.sort offset parts
+    else refused offset WrongArity
+
+-- a row is a list
+abbrev pub row_form : Kind → Node → Result Row Fault
+row_form kind (atom offset text) = refused offset Malformed
+row_form kind (list offset parts) = counted_form kind offset parts
+
+-- a constant that is kept apart has the value of its table, and no rows
+abbrev pub kept : Bool → Table → Table
+kept true t = constant_table (at t [])
+kept false t = t
+
+-- DEFAULT ROW ..
+unfoldable pub table_form : Kind → Node → Nodes → Result Table Fault
+table_form kind t ts = do
+  default ← scalar_form kind.sort t
+  rows ← each_form (row_form kind) ts
+  Ok (kept kind.apart (record { default = default; rows = rows }))
+
+-- ---- entries
+
+-- the first place of a name
+abbrev pub place_of : List ℕ → List (List ℕ) → Option ℕ
+place_of name [] = None
+place_of name (n ∷ ns) = if is_word n name then Some 0 else option_map suc (place_of name ns)
+
+-- what stands past the last place
+abbrev pub no_kind : Kind
+no_kind = record { head = heads.Input; sort = sort.Bool; arity = 0; apart = false }
+
+abbrev pub kind_at : List Kind → ℕ → Kind
+kind_at ks i = slice_index_or ks i no_kind
+
+abbrev pub is_head : Head → Head → Bool
+is_head head other = is_word (head_word head) (head_word other)
+
+-- an entry with this head gives what stands at the place of its name, if no entry before it does
+abbrev pub place_form : List Kind → List (Option Table) → Head → ℕ → Option ℕ → Result ℕ Fault
+place_form ks given head offset None = refused offset UnknownName
+place_form ks given head offset (Some i) =
+    if is_head head (kind_at ks i).head
+    then (if is_some (slice_index_or given i None) then refused offset DeclaredTwice else Ok i)
+    else refused offset WrongSort
+
+-- NAME DEFAULT ROW .., beside what was given before
+unfoldable pub parts_form : Version → DesignView → List (Option Table) → ℕ → Head → Nodes → Result (List (Option Table)) Fault
+parts_form version d given offset head (node t (node u us)) = do
+  name ← name_form t
+  i ← place_form (kinds version d) given head name.offset (place_of name.text (all_names d))
+  table ← table_form (kind_at (kinds version d) i) u us
+  Ok (slice_set given i (Some table))
+parts_form version d given offset head _ = refused offset Malformed
+
+-- the head of an entry, with as many parts as it takes
+abbrev pub head_form : ℕ → ℕ → Option Head → Result Head Fault
+head_form offset parts None = refused offset Malformed
+head_form offset parts (Some head) =
+    if head_takes head parts then Ok head else refused offset Malformed
+
+-- an entry is a list that begins with a head
+unfoldable pub entry_form : Version → DesignView → List (Option Table) → Node → Result (List (Option Table)) Fault
+entry_form version d given (atom offset text) = refused offset Malformed
+entry_form version d given (list offset parts) = do
+  first ← first_form offset parts
+  head ← head_form offset (node_count (others parts)) (head_of version first.text)
+  parts_form version d given offset head (others parts)
+
+abbrev pub entries_form : Version → DesignView → List (Option Table) → Nodes → Result (List (Option Table)) Fault
+entries_form version d given no_nodes = Ok given
+entries_form version d given (node t ts) = do
+  more ← entry_form version d given t
+  entries_form version d more ts
+
+-- ---- the whole case
+
+-- what was given, or the default 0 or false without rows
+abbrev pub default_of : Sort → Scalar
+default_of sort.Bool = scalar.Bool false
+default_of s = scalar.Word 0
+
+abbrev pub given_or : ℕ → Kind → Option Table → Result Table Fault
+given_or offset kind (Some t) = Ok t
+given_or offset kind None =
+    if may_lack kind.head then Ok (constant_table (default_of kind.sort))
+    else refused offset MissingOrTwice
+
+-- everything that the case gives
+abbrev pub whole_form : ℕ → List Kind → List (Option Table) → Result (List Table) Fault
+whole_form offset [] given = Ok []
+whole_form offset (kind ∷ ks) [] = Ok []
+whole_form offset (kind ∷ ks) (t ∷ given) = do
+  table ← given_or offset kind t
+  tables ← whole_form offset ks given
+  Ok (table ∷ tables)
+
+-- whether a value stands twice, where some stand before them
+abbrev pub repeats : List ℕ → List ℕ → Bool
+repeats before [] = false
+repeats before (x ∷ xs) = list_any (nat_eq x) before || repeats (before ++ x ∷ []) xs
+
+-- the values of constants
+abbrev pub constants : List Table → List ℕ → List ℕ
+constants interp group = map (λ f. word_of (table_of interp f).default) group
+
+-- the constants of each group have different values
+abbrev pub distinct_form : List (List ℕ) → ℕ → Case → Result Case Fault
+distinct_form distinct offset c =
+    if list_any (λ group. repeats [] (constants c.interp group)) distinct
+    then refused offset NotDistinct else Ok c
+
+abbrev pub version_part : Node → Result Version Fault
+version_part (list offset parts) = refused offset WrongHead
+version_part (atom offset text) =
+    if is_word text (codes "1") then Ok One
+    else (if is_word text (codes "2") then Ok Two else refused offset WrongHead)
+
+-- the version behind the word case, and the entries behind it
+abbrev pub version_form : ℕ → Nodes → Result (Version × Nodes) Fault
+version_form offset no_nodes = refused offset WrongHead
+version_form offset (node t ts) = do
+  version ← version_part t
+  Ok (version, ts)
+
+-- one tree (case VERSION ENTRY ..): its offset, its version and its entries
+abbrev pub file_form : Nodes → Result (ℕ × (Version × Nodes)) Fault
+file_form no_nodes = refused 0 WrongHead
+file_form (node t ts) = do
+  inside ← headed_form (codes "case") t
+  content ← version_form inside.0 inside.1
+  end ← end_form ts
+  Ok (inside.0, content)
+
+abbrev pub nothing_given : List Kind → List (Option Table)
+nothing_given ks = map (λ _. None) ks
+
+-- the case that trees are, for a design
+unfoldable pub case_form : DesignView → Nodes → Result Case Fault
+case_form d trees = do
+  file ← file_form trees
+  given ← entries_form file.1.0 d (nothing_given (kinds file.1.0 d)) file.1.1
+  tables ← whole_form file.0 (kinds file.1.0 d) given
+  distinct_form d.distinct file.0 (case_from d tables)

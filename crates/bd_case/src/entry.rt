@@ -1,0 +1,212 @@
+//! Entries: what was given so far, and one entry more. An entry's shape is looked at before its name, and its name
+//! before its values.
+
+ghost use Rattle.std.specs.Prelude.{◌≡◌, ◌<◌, ◌≤◌, ℕ, true, length, map, is_some, slice_index_or, IfOk, OnOk, Some, None};
+ghost use Rattle.bd_text.specs.Nodes.{list, node, node_count};
+ghost use Rattle.bd_text.specs.View.{node_of, nodes_of, nodes_of_all};
+ghost use Rattle.bd_syntax.specs.Reading.{Gives, first_form, others, spot};
+ghost use Rattle.bd_model.specs.DesignView.{design_view};
+ghost use Rattle.bd_model.specs.Lawful.{all_names};
+ghost use Rattle.bd_case.specs.Kinds.{head_of, head_takes, kinds};
+ghost use Rattle.bd_case.specs.Reading.{entries_form, entry_form, head_form, kept, parts_form, place_form, place_of, table_form};
+ghost use Rattle.bd_case.specs.inner.Frame.{IsFrame};
+
+use crate::frame::Frame;
+use crate::kind::{Head, Kind, Version};
+use crate::value::{self, bad};
+use bd_model::{Rows, Table};
+use bd_syntax::FormFault;
+use bd_text::{Code, Tree, Trees};
+use std::alloc::Global;
+
+/// A constant that is kept apart has the value of its table, and no rows.
+fn kept(alloc: Global, apart: bool, table: Table) -> Table
+    ensures { result ≡ kept apart table }
+{
+    if !apart {
+        return table;
+    }
+    Table {
+        default: table.at(&[]),
+        rows: Rows::new(alloc),
+    }
+}
+
+/// A default, and rows.
+#[tactic(auto, unfolding(crate::specs::Reading::table_form))]
+fn table(alloc: Global, kind: Kind, default: &Tree, rows: &[Tree]) -> Result<Table, FormFault>
+    ensures { Gives (λ t. t) result
+        (table_form kind (node_of default.now) (nodes_of_all rows.now)) }
+{
+    let table = Table {
+        default: value::scalar(kind.sort, default)?,
+        rows: value::rows(alloc, kind, rows)?,
+    };
+    Ok(kept(alloc, kind.apart, table))
+}
+
+/// The place of a name that an entry with this head may give, and none has given.
+fn place(
+    frame: &Frame<'_>,
+    given: &[Option<Table>],
+    head: Head,
+    offset: usize,
+    name: &[u8],
+) -> Result<usize, FormFault>
+    requires frame { IsFrame frame.now }
+    requires given { length given.now ≡ length frame.now.kinds.items }
+    ensures place { Gives (λ i. i) result
+        (place_form frame.now.kinds.items given.now head offset
+        (place_of name.now (all_names (design_view frame.now.design.now)))) }
+    ensures within { IfOk result (λ i. i < length given.now) }
+{
+    let Some(place) = frame.place(name) else {
+        return Err(bad(offset, Code::UnknownName));
+    };
+    if !head.is(frame.kinds[place].head) {
+        return Err(bad(offset, Code::WrongSort));
+    }
+    if given[place].is_some() {
+        return Err(bad(offset, Code::DeclaredTwice));
+    }
+    Ok(place)
+}
+
+/// The word that a list begins with, and the parts behind it.
+#[derive(Clone, Copy)]
+struct Opened<'a> {
+    at: usize,
+    word: &'a [u8],
+    parts: &'a [Tree],
+}
+
+/// Opens the list that stands at an offset.
+#[tactic(auto, using(bd_syntax::proofs::Views::node_counts))]
+fn open(offset: usize, parts: &Trees) -> Result<Opened<'_>, FormFault>
+    ensures first { Gives (λ list. spot list.at list.word.now) result
+        (first_form offset (nodes_of parts.now)) }
+    ensures parts { IfOk result (λ list.
+        others (nodes_of parts.now) ≡ nodes_of_all list.parts.now) }
+    ensures count { IfOk result (λ list.
+        node_count (others (nodes_of parts.now)) ≡ length list.parts.now) }
+{
+    let Some((first, parts)) = parts.as_slice().split_first() else {
+        return Err(bad(offset, Code::Malformed));
+    };
+    match first {
+        Tree::Atom { offset: at, text } => Ok(Opened {
+            at: *at,
+            word: text.as_slice(),
+            parts,
+        }),
+        Tree::List { .. } => Err(bad(offset, Code::Malformed)),
+    }
+}
+
+/// The head that a word is, where so many parts may follow it.
+fn head_of(version: Version, offset: usize, word: &[u8], parts: usize) -> Result<Head, FormFault>
+    ensures head { Gives (λ head. head) result
+        (head_form offset parts (head_of version word.now)) }
+    ensures takes { IfOk result (λ head. head_takes head parts ≡ true) }
+{
+    match Head::from_text(version, word) {
+        Some(head) if head.takes(parts) => Ok(head),
+        _ => Err(bad(offset, Code::Malformed)),
+    }
+}
+
+/// The name and the content of an entry.
+#[derive(Clone, Copy)]
+struct Named<'a> {
+    name: &'a Tree,
+    default: &'a Tree,
+    rows: &'a [Tree],
+}
+
+impl<'a> Named<'a> {
+    fn of(parts: &'a [Tree]) -> Named<'a>
+        requires { 2 ≤ length parts.now }
+        ensures { nodes_of_all parts.now ≡ node (node_of result.name.now)
+            (node (node_of result.default.now) (nodes_of_all result.rows.now)) }
+    {
+        Named {
+            name: &parts[0],
+            default: &parts[1],
+            rows: &parts[2..],
+        }
+    }
+}
+
+/// The entry that a tree is.
+#[tactic(auto, unfolding(crate::specs::Reading::entry_form))]
+pub fn entry(
+    alloc: Global,
+    frame: &Frame<'_>,
+    given: &mut Vec<Option<Table>>,
+    tree: &Tree,
+) -> Result<(), FormFault>
+    requires frame { IsFrame frame.now }
+    requires given { length given.old.items ≡ length frame.now.kinds.items }
+    ensures entry { Gives (λ _. given.new.items) result
+        (entry_form frame.now.version (design_view frame.now.design.now)
+        given.old.items (node_of tree.now)) }
+    ensures given { length given.new.items ≡ length given.old.items }
+{
+    match tree {
+        Tree::Atom { offset, .. } => Err(bad(*offset, Code::Malformed)),
+        Tree::List { offset, parts } => {
+            let list = open(*offset, parts)?;
+            let head = head_of(frame.version, *offset, list.word, list.parts.len())?;
+            content(alloc, frame, given, *offset, head, list.parts)
+        }
+    }
+}
+
+/// What stands behind the head of an entry.
+#[tactic(auto, unfolding(crate::specs::Reading::parts_form))]
+fn content(
+    alloc: Global,
+    frame: &Frame<'_>,
+    given: &mut Vec<Option<Table>>,
+    offset: usize,
+    head: Head,
+    parts: &[Tree],
+) -> Result<(), FormFault>
+    requires frame { IsFrame frame.now }
+    requires given { length given.old.items ≡ length frame.now.kinds.items }
+    requires takes { head_takes head (length parts.now) ≡ true }
+    ensures content { Gives (λ _. given.new.items) result
+        (parts_form frame.now.version (design_view frame.now.design.now)
+        given.old.items offset head (nodes_of_all parts.now)) }
+    ensures given { length given.new.items ≡ length given.old.items }
+{
+    let Named {
+        name,
+        default,
+        rows,
+    } = Named::of(parts);
+    let (at, word) = value::name(name)?;
+    let place = place(frame, given, head, at, word)?;
+    given[place] = Some(table(alloc, frame.kinds[place], default, rows)?);
+    Ok(())
+}
+
+/// The entries that trees are.
+pub fn entries(
+    alloc: Global,
+    frame: &Frame<'_>,
+    given: &mut Vec<Option<Table>>,
+    trees: &[Tree],
+) -> Result<(), FormFault>
+    requires frame { IsFrame frame.now }
+    requires given { length given.old.items ≡ length frame.now.kinds.items }
+    ensures entries { Gives (λ _. given.new.items) result
+        (entries_form frame.now.version (design_view frame.now.design.now)
+        given.old.items (nodes_of_all trees.now)) }
+    ensures given { length given.new.items ≡ length given.old.items }
+{
+    for tree in trees {
+        entry(alloc, frame, given, tree)?;
+    }
+    Ok(())
+}

@@ -1,0 +1,148 @@
+//! Writing a case, and the states of a run.
+
+ghost use Rattle.std.specs.Prelude.{◌≡◌, ◌++◌, length, map, codes, nat_eq, Ok, IfOk, OnOk, ℕ};
+ghost use Rattle.std.specs.List.{AllByRecursion, flat_map};
+ghost use Rattle.indexmap.specs.IndexSet.{contains};
+ghost use Rattle.bd_model.specs.DesignView.{design_view, port_view};
+ghost use Rattle.bd_model.specs.Fits.{Fits};
+ghost use Rattle.bd_model.specs.Lawful.{IsLawful};
+ghost use Rattle.bd_case.specs.Kinds.{is_apart, version_of};
+ghost use Rattle.bd_case.specs.Content.{Has64Bits, IsShortTable, constant_table, table_of_value};
+ghost use Rattle.bd_case.specs.Reads.{IsReading};
+ghost use Rattle.bd_case.specs.Text.{entry_line, input_nodes, state_line, state_nodes, state_text, symbol_nodes, text_of, version_text};
+
+use crate::frame::apart;
+use crate::kind::{Head, Kind, Version};
+use crate::line::{push_scalar_entry, push_table, push_value};
+use bd_model::{Case, Design, Distinct, Entry, Port, Scalar, State, Symbol, Table, Value};
+use indexmap::IndexSet;
+use std::alloc::{AllocError, Global};
+
+fn version_of(distinct: &Distinct) -> Version
+    ensures { result ≡ version_of distinct.now }
+{
+    if distinct.is_empty() {
+        Version::One
+    } else {
+        Version::Two
+    }
+}
+
+fn version_text(version: Version) -> &'static [u8]
+    ensures { result.now ≡ version_text version }
+{
+    match version {
+        Version::One => b"1",
+        Version::Two => b"2",
+    }
+}
+
+/// A line for each symbol.
+fn push_symbols(
+    out: &mut Vec<u8>,
+    version: Version,
+    distinct: &Distinct,
+    apart: &IndexSet<usize>,
+    symbols: &[Symbol],
+    tables: &[Table],
+) -> Result<(), AllocError>
+    requires { (f : ℕ) → contains nat_eq apart.now f ≡ is_apart distinct.now f }
+    ensures text { OnOk result (out.new.items ≡ out.old.items
+        ++ flat_map entry_line (symbol_nodes version distinct.now 0 symbols.now tables.now)) }
+    ensures short { length tables.now ≡ length symbols.now
+        → OnOk result (AllByRecursion IsShortTable tables.now) }
+{
+    for f in 0..symbols.len().min(tables.len()) {
+        let symbol = &symbols[f];
+        let kind = Kind::of_symbol(version, apart.contains(&f), symbol);
+        out.extend_from_slice(b"\n ")?;
+        push_table(out, kind.head, symbol.name.as_slice(), &tables[f])?;
+    }
+    Ok(())
+}
+
+/// A line for each latch and memory.
+fn push_state(out: &mut Vec<u8>, entries: &[Entry], values: &[Value]) -> Result<(), AllocError>
+    ensures text { OnOk result (out.new.items
+        ≡ out.old.items ++ flat_map entry_line (state_nodes entries.now values.now)) }
+    ensures short { length values.now ≡ length entries.now
+        → OnOk result (AllByRecursion IsShortTable (map table_of_value values.now)) }
+{
+    for (entry, value) in entries.iter().zip(values) {
+        out.extend_from_slice(b"\n ")?;
+        push_value(out, entry, value)?;
+    }
+    Ok(())
+}
+
+/// A line for each input.
+fn push_inputs(out: &mut Vec<u8>, ports: &[Port], inputs: &[Scalar]) -> Result<(), AllocError>
+    ensures text { OnOk result (out.new.items ≡ out.old.items
+        ++ flat_map entry_line (input_nodes (map port_view ports.now) inputs.now)) }
+    ensures short { length inputs.now ≡ length ports.now
+        → OnOk result (AllByRecursion IsShortTable (map constant_table inputs.now)) }
+{
+    for (port, value) in ports.iter().zip(inputs) {
+        out.extend_from_slice(b"\n ")?;
+        push_scalar_entry(out, Head::Input, port.name.as_slice(), *value)?;
+    }
+    Ok(())
+}
+
+/// The text of a case. Its words are words of the program, so they have 64 bits.
+fn written(alloc: Global, design: &Design, case: &Case) -> Result<Vec<u8>, AllocError>
+    ensures exact { IfOk result (λ text. text.items ≡ text_of (design_view design.now) case.now) }
+    ensures short { Fits (design_view design.now) case.now
+        → IfOk result (λ _. Has64Bits case.now) }
+{
+    let version = version_of(&design.distinct);
+    let apart = apart(alloc, &design.distinct)?;
+    let symbols = design.symbols.as_slice();
+    let mut text = Vec::from_slice(alloc, b"(case ")?;
+    text.extend_from_slice(version_text(version))?;
+    push_symbols(
+        &mut text,
+        version,
+        &design.distinct,
+        &apart,
+        symbols,
+        case.interp.as_slice(),
+    )?;
+    push_state(
+        &mut text,
+        design.pipe.entries.as_slice(),
+        case.state.as_slice(),
+    )?;
+    push_inputs(
+        &mut text,
+        design.pipe.ports.as_slice(),
+        case.inputs.as_slice(),
+    )?;
+    text.extend_from_slice(b")\n")?;
+    Ok(text)
+}
+
+/// The text of a case of a design, an entry on a line: functions and predicates by their numbers, then latches and
+/// memories, then inputs. It's in version 2 where the design keeps constants apart. What may never match is written
+/// too.
+pub fn case_text(alloc: Global, design: &Design, case: &Case) -> Result<Vec<u8>, AllocError>
+    ensures exact { IfOk result (λ text. text.items ≡ text_of (design_view design.now) case.now) }
+    ensures reads_back { IsLawful (design_view design.now) → Fits (design_view design.now) case.now
+        → IfOk result (λ text. IsReading (design_view design.now) text.items (Ok case.now)) }
+{
+    written(alloc, design, case)
+}
+
+/// The entries of a state as in the text of a case, each on a line of its own.
+pub fn state_text(alloc: Global, design: &Design, state: &State) -> Result<Vec<u8>, AllocError>
+    ensures { IfOk result (λ text. text.items ≡ state_text (design_view design.now) state.now) }
+{
+    let entries = design.pipe.entries.as_slice();
+    let mut text = Vec::new(alloc);
+    for (entry, value) in entries.iter().zip(state.as_slice()) {
+        text.push(b' ')?;
+        push_value(&mut text, entry, value)?;
+        text.push(b'\n')?;
+    }
+    Ok(text)
+}

@@ -1,0 +1,135 @@
+-- Equations of variables.
+use Rattle.std.proofs.Common.{◌≡◌, ◌≢◌, ℕ, ◌<◌, ◌≤◌, ◌⊎◌, inl, inr, ◌==◌, ◌||◌, not, min, max, Bool, true, false, List, Option, None, Some, Result, Ok, Err, IfOk, slice_get, refl, ap, sym, ◌∙◌, subst, arith, eq-eqb, eqb-true, length}
+use Rattle.std.proofs.lemmas.Bool.{false≢true, true≢false, or_cases, or_parts, cases_lt}
+use Rattle.bd_model.specs.declared.design.Sort.TheVariants as sort
+use Rattle.bd_model.specs.declared.table.Scalar.{Scalar}
+use Rattle.bd_model.specs.Value.{scalar_word}
+use Rattle.bd_terms.specs.declared.node.Node.{Node}
+use Rattle.bd_terms.specs.Graph.{HasSort, IsGraph}
+use Rattle.bd_terms.specs.Denotation.{word}
+use Rattle.bd_function.specs.declared.flat.FlatSym.{FlatSym}
+use Rattle.bd_function.specs.Flat.{IsFlat, under}
+use Rattle.bd_prop.specs.declared.atom.Atom.{Atom}
+use Rattle.bd_prop.specs.declared.atom.Atom.TheVariants.{Edge as EdgeOf}
+use Rattle.bd_prop.specs.declared.node.PropNode.{PropNode}
+use Rattle.bd_prop.specs.declared.node.PropNode.TheVariants.{True, Atom as AtomOf, Not}
+use Rattle.bd_prop.specs.Form.{Adds, HasForm, not_form}
+use Rattle.bd_prop.specs.Graph.{Extends, StandsAt}
+use Rattle.bd_prop.specs.Truth.{truth_at}
+use Rattle.bd_equality.specs.Encoding.{IsVariable, KeepsMarkedApart, atom_value, has_mark}
+use Rattle.bd_equality.specs.Edges.{IsEdge}
+use Rattle.bd_equality.specs.inner.Split.{is_ite, node_is_ite, split}
+use Rattle.bd_equality.specs.inner.Means.{Gives, Means, edge, node_variable}
+use Rattle.bd_equality.specs.inner.Steps.{equal}
+use Rattle.bd_equality.proofs.Flats.{word_is}
+use Rattle.bd_equality.proofs.Splits.{split_none}
+use Rattle.bd_equality.proofs.Giving.{Extends-trans, Gives-adds, adds_not, atoms-adds}
+
+-- a word that is this variable
+pub record IsLeaf (nodes : List Node) (id x : ℕ) : Type 0 where
+  pub variable : IsVariable nodes sort.Word x
+  pub value : (v : ℕ → Scalar) → word (under v) nodes id ≡ scalar_word (v x)
+
+pub leaf_of : (nodes : List Node) → IsGraph nodes → (root : ℕ) (syms : List FlatSym) → IsFlat nodes root syms → (id : ℕ) (node : Node) → HasSort nodes id sort.Word
+    → slice_get nodes id ≡ Some node → is_ite nodes id ≡ false → (x : ℕ) → x ≡ node_variable node → IsLeaf nodes id x
+leaf_of nodes g root syms flat id node h there none x e =
+    let is = word_is nodes g root syms flat id node there h.sorted (ap node_is_ite (sym there) ∙ none) in
+    subst (IsLeaf nodes id) (sym e) record { variable = is.0; value = is.1 }
+
+-- one word is equal to itself
+pub Gives-itself : {E : Type 0} (nodes : List Node) (marked : Option (List ℕ)) (p p' : List PropNode) (a b : ℕ) (r : Result ℕ E) → a ≡ b → Extends p p' → IfOk r (λ id. id < length p')
+    → IfOk r (λ id. StandsAt p' id True × Adds p True p') → IfOk r (λ id. (v : Atom → Bool) → truth_at v p' id ≡ true) → IfOk r (λ id. Gives nodes marked p p' id (equal nodes a b))
+Gives-itself nodes marked p p' a b (Err x) same e inside has is = tt
+Gives-itself nodes marked p p' a b (Ok id) same e inside has is =
+    Gives-adds nodes marked p p' True id (equal nodes a b) tt e inside has.1
+    (λ v k. is (atom_value v) ∙ sym (eq-eqb (word (under v) nodes a) (word (under v) nodes b) (ap (word (under v) nodes) same)))
+
+eqb_comm : (m n : ℕ) → (m == n) ≡ (n == m)
+eqb_comm m n = by (m == n) (n == m) refl refl
+  where
+    by : (b c : Bool) → (m == n) ≡ b → (n == m) ≡ c → (m == n) ≡ (n == m)
+    by true c p q = p ∙ sym (eq-eqb n m (sym (eqb-true m n p)))
+    by false true p q = absurd (true≢false (sym (eq-eqb m n (sym (eqb-true n m q))) ∙ p))
+    by false false p q = p ∙ sym q
+
+unequal : (m n : ℕ) → m ≢ n → (m == n) ≡ false
+unequal m n ne = by (m == n) refl
+  where
+    by : (b : Bool) → (m == n) ≡ b → (m == n) ≡ false
+    by true e = absurd (ne (eqb-true m n e))
+    by false e = e
+
+module _ (nodes : List Node) (marked : Option (List ℕ)) (a b x y : ℕ) (la : IsLeaf nodes a x) (lb : IsLeaf nodes b y) where
+  equal_is : (v : ℕ → Scalar) → equal nodes a b v ≡ (scalar_word (v x) == scalar_word (v y))
+  equal_is v = λ i. la.value v i == lb.value v i
+
+  -- one variable is equal to itself
+  pub Gives-variable : {E : Type 0} (p p' : List PropNode) (r : Result ℕ E) → x ≡ y → Extends p p' → IfOk r (λ id. id < length p')
+      → IfOk r (λ id. StandsAt p' id True × Adds p True p') → IfOk r (λ id. (v : Atom → Bool) → truth_at v p' id ≡ true) → IfOk r (λ id. Gives nodes marked p p' id (equal nodes a b))
+  Gives-variable p p' (Err z) same e inside has is = tt
+  Gives-variable p p' (Ok id) same e inside has is =
+      Gives-adds nodes marked p p' True id (equal nodes a b) tt e inside has.1
+      (λ v k. is (atom_value v) ∙ sym (equal_is v ∙ eq-eqb (scalar_word (v x)) (scalar_word (v y)) (ap (λ z. scalar_word (v z)) same)))
+
+  differ_by : (v : ℕ → Scalar) → KeepsMarkedApart nodes marked v → x ≢ y → (c d : Bool) → has_mark marked x ≡ c → has_mark marked y ≡ d → (c || d) ≡ true → scalar_word (v x) ≢ scalar_word (v y)
+  differ_by v k other true d p q m = k.apart x y la.variable lb.variable other p
+  differ_by v k other false true p q m = λ same. k.apart y x lb.variable la.variable (λ z. other (sym z)) q (sym same)
+  differ_by v k other false false p q m = absurd (false≢true m)
+
+  -- a marked variable is equal to no other one
+  pub Gives-marked : {E : Type 0} (p q r : List PropNode) (truth : ℕ) (res : Result ℕ E) → x ≢ y → (has_mark marked x || has_mark marked y) ≡ true
+      → Extends p q → StandsAt q truth True × Adds p True q → ((v : Atom → Bool) → truth_at v q truth ≡ true)
+      → Extends q r → IfOk res (λ id. id < length r) → IfOk res (λ id. HasForm q (not_form q truth) r id) → IfOk res (λ id. (v : Atom → Bool) → truth_at v r id ≡ not (truth_at v q truth))
+      → IfOk res (λ id. Gives nodes marked p r id (equal nodes a b))
+  Gives-marked p q r truth (Err z) other m e has is e' inside' has' is' = tt
+  Gives-marked p q r truth (Ok id) other m e has is e' inside' has' is' = record {
+    extends = Extends-trans p q r e e';
+    atoms = λ h. atoms-adds nodes marked q r (Not truth) tt (adds_not q r id truth has') (atoms-adds nodes marked p q True tt has.1 h);
+    means = record {
+      inside = inside';
+      is = λ v k. is' (atom_value v) ∙ ap not (is (atom_value v))
+          ∙ sym (equal_is v ∙ unequal (scalar_word (v x)) (scalar_word (v y)) (differ_by v k other (has_mark marked x) (has_mark marked y) refl refl m));
+    };
+  }
+
+  ordered : (v : ℕ → Scalar) → (scalar_word (v (min x y)) == scalar_word (v (max x y))) ≡ (scalar_word (v x) == scalar_word (v y))
+  ordered v = elim (cases_lt x y) [
+    | inl lt ↦ let p : min x y ≡ x = omega arith in let q : max x y ≡ y = omega arith in (λ i. scalar_word (v (p i)) == scalar_word (v (q i)))
+    | inr le ↦ let p : min x y ≡ y = omega arith in let q : max x y ≡ x = omega arith in (λ i. scalar_word (v (p i)) == scalar_word (v (q i))) ∙ eqb_comm (scalar_word (v y)) (scalar_word (v x))
+  ]
+
+  above : (m n : ℕ) → n ≤ m → m ≢ n → n < m
+  above m n le ne = omega arith
+
+  is_edge : x ≢ y → has_mark marked x ≡ false → has_mark marked y ≡ false → IsEdge nodes marked (edge (min x y) (max x y))
+  is_edge other mx my = elim (cases_lt x y) [
+    | inl lt ↦
+        let p : min x y ≡ x = omega arith in
+        let q : max x y ≡ y = omega arith in
+        let straight : IsEdge nodes marked (edge x y) = record {
+          from = record { variable = la.variable; unmarked = mx };
+          to = record { variable = lb.variable; unmarked = my };
+          below = lt;
+        } in
+        subst (λ z. IsEdge nodes marked (edge z (max x y))) (sym p) (subst (λ z. IsEdge nodes marked (edge x z)) (sym q) straight)
+    | inr le ↦
+        let p : min x y ≡ y = omega arith in
+        let q : max x y ≡ x = omega arith in
+        let turned : IsEdge nodes marked (edge y x) = record {
+          from = record { variable = lb.variable; unmarked = my };
+          to = record { variable = la.variable; unmarked = mx };
+          below = above x y le other;
+        } in
+        subst (λ z. IsEdge nodes marked (edge z (max x y))) (sym p) (subst (λ z. IsEdge nodes marked (edge y z)) (sym q) turned)
+  ]
+
+  -- two others have an edge
+  pub Gives-edge : {E : Type 0} (p p' : List PropNode) (low high : ℕ) (r : Result ℕ E) → x ≢ y → (has_mark marked x || has_mark marked y) ≡ false → low ≡ min x y → high ≡ max x y → Extends p p' → IfOk r (λ id. id < length p')
+      → IfOk r (λ id. StandsAt p' id (AtomOf (EdgeOf low high)) × Adds p (AtomOf (EdgeOf low high)) p') → IfOk r (λ id. (v : Atom → Bool) → truth_at v p' id ≡ v (EdgeOf low high))
+      → IfOk r (λ id. Gives nodes marked p p' id (equal nodes a b))
+  Gives-edge p p' low high (Err z) other m l h e inside has is = tt
+  Gives-edge p p' low high (Ok id) other m l h e inside has is =
+      let plain = or_parts (has_mark marked x) (has_mark marked y) m in
+      let fits : IsEdge nodes marked (edge low high) = subst (λ z. IsEdge nodes marked (edge z high)) (sym l) (subst (λ z. IsEdge nodes marked (edge (min x y) z)) (sym h) (is_edge other plain.0 plain.1)) in
+      Gives-adds nodes marked p p' (AtomOf (EdgeOf low high)) id (equal nodes a b) fits e inside has.1
+      (λ v k. is (atom_value v) ∙ (λ i. scalar_word (v (l i)) == scalar_word (v (h i))) ∙ ordered v ∙ sym (equal_is v))

@@ -1,0 +1,17 @@
+pub mod Flats
+pub mod Splits
+pub mod Giving
+pub mod Asking
+pub mod Leaves
+pub mod Stepping
+pub mod Truths
+pub mod Inserting
+pub mod Known
+pub mod Following
+pub mod PairEq
+pub mod Finding
+pub mod Constants
+pub mod Groups
+pub mod Reached
+pub mod Vertices
+pub mod Whole

@@ -1,0 +1,3 @@
+pub mod Encoding
+pub mod Edges
+pub mod inner

@@ -1,0 +1,5 @@
+pub mod Split
+pub mod Means
+pub mod Steps
+pub mod Sets
+pub mod Apart

@@ -1,0 +1,44 @@
+-- What nodes of the truth graph mean under values of the variables.
+use Rattle.std.specs.Prelude.{◌≡◌, ◌<◌, ℕ, Bool, List, Option, length}
+use Rattle.bd_model.specs.declared.design.Sort.TheVariants as sort
+use Rattle.bd_model.specs.declared.table.Scalar.{Scalar}
+use Rattle.bd_terms.specs.declared.node.Sym.{Sym}
+use Rattle.bd_terms.specs.declared.node.Sym.TheVariants.{Var}
+use Rattle.bd_terms.specs.declared.node.Node.{Node}
+use Rattle.bd_terms.specs.declared.node.Node.TheVariants.{App}
+use Rattle.bd_prop.specs.declared.atom.Atom.TheVariants.{Edge as EdgeOf, Truth as TruthOf}
+use Rattle.bd_prop.specs.declared.node.PropNode.{PropNode}
+use Rattle.bd_prop.specs.declared.node.PropNode.TheVariants.{Atom as AtomOf}
+use Rattle.bd_prop.specs.Graph.{Extends, StandsAt}
+use Rattle.bd_prop.specs.Truth.{truth_at}
+use Rattle.bd_transitive.specs.declared.graph.Edge.{Edge}
+use Rattle.bd_equality.specs.Encoding.{IsVariable, KeepsMarkedApart, atom_value}
+use Rattle.bd_equality.specs.Edges.{IsEdge}
+
+abbrev pub edge : ℕ → ℕ → Edge
+edge x y = record { from = x; to = y }
+
+-- the atoms are edges of the formula, and truth variables of it
+pub record HasAtoms (nodes : List Node) (marked : Option (List ℕ)) (prop : List PropNode) : Type 0 where
+  pub edges : (id x y : ℕ) → StandsAt prop id (AtomOf (EdgeOf x y)) → IsEdge nodes marked (edge x y)
+  pub truths : (id x : ℕ) → StandsAt prop id (AtomOf (TruthOf x)) → IsVariable nodes sort.Bool x
+
+-- a node that has this value under all values of the variables that keep the marked ones apart
+pub record Means (nodes : List Node) (marked : Option (List ℕ)) (prop : List PropNode) (id : ℕ) (value : (ℕ → Scalar) → Bool) : Type 0 where
+  pub inside : id < length prop
+  pub is : (v : ℕ → Scalar) → KeepsMarkedApart nodes marked v → truth_at (atom_value v) prop id ≡ value v
+
+-- the graph grew, and has a node that has this value
+pub record Gives (nodes : List Node) (marked : Option (List ℕ)) (prop prop' : List PropNode) (id : ℕ) (value : (ℕ → Scalar) → Bool) : Type 0 where
+  pub extends : Extends prop prop'
+  pub atoms : HasAtoms nodes marked prop → HasAtoms nodes marked prop'
+  pub means : Means nodes marked prop' id value
+
+-- the variable that a symbol is, and that a word is
+abbrev pub symbol_variable : Sym → ℕ
+symbol_variable (Var x) = x
+symbol_variable _ = 0
+
+abbrev pub node_variable : Node → ℕ
+node_variable (App s args) = symbol_variable s
+node_variable _ = 0

@@ -1,0 +1,16 @@
+//! Equality between words as propositional logic, in which whether two variables are equal is an atom.
+#![tactic(auto)]
+
+mod apart;
+mod asked;
+mod encoded;
+mod encoding;
+mod equations;
+mod leaf;
+mod pairs;
+mod split;
+
+pub use encoded::{Encoded, encode};
+
+#[cfg(test)]
+mod tests;

@@ -1,0 +1,12 @@
+pub mod Numbered
+pub mod Ends
+pub mod Decoding
+pub mod Deciding
+pub mod Classes
+pub mod Building
+pub mod Tables
+pub mod Known
+pub mod Fitting
+pub mod Worlds
+pub mod Examples
+pub mod Denoting

@@ -1,0 +1,294 @@
+//! The case that tables make. It starts as the case of no table, and takes the tables from the last one on, so that
+//! the first one of a symbol counts.
+ghost use Rattle.std.specs.Prelude.{◌≡◌, ◌≤◌, ◌+◌, ◌*◌, ℕ, List, [], map, length, slice_get, slice_set, IfOk, OnOk, Some};
+ghost use Rattle.bd_model.specs.DesignView.{design_view, port_view};
+ghost use Rattle.bd_model.specs.Fits.{result_sort};
+ghost use Rattle.bd_model.specs.Value.{scalar_truth, scalar_word, no_table};
+ghost use Rattle.bd_model.specs.declared.design.Symbol.{Symbol as TheSymbol};
+ghost use Rattle.bd_model.specs.declared.design.Entry.{Entry as TheEntry};
+ghost use Rattle.bd_model.specs.declared.design.Port.{Port as ThePort};
+ghost use Rattle.bd_terms.specs.Denotation.{World};
+ghost use Rattle.bd_function.specs.Tables.{world_of_tables};
+ghost use Rattle.bd_lift.specs.inner.Built.{IsBuilt, entry_value, function_table, functions_of, inputs_of, scalar_as, slot_of, state_of, with_table};
+
+use crate::decode::own_number;
+use bd_function::{FlatTables, SymTable};
+use bd_model::{
+    Case, Design, Entry, Inputs, Interp, Memory, Port, Row, Rows, Scalar, Slot, Slots, Sort, State,
+    Symbol, Table, Value,
+};
+use bd_terms::Sym;
+use std::alloc::{AllocError, Global};
+
+/// A case in the making.
+#[derive(Drop)]
+struct Building {
+    interp: Vec<Table>,
+    state: Vec<Value>,
+    inputs: Vec<Scalar>,
+}
+
+/// The case of these tables, where so many classes are words.
+pub(crate) fn case_of(
+    alloc: Global,
+    design: &Design,
+    classes: usize,
+    tables: FlatTables,
+) -> Result<Case, AllocError>
+    ensures { IfOk result (λ c.
+        IsBuilt (design_view design.now) classes (world_of_tables tables)
+        c.interp c.state c.inputs) }
+{
+    let mut case = blank(alloc, design, classes)?;
+    let mut rest = tables.into_vec();
+    while let Some(table) = rest.pop() {
+        place(alloc, design, classes, &mut case, table)?;
+    }
+    let Building {
+        interp,
+        state,
+        inputs,
+    } = case;
+    Ok(Case {
+        interp: Interp::from_vec(interp),
+        state: State::from_vec(state),
+        inputs: Inputs::from_vec(inputs),
+    })
+}
+
+// The case of no table.
+fn blank(alloc: Global, design: &Design, classes: usize) -> Result<Building, AllocError>
+    ensures { IfOk result (λ b.
+        IsBuilt (design_view design.now) classes (world_of_tables [])
+        b.interp.items b.state.items b.inputs.items) }
+{
+    Ok(Building {
+        interp: blank_interp(alloc, design.symbols.as_slice(), classes)?,
+        state: blank_state(alloc, design.pipe.entries.as_slice())?,
+        inputs: blank_inputs(alloc, design.pipe.ports.as_slice())?,
+    })
+}
+
+fn blank_interp(alloc: Global, symbols: &[Symbol], classes: usize) -> Result<Vec<Table>, AllocError>
+    ensures { IfOk result (λ tables.
+        tables.items ≡ functions_of classes (world_of_tables []) symbols.now) }
+{
+    let mut tables = Vec::with_capacity(alloc, symbols.len())?;
+    for (place, symbol) in symbols.iter().enumerate() {
+        let table = function_table(alloc, classes, place, symbol, blank_table(alloc))?;
+        tables.push(table)?;
+    }
+    Ok(tables)
+}
+
+fn blank_state(alloc: Global, entries: &[Entry]) -> Result<Vec<Value>, AllocError>
+    ensures { IfOk result (λ values. values.items ≡ state_of (world_of_tables []) entries.now) }
+{
+    let mut values = Vec::with_capacity(alloc, entries.len())?;
+    for entry in entries {
+        let value = entry_value(alloc, entry.sort, &blank_table(alloc))?;
+        values.push(value)?;
+    }
+    Ok(values)
+}
+
+fn blank_inputs(alloc: Global, ports: &[Port]) -> Result<Vec<Scalar>, AllocError>
+    ensures { IfOk result (λ scalars.
+        scalars.items ≡ inputs_of (world_of_tables []) (map port_view ports.now)) }
+{
+    let mut scalars = Vec::with_capacity(alloc, ports.len())?;
+    for port in ports {
+        scalars.push(scalar_as(port.sort, Scalar::Bool(false)))?;
+    }
+    Ok(scalars)
+}
+
+// The table of a symbol that has none.
+fn blank_table(alloc: Global) -> Table
+    ensures { result ≡ no_table }
+{
+    Table {
+        default: Scalar::Bool(false),
+        rows: Rows::new(alloc),
+    }
+}
+
+// Gives a symbol its table.
+fn place(
+    alloc: Global,
+    design: &Design,
+    classes: usize,
+    case: &mut Building,
+    table: SymTable,
+) -> Result<(), AllocError>
+    requires { (w : World) × IsBuilt (design_view design.now) classes w
+        case.old.interp.items case.old.state.items case.old.inputs.items }
+    ensures { OnOk result ((w : World) →
+        IsBuilt (design_view design.now) classes w
+        case.old.interp.items case.old.state.items case.old.inputs.items →
+        IsBuilt (design_view design.now) classes (with_table w table.sym table.table)
+        case.new.interp.items case.new.state.items case.new.inputs.items) }
+{
+    let SymTable { sym, table } = table;
+    match sym {
+        Sym::Function(f) => {
+            let symbols = design.symbols.as_slice();
+            place_function(alloc, &mut case.interp, symbols, classes, f as usize, table)
+        }
+        Sym::Entry(i) => {
+            let entries = design.pipe.entries.as_slice();
+            place_entry(alloc, &mut case.state, entries, i as usize, &table)
+        }
+        Sym::Input(i) => {
+            let ports = design.pipe.ports.as_slice();
+            place_input(&mut case.inputs, ports, i as usize, table.default);
+            Ok(())
+        }
+        Sym::Address(_) | Sym::Var(_) => Ok(()),
+    }
+}
+
+fn place_function(
+    alloc: Global,
+    interp: &mut Vec<Table>,
+    symbols: &[Symbol],
+    classes: usize,
+    f: usize,
+    table: Table,
+) -> Result<(), AllocError>
+    requires { length interp.old.items ≡ length symbols.now }
+    ensures there { OnOk result ((y : TheSymbol) → slice_get symbols.now f ≡ Some y →
+        interp.new.items ≡ slice_set interp.old.items f (function_table classes f y table)) }
+    ensures other { OnOk result (length symbols.now ≤ f → interp.new.items ≡ interp.old.items) }
+{
+    if f < symbols.len() {
+        interp[f] = function_table(alloc, classes, f, &symbols[f], table)?;
+    }
+    Ok(())
+}
+
+fn place_entry(
+    alloc: Global,
+    state: &mut Vec<Value>,
+    entries: &[Entry],
+    i: usize,
+    table: &Table,
+) -> Result<(), AllocError>
+    requires { length state.old.items ≡ length entries.now }
+    ensures there { OnOk result ((x : TheEntry) → slice_get entries.now i ≡ Some x →
+        state.new.items ≡ slice_set state.old.items i (entry_value x.sort table.now)) }
+    ensures other { OnOk result (length entries.now ≤ i → state.new.items ≡ state.old.items) }
+{
+    if i < entries.len() {
+        state[i] = entry_value(alloc, entries[i].sort, table)?;
+    }
+    Ok(())
+}
+
+fn place_input(inputs: &mut Vec<Scalar>, ports: &[Port], i: usize, value: Scalar)
+    requires { length inputs.old.items ≡ length ports.now }
+    ensures there { (p : ThePort) → slice_get ports.now i ≡ Some p →
+        inputs.new.items ≡ slice_set inputs.old.items i (scalar_as p.sort value) }
+    ensures other { length ports.now ≤ i → inputs.new.items ≡ inputs.old.items }
+{
+    if i < ports.len() {
+        inputs[i] = scalar_as(ports[i].sort, value);
+    }
+}
+
+// A function's table. A constant has no rows, and one without a variable a number of its own.
+fn function_table(
+    alloc: Global,
+    classes: usize,
+    f: usize,
+    symbol: &Symbol,
+    table: Table,
+) -> Result<Table, AllocError>
+    ensures { IfOk result (λ t. t ≡ function_table classes f symbol.now table) }
+{
+    let Table { default, rows } = table;
+    let default = if rows.is_empty() && symbol.arity == 0 && !symbol.predicate {
+        Scalar::Word(constant_number(classes, f)?)
+    } else {
+        scalar_as(result_sort(symbol), default)
+    };
+    let rows = if symbol.arity == 0 {
+        Rows::new(alloc)
+    } else {
+        rows
+    };
+    Ok(Table { default, rows })
+}
+
+fn constant_number(classes: usize, f: usize) -> Result<u64, AllocError>
+    ensures { IfOk result (λ number. number ≡ classes + 2 * f + 1) }
+{
+    let number = own_number(classes, f as u64)?;
+    number.checked_add(1).ok_or(AllocError)
+}
+
+fn result_sort(symbol: &Symbol) -> Sort
+    ensures { result ≡ result_sort symbol.now }
+{
+    if symbol.predicate {
+        Sort::Bool
+    } else {
+        Sort::Word
+    }
+}
+
+// What an entry first holds: a memory has a row for each row of its table.
+fn entry_value(alloc: Global, sort: Sort, table: &Table) -> Result<Value, AllocError>
+    ensures { IfOk result (λ v. v ≡ entry_value sort table.now) }
+{
+    match sort {
+        Sort::Memory => {
+            let mut slots = Vec::with_capacity(alloc, table.rows.len())?;
+            for row in table.rows.as_slice() {
+                slots.push(slot_of(row))?;
+            }
+            Ok(Value::Memory(Memory {
+                default: word_of(table.default),
+                rows: Slots::from_vec(slots),
+            }))
+        }
+        _ => Ok(Value::Scalar(scalar_as(sort, table.default))),
+    }
+}
+
+fn slot_of(row: &Row) -> Slot
+    ensures { result ≡ slot_of row.now }
+{
+    Slot {
+        address: row.args.as_slice().first().copied().unwrap_or(0),
+        value: word_of(row.value),
+    }
+}
+
+// The scalar as one of the sort.
+fn scalar_as(sort: Sort, scalar: Scalar) -> Scalar
+    ensures { result ≡ scalar_as sort scalar }
+{
+    match sort {
+        Sort::Word => Scalar::Word(word_of(scalar)),
+        _ => Scalar::Bool(truth_of(scalar)),
+    }
+}
+
+fn truth_of(scalar: Scalar) -> bool
+    ensures { result ≡ scalar_truth scalar }
+{
+    match scalar {
+        Scalar::Bool(truth) => truth,
+        Scalar::Word(_) => false,
+    }
+}
+
+fn word_of(scalar: Scalar) -> u64
+    ensures { result ≡ scalar_word scalar }
+{
+    match scalar {
+        Scalar::Bool(_) => 0,
+        Scalar::Word(word) => word,
+    }
+}
