@@ -108,7 +108,8 @@ pub fn push_table(
 /// The entry of a latch or a memory.
 pub fn push_value(out: &mut Vec<u8>, entry: &Entry, value: &Value) -> Result<(), AllocError>
     ensures text { OnOk result (out.new.items ≡ out.old.items
-        ++ written (entry_node (entry_kind entry.now).head entry.now.name (table_of_value value.now))) }
+        ++ written (entry_node (entry_kind entry.now).head entry.now.name
+        (table_of_value value.now))) }
     ensures short { OnOk result (IsShortTable (table_of_value value.now)) }
 {
     let head = Kind::of_entry(entry.sort).head;

@@ -78,7 +78,8 @@ struct File<'a> {
 
 impl<'a> File<'a> {
     fn of(trees: &'a Trees) -> Result<File<'a>, FormFault>
-        ensures { Gives (λ file. (file.offset, (file.version, nodes_of_all file.entries.now))) result
+        ensures { Gives (λ file. (file.offset, (file.version, nodes_of_all file.entries.now)))
+            result
             (file_form (nodes_of trees.now)) }
     {
         let Some((tree, further)) = trees.as_slice().split_first() else {

@@ -151,7 +151,8 @@ fn group_vertices(
     constants: &Constants,
     group: &Places,
 ) -> Result<Vec<u64>, AllocError>
-    ensures { IfOk result (λ v. (x : ℕ) → Contains v.items x ↔ HasVariable constants.now group.now x) }
+    ensures { IfOk result (λ v. (x : ℕ) → Contains v.items x ↔ HasVariable constants.now group.now
+        x) }
 {
     let mut vertices = Vec::new(alloc);
     for function in group.as_slice() {

@@ -41,11 +41,13 @@ pub fn encode(
     ensures denotes { IfOk result (λ e.
         Encodes flat.now.graph flat.now.root (option_copied marked.entry) e.prop e.root) }
     ensures by_edges { IfOk result (λ e.
-        EncodesByEdges flat.now.graph flat.now.root (option_copied marked.entry) e.edges e.prop e.root) }
+        EncodesByEdges flat.now.graph flat.now.root (option_copied marked.entry) e.edges e.prop
+        e.root) }
     ensures simple { IfOk result (λ e. AreEdges e.edges) }
     ensures edges { IfOk result (λ e. (edge : TheEdge) → Contains e.edges edge
         ↔ (ReachesEdge e.prop e.root edge ⊎ Contains e.apart edge)) }
-    ensures vertices { IfOk result (λ e. All (IsEdge flat.now.graph (option_copied marked.entry)) e.edges) }
+    ensures vertices { IfOk result (λ e. All (IsEdge flat.now.graph (option_copied marked.entry))
+        e.edges) }
     ensures apart { IfOk result (λ e. (edge : TheEdge) → Contains e.apart edge
         ↔ IsApart flat.now.graph flat.now.syms distinct.now (option_copied marked.entry) edge) }
     ensures apart_simple { IfOk result (λ e. AreEdges e.apart) }

@@ -65,7 +65,8 @@ impl Encoding {
         requires asked { AreAsked flat.now.graph flat.now.root 0 partners.now }
         requires encoding { IsEncoding flat.now.graph flat.now.root (option_copied marked)
             partners.now self.old }
-        ensures { IfOk result (λ node. Follows flat.now.graph flat.now.root (option_copied marked.entry)
+        ensures { IfOk result (λ node. Follows flat.now.graph flat.now.root
+            (option_copied marked.entry)
             partners.now self.old self.new node) }
     {
         if !marks.has(id) {
@@ -94,7 +95,8 @@ impl Encoding {
         requires asked { AreAsked flat.now.graph flat.now.root 0 partners.now }
         requires encoding { IsEncoding flat.now.graph flat.now.root (option_copied marked)
             partners.now self.old }
-        ensures { IfOk result (λ node. Adds flat.now.graph flat.now.root (option_copied marked.entry)
+        ensures { IfOk result (λ node. Adds flat.now.graph flat.now.root
+            (option_copied marked.entry)
             partners.now self.old self.new node (holds flat.now.graph id)) }
     {
         match flat.graph.node(id) {
@@ -136,7 +138,8 @@ impl Encoding {
         requires before { IsBefore flat.now.graph a b (length self.old.truths.items) }
         requires encoding { IsEncoding flat.now.graph flat.now.root (option_copied marked)
             partners.now self.old }
-        ensures { IfOk result (λ node. Adds flat.now.graph flat.now.root (option_copied marked.entry)
+        ensures { IfOk result (λ node. Adds flat.now.graph flat.now.root
+            (option_copied marked.entry)
             partners.now self.old self.new node (equal flat.now.graph a b)) }
     {
         match split(&flat.graph, a, b) {

@@ -41,7 +41,8 @@ impl Equations {
     /// Keeps the node of an equation.
     pub(crate) fn keep(&mut self, equation: Equation, node: usize) -> Result<(), AllocError>
         ensures { OnOk result ((i o : ℕ) → known self.new i o
-            ≡ (if is_equation equation.ite equation.other i o then Some node else known self.old i o)) }
+            ≡ (if is_equation equation.ite equation.other i o then Some node
+            else known self.old i o)) }
     {
         self.nodes.insert(equation, node)?;
         Ok(())

@@ -25,7 +25,8 @@ pub(crate) fn has_mark(marked: Option<&Marked>, variable: u64) -> bool
 
 /// Whether one of the two variables is marked.
 fn has_either_mark(marked: Option<&Marked>, a: u64, b: u64) -> bool
-    ensures { result ≡ (has_mark (option_copied marked.entry) a || has_mark (option_copied marked.entry) b) }
+    ensures { result ≡ (has_mark (option_copied marked.entry) a
+        || has_mark (option_copied marked.entry) b) }
 {
     has_mark(marked, a) || has_mark(marked, b)
 }
@@ -62,7 +63,8 @@ pub(crate) fn leaf(
     requires first { HasSort flat.now.graph a sort.Word }
     requires second { HasSort flat.now.graph b sort.Word }
     requires whole { split flat.now.graph a b ≡ None }
-    ensures { IfOk result (λ id. Gives flat.now.graph (option_copied marked.entry) prop.old prop.new id
+    ensures { IfOk result (λ id. Gives flat.now.graph (option_copied marked.entry) prop.old
+        prop.new id
         (equal flat.now.graph a b)) }
 {
     if a == b {

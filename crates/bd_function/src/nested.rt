@@ -40,7 +40,8 @@ pub(crate) fn nested(
 ) -> Result<Id, AllocError>
     requires arguments { All (λ a. HasSort graph.old a sort.Word) args.now }
     requires own { own < length graph.old }
-    requires rows { AreEarlier graph.old variables.now (length args.now) (sort_at graph.old own) rows.now }
+    requires rows { AreEarlier graph.old variables.now (length args.now) (sort_at graph.old own)
+        rows.now }
     ensures denotes { IfOk result (λ id. Denotes graph.new id (λ w.
         chosen w graph.old variables.now rows.now args.now (denoted w graph.old own))) }
     ensures sorted { IfOk result (λ id. HasSort graph.new id (sort_at graph.old own)) }
