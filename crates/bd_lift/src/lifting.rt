@@ -16,9 +16,9 @@ use bd_prop::AtomValues;
 use bd_transitive::{Order, classes};
 use std::alloc::{AllocError, Global};
 
-/// A case in whose world each symbol has the table of the values that the atoms stand for: a word variable has the class
-/// of its vertex, one in no edge a number of its own, and a truth variable its atom's value. A number past 64 bits ends
-/// as want of memory.
+/// A case in whose world each symbol has the table of the values that the atoms stand for: a word variable has the
+/// class of its vertex, one in no edge a number of its own, and a truth variable its atom's value. A number past 64
+/// bits ends as want of memory.
 pub fn lift(
     alloc: Global,
     design: &Design,
