@@ -5,12 +5,12 @@ use Rattle.std.proofs.lemmas.Option.{none-some, same_Some, slice_get_within}
 use Rattle.bd_model.specs.declared.design.Sort.TheVariants as sort
 use Rattle.bd_terms.specs.declared.node.Node.{Node}
 use Rattle.bd_terms.specs.declared.node.Node.TheVariants.{Ite, Eq}
-use Rattle.bd_terms.specs.Graph.{HasSort, IsGraph, sort_at}
-use Rattle.bd_terms.specs.Reaches.{Reaches, Root, Child}
+use Rattle.bd_terms.specs.Graph.{IsGraph, sort_at}
+use Rattle.bd_terms.specs.Reaches.{Reaches, Child}
 use Rattle.bd_terms.proofs.Graphs.{FitsSorts-get, sort_at-get}
 use Rattle.bd_terms.proofs.Reaching.{children-below}
 use Rattle.bd_equality.specs.declared.split.Equation.{Equation}
-use Rattle.bd_equality.specs.inner.Split.{AreAsked, Asks, IsAsked, IsBefore, IsPair, IsWord, equation, partners_of, split}
+use Rattle.bd_equality.specs.inner.Split.{AreAsked, Asks, IsAsked, IsBefore, IsWord, equation, partners_of, split}
 use Rattle.bd_equality.proofs.Flats.{first, second, third}
 use Rattle.bd_equality.proofs.Splits.{split_before, split_below, split_pair}
 

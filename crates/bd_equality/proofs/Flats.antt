@@ -1,8 +1,7 @@
 -- Formulas without functions: no term is a memory, and each word is an ite or a variable.
-use Rattle.std.proofs.Common.{◌≡◌, ℕ, zero, suc, ◌<◌, ◌==◌, ◌&&◌, ◌||◌, not, if◌then◌else◌, Bool, true, false, List, [], ◌∷◌, length, slice_get, slice_index_or, map, Some, Contains, refl, ap, sym, ◌∙◌, subst, arith}
+use Rattle.std.proofs.Common.{◌≡◌, ℕ, zero, suc, ◌<◌, if◌then◌else◌, Bool, true, false, List, [], ◌∷◌, length, slice_get, slice_index_or, Some, Contains, refl, ap, sym, ◌∙◌, subst, arith}
 use Rattle.std.proofs.lemmas.Bool.{false≢true}
-use Rattle.std.proofs.lemmas.Option.{same_Some, slice_get-get_or, slice_get_within}
-use Rattle.bd_model.specs.declared.design.Sort.{Sort}
+use Rattle.std.proofs.lemmas.Option.{slice_get-get_or}
 use Rattle.bd_model.specs.declared.design.Sort.TheVariants as sort
 use Rattle.bd_model.specs.declared.table.Scalar.{Scalar}
 use Rattle.bd_model.specs.Value.{scalar_truth, scalar_word}
@@ -10,8 +9,8 @@ use Rattle.bd_terms.specs.declared.node.Sym.{Sym}
 use Rattle.bd_terms.specs.declared.node.Sym.TheVariants.{Var, Function, Entry, Input, Address}
 use Rattle.bd_terms.specs.declared.node.Node.{Node}
 use Rattle.bd_terms.specs.declared.node.Node.TheVariants.{True, Not, And, Or, Ite, Eq, App, Pred, Read, Write, Init}
-use Rattle.bd_terms.specs.Graph.{FitsSorts, HasSort, IsGraph, children, node_sort, node_uses, sort_at, sorts, uses}
-use Rattle.bd_terms.specs.Denotation.{Denoted, denoted, node_value, truth, truth_of, values, word, word_of}
+use Rattle.bd_terms.specs.Graph.{IsGraph, children, node_sort, sort_at, sorts, uses}
+use Rattle.bd_terms.specs.Denotation.{Denoted, node_value, truth, truth_of, values, word, word_of}
 use Rattle.bd_terms.proofs.Denotations.{denoted-get}
 use Rattle.bd_terms.proofs.Graphs.{FitsSorts-get, sort_at-get}
 use Rattle.bd_terms.proofs.Reaching.{children-below}

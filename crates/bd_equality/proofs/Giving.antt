@@ -1,17 +1,15 @@
 -- Steps of the truth graph: each keeps its atoms, and gives a node that has the value of its connective.
-use Rattle.std.proofs.Common.{◌≡◌, ℕ, ◌<◌, ◌+◌, ◌⊎◌, inl, inr, ◌==◌, ◌&&◌, ◌||◌, not, cond, if◌then◌else◌, Bool, true, false, List, [], ◌∷◌, ◌++◌, Option, Some, length, slice_get, refl, ap, sym, ◌∙◌, subst, arith, append_assoc, length-append}
-use Rattle.std.proofs.lemmas.Bool.{false≢true, true≢false}
+use Rattle.std.proofs.Common.{◌≡◌, ℕ, ◌<◌, inl, inr, ◌==◌, ◌||◌, Bool, true, false, List, [], ◌∷◌, ◌++◌, Option, length, refl, ap, sym, ◌∙◌, subst, arith, append_assoc, length-append}
 use Rattle.std.proofs.lemmas.List.{append-nil}
 use Rattle.bd_model.specs.declared.design.Sort.TheVariants as sort
 use Rattle.bd_model.specs.declared.table.Scalar.{Scalar}
 use Rattle.bd_terms.specs.declared.node.Node.{Node}
 use Rattle.bd_terms.proofs.Places.{get-push}
-use Rattle.bd_prop.specs.declared.atom.Atom.{Atom}
 use Rattle.bd_prop.specs.declared.atom.Atom.TheVariants.{Edge as EdgeOf, Truth as TruthOf}
 use Rattle.bd_prop.specs.declared.node.PropNode.{PropNode}
 use Rattle.bd_prop.specs.declared.node.PropNode.TheVariants.{True, Atom as AtomOf, Not, And, Or, Ite}
 use Rattle.bd_prop.specs.Form.{Adds, HasForm, node_at, not_form, and_form, or_form, ite_form, is_true, is_false}
-use Rattle.bd_prop.specs.Graph.{Extends, StandsAt}
+use Rattle.bd_prop.specs.Graph.{Extends}
 use Rattle.bd_prop.specs.Truth.{truth_at}
 use Rattle.bd_prop.proofs.Truths.{truth-extends}
 use Rattle.bd_equality.specs.Encoding.{IsVariable, KeepsMarkedApart, atom_value}

@@ -1,6 +1,6 @@
 -- Equations of variables.
-use Rattle.std.proofs.Common.{◌≡◌, ◌≢◌, ℕ, ◌<◌, ◌≤◌, ◌⊎◌, inl, inr, ◌==◌, ◌||◌, not, min, max, Bool, true, false, List, Option, None, Some, Result, Ok, Err, IfOk, slice_get, refl, ap, sym, ◌∙◌, subst, arith, eq-eqb, eqb-true, length}
-use Rattle.std.proofs.lemmas.Bool.{false≢true, true≢false, or_cases, or_parts, cases_lt}
+use Rattle.std.proofs.Common.{◌≡◌, ◌≢◌, ℕ, ◌<◌, ◌≤◌, inl, inr, ◌==◌, ◌||◌, not, min, max, Bool, true, false, List, Option, Some, Result, Ok, Err, IfOk, slice_get, refl, ap, sym, ◌∙◌, subst, arith, eq-eqb, eqb-true, length}
+use Rattle.std.proofs.lemmas.Bool.{false≢true, true≢false, or_parts, cases_lt}
 use Rattle.bd_model.specs.declared.design.Sort.TheVariants as sort
 use Rattle.bd_model.specs.declared.table.Scalar.{Scalar}
 use Rattle.bd_model.specs.Value.{scalar_word}
@@ -18,11 +18,10 @@ use Rattle.bd_prop.specs.Graph.{Extends, StandsAt}
 use Rattle.bd_prop.specs.Truth.{truth_at}
 use Rattle.bd_equality.specs.Encoding.{IsVariable, KeepsMarkedApart, atom_value, has_mark}
 use Rattle.bd_equality.specs.Edges.{IsEdge}
-use Rattle.bd_equality.specs.inner.Split.{is_ite, node_is_ite, split}
-use Rattle.bd_equality.specs.inner.Means.{Gives, Means, edge, node_variable}
+use Rattle.bd_equality.specs.inner.Split.{is_ite, node_is_ite}
+use Rattle.bd_equality.specs.inner.Means.{Gives, edge, node_variable}
 use Rattle.bd_equality.specs.inner.Steps.{equal}
 use Rattle.bd_equality.proofs.Flats.{word_is}
-use Rattle.bd_equality.proofs.Splits.{split_none}
 use Rattle.bd_equality.proofs.Giving.{Extends-trans, Gives-adds, adds_not, atoms-adds}
 
 -- a word that is this variable

@@ -1,5 +1,5 @@
 -- The edges of the atoms that the root reaches.
-use Rattle.std.proofs.Common.{◌≡◌, ℕ, ◌+◌, ◌<◌, ◌≤◌, ◌⊎◌, ◌↔◌, inl, inr, Bool, true, false, List, [], ◌∷◌, Some, Contains, IsTrue, slice_get, slice_index_or, length, ap, sym, ◌∙◌, subst, arith}
+use Rattle.std.proofs.Common.{◌≡◌, ℕ, ◌+◌, ◌<◌, ◌≤◌, ◌⊎◌, ◌↔◌, inl, inr, Bool, true, List, Some, Contains, slice_get, length, ap, sym, ◌∙◌, subst, arith}
 use Rattle.std.proofs.lemmas.Option.{same_Some, slice_get_within}
 use Rattle.bd_prop.specs.declared.atom.Atom.TheVariants.{Edge as EdgeOf}
 use Rattle.bd_prop.specs.declared.node.PropNode.{PropNode}

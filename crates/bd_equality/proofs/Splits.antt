@@ -1,10 +1,10 @@
 -- How an equation is taken apart.
-use Rattle.std.proofs.Common.{◌≡◌, ℕ, ◌<◌, ◌≤◌, ◌⊎◌, inl, inr, ◌==◌, ◌&&◌, ◌||◌, not, if◌then◌else◌, nat_lt, Bool, true, false, List, Option, None, Some, refl, ap, sym, ◌∙◌, subst, arith, ltb-true, ltb-false, eq-eqb, eqb-true, slice_get, length, Contains, []}
-use Rattle.std.proofs.lemmas.Bool.{false≢true, true≢false, cases_Bool}
+use Rattle.std.proofs.Common.{◌≡◌, ℕ, ◌<◌, ◌≤◌, ◌⊎◌, inl, inr, ◌==◌, ◌&&◌, ◌||◌, not, if◌then◌else◌, nat_lt, Bool, true, false, List, None, Some, refl, ap, sym, ◌∙◌, subst, arith, ltb-true, ltb-false, eq-eqb}
+use Rattle.std.proofs.lemmas.Bool.{true≢false}
 use Rattle.std.proofs.lemmas.Option.{none-some, same_Some}
 use Rattle.bd_terms.specs.declared.node.Node.{Node}
 use Rattle.bd_equality.specs.declared.split.Equation.{Equation}
-use Rattle.bd_equality.specs.inner.Split.{IsAsked, IsBefore, IsPair, IsWord, equation, is_ite, split}
+use Rattle.bd_equality.specs.inner.Split.{IsBefore, IsPair, IsWord, equation, is_ite, split}
 
 -- the equation is one of the two, its ite is one, and its other word is none or stands before it
 pub record IsSplit (nodes : List Node) (a b : ℕ) (e : Equation) : Type 0 where

@@ -1,31 +1,25 @@
 -- What is encoded stays when the truth graph grows, and each step adds to it.
-use Rattle.std.proofs.Common.{◌≡◌, ◌≢◌, ℕ, ◌+◌, ◌<◌, ◌≤◌, ◌⊎◌, inl, inr, ◌==◌, ◌&&◌, ◌||◌, not, cond, if◌then◌else◌, Bool, true, false, List, [], ◌∷◌, ◌++◌, Option, None, Some, Result, Ok, Err, IfOk, length, slice_get, slice_index_or, unwrap_or, Contains, refl, ap, sym, ◌∙◌, subst, arith, eq-eqb, eqb-true, length-append}
-use Rattle.std.proofs.lemmas.Bool.{false≢true, true≢false, and_parts, cases_lt}
+use Rattle.std.proofs.Common.{◌≡◌, ℕ, ◌+◌, ◌<◌, ◌⊎◌, inl, inr, ◌==◌, ◌&&◌, if◌then◌else◌, Bool, true, false, List, [], ◌∷◌, ◌++◌, Option, Some, Result, Ok, Err, IfOk, length, slice_get, unwrap_or, Contains, refl, ap, sym, ◌∙◌, subst, arith, eq-eqb, eqb-true, length-append}
+use Rattle.std.proofs.lemmas.Bool.{true≢false, and_parts, cases_lt}
 use Rattle.std.proofs.lemmas.List.{get_or_append_left}
-use Rattle.std.proofs.lemmas.Option.{none-some, same_Some, slice_get_within}
+use Rattle.std.proofs.lemmas.Option.{none-some, same_Some}
 use Rattle.std.proofs.Math.Seq.{get_or-append_seam}
-use Rattle.bd_model.specs.declared.design.Sort.{Sort}
-use Rattle.bd_model.specs.declared.design.Sort.TheVariants as sort
 use Rattle.bd_model.specs.declared.table.Scalar.{Scalar}
-use Rattle.bd_terms.specs.declared.node.Sym.{Sym}
 use Rattle.bd_terms.specs.declared.node.Node.{Node}
-use Rattle.bd_terms.specs.declared.node.Node.TheVariants.{True, Not, And, Or, Ite, Eq, App, Pred, Read, Write, Init}
-use Rattle.bd_terms.specs.Graph.{HasSort, IsGraph, children, sort_at}
+use Rattle.bd_terms.specs.declared.node.Node.TheVariants.{Ite}
+use Rattle.bd_terms.specs.Graph.{IsGraph, sort_at}
 use Rattle.bd_terms.specs.Reaches.{Reaches, Child}
 use Rattle.bd_terms.specs.Denotation.{truth, word}
-use Rattle.bd_terms.proofs.Graphs.{FitsSorts-get, sort_at-get}
+use Rattle.bd_terms.proofs.Graphs.{FitsSorts-get}
 use Rattle.bd_terms.proofs.Reaching.{children-below}
-use Rattle.bd_function.specs.declared.flat.FlatSym.{FlatSym}
-use Rattle.bd_function.specs.Flat.{IsFlat, under}
-use Rattle.bd_prop.specs.declared.atom.Atom.{Atom}
+use Rattle.bd_function.specs.Flat.{under}
 use Rattle.bd_prop.specs.declared.node.PropNode.{PropNode}
-use Rattle.bd_prop.specs.Form.{HasForm}
 use Rattle.bd_prop.specs.Graph.{Extends}
 use Rattle.bd_prop.specs.Truth.{truth_at}
 use Rattle.bd_equality.specs.declared.encoding.Encoding.{Encoding}
 use Rattle.bd_equality.specs.declared.split.Equation.{Equation}
-use Rattle.bd_equality.specs.Encoding.{KeepsMarkedApart, atom_value}
-use Rattle.bd_equality.specs.inner.Split.{AreAsked, IsAsked, IsBefore, IsWord, equation, partners_of, split}
+use Rattle.bd_equality.specs.Encoding.{atom_value}
+use Rattle.bd_equality.specs.inner.Split.{IsAsked, IsBefore, equation, partners_of, split}
 use Rattle.bd_equality.specs.inner.Means.{Gives, HasAtoms, Means}
 use Rattle.bd_equality.specs.inner.Sets.{is_equation, known}
 use Rattle.bd_equality.specs.inner.Steps.{Adds, Follows, IsEncoding, IsKnown, Settles, equal, holds, truth_id}

@@ -1,19 +1,16 @@
 -- The node of a truth value has the value of its connective over its parts.
-use Rattle.std.proofs.Common.{◌≡◌, ℕ, ◌<◌, ◌&&◌, ◌||◌, not, if◌then◌else◌, Bool, true, List, [], ◌∷◌, Option, Some, Result, Ok, Err, IfOk, length, slice_get, Contains, refl, ap, sym, ◌∙◌, subst, arith}
-use Rattle.bd_model.specs.declared.design.Sort.{Sort}
+use Rattle.std.proofs.Common.{◌≡◌, ℕ, ◌<◌, ◌&&◌, ◌||◌, not, if◌then◌else◌, Bool, true, List, Option, Some, Result, Ok, Err, IfOk, length, slice_get, Contains, refl, ap, sym, ◌∙◌, subst, arith}
 use Rattle.bd_model.specs.declared.design.Sort.TheVariants as sort
-use Rattle.bd_model.specs.declared.table.Scalar.{Scalar}
 use Rattle.bd_model.specs.Value.{scalar_truth}
 use Rattle.bd_terms.specs.declared.node.Sym.{Sym}
 use Rattle.bd_terms.specs.declared.node.Node.{Node}
 use Rattle.bd_terms.specs.declared.node.Node.TheVariants.{True, Not, And, Or, Ite, Eq, App, Pred, Read, Write, Init}
 use Rattle.bd_terms.specs.Graph.{IsGraph, children, sort_at}
 use Rattle.bd_terms.specs.Reaches.{Reaches, Child}
-use Rattle.bd_terms.specs.Denotation.{truth, word}
-use Rattle.bd_terms.proofs.Graphs.{FitsSorts-get, sort_at-get}
+use Rattle.bd_terms.proofs.Graphs.{sort_at-get}
 use Rattle.bd_terms.proofs.Reaching.{children-below}
 use Rattle.bd_function.specs.declared.flat.FlatSym.{FlatSym}
-use Rattle.bd_function.specs.Flat.{IsFlat, under}
+use Rattle.bd_function.specs.Flat.{IsFlat}
 use Rattle.bd_prop.specs.declared.atom.Atom.{Atom}
 use Rattle.bd_prop.specs.declared.atom.Atom.TheVariants.{Truth as TruthOf}
 use Rattle.bd_prop.specs.declared.node.PropNode.{PropNode}
@@ -24,8 +21,8 @@ use Rattle.bd_prop.specs.Truth.{truth_at}
 use Rattle.bd_equality.specs.declared.encoding.Encoding.{Encoding}
 use Rattle.bd_equality.specs.Encoding.{IsVariable, atom_value}
 use Rattle.bd_equality.specs.inner.Means.{Gives, Means, symbol_variable}
-use Rattle.bd_equality.specs.inner.Steps.{IsEncoding, equal, holds, truth_id}
-use Rattle.bd_equality.proofs.Flats.{first, second, third, no_read, pred_is, truth_is, truth_ite}
+use Rattle.bd_equality.specs.inner.Steps.{IsEncoding, holds, truth_id}
+use Rattle.bd_equality.proofs.Flats.{no_read, pred_is, truth_is, truth_ite}
 use Rattle.bd_equality.proofs.Giving.{Gives-adds, adds_and, adds_ite, adds_not, adds_or}
 
 module _ (nodes : List Node) (g : IsGraph nodes) (root : ℕ) (marked : Option (List ℕ)) (partners : List (List ℕ)) (e : Encoding) (h : IsEncoding nodes root marked partners e)

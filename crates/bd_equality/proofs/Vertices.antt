@@ -1,5 +1,5 @@
 -- The vertices of a formula, from its nodes.
-use Rattle.std.proofs.Common.{◌≡◌, ℕ, ◌+◌, ◌<◌, ◌≤◌, ◌⊎◌, ◌↔◌, inl, inr, ◌==◌, Bool, true, false, List, [], ◌∷◌, Option, Some, Contains, IsTrue, slice_get, length, refl, ap, sym, ◌∙◌, subst, arith, eqb-true, eq-eqb, if◌then◌else◌}
+use Rattle.std.proofs.Common.{◌≡◌, ℕ, ◌+◌, ◌<◌, ◌≤◌, ◌⊎◌, ◌↔◌, inl, inr, ◌==◌, Bool, true, false, List, [], Option, Some, IsTrue, slice_get, length, refl, ap, sym, ◌∙◌, subst, arith, eqb-true, eq-eqb, if◌then◌else◌}
 use Rattle.std.proofs.lemmas.Bool.{true≢false, false≢true}
 use Rattle.std.proofs.lemmas.Option.{same_Some, slice_get_within}
 use Rattle.bd_model.specs.declared.design.Sort.TheVariants as sort
@@ -7,7 +7,7 @@ use Rattle.bd_terms.specs.declared.node.Sym.{Sym}
 use Rattle.bd_terms.specs.declared.node.Sym.TheVariants.{Var}
 use Rattle.bd_terms.specs.declared.node.Node.{Node}
 use Rattle.bd_terms.specs.declared.node.Node.TheVariants.{App}
-use Rattle.bd_terms.specs.Graph.{IsGraph, sort_at}
+use Rattle.bd_terms.specs.Graph.{IsGraph}
 use Rattle.bd_terms.proofs.Graphs.{sort_at-get}
 use Rattle.bd_function.specs.declared.flat.FlatSym.{FlatSym}
 use Rattle.bd_function.specs.Flat.{IsFlat}

@@ -1,7 +1,6 @@
 -- What holds of an encoded formula.
-use Rattle.std.proofs.Common.{◌≡◌, ◌≢◌, ℕ, ◌<◌, ◌⊎◌, inl, inr, Bool, List, Option, AllPairs, Contains, slice_index_or, length, sym, ◌∙◌, subst, arith}
+use Rattle.std.proofs.Common.{◌≡◌, ◌≢◌, ℕ, ◌<◌, ◌⊎◌, inl, inr, Bool, List, Option, AllPairs, Contains, slice_index_or, ◌∙◌, arith}
 use Rattle.std.proofs.lemmas.List.Elements.{Contains-get_or}
-use Rattle.bd_model.specs.declared.design.Sort.TheVariants as sort
 use Rattle.bd_model.specs.declared.table.Scalar.{Scalar}
 use Rattle.bd_terms.specs.declared.node.Node.{Node}
 use Rattle.bd_function.specs.declared.flat.FlatSym.{FlatSym}

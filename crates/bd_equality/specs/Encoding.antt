@@ -8,7 +8,7 @@ use Rattle.bd_model.specs.declared.table.Scalar.{Scalar}
 use Rattle.bd_model.specs.Value.{scalar_truth, scalar_word}
 use Rattle.bd_terms.specs.declared.node.Sym.TheVariants.{Var}
 use Rattle.bd_terms.specs.declared.node.Node.{Node}
-use Rattle.bd_terms.specs.Graph.{Use, uses}
+use Rattle.bd_terms.specs.Graph.{uses}
 use Rattle.bd_terms.specs.Denotation.{truth}
 use Rattle.bd_function.specs.Flat.{under}
 use Rattle.bd_function.specs.Values.{is_marked}

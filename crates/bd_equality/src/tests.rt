@@ -300,7 +300,7 @@ fn are_edges(edges: &[Edge], pairs: &[(u64, u64)]) -> bool {
 
 fn compare(rt: &impl Abort, encoded: &Encoded, case: &Case) {
     assert_eq!(rt; encoded.prop.nodes(), case.nodes);
-    assert_eq!(rt; encoded.root + 1, case.nodes.len());
+    assert_eq!(rt; Some(encoded.root), case.nodes.len().checked_sub(1));
     assert!(rt; are_edges(encoded.edges.as_slice(), case.edges));
     assert!(rt; are_edges(encoded.apart.as_slice(), case.apart));
 }

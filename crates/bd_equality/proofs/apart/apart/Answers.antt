@@ -1,4 +1,4 @@
-use Rattle.std.proofs.Common.{◌≡◌, ◌↔◌, ◌⊎◌, [], Contains, slice_index_or, ap, sym, ◌∙◌, subst, arith, option_copied}
+use Rattle.std.proofs.Common.{◌↔◌, ◌⊎◌, [], Contains, sym, ◌∙◌, subst, arith, option_copied}
 use Rattle.std.proofs.lemmas.List.{get_or_default}
 use Rattle.bd_transitive.specs.declared.graph.Edge.{Edge}
 use Rattle.bd_equality.specs.Edges.{IsApart}

@@ -1,4 +1,4 @@
-use Rattle.std.proofs.Common.{◌≡◌, ◌↔◌, ◌+◌, Contains, slice_index_or, ap, sym, ◌∙◌, subst, arith}
+use Rattle.std.proofs.Common.{◌↔◌, ◌+◌, Contains, sym, ◌∙◌, subst, arith}
 use Rattle.bd_equality.specs.inner.Apart.{HasVariable}
 use Rattle.bd_equality.proofs.Groups.{ListsSome, ListsSome-start, ListsSome-more, ListsSome-pass, ListsSome-end}
 use Rattle.bd_equality.proofs.apart.group_vertices.Goals as goal

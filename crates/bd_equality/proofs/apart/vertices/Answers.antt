@@ -1,7 +1,5 @@
-use Rattle.std.proofs.Common.{◌≡◌, ◌+◌, Some, slice_get, ap, sym, ◌∙◌, subst, arith, option_copied}
+use Rattle.std.proofs.Common.{◌+◌, Some, slice_get, ap, sym, ◌∙◌, subst, arith, option_copied}
 use Rattle.std.proofs.lemmas.Bool.{true≢false}
-use Rattle.bd_terms.specs.declared.node.Sym.{Sym}
-use Rattle.bd_terms.specs.declared.node.Node.TheVariants.{App}
 use Rattle.bd_equality.specs.Encoding.{has_mark}
 use Rattle.bd_equality.specs.inner.Means.{node_variable}
 use Rattle.bd_equality.proofs.Vertices.{HasVertices, HasVertices-start, HasVertices-more, HasVertices-pass, HasVertices-end}

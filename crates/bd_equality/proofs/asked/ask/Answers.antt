@@ -1,5 +1,4 @@
-use Rattle.std.proofs.Common.{◌≡◌, ◌<◌, ◌↔◌, ◌⊎◌, [], Contains, length, slice_set, ap, sym, ◌∙◌, subst, arith}
-use Rattle.bd_equality.specs.inner.Split.{partners_of}
+use Rattle.std.proofs.Common.{◌≡◌, ◌↔◌, ◌⊎◌, Contains, length, slice_set, ap, sym, ◌∙◌, subst, arith}
 use Rattle.bd_equality.proofs.Asking.{Asks-some, row_at}
 use Rattle.bd_equality.proofs.Splits.{split_below}
 use Rattle.bd_equality.proofs.asked.ask.Goals as goal

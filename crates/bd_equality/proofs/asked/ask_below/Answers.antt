@@ -1,6 +1,5 @@
-use Rattle.std.proofs.Common.{◌≡◌, ◌∷◌, [], Some, ap, sym, ◌∙◌}
+use Rattle.std.proofs.Common.{Some, ap, ◌∙◌}
 use Rattle.std.proofs.lemmas.Result.{IfOk-weaker}
-use Rattle.bd_terms.specs.declared.node.Node.TheVariants.{Eq}
 use Rattle.bd_equality.specs.inner.Split.{AreAsked, Asks}
 use Rattle.bd_equality.proofs.Asking.{AreAsked-equation, AreAsked-other, eq_words}
 use Rattle.bd_equality.proofs.asked.ask_below.Goals as goal

@@ -1,7 +1,6 @@
-use Rattle.std.proofs.Common.{◌≡◌, ◌<◌, ◌≤◌, length, ap, sym, ◌∙◌, subst, arith}
+use Rattle.std.proofs.Common.{◌<◌, length, ap, sym, ◌∙◌, arith}
 use Rattle.std.proofs.lemmas.Option.{slice_get_within}
 use Rattle.bd_terms.specs.declared.node.Node.TheVariants.{Ite}
-use Rattle.bd_equality.specs.inner.Split.{partners_of}
 use Rattle.bd_equality.proofs.Asking.{AsksBranches-start, AsksBranches-step, AsksBranches-end, next_of, row_at}
 use Rattle.bd_equality.proofs.asked.ask_branches.Goals as goal
 

@@ -1,7 +1,6 @@
-use Rattle.std.proofs.Common.{◌≡◌, ◌≢◌, ◌↔◌, ◌⊎◌, inl, inr, AllPairs, Contains, slice_index_or, sym, subst, option_copied}
+use Rattle.std.proofs.Common.{◌≢◌, ◌↔◌, ◌⊎◌, inl, inr, AllPairs, Contains, slice_index_or, sym, subst, option_copied}
 use Rattle.std.proofs.lemmas.List.Elements.{Contains-get_or}
-use Rattle.bd_transitive.specs.declared.graph.Edge.{Edge}
-use Rattle.bd_equality.specs.Edges.{IsApart, IsEdge, ReachesEdge}
+use Rattle.bd_equality.specs.Edges.{ReachesEdge}
 use Rattle.bd_equality.proofs.Whole.{by_edges_of, edge_of_either, simple_of}
 use Rattle.bd_equality.proofs.encoded.encode.Goals as goal
 

@@ -1,4 +1,4 @@
-use Rattle.std.proofs.Common.{◌≡◌, ◌+◌, ◌<◌, ◌∷◌, [], length, ap, sym, ◌∙◌, subst, arith, refl, length-append, option_copied}
+use Rattle.std.proofs.Common.{◌<◌, ◌∷◌, [], length, ap, sym, subst, arith, refl, length-append, option_copied}
 use Rattle.bd_terms.specs.Reaches.{Root}
 use Rattle.bd_equality.specs.inner.Means.{Means}
 use Rattle.bd_equality.specs.inner.Steps.{Follows, holds}

@@ -1,4 +1,4 @@
-use Rattle.std.proofs.Common.{◌≡◌, ◌↔◌, ◌⊎◌, true, false, slice_index_or, Contains, sym, ◌∙◌, ap, subst, arith}
+use Rattle.std.proofs.Common.{◌≡◌, ◌↔◌, ◌⊎◌, true, false, slice_index_or, Contains, sym, subst, arith}
 use Rattle.std.proofs.lemmas.Option.{slice_get-get_or}
 use Rattle.bd_prop.specs.declared.node.PropNode.TheVariants.{True}
 use Rattle.bd_prop.specs.Graph.{Reaches}

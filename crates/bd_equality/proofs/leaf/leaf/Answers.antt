@@ -1,7 +1,5 @@
-use Rattle.std.proofs.Common.{◌≡◌, ◌==◌, false, sym, ◌∙◌, eqb-true, option_copied}
-use Rattle.bd_equality.specs.inner.Means.{node_variable}
-use Rattle.bd_equality.specs.inner.Split.{is_ite}
-use Rattle.bd_equality.proofs.Leaves.{IsLeaf, leaf_of, Gives-itself, Gives-variable, Gives-marked, Gives-edge}
+use Rattle.std.proofs.Common.{sym, ◌∙◌, eqb-true, option_copied}
+use Rattle.bd_equality.proofs.Leaves.{leaf_of, Gives-itself, Gives-variable, Gives-marked, Gives-edge}
 use Rattle.bd_equality.proofs.Splits.{split_none}
 use Rattle.bd_equality.proofs.leaf.leaf.Goals as goal
 

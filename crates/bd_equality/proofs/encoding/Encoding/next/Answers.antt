@@ -1,6 +1,6 @@
 use Rattle.std.proofs.Common.{sym, ◌∙◌, option_copied}
 use Rattle.std.proofs.lemmas.Bool.{true≢false}
-use Rattle.bd_equality.proofs.Following.{Follows-unreached, Follows-truth, Follows-word}
+use Rattle.bd_equality.proofs.Following.{Follows-unreached, Follows-truth}
 use Rattle.bd_equality.proofs.encoding.Encoding.next.Goals as goal
 
 pub returns-then-not-has : goal.returns-then-not-has

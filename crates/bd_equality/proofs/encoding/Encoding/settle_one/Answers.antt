@@ -1,7 +1,7 @@
-use Rattle.std.proofs.Common.{◌≡◌, ◌<◌, ◌≤◌, ◌∷◌, [], Some, ℕ, length, refl, ap, sym, ◌∙◌, subst, arith, option_copied, if◌then◌else◌}
+use Rattle.std.proofs.Common.{◌≡◌, ◌<◌, ◌∷◌, [], Some, ℕ, length, ap, sym, ◌∙◌, subst, arith, option_copied, if◌then◌else◌}
 use Rattle.bd_terms.specs.declared.node.Node.TheVariants.{Ite}
 use Rattle.bd_terms.proofs.Reaching.{children-below}
-use Rattle.bd_equality.specs.inner.Split.{IsAsked, IsBefore, IsPair, IsWord}
+use Rattle.bd_equality.specs.inner.Split.{IsBefore}
 use Rattle.bd_equality.proofs.Asking.{ite_words}
 use Rattle.bd_equality.proofs.Flats.{first, second, third}
 use Rattle.bd_equality.proofs.Splits.{split_before}

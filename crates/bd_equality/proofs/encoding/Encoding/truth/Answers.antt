@@ -1,9 +1,7 @@
-use Rattle.std.proofs.Common.{◌≡◌, ◌<◌, ◌≤◌, ◌∷◌, [], Some, Contains, length, refl, ap, sym, ◌∙◌, subst, arith, option_copied}
-use Rattle.bd_terms.specs.declared.node.Node.TheVariants.{Not, And, Or, Ite, Eq, Pred}
-use Rattle.bd_terms.specs.Graph.{sort_at}
+use Rattle.std.proofs.Common.{◌∷◌, [], Some, length, ap, sym, ◌∙◌, arith, option_copied}
+use Rattle.bd_terms.specs.declared.node.Node.TheVariants.{Not, And, Or, Ite, Eq}
 use Rattle.bd_terms.proofs.Graphs.{FitsSorts-get, sort_at-get}
 use Rattle.bd_equality.specs.inner.Steps.{holds, equal}
-use Rattle.bd_equality.specs.inner.Split.{IsBefore}
 use Rattle.bd_equality.proofs.Asking.{eq_words}
 use Rattle.bd_equality.proofs.Flats.{first, second, third, truth_is}
 use Rattle.bd_equality.proofs.Splits.{split_below}

@@ -1,0 +1,309 @@
+-- Two visible states are equal entry by entry, each memory at an address of its own.
+use Rattle.std.proofs.Common.{◌≡◌, ℕ, zero, suc, ◌+◌, ◌*◌, ◌<◌, ◌≤◌, inl, inr, Bool, true, false, ◌&&◌, ◌==◌, if◌then◌else◌, List, [], ◌∷◌, drop, length, Ok, refl, ap, sym, ◌∙◌, subst, arith, eqb-true, eq-eqb}
+use Rattle.std.specs.Prelude.{◌↔◌, IsTrue, IfOk, Result, Err, Some, Contains, count_by, not, slice_get, slice_index_or}
+use Rattle.std.specs.declared.alloc.AllocError.{AllocError}
+use Rattle.std.proofs.lemmas.Result.{IfOk-weaker}
+use Rattle.std.specs.List.{AllZip}
+use Rattle.std.specs.Cmp.{booleans_Decides}
+use Rattle.std.proofs.lemmas.List.{drop_all, length-map}
+use Rattle.std.proofs.lemmas.List.Sums.{count_by-le-length, sum_by-cons}
+use Rattle.std.proofs.lemmas.Option.{slice_get-map}
+use Rattle.std.specs.Option.{option_map}
+use Rattle.std.proofs.lemmas.Nat.{mul-add-lt}
+use Rattle.std.proofs.lemmas.Bool.Decides.{Decides-and}
+use Rattle.std.proofs.Math.Nat.{mul-le-mul}
+use Rattle.bd_model.specs.Table.{read}
+use Rattle.bd_model.specs.DesignView.{DesignView}
+use Rattle.bd_model.specs.Fits.{Fits, value_sort}
+use Rattle.bd_model.specs.Lawful.{IsLawful, entry_sorts}
+use Rattle.bd_model.specs.declared.case.Case.{Case}
+use Rattle.bd_model.specs.declared.design.Sort.{Sort}
+use Rattle.bd_model.specs.declared.design.Sort.TheVariants as sort
+use Rattle.bd_model.specs.declared.design.Entry as entry
+use Rattle.bd_model.specs.declared.table.Scalar.{Scalar}
+use Rattle.bd_model.specs.declared.table.Scalar.TheVariants as scalar
+use Rattle.bd_model.specs.declared.table.Value.{Value}
+use Rattle.bd_model.specs.declared.table.Value.TheVariants as value
+use Rattle.bd_terms.specs.declared.node.Sym.TheVariants as symbol
+use Rattle.bd_terms.specs.declared.node.Node.{Node}
+use Rattle.bd_terms.specs.Graph.{AddsUses, Extends, IsGraph, Use, sort_at}
+use Rattle.bd_terms.specs.Graph.{HasSort as TermHasSort}
+use Rattle.bd_terms.specs.Denotation.{World, Denoted, Denotes, Truth, Word, applied, contents, contents_of, denoted, denoted_sort, truth, truth_of, word, word_of}
+use Rattle.bd_terms.proofs.Growth.{AddsUses-more, AddsUses-trans, Extends-trans, HasSort-Extends, denoted-Extends}
+use Rattle.bd_symbolic.proofs.Arms.{IfOk-sort, iff_ites}
+use Rattle.bd_terms.proofs.Simplifying.{denoted-sort}
+use Rattle.bd_symbolic.specs.World.{denotes_value}
+use Rattle.bd_symbolic.specs.Symbolic.{DenoteValues, HaveSorts}
+use Rattle.bd_goal.specs.Symbols.{GrowsKnown, IsKnown, KeepsAddresses, address_use}
+use Rattle.bd_goal.specs.Formula.{EqualAt, EqualFrom, is_memory, memory_count}
+use Rattle.bd_goal.specs.Claims.{Claims, case_world}
+use Rattle.bd_goal.specs.inner.Shown.{EqualTerms, ShowsValues, address_uses, are_equal}
+use Rattle.bd_goal.proofs.Counting.{memories_in}
+use Rattle.bd_goal.proofs.Lists.{drop-there, zip-length, zip-there}
+use Rattle.bd_goal.proofs.Known.{Known-by, Known-none, Known-trans, KeepsAddresses-Known}
+use Rattle.bd_goal.proofs.Showing.{HaveSorts-later, truth-later}
+
+-- the value that a term of a sort denotes is of that sort
+denoted_sort-value : (v : Value) → denoted_sort (denotes_value v) ≡ value_sort v
+denoted_sort-value (value.Scalar (scalar.Bool b)) = refl
+denoted_sort-value (value.Scalar (scalar.Word n)) = refl
+denoted_sort-value (value.Memory m) = refl
+
+value-sorted : (w : World) (nodes : List Node) → IsGraph nodes → (id : ℕ) (s : Sort) (v : Value) → TermHasSort nodes id s → denoted w nodes id ≡ denotes_value v → value_sort v ≡ s
+value-sorted w nodes g id s v h e = sym (denoted_sort-value v) ∙ ap denoted_sort (sym e) ∙ denoted-sort w nodes g id h.inside ∙ h.sorted
+
+-- one entry of two states
+pub equal-entry : (address : ℕ → ℕ) (m : ℕ) (s : Sort) (x y : Value) (xs ys : List Value) → value_sort x ≡ s → value_sort y ≡ s
+    → (IsTrue (are_equal s (address m) (denotes_value x) (denotes_value y)) × EqualFrom address (if is_memory s then suc m else m) xs ys) ↔ EqualFrom address m (x ∷ xs) (y ∷ ys)
+equal-entry address m sort.Bool (value.Scalar (scalar.Bool b)) (value.Scalar (scalar.Bool c)) xs ys h k =
+    (λ p. (ap (λ z. scalar.Bool z) ((booleans_Decides b c).0 p.0), p.1), λ p. ((booleans_Decides b c).1 (same_bool b c p.0), p.1)) where
+      same_bool : (b c : Bool) → scalar.Bool b ≡ scalar.Bool c → b ≡ c
+      same_bool b c e = cc
+equal-entry address m sort.Bool (value.Scalar (scalar.Bool b)) (value.Scalar (scalar.Word n)) xs ys h k = absurd (cc k)
+equal-entry address m sort.Bool (value.Scalar (scalar.Bool b)) (value.Memory n) xs ys h k = absurd (cc k)
+equal-entry address m sort.Bool (value.Scalar (scalar.Word b)) y xs ys h k = absurd (cc h)
+equal-entry address m sort.Bool (value.Memory b) y xs ys h k = absurd (cc h)
+equal-entry address m sort.Word (value.Scalar (scalar.Word b)) (value.Scalar (scalar.Word c)) xs ys h k =
+    (λ p. (ap (λ z. scalar.Word z) (eqb-true b c p.0), p.1), λ p. (eq-eqb b c (same_word b c p.0), p.1)) where
+      same_word : (b c : ℕ) → scalar.Word b ≡ scalar.Word c → b ≡ c
+      same_word b c e = cc
+equal-entry address m sort.Word (value.Scalar (scalar.Word b)) (value.Scalar (scalar.Bool c)) xs ys h k = absurd (cc k)
+equal-entry address m sort.Word (value.Scalar (scalar.Word b)) (value.Memory n) xs ys h k = absurd (cc k)
+equal-entry address m sort.Word (value.Scalar (scalar.Bool b)) y xs ys h k = absurd (cc h)
+equal-entry address m sort.Word (value.Memory b) y xs ys h k = absurd (cc h)
+equal-entry address m sort.Memory (value.Memory b) (value.Memory c) xs ys h k =
+    (λ p. (eqb-true (read b (address m)) (read c (address m)) p.0, p.1), λ p. (eq-eqb (read b (address m)) (read c (address m)) p.0, p.1))
+equal-entry address m sort.Memory (value.Memory b) (value.Scalar y) xs ys h k = absurd (memory_no y k) where
+  memory_no : (y : Scalar) → value_sort (value.Scalar y) ≡ sort.Memory → ⊥
+  memory_no (scalar.Bool b) e = cc
+  memory_no (scalar.Word n) e = cc
+equal-entry address m sort.Memory (value.Scalar (scalar.Bool b)) y xs ys h k = absurd (cc h)
+equal-entry address m sort.Memory (value.Scalar (scalar.Word n)) y xs ys h k = absurd (cc h)
+
+-- the address of memory number m
+abbrev pub word_at : ℕ → ℕ → List ℕ → ℕ → ℕ
+word_at first stride q m = slice_index_or q (m * stride + first) 0
+
+-- the first i entries are compared, of which so many are memories, and the rest is to come
+pub record Equalled (d : DesignView) (old cur : List Node) (ours theirs : List ℕ) (first stride i all address : ℕ) : Type 0 where
+  pub graph : IsGraph cur
+  pub grows : GrowsKnown d (memory_count d * stride) old cur
+  pub sorted : TermHasSort cur all sort.Bool
+  pub count : ℕ
+  pub counted : count + memories_in (drop i d.spec.entries) ≡ memory_count d
+  pub number : address ≡ count * stride + first
+  pub claims : (a b : Case → List Value) → ShowsValues d old ours a → ShowsValues d old theirs b → (c : Case) (q : List ℕ) → Fits d c
+      → (IsTrue (truth (case_world c q) cur all) × EqualFrom (word_at first stride q) count (drop i (a c)) (drop i (b c))) ↔ EqualFrom (word_at first stride q) 0 (a c) (b c)
+
+pub equalled-none : (d : DesignView) (old cur : List Node) (ours theirs : List ℕ) (first stride all : ℕ) → IsGraph cur → Extends old cur → AddsUses old cur [] → TermHasSort cur all sort.Bool → Denotes cur all (λ w. Truth true)
+    → Equalled d old cur ours theirs first stride 0 all first
+equalled-none d old cur ours theirs first stride all g e u s is = record {
+  graph = g;
+  grows = Known-none d _ old cur e u;
+  sorted = s;
+  count = 0;
+  counted = none (memory_count d);
+  number = number_none first stride;
+  claims = λ a b ha hb c q fits. (λ h. h.1, λ h. (ap truth_of (is.is (case_world c q)), h));
+} where
+  none : (n : ℕ) → 0 + n ≡ n
+  none n = omega arith
+
+  number_none : (first stride : ℕ) → first ≡ 0 * stride + first
+  number_none first stride = omega arith
+
+count-next : (s : Sort) (count rest total : ℕ) → count + ((if is_memory s then 1 else 0) + rest) ≡ total → (if is_memory s then suc count else count) + rest ≡ total
+count-next sort.Bool count rest total h = omega (arith, h)
+count-next sort.Word count rest total h = omega (arith, h)
+count-next sort.Memory count rest total h = omega (arith, h)
+
+number-next : (s : Sort) (count stride first address : ℕ) → address ≡ count * stride + first → address + (if is_memory s then stride else 0) ≡ (if is_memory s then suc count else count) * stride + first
+number-next sort.Bool count stride first address h = omega (arith, h)
+number-next sort.Word count stride first address h = omega (arith, h)
+number-next sort.Memory count stride first address h = omega (arith, h)
+
+-- the address of a memory is one of those that there are
+known-address : (d : DesignView) (s : Sort) (count rest stride first address : ℕ) → count + ((if is_memory s then 1 else 0) + rest) ≡ memory_count d → address ≡ count * stride + first → first < stride
+    → (u : Use) → Contains (address_uses s address) u → IsKnown d (memory_count d * stride) u
+known-address d sort.Bool count rest stride first address h e below u p = absurd (omega (arith, p.1))
+known-address d sort.Word count rest stride first address h e below u p = absurd (omega (arith, p.1))
+known-address d sort.Memory count rest stride first address h e below u (zero, within, is) =
+    let few : count < memory_count d = omega (arith, h) in
+    let inside : count * stride + first < stride * memory_count d = mul-add-lt count stride first (memory_count d) few below in
+    inr (address, omega (arith, inside, e), sym is)
+known-address d sort.Memory count rest stride first address h e below u (suc k, within, is) = absurd (omega (arith, within))
+
+-- the terms at a place that is there
+pub record IsAt (nodes : List Node) (ours theirs : List ℕ) (i our their : ℕ) (s : Sort) : Type 0 where
+  pub at_ours : slice_get ours i ≡ Some our
+  pub at_theirs : slice_get theirs i ≡ Some their
+  pub our_sorted : TermHasSort nodes our s
+  pub their_sorted : TermHasSort nodes their s
+
+counted-there : (d : DesignView) (old cur : List Node) (ours theirs : List ℕ) (first stride i all address : ℕ) (x : entry.Entry) → slice_get d.spec.entries i ≡ Some x → (h : Equalled d old cur ours theirs first stride i all address)
+    → h.count + ((if is_memory x.sort then 1 else 0) + memories_in (drop (i + 1) d.spec.entries)) ≡ memory_count d
+counted-there d old cur ours theirs first stride i all address x there h =
+    subst (λ k. h.count + k ≡ memory_count d) (ap memories_in (drop-there d.spec.entries i x there) ∙ sum_by-cons (λ (y : entry.Entry). if is_memory y.sort then 1 else 0) x (drop (i + 1) d.spec.entries)) h.counted
+
+-- the graph grows by addresses that there are, also where a call is refused
+pub equalled-refused : (d : DesignView) (old cur mid : List Node) (ours theirs : List ℕ) (first stride i all address our their : ℕ) (x : entry.Entry) (r : Result ℕ AllocError) → first < stride → slice_get d.spec.entries i ≡ Some x
+    → Equalled d old cur ours theirs first stride i all address → EqualTerms cur mid x.sort our their address r → GrowsKnown d (memory_count d * stride) old mid
+equalled-refused d old cur mid ours theirs first stride i all address our their x r below there h t =
+    Known-trans d (memory_count d * stride) old cur mid h.grows
+    (Known-by d (memory_count d * stride) cur mid (address_uses x.sort address)
+    (known-address d x.sort h.count (memories_in (drop (i + 1) d.spec.entries)) stride first address (counted-there d old cur ours theirs first stride i all address x there h) h.number below) t.extends t.uses)
+
+-- one entry more
+pub equalled-next : (d : DesignView) (old cur mid new : List Node) (ours theirs : List ℕ) (first stride i all address our their one id : ℕ) (x : entry.Entry) → first < stride
+    → HaveSorts old ours (entry_sorts d.spec) → HaveSorts old theirs (entry_sorts d.spec) → IsAt old ours theirs i our their x.sort → slice_get d.spec.entries i ≡ Some x
+    → IsGraph new → Equalled d old cur ours theirs first stride i all address → EqualTerms cur mid x.sort our their address (Ok one)
+    → Extends mid new → AddsUses mid new [] → TermHasSort new id sort.Bool → Denotes new id (λ w. Truth (truth w mid all && truth w mid one))
+    → Equalled d old new ours theirs first stride (i + 1) id (address + (if is_memory x.sort then stride else 0))
+equalled-next d old cur mid new ours theirs first stride i all address our their one id x below so st at there g h t e u s is =
+    let counted = counted-there d old cur ours theirs first stride i all address x there h in
+    record {
+      graph = g;
+      grows =
+          Known-trans d (memory_count d * stride) old mid new (equalled-refused d old cur mid ours theirs first stride i all address our their x (Ok one) below there h t)
+          (Known-none d (memory_count d * stride) mid new e u);
+      sorted = s;
+      count = if is_memory x.sort then suc h.count else h.count;
+      counted = count-next x.sort h.count (memories_in (drop (i + 1) d.spec.entries)) (memory_count d) counted;
+      number = number-next x.sort h.count stride first address h.number;
+      claims = λ a b ha hb c q fits.
+          let w : World = case_world c q in
+          let f : ℕ → ℕ = word_at first stride q in
+          let va = zip-there (λ k v. denoted w old k ≡ denotes_value v) ours (a c) i our (ha.shows c q fits) at.at_ours in
+          let vb = zip-there (λ k v. denoted w old k ≡ denotes_value v) theirs (b c) i their (hb.shows c q fits) at.at_theirs in
+          let da : denoted w cur our ≡ denotes_value va.0 = denoted-Extends w old cur h.grows.extends our at.our_sorted.inside ∙ va.2 in
+          let db : denoted w cur their ≡ denotes_value vb.0 = denoted-Extends w old cur h.grows.extends their at.their_sorted.inside ∙ vb.2 in
+          let sa : value_sort va.0 ≡ x.sort = value-sorted w cur h.graph our x.sort va.0 (HasSort-Extends old cur h.grows.extends our x.sort at.our_sorted) da in
+          let sb : value_sort vb.0 ≡ x.sort = value-sorted w cur h.graph their x.sort vb.0 (HasSort-Extends old cur h.grows.extends their x.sort at.their_sorted) db in
+          let place : applied w (symbol.Address address) [] ≡ f h.count = ap (λ k. slice_index_or q k 0) h.number in
+          let meant : truth w mid one ≡ are_equal x.sort (f h.count) (denotes_value va.0) (denotes_value vb.0) =
+          t.denotes w ∙ ap (λ k. are_equal x.sort k (denoted w cur our) (denoted w cur their)) place
+          ∙ ap (λ k. are_equal x.sort (f h.count) k (denoted w cur their)) da ∙ ap (λ k. are_equal x.sort (f h.count) (denotes_value va.0) k) db in
+          let kept : truth w mid all ≡ truth w cur all = truth-later w cur mid t.extends all sort.Bool h.sorted in
+          let both : truth w new id ≡ (truth w cur all && are_equal x.sort (f h.count) (denotes_value va.0) (denotes_value vb.0)) =
+          ap truth_of (is.is w) ∙ ap (λ k. k && truth w mid one) kept ∙ ap (λ k. truth w cur all && k) meant in
+          equal-joined (truth w cur all) (are_equal x.sort (f h.count) (denotes_value va.0) (denotes_value vb.0)) (truth w new id)
+          (EqualFrom f (if is_memory x.sort then suc h.count else h.count) (drop (i + 1) (a c)) (drop (i + 1) (b c))) (EqualFrom f h.count (drop i (a c)) (drop i (b c))) (EqualFrom f 0 (a c) (b c)) both
+          (subst (λ l. (IsTrue (are_equal x.sort (f h.count) (denotes_value va.0) (denotes_value vb.0)) × EqualFrom f (if is_memory x.sort then suc h.count else h.count) (drop (i + 1) (a c)) (drop (i + 1) (b c))) ↔ EqualFrom f h.count l (drop i (b c)))
+          (sym (drop-there (a c) i va.0 va.1))
+          (subst (λ l. (IsTrue (are_equal x.sort (f h.count) (denotes_value va.0) (denotes_value vb.0)) × EqualFrom f (if is_memory x.sort then suc h.count else h.count) (drop (i + 1) (a c)) (drop (i + 1) (b c))) ↔ EqualFrom f h.count (va.0 ∷ drop (i + 1) (a c)) l)
+          (sym (drop-there (b c) i vb.0 vb.1))
+          (equal-entry f h.count x.sort va.0 vb.0 (drop (i + 1) (a c)) (drop (i + 1) (b c)) sa sb)))
+          (h.claims a b ha hb c q fits);
+    } where
+      equal-joined : (p q r : Bool) (Rest Front Whole : Type 0) → r ≡ (p && q) → (IsTrue q × Rest) ↔ Front → (IsTrue p × Front) ↔ Whole → (IsTrue r × Rest) ↔ Whole
+      equal-joined true q r Rest Front Whole e one two = (λ h. two.0 (refl, one.0 (sym e ∙ h.0, h.1)), λ h. let k = one.1 (two.1 h).1 in (e ∙ k.0, k.1))
+      equal-joined false q r Rest Front Whole e one two = (λ h. absurd (cc (e, h.0)), λ h. absurd (cc (two.1 h).0))
+
+pub equalled-all : (d : DesignView) (old cur : List Node) (ours theirs : List ℕ) (first stride i all address : ℕ) → HaveSorts old ours (entry_sorts d.spec) → HaveSorts old theirs (entry_sorts d.spec) → length d.spec.entries ≤ i
+    → Equalled d old cur ours theirs first stride i all address → (a b : Case → List Value) → ShowsValues d old ours a → ShowsValues d old theirs b
+    → Claims d (λ c q. EqualAt (λ m. m * stride + first) q (a c) (b c)) cur all
+equalled-all d old cur ours theirs first stride i all address so st past h a b ha hb = record {
+  means = λ c q fits.
+      let w : World = case_world c q in
+      let la : length (a c) ≤ i = omega (arith, past, zip-length (λ k v. denoted w old k ≡ denotes_value v) ours (a c) (ha.shows c q fits), zip-length (TermHasSort old) ours (entry_sorts d.spec) so, length-map d.spec.entries (λ (x : entry.Entry). x.sort)) in
+      let lb : length (b c) ≤ i = omega (arith, past, zip-length (λ k v. denoted w old k ≡ denotes_value v) theirs (b c) (hb.shows c q fits), zip-length (TermHasSort old) theirs (entry_sorts d.spec) st, length-map d.spec.entries (λ (x : entry.Entry). x.sort)) in
+      let both = h.claims a b ha hb c q fits in
+      let ends : EqualFrom (word_at first stride q) h.count (drop i (a c)) (drop i (b c)) =
+      subst (λ l. EqualFrom (word_at first stride q) h.count l (drop i (b c))) (sym (drop_all i (a c) la)) (subst (λ l. EqualFrom (word_at first stride q) h.count [] l) (sym (drop_all i (b c) lb)) tt) in
+      (λ t. both.0 (t, ends), λ e. (both.1 e).0);
+}
+
+-- that two words are equal
+pub equal_words : (old new : List Node) (a b address : ℕ) (r : Result ℕ AllocError) → IfOk r (λ id. Denotes new id (λ w. Truth (word w old a == word w old b))) → IfOk r (λ id. TermHasSort new id sort.Bool)
+    → Extends old new → AddsUses old new [] → EqualTerms old new sort.Word a b address r
+equal_words old new a b address r t s e u = record {
+  sorted = s;
+  denotes = IfOk-weaker r _ _ (λ id d w. ap truth_of (d.is w)) t;
+  extends = e;
+  uses = u;
+}
+
+-- that two truth values are equal
+pub equal_bits : (old mid new : List Node) (a b n address : ℕ) (r : Result ℕ AllocError) → IsGraph mid → TermHasSort old a sort.Bool → TermHasSort old b sort.Bool → Extends old mid → AddsUses old mid []
+    → Denotes mid n (λ v. Truth (not (truth v old b))) → IfOk r (λ id. Denotes new id (λ w. if truth w mid a then denoted w mid b else denoted w mid n)) → IfOk r (λ id. TermHasSort new id (sort_at mid b))
+    → Extends mid new → AddsUses mid new [] → EqualTerms old new sort.Bool a b address r
+equal_bits old mid new a b n address r g ha hb e u d t s e' u' = record {
+  sorted = IfOk-sort r new (sort_at mid b) sort.Bool (HasSort-Extends old mid e b sort.Bool hb).sorted s;
+  denotes = IfOk-weaker r _ _ (λ id k w. ap truth_of (k.is w)) (iff_ites old mid new a b n r g e ha hb d t);
+  extends = Extends-trans old mid new e e';
+  uses = AddsUses-trans old mid new [] u u';
+}
+
+contents-later : (w : World) (old new : List Node) → Extends old new → (id : ℕ) → TermHasSort old id sort.Memory → contents w new id ≡ contents w old id
+contents-later w old new e id h = ap contents_of (denoted-Extends w old new e id h.inside)
+
+word-later : (w : World) (old new : List Node) → Extends old new → (id : ℕ) → TermHasSort old id sort.Word → word w new id ≡ word w old id
+word-later w old new e id h = ap word_of (denoted-Extends w old new e id h.inside)
+
+no_more : (old new : List Node) (more : List Use) → AddsUses old new [] → AddsUses old new more
+no_more old new more u = AddsUses-more old new [] more (λ x p. absurd (omega (arith, p.1))) u
+
+-- that two memories read equal at an address
+pub equal_reads : (old g1 g2 g3 new : List Node) (a b p x y address : ℕ) (r : Result ℕ AllocError) → TermHasSort old a sort.Memory → TermHasSort old b sort.Memory
+    → Extends old g1 → AddsUses old g1 (address_use address ∷ []) → TermHasSort g1 p sort.Word → Denotes g1 p (λ w. Word (applied w (symbol.Address address) []))
+    → Extends g1 g2 → AddsUses g1 g2 [] → TermHasSort g2 x sort.Word → Denotes g2 x (λ w. Word (contents w g1 a (word w g1 p)))
+    → Extends g2 g3 → AddsUses g2 g3 [] → Denotes g3 y (λ w. Word (contents w g2 b (word w g2 p)))
+    → IfOk r (λ id. Denotes new id (λ w. Truth (word w g3 x == word w g3 y))) → IfOk r (λ id. TermHasSort new id sort.Bool) → Extends g3 new → AddsUses g3 new []
+    → EqualTerms old new sort.Memory a b address r
+equal_reads old g1 g2 g3 new a b p x y address r ha hb e1 u1 sp dp e2 u2 sx dx e3 u3 dy t s e4 u4 = record {
+  sorted = s;
+  denotes = IfOk-weaker r _ _ (λ id k w. ap truth_of (k.is w) ∙ ap (λ m. m == word w g3 y) (ours w) ∙ ap (λ m. contents_of (denoted w old a) (applied w (symbol.Address address) []) == m) (theirs w)) t;
+  extends = Extends-trans old g3 new (Extends-trans old g2 g3 (Extends-trans old g1 g2 e1 e2) e3) e4;
+  uses =
+      AddsUses-trans old g3 new (address_use address ∷ [])
+      (AddsUses-trans old g2 g3 (address_use address ∷ []) (AddsUses-trans old g1 g2 (address_use address ∷ []) u1 (no_more g1 g2 (address_use address ∷ []) u2)) (no_more g2 g3 (address_use address ∷ []) u3))
+      (no_more g3 new (address_use address ∷ []) u4);
+} where
+  place : (w : World) → word w g1 p ≡ applied w (symbol.Address address) []
+  place w = ap word_of (dp.is w)
+
+  ours : (w : World) → word w g3 x ≡ contents_of (denoted w old a) (applied w (symbol.Address address) [])
+  ours w =
+      word-later w g2 g3 e3 x sx ∙ ap word_of (dx.is w) ∙ ap (λ m. contents_of m (word w g1 p)) (denoted-Extends w old g1 e1 a ha.inside)
+      ∙ ap (λ k. contents_of (denoted w old a) k) (place w)
+
+  theirs : (w : World) → word w g3 y ≡ contents_of (denoted w old b) (applied w (symbol.Address address) [])
+  theirs w =
+      ap word_of (dy.is w) ∙ ap (λ m. contents_of m (word w g2 p)) (denoted-Extends w old g2 (Extends-trans old g1 g2 e1 e2) b hb.inside)
+      ∙ ap (λ k. contents_of (denoted w old b) k) (word-later w g1 g2 e2 p sp ∙ place w)
+
+-- an address and no more
+pub address_added : (old g1 g2 : List Node) (address : ℕ) → AddsUses old g1 (address_use address ∷ []) → AddsUses g1 g2 [] → AddsUses old g2 (address_use address ∷ [])
+address_added old g1 g2 address u v = AddsUses-trans old g1 g2 (address_use address ∷ []) u (no_more g1 g2 (address_use address ∷ []) v)
+
+sorted-there : (d : DesignView) (nodes : List Node) (ids : List ℕ) (i id : ℕ) (x : entry.Entry) → HaveSorts nodes ids (entry_sorts d.spec) → slice_get d.spec.entries i ≡ Some x → slice_get ids i ≡ Some id → TermHasSort nodes id x.sort
+sorted-there d nodes ids i id x h there at =
+    let found = zip-there (TermHasSort nodes) ids (entry_sorts d.spec) i id h at in
+    subst (TermHasSort nodes id) (same_some found.0 x.sort (sym found.1 ∙ slice_get-map (λ (y : entry.Entry). y.sort) d.spec.entries i ∙ ap (λ o. option_map (λ (y : entry.Entry). y.sort) o) there)) found.2 where
+      same_some : (s t : Sort) → Some s ≡ Some t → s ≡ t
+      same_some s t e = cc
+
+pub is-at : (d : DesignView) (nodes : List Node) (ours theirs : List ℕ) (i our their : ℕ) (x : entry.Entry) → HaveSorts nodes ours (entry_sorts d.spec) → HaveSorts nodes theirs (entry_sorts d.spec)
+    → slice_get d.spec.entries i ≡ Some x → slice_get ours i ≡ Some our → slice_get theirs i ≡ Some their → IsAt nodes ours theirs i our their x.sort
+is-at d nodes ours theirs i our their x ho ht there at_ours at_theirs = record {
+  at_ours = at_ours;
+  at_theirs = at_theirs;
+  our_sorted = sorted-there d nodes ours i our x ho there at_ours;
+  their_sorted = sorted-there d nodes theirs i their x ht there at_theirs;
+}
+
+pub ids-length : (d : DesignView) (nodes : List Node) (ids : List ℕ) → HaveSorts nodes ids (entry_sorts d.spec) → length ids ≡ length d.spec.entries
+ids-length d nodes ids h = zip-length (TermHasSort nodes) ids (entry_sorts d.spec) h ∙ length-map d.spec.entries (λ (x : entry.Entry). x.sort)
+
+pub advance-le : (kind : Sort) (stride : ℕ) → (if is_memory kind then stride else 0) ≤ stride
+advance-le sort.Bool stride = omega arith
+advance-le sort.Word stride = omega arith
+advance-le sort.Memory stride = omega arith
+
+-- no address overflows
+pub address-fits : (d : DesignView) (old cur : List Node) (ours theirs : List ℕ) (first stride i all address : ℕ) → IsLawful d → first < stride → stride ≤ 9 → Equalled d old cur ours theirs first stride i all address → address ≤ 18874376
+address-fits d old cur ours theirs first stride i all address lawful below few h =
+    let total : memory_count d ≤ 2097152 = omega (arith, count_by-le-length (λ (x : entry.Entry). is_memory x.sort) d.spec.entries, lawful.spec.short.0) in
+    let count : h.count ≤ 2097152 = omega (arith, h.counted, total) in
+    let product : h.count * stride ≤ 2097152 * 9 = mul-le-mul count few in
+    omega (arith, product, h.number)

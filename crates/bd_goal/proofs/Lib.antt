@@ -1,0 +1,14 @@
+pub mod Lists
+pub mod Telling
+pub mod Alike
+pub mod Realized
+pub mod Deciding
+pub mod Known
+pub mod Showing
+pub mod Named
+pub mod Counting
+pub mod Equalling
+pub mod Joining
+pub mod Standing
+pub mod Starting
+pub mod ExampleLawful

@@ -1,0 +1,33 @@
+use Rattle.std.proofs.lemmas.Result.{IfOk-weaker}
+use Rattle.bd_model.specs.Conditions.{MeetsInvariant}
+use Rattle.bd_model.specs.DesignView.{design_view}
+use Rattle.bd_symbolic.specs.DesignSymbols.{GrowsWithin}
+use Rattle.bd_symbolic.proofs.Growing.{Grows-none, Grows-trans, KeepsDesign-Grows}
+use Rattle.bd_goal.proofs.Known.{Reaches-within}
+use Rattle.bd_goal.proofs.Showing.{Claims-not}
+use Rattle.bd_goal.proofs.invariant.meets.Goals as goal
+
+pub invariant-requires-clause-keeps : goal.invariant-requires-clause-keeps
+invariant-requires-clause-keeps c = KeepsDesign-Grows (design_view c.args.design.now) _ _ c.sym_state.ensures.grows c.requires.keeps
+
+pub returns-in_err-inside-clause-grows : goal.returns-in_err-inside-clause-grows
+returns-in_err-inside-clause-grows c = Grows-trans (design_view c.args.design.now) _ _ _ c.sym_state.ensures.grows c.invariant.ensures.grows
+
+pub returns-clause-denotes : goal.returns-clause-denotes
+returns-clause-denotes c =
+    IfOk-weaker _ _ _
+    (λ id t. Claims-not (design_view c.args.design.now) (λ x q. MeetsInvariant (design_view c.args.design.now) x.interp x.state) _ _ _ id
+    (c.in_ok-inside.ensures.denotes (λ x. x.state) (record { shows = λ x q fits. c.in_ok-state.ensures.denotes.denotes x q fits })) t)
+    c.mk_not.ensures.denotes
+
+pub returns-clause-symbols : goal.returns-clause-symbols
+returns-clause-symbols c =
+    let d = design_view c.args.design.now in
+    let grows : GrowsWithin d c.args.graph.now c.mk_not.new.self =
+    Grows-trans d _ _ _ c.sym_state.ensures.grows (Grows-trans d _ _ _ c.invariant.ensures.grows (Grows-none d _ _ c.mk_not.ensures.extends c.mk_not.ensures.uses)) in
+    Reaches-within d _ _ _ grows
+
+pub returns-clause-grows : goal.returns-clause-grows
+returns-clause-grows c =
+    let d = design_view c.args.design.now in
+    Grows-trans d _ _ _ c.sym_state.ensures.grows (Grows-trans d _ _ _ c.invariant.ensures.grows (Grows-none d _ _ c.mk_not.ensures.extends c.mk_not.ensures.uses))

@@ -1,0 +1,6 @@
+pub mod Abstraction
+pub mod Symbols
+pub mod Formula
+pub mod Claims
+pub mod Laws
+pub mod inner

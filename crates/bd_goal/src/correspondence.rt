@@ -1,0 +1,133 @@
+//! The correspondence formula, and that an abstraction agrees with flushing.
+ghost use Rattle.std.specs.Prelude.{◌≡◌, ◌||◌, not, [], IfOk};
+ghost use Rattle.bd_model.specs.Cycle.{flushed};
+ghost use Rattle.bd_model.specs.DesignView.{design_view};
+ghost use Rattle.bd_model.specs.Lawful.{IsLawful};
+ghost use Rattle.bd_model.specs.declared.design.Sort.TheVariants as sort;
+ghost use Rattle.bd_terms.specs.Graph.{AddsUses, Extends, HasSort};
+ghost use Rattle.bd_terms.specs.Denotation.{Denotes, Truth, truth};
+ghost use Rattle.bd_symbolic.specs.DesignSymbols.{KeepsDesign};
+ghost use Rattle.bd_goal.specs.Abstraction.{IsLawfulAbstraction, abstraction_of};
+ghost use Rattle.bd_goal.specs.Claims.{Claims};
+ghost use Rattle.bd_goal.specs.Formula.{AgreesAt, Corresponds, address_count, memory_count};
+ghost use Rattle.bd_goal.specs.Symbols.{AppliesKnown, GrowsKnown, KeepsAddresses, ReachesKnown};
+
+use crate::abstracted::abstracted;
+use crate::abstraction::{Abstraction, Goal};
+use crate::commute::commutes;
+use crate::equal::{equal, memory_count};
+use crate::invariant::invariant;
+use bd_model::Design;
+use bd_symbolic::{sym_state, sym_step};
+use bd_terms::{Graph, Id};
+use std::alloc::{AllocError, Global};
+
+/// The correspondence formula, where a state stands for what is visible once the pipeline is flushed. Refused for want
+/// of memory, the graph may keep further nodes.
+pub fn goal(alloc: Global, graph: &mut Graph, design: &Design) -> Result<Goal, AllocError>
+    requires lawful { IsLawful (design_view design.now) }
+    requires keeps { KeepsDesign (design_view design.now) graph.old }
+    requires words { KeepsAddresses graph.old }
+    ensures sorted { IfOk result (λ goal. HasSort graph.new goal.root sort.Bool) }
+    ensures denotes { IfOk result (λ goal. Claims (design_view design.now)
+        (Corresponds (design_view design.now) (flushed (design_view design.now)))
+        graph.new goal.root) }
+    ensures addresses { IfOk result (λ goal.
+        goal.addresses ≡ address_count (design_view design.now)) }
+    ensures symbols { IfOk result (λ goal.
+        AppliesKnown (design_view design.now) goal.addresses graph.old
+        → ReachesKnown (design_view design.now) goal.addresses graph.new goal.root) }
+    ensures grows { GrowsKnown (design_view design.now)
+        (address_count (design_view design.now)) graph.old graph.new }
+{
+    goal_by(alloc, graph, design, &Abstraction::Flushing)
+}
+
+/// The correspondence formula by an abstraction: the invariant in the state implies that it is true behind the cycle,
+/// and that the cycle stands for some allowed number of steps. Refused for want of memory, the graph may keep further
+/// nodes.
+pub fn goal_by(
+    alloc: Global,
+    graph: &mut Graph,
+    design: &Design,
+    abs: &Abstraction,
+) -> Result<Goal, AllocError>
+    requires lawful { IsLawful (design_view design.now) }
+    requires abstraction { IsLawfulAbstraction (design_view design.now) abs.now }
+    requires keeps { KeepsDesign (design_view design.now) graph.old }
+    requires words { KeepsAddresses graph.old }
+    ensures sorted { IfOk result (λ goal. HasSort graph.new goal.root sort.Bool) }
+    ensures denotes { IfOk result (λ goal. Claims (design_view design.now)
+        (Corresponds (design_view design.now) (abstraction_of (design_view design.now) abs.now))
+        graph.new goal.root) }
+    ensures addresses { IfOk result (λ goal.
+        goal.addresses ≡ address_count (design_view design.now)) }
+    ensures symbols { IfOk result (λ goal.
+        AppliesKnown (design_view design.now) goal.addresses graph.old
+        → ReachesKnown (design_view design.now) goal.addresses graph.new goal.root) }
+    ensures grows { GrowsKnown (design_view design.now)
+        (address_count (design_view design.now)) graph.old graph.new }
+{
+    let state = sym_state(alloc, graph, design)?;
+    let next = sym_step(alloc, graph, design, &state)?;
+    let inside = invariant(alloc, graph, design, &state)?;
+    let kept = invariant(alloc, graph, design, &next)?;
+    let commutes = commutes(alloc, graph, design, abs, &state, &next)?;
+    let holds = graph.mk_and(kept, commutes)?;
+    let root = implies(graph, inside, holds)?;
+    Ok(Goal {
+        root,
+        addresses: memory_count(design) * (design.steps + 1),
+    })
+}
+
+/// That an abstraction agrees with flushing in the first state, where the invariant is true there: latches are equal,
+/// and each memory reads equal at the address of its number. Refused for want of memory, the graph may keep further
+/// nodes.
+pub fn agree_goal(
+    alloc: Global,
+    graph: &mut Graph,
+    design: &Design,
+    abs: &Abstraction,
+) -> Result<Goal, AllocError>
+    requires lawful { IsLawful (design_view design.now) }
+    requires abstraction { IsLawfulAbstraction (design_view design.now) abs.now }
+    requires keeps { KeepsDesign (design_view design.now) graph.old }
+    requires words { KeepsAddresses graph.old }
+    ensures sorted { IfOk result (λ goal. HasSort graph.new goal.root sort.Bool) }
+    ensures denotes { IfOk result (λ goal. Claims (design_view design.now)
+        (AgreesAt (design_view design.now) (abstraction_of (design_view design.now) abs.now))
+        graph.new goal.root) }
+    ensures addresses { IfOk result (λ goal.
+        goal.addresses ≡ memory_count (design_view design.now)) }
+    ensures symbols { IfOk result (λ goal.
+        AppliesKnown (design_view design.now) goal.addresses graph.old
+        → ReachesKnown (design_view design.now) goal.addresses graph.new goal.root) }
+    ensures grows { GrowsKnown (design_view design.now)
+        (memory_count (design_view design.now)) graph.old graph.new }
+{
+    let state = sym_state(alloc, graph, design)?;
+    let inside = invariant(alloc, graph, design, &state)?;
+    let given = abstracted(alloc, graph, design, abs, &state)?;
+    let flushed = abstracted(alloc, graph, design, &Abstraction::Flushing, &state)?;
+    let same = equal(graph, design, &given.entries, &flushed.entries, 0, 1)?;
+    let root = implies(graph, inside, same)?;
+    Ok(Goal {
+        root,
+        addresses: memory_count(design),
+    })
+}
+
+// The implication, as the disjunction with the negation.
+fn implies(graph: &mut Graph, a: Id, b: Id) -> Result<Id, AllocError>
+    requires first { HasSort graph.old a sort.Bool }
+    requires second { HasSort graph.old b sort.Bool }
+    ensures denotes { IfOk result (λ id. Denotes graph.new id
+        (λ w. Truth (not (truth w graph.old a) || truth w graph.old b))) }
+    ensures sorted { IfOk result (λ id. HasSort graph.new id sort.Bool) }
+    ensures extends { Extends graph.old graph.new }
+    ensures uses { AddsUses graph.old graph.new [] }
+{
+    let denied = graph.mk_not(a)?;
+    graph.mk_or(denied, b)
+}

@@ -1,0 +1,107 @@
+//! Whether two visible states are equal, where each memory is read at a fresh address of its own.
+ghost use Rattle.std.specs.Prelude.{◌≡◌, ◌<◌, ◌≤◌, ◌+◌, ◌*◌, List, IfOk, if◌then◌else◌};
+ghost use Rattle.bd_model.specs.DesignView.{design_view};
+ghost use Rattle.bd_model.specs.Lawful.{IsLawful, entry_sorts};
+ghost use Rattle.bd_model.specs.declared.case.Case.{Case};
+ghost use Rattle.bd_model.specs.declared.design.Sort.TheVariants as sort;
+ghost use Rattle.bd_model.specs.declared.table.Value.{Value};
+ghost use Rattle.bd_terms.specs.Graph.{HasSort, KeepsSymbol};
+ghost use Rattle.bd_terms.specs.declared.node.Sym.TheVariants as symbol;
+ghost use Rattle.bd_symbolic.specs.Symbolic.{HaveSorts};
+ghost use Rattle.bd_goal.specs.Claims.{Claims};
+ghost use Rattle.bd_goal.specs.Formula.{EqualAt, is_memory, memory_count};
+ghost use Rattle.bd_goal.specs.Symbols.{GrowsKnown, KeepsAddresses};
+ghost use Rattle.bd_goal.specs.inner.Shown.{EqualTerms, ShowsValues};
+
+use bd_model::{Design, Sort};
+use bd_symbolic::Ids;
+use bd_terms::{Graph, Id, Sym};
+use std::alloc::AllocError;
+
+// How many of the visible entries are memories.
+pub(crate) fn memory_count(design: &Design) -> u32
+    requires { IsLawful (design_view design.now) }
+    ensures count { result ≡ memory_count (design_view design.now) }
+    ensures few { result ≤ 2097152 }
+{
+    let mut count = 0;
+    for entry in design.spec.entries.as_slice() {
+        count += advance(entry.sort, 1);
+    }
+    count
+}
+
+// That two visible states are equal, where the memory of number m is read at the address of number
+// `m * stride + first`.
+pub(crate) fn equal(
+    graph: &mut Graph,
+    design: &Design,
+    ours: &Ids,
+    theirs: &Ids,
+    first: u32,
+    stride: u32,
+) -> Result<Id, AllocError>
+    requires lawful { IsLawful (design_view design.now) }
+    requires addresses { KeepsAddresses graph.old }
+    requires ours { HaveSorts graph.old ours.now (entry_sorts (design_view design.now).spec) }
+    requires theirs { HaveSorts graph.old theirs.now (entry_sorts (design_view design.now).spec) }
+    requires below { first < stride }
+    requires few { stride ≤ 9 }
+    ensures sorted { IfOk result (λ id. HasSort graph.new id sort.Bool) }
+    ensures denotes { IfOk result (λ id. (a b : Case → List Value)
+        → ShowsValues (design_view design.now) graph.old ours.now a
+        → ShowsValues (design_view design.now) graph.old theirs.now b
+        → Claims (design_view design.now)
+        (λ c q. EqualAt (λ m. m * stride + first) q (a c) (b c)) graph.new id) }
+    ensures grows { GrowsKnown (design_view design.now)
+        (memory_count (design_view design.now) * stride) graph.old graph.new }
+{
+    let our = ours.as_slice();
+    let their = theirs.as_slice();
+    let mut all = graph.mk_true()?;
+    let mut address = first;
+    for (i, entry) in design.spec.entries.as_slice().iter().enumerate() {
+        let one = equal_terms(graph, entry.sort, our[i], their[i], address)?;
+        all = graph.mk_and(all, one)?;
+        address += advance(entry.sort, stride);
+    }
+    Ok(all)
+}
+
+// How far the address of the next memory is.
+fn advance(kind: Sort, stride: u32) -> u32
+    ensures { result ≡ (if is_memory kind then stride else 0) }
+{
+    match kind {
+        Sort::Memory => stride,
+        Sort::Bool | Sort::Word => 0,
+    }
+}
+
+// That two terms of a sort are equal, memories as far as they are read at the address of this number.
+fn equal_terms(
+    graph: &mut Graph,
+    kind: Sort,
+    our: Id,
+    their: Id,
+    address: u32,
+) -> Result<Id, AllocError>
+    requires our { HasSort graph.old our kind }
+    requires their { HasSort graph.old their kind }
+    requires address { KeepsSymbol graph.old (symbol.Address address) 0 sort.Word }
+    ensures { EqualTerms graph.old graph.new kind our their address result }
+{
+    match kind {
+        Sort::Word => graph.mk_eq(our, their),
+        Sort::Bool => {
+            let denied = graph.mk_not(their)?;
+            graph.mk_ite(our, their, denied)
+        }
+        Sort::Memory => {
+            let place = graph.mk_app(Sym::Address(address), &[])?;
+            let ours = graph.mk_read(our, place)?;
+            let theirs = graph.mk_read(their, place)?;
+            graph.mk_eq(ours, theirs)
+        }
+    }
+}

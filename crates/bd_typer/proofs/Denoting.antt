@@ -1,0 +1,54 @@
+-- Three texts denote at most one design or first fault.
+use Rattle.std.proofs.Common.{◌≡◌, ⊎_elim, inl, inr, ℕ, List, Option, Some, None, Result, Ok, Err, refl, ap, sym, ◌∙◌, subst}
+use Rattle.bd_text.specs.Nodes.{Nodes}
+use Rattle.bd_text.specs.declared.code.Code.{Code}
+use Rattle.bd_text.proofs.FirstFaults.{one_first}
+use Rattle.bd_text.proofs.Unique.{one_reading-holds}
+use Rattle.bd_model.specs.DesignView.{DesignView}
+use Rattle.bd_typer.specs.declared.fault.Text.{Text}
+use Rattle.bd_typer.specs.declared.fault.Text.TheVariants.{Pipe, Spec, Inv}
+use Rattle.bd_typer.specs.Faults.{FileFault}
+use Rattle.bd_text.specs.Faults.{HasNoFault, IsFirstFault}
+use Rattle.bd_text.specs.Grammar.{Spells}
+use Rattle.bd_model.specs.DesignView.{design_view}
+use Rattle.bd_model.specs.declared.design.Design.{Design}
+use Rattle.bd_typer.specs.declared.fault.TypeFault.{TypeFault}
+use Rattle.bd_typer.specs.declared.fault.TypeFault.TheVariants as faults
+use Rattle.bd_typer.specs.Faults.{GivesIn}
+use Rattle.bd_typer.specs.inner.Located.{OnText}
+use Rattle.bd_typer.specs.Denotes.{Reads, ReadsInv, Denotes, OnDesign}
+
+reads_once : (file : Text) (source : List ℕ) (r q : Result DesignView FileFault) (R Q : Nodes → Type 0) → ((trees : Nodes) → R trees → Q trees → r ≡ q) → Reads file source r R → Reads file source q Q → r ≡ q
+reads_once file source r q R Q then (inl (o, code, first, is)) (inl (p, other, second, is')) =
+    let same = one_first source o p code other first second in is ∙ rw (same.0, same.1) (sym is')
+reads_once file source r q R Q then (inl (o, code, first, is)) (inr (none, rest)) = absurd (none o code first.0)
+reads_once file source r q R Q then (inr (none, rest)) (inl (o, code, first, is)) = absurd (none o code first.0)
+reads_once file source r q R Q then (inr (none, (trees, spells, h))) (inr (fine, (others, spells', g))) =
+    then trees h (subst Q (one_reading-holds source others trees spells' spells) g)
+
+reads_inv_once : (inv : Option (List ℕ)) (r q : Result DesignView FileFault) (R Q : Option Nodes → Type 0) → ((trees : Option Nodes) → R trees → Q trees → r ≡ q) → ReadsInv inv r R → ReadsInv inv q Q → r ≡ q
+reads_inv_once None r q R Q then h g = then None h g
+reads_inv_once (Some source) r q R Q then h g = reads_once Inv source r q (λ trees. R (Some trees)) (λ trees. Q (Some trees)) (λ trees. then (Some trees)) h g
+
+pub denotes_once : (pipe spec : List ℕ) (inv : Option (List ℕ)) (r q : Result DesignView FileFault) → Denotes pipe spec inv r → Denotes pipe spec inv q → r ≡ q
+denotes_once pipe spec inv r q h g =
+    reads_once Pipe pipe r q _ _ (λ p. reads_once Spec spec r q _ _ (λ s. reads_inv_once inv r q _ _ (λ i e f. e ∙ sym f))) h g
+
+-- ---- reading texts
+
+-- a text with a fault
+pub on_fault : (file : Text) (source : List ℕ) (fault : TypeFault) (R : Result DesignView FileFault → Nodes → Type 0) → OnText file fault (IsFirstFault source) → OnDesign (Err fault) (λ r. Reads file source r (R r))
+on_fault file source faults.Memory R h = tt
+on_fault file source (faults.Bad other offset code) R h = inl (offset, code, h.1, rw h.0 refl)
+
+-- a text that spells trees
+pub on_trees : (file : Text) (source : List ℕ) (result : Result Design TypeFault) (R : Result DesignView FileFault → Nodes → Type 0) (trees : Nodes) → HasNoFault source → Spells source trees → OnDesign result (λ r. R r trees) → OnDesign result (λ r. Reads file source r (R r))
+on_trees file source (Ok d) R trees none spells h = inr (none, (trees, spells, h))
+on_trees file source (Err faults.Memory) R trees none spells h = tt
+on_trees file source (Err (faults.Bad other offset code)) R trees none spells h = inr (none, (trees, spells, h))
+
+-- the design of trees
+pub on_design : (result : Result Design TypeFault) (given : Result DesignView FileFault) → GivesIn design_view result given → OnDesign result (λ r. r ≡ given)
+on_design (Ok d) given h = sym h
+on_design (Err faults.Memory) given h = tt
+on_design (Err (faults.Bad file offset code)) given h = sym h

@@ -1,0 +1,14 @@
+pub mod Counting
+pub mod Denoting
+pub mod Files
+pub mod Firsts
+pub mod JoinSteps
+pub mod Lists
+pub mod Loops
+pub mod Operations
+pub mod Parts
+pub mod Scanning
+pub mod Scoping
+pub mod Sound
+pub mod Steps
+pub mod Walking

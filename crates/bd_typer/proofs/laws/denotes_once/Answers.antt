@@ -1,0 +1,5 @@
+use Rattle.bd_typer.proofs.Denoting.{denotes_once}
+use Rattle.bd_typer.proofs.laws.denotes_once.Goals as goal
+
+pub returns : goal.returns
+returns c = denotes_once

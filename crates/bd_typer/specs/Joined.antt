@@ -1,0 +1,126 @@
+-- The design that files denote, or their first fault: the passes follow each other, and each goes over the
+-- pipeline, the specification and the invariant. The language is this project's own.
+use Rattle.std.specs.Prelude.{ℕ, Bool, true, false, List, [], ◌∷◌, ◌++◌, map, length, replicate, Option, Some, None, Result, Ok, Err}
+use Rattle.std.specs.List.{filter_map}
+use Rattle.bd_model.specs.declared.design.Sort.TheVariants as sorts
+use Rattle.bd_model.specs.declared.design.Entry as entry
+use Rattle.bd_model.specs.declared.design.Symbol as symbol
+use Rattle.bd_model.specs.ExprView.{ExprView, Truth}
+use Rattle.bd_model.specs.DesignView.{DesignView, MachineView, LocalView}
+use Rattle.bd_syntax.specs.Forms.{ItemView, flush_item, steps_item, AstView, InvView}
+use Rattle.bd_syntax.specs.Reading.{Fault}
+use Rattle.bd_typer.specs.declared.fault.Text.TheVariants.{Pipe, Spec, Inv}
+use Rattle.bd_typer.specs.declared.names.Meaning.{Meaning}
+use Rattle.bd_typer.specs.declared.names.Meaning.TheVariants.{Entry}
+use Rattle.bd_typer.specs.Faults.{◌>>=◌, FileFault, in_file, without_faults}
+use Rattle.bd_typer.specs.Declarations.{declaration_faults, invariant_faults}
+use Rattle.bd_typer.specs.Names.{Names, no_names, Scope, scope_of, shared_names}
+use Rattle.bd_typer.specs.Typing.{typed}
+use Rattle.bd_typer.specs.Walk.{Typed, typed_items}
+use Rattle.bd_typer.specs.Across.{across_faults}
+
+-- ---- declarations
+
+abbrev pub declared_inv : AstView → AstView → Option InvView → Result (Unit {0}) Fault
+declared_inv pipe spec None = Ok (tt {0})
+declared_inv pipe spec (Some inv) = without_faults (invariant_faults pipe spec inv)
+
+unfoldable pub declared : AstView → AstView → Option InvView → Result (Unit {0}) FileFault
+declared pipe spec inv = do
+  first ← in_file Pipe (without_faults (declaration_faults pipe))
+  second ← in_file Spec (without_faults (declaration_faults spec))
+  in_file Inv (declared_inv pipe spec inv)
+
+-- ---- expressions
+
+abbrev pub start : Names → ℕ → Typed
+start names entries = record {
+  names = names;
+  ports = [];
+  locals = [];
+  flags = [];
+  nexts = replicate entries (Truth false);
+  exact = [];
+  distinct = [];
+}
+
+-- a machine file: its entries, the symbols of the design so far, and what its expressions are
+pub record TypedMachine : Type 0 where
+  pub entries : List entry.Entry
+  pub symbols : List symbol.Symbol
+  pub typed : Typed
+
+unfoldable pub typed_machine : Names → List symbol.Symbol → List ItemView → Result TypedMachine Fault
+typed_machine others symbols items = do
+  t ← typed_items true (start (scope_of others symbols items).names (length (scope_of others symbols items).entries)) items
+  Ok (record {
+    entries = (scope_of others symbols items).entries;
+    symbols = (scope_of others symbols items).symbols;
+    typed = t;
+  })
+
+-- the lets and the expression of an invariant, which use no input
+pub record TypedInv : Type 0 where
+  pub locals : List LocalView
+  pub value : ExprView
+
+-- an invariant that isn't given is true
+unfoldable pub typed_inv : Names → Option InvView → Result TypedInv Fault
+typed_inv names None = Ok (record { locals = []; value = Truth true })
+typed_inv names (Some inv) = do
+  t ← typed_items false (start names 0) inv.items
+  e ← typed t.names false sorts.Bool inv.value
+  Ok (record { locals = t.locals; value = e })
+
+-- ---- the design
+
+-- the first of some numbers, which is there once no fault is
+abbrev pub first_count : List ℕ → ℕ
+first_count [] = 0
+first_count (count ∷ counts) = count
+
+abbrev pub flush_count : ItemView → Option ℕ
+flush_count (flush_item offset count) = Some count
+flush_count _ = None
+
+abbrev pub steps_count : ItemView → Option ℕ
+steps_count (steps_item offset count) = Some count
+steps_count _ = None
+
+-- the place of an entry
+abbrev pub entry_place : Option Meaning → ℕ
+entry_place (Some (Entry number sort)) = number
+entry_place _ = 0
+
+abbrev pub machine_of : TypedMachine → MachineView
+machine_of m = record {
+  entries = m.entries;
+  ports = m.typed.ports;
+  locals = m.typed.locals;
+  nexts = m.typed.nexts;
+}
+
+-- the symbols are those of the pipeline, and then those that the specification alone has
+abbrev pub assembled : List ItemView → TypedMachine → TypedMachine → TypedInv → DesignView
+assembled items pipe spec inv = record {
+  pipe = machine_of pipe;
+  spec = machine_of spec;
+  symbols = spec.symbols;
+  visible = map (λ (x : entry.Entry). entry_place (pipe.typed.names x.name)) spec.entries;
+  flush = first_count (filter_map flush_count items);
+  steps = first_count (filter_map steps_count items);
+  inv_locals = inv.locals;
+  inv = inv.value;
+  exact = pipe.typed.exact;
+  distinct = pipe.typed.distinct ++ spec.typed.distinct;
+}
+
+-- the design of files, or their first fault
+unfoldable pub joined : AstView → AstView → Option InvView → Result DesignView FileFault
+joined pipe spec inv = do
+  first ← declared pipe spec inv
+  p ← in_file Pipe (typed_machine no_names [] pipe.items)
+  s ← in_file Spec (typed_machine p.typed.names p.symbols spec.items)
+  i ← in_file Inv (typed_inv (shared_names p.typed.names s.typed.names) inv)
+  last ← in_file Spec (without_faults (across_faults p.typed.names spec.items))
+  Ok (assembled pipe.items p s i)

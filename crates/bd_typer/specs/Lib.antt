@@ -1,0 +1,10 @@
+pub mod Across
+pub mod Declarations
+pub mod Denotes
+pub mod Faults
+pub mod Joined
+pub mod Names
+pub mod Repeats
+pub mod Typing
+pub mod Walk
+pub mod inner

@@ -1,0 +1,4 @@
+pub mod After
+pub mod Held
+pub mod Located
+pub mod Roles

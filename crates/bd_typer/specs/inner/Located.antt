@@ -1,0 +1,41 @@
+-- Faults with their file, as the program has them; and the least of offsets.
+use Rattle.std.specs.Prelude.{◌≡◌, ℕ, List, [], ◌∷◌, Option, Some, None, min}
+use Rattle.std.specs.Option.{option_map}
+use Rattle.bd_text.specs.declared.code.Code.{Code}
+use Rattle.bd_syntax.specs.Reading.{Fault}
+use Rattle.bd_typer.specs.Faults.{fault}
+use Rattle.bd_text.specs.declared.fault.TextFault.{TextFault}
+use Rattle.bd_text.specs.declared.fault.TextFault.TheVariants as texts
+use Rattle.bd_syntax.specs.declared.fault.FormFault.{FormFault}
+use Rattle.bd_syntax.specs.declared.fault.FormFault.TheVariants as forms
+use Rattle.bd_typer.specs.declared.fault.Text.{Text}
+use Rattle.bd_typer.specs.declared.fault.TypeFault.{TypeFault}
+use Rattle.bd_typer.specs.declared.fault.TypeFault.TheVariants as faults
+
+abbrev pub located : Text → FormFault → TypeFault
+located file (forms.Bad offset code) = faults.Bad file offset code
+located file forms.Memory = faults.Memory
+
+abbrev pub text_located : Text → TextFault → TypeFault
+text_located file (texts.Bad offset code) = faults.Bad file offset code
+text_located file texts.Memory = faults.Memory
+
+-- what holds of the offset and the code of a fault of that file
+abbrev pub OnText : Text → TypeFault → (ℕ → Code → Type 0) → Type 0
+OnText file (faults.Bad other offset code) P = (other ≡ file) × P offset code
+OnText file faults.Memory P = Unit {0}
+
+-- the lesser of two offsets, where there are any
+abbrev pub first_offset : Option ℕ → Option ℕ → Option ℕ
+first_offset None b = b
+first_offset (Some a) None = Some a
+first_offset (Some a) (Some b) = Some (min a b)
+
+-- the least of offsets
+abbrev pub least_offset : List ℕ → Option ℕ
+least_offset [] = None
+least_offset (a ∷ offsets) = first_offset (Some a) (least_offset offsets)
+
+-- the fault of a code at an offset, where there is one
+abbrev pub fault_at : Code → Option ℕ → Option Fault
+fault_at code offset = option_map (fault code) offset

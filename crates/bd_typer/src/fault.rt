@@ -1,0 +1,80 @@
+//! What refuses the files of a design.
+
+ghost use Rattle.std.specs.Prelude.{◌≡◌};
+ghost use Rattle.bd_typer.specs.declared.fault.TypeFault.TheVariants.{Memory};
+ghost use Rattle.bd_typer.specs.inner.Located.{located, text_located, first_offset};
+
+use bd_syntax::FormFault;
+use bd_text::{Code, TextFault};
+use std::alloc::{AllocError, AllocFailed};
+use thiserror::Error;
+
+/// A file that is read.
+#[derive(Clone, Copy, Debug, PartialEq, Eq)]
+pub enum Text {
+    /// The pipeline.
+    Pipe,
+    /// The specification.
+    Spec,
+    /// The invariant.
+    Inv,
+    /// The case.
+    Case,
+}
+
+/// Why files aren't read as a design.
+#[derive(Clone, Copy, Debug, PartialEq, Eq, Error)]
+pub enum TypeFault {
+    /// A file has a fault.
+    #[error("{offset}: {code}")]
+    Bad {
+        /// Which file.
+        file: Text,
+        /// Where, in bytes from the beginning.
+        offset: usize,
+        /// Which.
+        code: Code,
+    },
+    /// Out of memory.
+    #[error("out of memory")]
+    Memory,
+}
+
+/// Why texts aren't read as a design.
+pub type DesignFault = TypeFault;
+
+impl From<AllocError> for TypeFault {
+    ghost from_gives = { λ _ fault. fault ≡ Memory };
+
+    fn from(_error: AllocError) -> TypeFault {
+        TypeFault::Memory
+    }
+}
+
+impl<T: Drop> From<AllocFailed<T>> for TypeFault {
+    ghost from_gives = { λ _ fault. fault ≡ Memory };
+
+    fn from(_error: AllocFailed<T>) -> TypeFault {
+        TypeFault::Memory
+    }
+}
+
+/// The fault of a file.
+pub fn located(file: Text, fault: FormFault) -> TypeFault
+    ensures { result ≡ located file fault }
+{
+    match fault {
+        FormFault::Bad { offset, code } => TypeFault::Bad { file, offset, code },
+        FormFault::Memory => TypeFault::Memory,
+    }
+}
+
+/// The fault of a file's text.
+pub fn text_located(file: Text, fault: TextFault) -> TypeFault
+    ensures { result ≡ text_located file fault }
+{
+    match fault {
+        TextFault::Bad { offset, code } => TypeFault::Bad { file, offset, code },
+        TextFault::Memory => TypeFault::Memory,
+    }
+}

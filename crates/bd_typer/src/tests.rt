@@ -1,0 +1,179 @@
+//! Examples: the first fault of three texts, and texts that denote a design.
+
+mod designs;
+mod draft;
+mod faults;
+
+use crate::{DesignFault, Text, design_of};
+use bd_model::Design;
+use bd_text::Code;
+use designs::{DENOTED, Denoted};
+use faults::{
+    At, BACK, EMPTY, FILE, FRONT, INSIDE, INV, INV_IN_FILE, NOTHING, PIPE, ROWS, Row, SPEC,
+    SPEC_IN_FILE,
+};
+use std::alloc::{AllocError, Global};
+use std::test::Fail;
+
+/// The first fault of what was read.
+fn fault(read: &Result<Design, DesignFault>) -> Option<DesignFault> {
+    match read {
+        Ok(_) => None,
+        Err(fault) => Some(*fault),
+    }
+}
+
+fn bad(file: Text, offset: usize, code: Code) -> Option<DesignFault> {
+    Some(DesignFault::Bad { file, offset, code })
+}
+
+#[test]
+fn finds_faults_across_files(rt: HostRuntime) {
+    for Row(pipe, spec, inv, file, offset, code) in &ROWS {
+        let got = fault(&design_of(rt.alloc(), *pipe, *spec, *inv));
+        assert_eq!(rt; got, bad(*file, *offset, *code));
+    }
+}
+
+#[test]
+fn finds_faults_of_pipelines(rt: HostRuntime) {
+    for At(text, offset, code) in &PIPE {
+        let got = fault(&design_of(rt.alloc(), *text, EMPTY, None));
+        assert_eq!(rt; got, bad(Text::Pipe, *offset, *code));
+    }
+}
+
+#[test]
+fn finds_faults_of_specifications(rt: HostRuntime) {
+    for At(text, offset, code) in &SPEC {
+        let got = fault(&design_of(rt.alloc(), NOTHING, *text, None));
+        assert_eq!(rt; got, bad(Text::Spec, *offset, *code));
+    }
+    for At(text, offset, code) in &SPEC_IN_FILE {
+        let got = fault(&design_of(rt.alloc(), FILE, *text, None));
+        assert_eq!(rt; got, bad(Text::Spec, *offset, *code));
+    }
+}
+
+#[test]
+fn finds_faults_of_invariants(rt: HostRuntime) {
+    for At(text, offset, code) in &INV {
+        let got = fault(&design_of(rt.alloc(), NOTHING, EMPTY, Some(*text)));
+        assert_eq!(rt; got, bad(Text::Inv, *offset, *code));
+    }
+    for At(text, offset, code) in &INV_IN_FILE {
+        let got = fault(&design_of(rt.alloc(), FILE, EMPTY, Some(*text)));
+        assert_eq!(rt; got, bad(Text::Inv, *offset, *code));
+    }
+}
+
+/// The text with these items behind the front.
+fn inside(alloc: Global, items: &[u8]) -> Result<Vec<u8>, AllocError> {
+    let mut text = Vec::from_slice(alloc, FRONT)?;
+    text.push(b' ')?;
+    text.extend_from_slice(items)?;
+    text.extend_from_slice(BACK)?;
+    Ok(text)
+}
+
+#[test]
+fn finds_faults_of_expressions(rt: HostRuntime) -> Result<(), Fail> {
+    for At(items, offset, code) in &INSIDE {
+        let text = inside(rt.alloc(), *items)?;
+        let got = fault(&design_of(rt.alloc(), &text, EMPTY, None));
+        assert_eq!(rt; got, bad(Text::Pipe, FRONT.len() + 1 + *offset, *code));
+    }
+    Ok(())
+}
+
+/// Whether the design that was read is the one written out.
+fn is_design(read: &Result<Design, DesignFault>, want: &Result<Design, AllocError>) -> bool {
+    match (read, want) {
+        (Ok(read), Ok(want)) => read == want,
+        _ => false,
+    }
+}
+
+fn denotes(alloc: Global, row: &Denoted) -> bool {
+    is_design(
+        &design_of(alloc, row.0, row.1, row.2),
+        &draft::design(alloc, row.3),
+    )
+}
+
+#[test]
+fn reads_designs(rt: HostRuntime) {
+    for row in &DENOTED {
+        assert!(rt; denotes(rt.alloc(), row));
+    }
+}
+
+/// A text, copies of another, and a third.
+fn around(
+    alloc: Global,
+    before: &[u8],
+    part: &[u8],
+    copies: usize,
+    after: &[u8],
+) -> Result<Vec<u8>, AllocError> {
+    let mut text = Vec::from_slice(alloc, before)?;
+    for _ in 0..copies {
+        text.extend_from_slice(part)?;
+    }
+    text.extend_from_slice(after)?;
+    Ok(text)
+}
+
+/// A pipeline with a long part; the offset and the code of its first fault, if it has one.
+struct Long(
+    &'static [u8],
+    &'static [u8],
+    usize,
+    &'static [u8],
+    Option<(usize, Code)>,
+);
+
+static LONG: [Long; 4] = [
+    Long(
+        b"(pipeline (function ",
+        b"f",
+        64,
+        b" 0) (flush 0) (steps 0))",
+        None,
+    ),
+    Long(
+        b"(pipeline (function ",
+        b"f",
+        65,
+        b" 0) (flush 0) (steps 0))",
+        Some((20, Code::NotName)),
+    ),
+    Long(
+        b"(pipeline (let x bool ",
+        b"(not ",
+        197,
+        b"y",
+        Some((22 + 5 * 197 + 1, Code::Unbalanced)),
+    ),
+    Long(
+        b"(pipeline (flush 0) (steps 0) ",
+        b"(exact 0 true)",
+        20000,
+        b")",
+        None,
+    ),
+];
+
+#[test]
+fn reads_long_files(rt: HostRuntime) -> Result<(), Fail> {
+    for Long(before, part, copies, after, want) in &LONG {
+        let text = around(rt.alloc(), *before, *part, *copies, *after)?;
+        let got = fault(&design_of(rt.alloc(), &text, EMPTY, None));
+        let want = match want {
+            Some((offset, code)) => bad(Text::Pipe, *offset, *code),
+            None => None,
+        };
+        assert_eq!(rt; got, want);
+    }
+    Ok(())
+}
