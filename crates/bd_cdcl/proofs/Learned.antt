@@ -1,51 +1,28 @@
 -- Clauses learned from a conflict: they follow, they are fresh, and they keep the trail complete that the solver goes back to.
-use Rattle.std.proofs.Common.{◌≡◌, ℕ, true, false, not, List, [], ◌∷◌, ◌++◌, Option, None, Some, map, sym, ap, ◌∙◌, subst, inl, inr}
-use Rattle.std.specs.Prelude.{IsSomeAnd}
+use Rattle.std.proofs.Common.{◌≡◌, ℕ, true, false, List, [], ◌∷◌, ◌++◌, Option, None, Some, map, sym, ap, ◌∙◌, subst, inl, inr}
 use Rattle.std.specs.List.{All, cons_option}
-use Rattle.std.specs.FinMap.{get, insert}
-use Rattle.std.proofs.lemmas.Bool.{or_cases, or_left, or_right, false≢true, true≢false, cases_Bool}
+use Rattle.std.specs.FinMap.{get}
+use Rattle.std.proofs.lemmas.Bool.{or_cases, or_left, or_right, false≢true}
 use Rattle.bd_cnf.specs.Literal.{Literal, negate, literal_eq, has_literal, has_variable}
 use Rattle.bd_cnf.specs.Clause.{IsRising, SameLiterals}
 use Rattle.bd_cnf.specs.Standing.{Standing}
 use Rattle.bd_cnf.specs.Trail.{is_false, open_literals, IsConsistent, IsClosed, AreClosed, IsPartOf}
-use Rattle.bd_cnf.proofs.Literals.{literal_eq-true, literal_eq-refl}
 use Rattle.bd_cnf.proofs.Closed.{has_variable_of, part_variable}
 use Rattle.bd_lrat.specs.declared.line.Hint.TheVariants as hint
 use Rattle.bd_lrat.specs.Propagation.{Conflict, propagate}
 use Rattle.bd_lrat.specs.Log.{IsFreshClause}
 use Rattle.bd_lrat.proofs.Closed.{fresh_from_closed}
-use Rattle.bd_cdcl.specs.Levels.{Assigned, assigned, literals, decided, decisions, reasons, IsPlaced, IsComplete}
-use Rattle.bd_cdcl.specs.inner.Trails.{IsLastDecision}
-use Rattle.bd_cdcl.proofs.Parts.{has_here, has_left, has_right, has_either, has_single, not_false, negate_twice, open_from, open_has, two_of, rises_filter, rising_alone, has_negated, negated_has}
-use Rattle.bd_cdcl.proofs.Placed.{literals-append, decisions-append, decisions_part, complete_front, complete_at, complete_push, complete_insert, added_stands, IsClosedAtDecisions}
+use Rattle.bd_watch.specs.Levels.{Assigned, assigned, literals, decided, decisions, reasons, IsPlaced, IsComplete}
+use Rattle.bd_watch.specs.Trails.{IsLastDecision}
+use Rattle.bd_watch.specs.Watching.{IsAsserting}
+use Rattle.bd_watch.proofs.Asserting.{two_free_closed}
+use Rattle.bd_watch.proofs.Parts.{has_here, has_left, has_right, has_either, has_single, negate_twice, has_negated, negated_has}
+use Rattle.bd_watch.proofs.Placed.{literals-append, decisions-append, decisions_part, complete_front, complete_at, IsClosedAtDecisions}
 use Rattle.bd_cdcl.proofs.Replay.{replay_conflict}
-
--- a clause is false at the end of a level, but for one literal, whose variable has no value there
-pub record IsAsserting (front : List Literal) (clause : List Literal) (u : Literal) : Type 0 where
-  pub here : has_literal clause u ≡ true
-  pub free : has_variable front u.var ≡ false
-  pub others : (l : Literal) → has_literal clause l ≡ true → (l ≡ u → ⊥) → is_false front l ≡ true
 
 -- where that end is closed, the clause is fresh
 pub asserting_fresh : (standing : Standing) (front : List Literal) (earlier : List (List Literal)) (clause : List Literal) (u : Literal) → IsConsistent front → AreClosed standing front → All (λ other. IsRising other × IsClosed front other) earlier → IsAsserting front clause u → IsFreshClause standing earlier clause
 asserting_fresh standing front earlier clause u consistent closed known is = fresh_from_closed standing front consistent closed earlier clause u is.here is.free is.others known
-
--- and it is unit there
-pub asserting_unit : (front clause : List Literal) (u : Literal) → IsRising clause → IsAsserting front clause u → open_literals front clause ≡ u ∷ []
-asserting_unit front clause u rising is =
-    rising_alone 0 (open_literals front clause) u (rises_filter (λ l. not (is_false front l)) 0 clause rising) only (open_from front clause u is.here (not_false front u is.free))
-  where
-    only : (l : Literal) → has_literal (open_literals front clause) l ≡ true → l ≡ u
-    only l h =
-        let both = open_has front clause l h in
-        elim (cases_Bool (literal_eq l u)) [
-          | inl e ↦ literal_eq-true l u e
-          | inr e ↦ absurd (false≢true (sym both.1 ∙ is.others l both.0 (λ same. true≢false (sym (subst (λ (k : Literal). literal_eq l k ≡ true) same (literal_eq-refl l)) ∙ e))))
-        ]
-
--- a clause with two literals whose variables have no value is neither unit nor false
-pub two_free_closed : (front clause : List Literal) (u w : Literal) → has_literal clause u ≡ true → has_literal clause w ≡ true → (u ≡ w → ⊥) → has_variable front u.var ≡ false → has_variable front w.var ≡ false → IsClosed front clause
-two_free_closed front clause u w here there apart free also = inr (two_of (open_literals front clause) u w (open_from front clause u here (not_false front u free)) (open_from front clause w there (not_false front w also)) apart)
 
 -- what stands in front of a decision stands in front of the last one
 before_last : (xs : List Assigned) (a : Assigned) (ys front : List Assigned) (d : Literal) (rest : List Assigned) → xs ++ a ∷ ys ≡ front ++ assigned d None ∷ rest → a.reason ≡ None → decisions rest ≡ [] → IsPartOf (literals xs) (literals front)
@@ -75,14 +52,6 @@ pub two_free_at_decisions : (trail front : List Assigned) (d : Literal) (rest : 
 two_free_at_decisions trail front d rest clause u w at here there apart free also xs a ys e no_reason =
     let part : IsPartOf (literals xs) (literals front) = before_last xs a ys front d rest (sym e ∙ at.whole) no_reason at.implied in
     two_free_closed (literals xs) clause u w here there apart (part_variable (literals xs) (literals front) u.var part free) (part_variable (literals xs) (literals front) w.var part also)
-
--- the trail that the solver goes back to stays complete over the clause, which implies its literal there
-pub asserted_complete : (standing : Standing) (front : List Assigned) (id : ℕ) (clause : List Literal) (u : Literal) → get standing id ≡ None → IsRising clause → IsComplete standing front → IsClosedAtDecisions front clause → IsAsserting (literals front) clause u → IsComplete (insert standing id clause) (front ++ assigned u (Some id) ∷ [])
-asserted_complete standing front id clause u none rising all closed is =
-    complete_push (insert standing id clause) front (assigned u (Some id)) (complete_insert standing id clause front none closed all) (record {
-      unassigned = is.free;
-      reason = subst (λ o. IsSomeAnd o (λ c. open_literals (literals front) c ≡ u ∷ [])) (sym (added_stands standing id clause)) (asserting_unit (literals front) clause u rising is);
-    })
 
 pub decisions_at : (trail front : List Assigned) (d : Literal) (rest : List Assigned) → IsLastDecision trail front d rest → decisions trail ≡ decisions front ++ d ∷ []
 decisions_at trail front d rest is = ap decisions is.whole ∙ decisions-append front (assigned d None ∷ rest) ∙ ap (λ ds. decisions front ++ d ∷ ds) is.implied

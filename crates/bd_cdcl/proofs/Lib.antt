@@ -1,10 +1,12 @@
-pub mod Parts
-pub mod Placed
 pub mod Replay
 pub mod Learned
 pub mod Settled
-pub mod Values
-pub mod Entries
+pub mod Analyzing
+pub mod Marking
+pub mod Lessons
+pub mod Analyses
+pub mod Taught
 pub mod Passing
 pub mod Searching
+pub mod Descending
 pub mod Laws

@@ -1,63 +1,22 @@
 -- Passes over the clauses: what a unit clause gives, and how far a pass has come.
-use Rattle.std.proofs.Common.{◌≡◌, ℕ, zero, suc, ◌+◌, ◌<◌, ◌≤◌, Bool, true, false, cond, List, [], ◌∷◌, ◌++◌, Option, None, Some, IsSome, IfSome, length, get_or, take, refl, sym, ap, ◌∙◌, subst, inl, arith, length-append}
+use Rattle.std.proofs.Common.{◌≡◌, ℕ, ◌+◌, ◌<◌, ◌≤◌, Bool, true, false, List, [], ◌∷◌, ◌++◌, Some, length, get_or, take, sym, ap, ◌∙◌, subst, inl, arith, length-append}
 use Rattle.std.specs.Prelude.{IsSomeAnd}
-use Rattle.std.specs.List.{All, enumerate_from}
-use Rattle.std.specs.Ordering.{nat_cmp}
-use Rattle.std.specs.Cmp.{nat_cmp_total}
-use Rattle.std.specs.FinMap.{get, find, get-from_entries}
-use Rattle.std.proofs.lemmas.Bool.{eq-eqb, ne_eqb}
+use Rattle.std.specs.List.{All}
 use Rattle.std.proofs.lemmas.List.{take_all}
 use Rattle.std.proofs.lemmas.List.Elements.{All-more}
 use Rattle.bd_cnf.specs.Literal.{Literal, has_literal, has_variable}
-use Rattle.bd_cnf.specs.Problem.{problem}
-use Rattle.bd_cnf.specs.Standing.{IsBelow, EachStanding}
-use Rattle.bd_cnf.specs.Trail.{open_literals, IsClosed, AreClosed}
+use Rattle.bd_cnf.specs.Standing.{IsBelow}
+use Rattle.bd_cnf.specs.Trail.{open_literals, IsClosed}
 use Rattle.bd_cnf.proofs.Literals.{any_from_has}
 use Rattle.bd_cnf.proofs.Opens.{open_is_open, open_is_below}
 use Rattle.bd_lrat.specs.Database.{numbered}
-use Rattle.bd_lrat.proofs.Keys.{tied}
-use Rattle.bd_lrat.proofs.Standings.{each_numbered}
-use Rattle.bd_lrat.proofs.Ids.{up_to_formula}
-use Rattle.bd_cdcl.specs.Levels.{Assigned, assigned, literals, IsComplete}
-use Rattle.bd_cdcl.specs.inner.Trails.{LeveledTrail, leveled}
-use Rattle.bd_cdcl.specs.inner.Passes.{IsPassing, AllClosed, IsConflict}
-use Rattle.bd_cdcl.proofs.Parts.{has_here, open_has, unassigned_from}
-use Rattle.bd_cdcl.proofs.Placed.{complete_push}
-
-found_at : (n i : ℕ) (cs : List (List Literal)) (d : List Literal) → i < length cs → find nat_cmp (n + i) (enumerate_from n cs) ≡ Some (get_or cs i d)
-found_at n i [] d h = absurd (omega arith)
-found_at n zero (c ∷ cs) d h = ap (λ b. cond b (Some c) (find nat_cmp (n + 0) (enumerate_from (n + 1) cs))) (tied (n + 0) n ∙ eq-eqb (n + 0) n (omega arith))
-found_at n (suc i) (c ∷ cs) d h =
-    let same : n + suc i ≡ (n + 1) + i = omega arith in
-    ap (λ b. cond b (Some c) (find nat_cmp (n + suc i) (enumerate_from (n + 1) cs))) (tied (n + suc i) n ∙ ne_eqb (n + suc i) n (λ e. absurd (omega arith)))
-    ∙ ap (λ k. find nat_cmp k (enumerate_from (n + 1) cs)) same
-    ∙ found_at (n + 1) i cs d (omega arith)
-
--- the clause at a place, from 0, stands under the next number
-pub numbered_at : (cs : List (List Literal)) (i : ℕ) (d : List Literal) → i < length cs → get (numbered cs) (i + 1) ≡ Some (get_or cs i d)
-numbered_at cs i d h =
-    get-from_entries nat_cmp_total (enumerate_from 1 cs) (i + 1)
-    ∙ ap (λ k. find nat_cmp k (enumerate_from 1 cs)) (let same : i + 1 ≡ 1 + i = omega arith in same)
-    ∙ found_at 1 i cs d h
-
--- nothing stands under the number behind the last
-pub numbered_past : (cs : List (List Literal)) → get (numbered cs) (length cs + 1) ≡ None
-numbered_past cs = none (get (numbered cs) (length cs + 1)) (up_to_formula (problem 0 cs) (length cs + 1))
-  where
-    none : (o : Option (List Literal)) → (IsSome o → length cs + 1 ≤ length cs) → o ≡ None
-    none None low = refl
-    none (Some c) low = let bad : length cs + 1 ≤ length cs = low refl in absurd (omega arith)
-
--- what holds of each clause that stands holds of each clause
-pub all_from_numbered : (P : List Literal → Type 0) (cs : List (List Literal)) → EachStanding P (numbered cs) → All P cs
-all_from_numbered P cs each k d h = some (get (numbered cs) (k + 1)) (numbered_at cs k d h) (each (k + 1))
-  where
-    some : (o : Option (List Literal)) → o ≡ Some (get_or cs k d) → IfSome o P → P (get_or cs k d)
-    some None e is = cc
-    some (Some c) e is = let same : c ≡ get_or cs k d = cc in subst P same is
-
-pub closed_standing : (cs : List (List Literal)) (trail : List Assigned) → AllClosed cs trail → AreClosed (numbered cs) (literals trail)
-closed_standing cs trail all = each_numbered (IsClosed (literals trail)) cs all
+use Rattle.bd_watch.specs.Levels.{Assigned, assigned, literals, IsComplete}
+use Rattle.bd_watch.specs.Trails.{LeveledTrail, leveled}
+use Rattle.bd_watch.specs.Watching.{IsConflict}
+use Rattle.bd_watch.proofs.Numbered.{numbered_at}
+use Rattle.bd_cdcl.specs.inner.Passes.{IsPassing, AllClosed}
+use Rattle.bd_watch.proofs.Parts.{has_here, open_has, unassigned_from}
+use Rattle.bd_watch.proofs.Placed.{complete_push}
 
 -- the literal of a unit clause has room
 pub unit_below : (limit room : ℕ) (clauses : List (List Literal)) (place : ℕ) (clause lits ls : List Literal) (l : Literal) → All (IsBelow limit) clauses → room ≡ limit → place < length clauses → clause ≡ get_or clauses place clause → lits ≡ clause → open_literals ls lits ≡ l ∷ [] → l.var < room

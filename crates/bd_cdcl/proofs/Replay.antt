@@ -11,10 +11,10 @@ use Rattle.bd_cnf.specs.Trail.{is_false, open_literals, IsConsistent, IsPartOf}
 use Rattle.bd_lrat.specs.declared.line.Hint.{Hint}
 use Rattle.bd_lrat.specs.declared.line.Hint.TheVariants as hint
 use Rattle.bd_lrat.specs.Propagation.{Conflict, Reached, assign, unit_outcome, clause_outcome, and_then, propagate}
-use Rattle.bd_cdcl.specs.Levels.{Assigned, literals, decided, decisions, reasons, IsReason, ArePlaced, IsComplete}
+use Rattle.bd_watch.specs.Levels.{Assigned, literals, decided, decisions, reasons, IsReason, ArePlaced, IsComplete}
 use Rattle.bd_cnf.proofs.Closed.{part_push}
-use Rattle.bd_cdcl.proofs.Parts.{part_nil, has_here, has_behind, has_left, has_pushed, open_shrinks}
-use Rattle.bd_cdcl.proofs.Placed.{complete_consistent}
+use Rattle.bd_watch.proofs.Parts.{part_nil, has_here, has_behind, has_left, has_pushed, open_shrinks}
+use Rattle.bd_watch.proofs.Placed.{complete_consistent}
 
 -- a clause with one open literal, which the whole trail doesn't make false, has that one open on a longer part too
 open_again : (before taken whole clause : List Literal) (l : Literal) → IsPartOf before taken → IsPartOf taken whole → is_false whole l ≡ false → open_literals before clause ≡ l ∷ [] → open_literals taken clause ≡ l ∷ []

@@ -12,7 +12,7 @@ use Rattle.std.specs.Ordering.{nat_cmp}
 use Rattle.bd_cnf.specs.Clause.{IsRising, IsWithin, SameLiterals, clause_value}
 use Rattle.bd_cnf.specs.Problem.{Problem, AreWithin}
 use Rattle.bd_cnf.specs.Standing.{Standing, IsBelow}
-use Rattle.bd_cnf.specs.Trail.{open_literals, IsClosed, AreClosed}
+use Rattle.bd_cnf.specs.Trail.{open_literals, IsConsistent, IsClosed, AreClosed}
 use Rattle.bd_cnf.proofs.Literals.{has_at}
 use Rattle.bd_cnf.proofs.Rising.{above_floor}
 use Rattle.bd_lrat.specs.declared.line.Hint.{Hint}
@@ -26,14 +26,16 @@ use Rattle.bd_lrat.proofs.Ends.{after_all-push, accepted-push, with_added-append
 use Rattle.bd_cdcl.specs.declared.solver.Found.{Found}
 use Rattle.bd_cdcl.specs.declared.solver.Found.TheVariants.{Model, Refuted, Spent}
 use Rattle.bd_cdcl.specs.Law.{IsLaw, ends_empty}
-use Rattle.bd_cdcl.specs.Levels.{Assigned, assigned, literals, decisions, IsComplete}
-use Rattle.bd_cdcl.specs.inner.Trails.{LeveledTrail, leveled, IsLastDecision, Decides, AllAssigned, MakesTrue}
-use Rattle.bd_cdcl.specs.inner.Passes.{IsConflict, AllClosed}
+use Rattle.bd_watch.specs.Levels.{Assigned, assigned, literals, decisions, IsComplete}
+use Rattle.bd_watch.specs.Trails.{LeveledTrail, leveled, IsLastDecision, Decides, AllAssigned, MakesTrue}
+use Rattle.bd_cdcl.specs.inner.Passes.{AllClosed}
 use Rattle.bd_cdcl.specs.inner.Search.{conflict_hints, addition, IsLearned, IsResolved, IsSearching}
-use Rattle.bd_cdcl.proofs.Parts.{all_has, has_negated}
-use Rattle.bd_cdcl.proofs.Placed.{complete_push, complete_consistent}
-use Rattle.bd_cdcl.proofs.Passing.{numbered_past, all_from_numbered, closed_standing}
-use Rattle.bd_cdcl.proofs.Learned.{IsAsserting, asserting_fresh, asserted_complete, front_complete, front_closed, decision_follows, decision_asserting, decision_closed}
+use Rattle.bd_watch.proofs.Parts.{all_has, has_negated}
+use Rattle.bd_watch.proofs.Placed.{complete_push, complete_consistent}
+use Rattle.bd_watch.proofs.Numbered.{numbered_past, all_from_numbered, closed_standing}
+use Rattle.bd_watch.proofs.Asserting.{asserted_complete}
+use Rattle.bd_watch.specs.Watching.{IsAsserting, IsConflict}
+use Rattle.bd_cdcl.proofs.Learned.{asserting_fresh, front_complete, front_closed, decision_follows, decision_asserting, decision_closed}
 use Rattle.bd_cdcl.proofs.Settled.{conflict_unsettled, conflict_refutes, closed_true, satisfies_all}
 
 -- a search begins with the formula's clauses and an empty trail
@@ -69,7 +71,7 @@ search_moves p clauses trail after count log is same complete = record {
 pub search_decides : (p : Problem) (clauses : List (List Literal)) (trail after : LeveledTrail) (count : ℕ) (log : List Line) → IsSearching p clauses trail count log → AllClosed clauses trail.entries → Decides trail after → IsSearching p clauses after count log
 search_decides p clauses trail after count log is closed (d, low, free, e) =
     search_moves p clauses trail after count log is (ap (λ (t : LeveledTrail). t.limit) e)
-    (subst (λ (t : LeveledTrail). IsComplete (numbered clauses) t.entries) (sym e) (complete_push (numbered clauses) trail.entries (assigned d None) is.complete (record { unassigned = free; reason = closed_standing clauses trail.entries closed })))
+    (subst (λ (t : LeveledTrail). IsComplete (numbered clauses) t.entries) (sym e) (complete_push (numbered clauses) trail.entries (assigned d None) is.complete (record { unassigned = free; reason = closed_standing clauses (literals trail.entries) closed })))
 
 -- the clause that a conflict names
 pub conflict_clause : (standing : Standing) (trail : List Assigned) (id : ℕ) → IsConflict standing trail id → (clause : List Literal) × (get standing id ≡ Some clause) × (open_literals (literals trail) clause ≡ [])
@@ -108,52 +110,67 @@ counts : (id : ℕ) (clause : List Literal) (hints : List Hint) (l : Literal) �
 counts id [] hints l h = absurd (false≢true h)
 counts id (m ∷ ms) hints l h = refl
 
+-- a clause is added that follows, and is false but for one literal at the end of a level
+pub search_adds : (p : Problem) (clauses : List (List Literal)) (trail after : LeveledTrail) (count : ℕ) (log : List Line) (clause : List Literal) (hints : List Hint) (front : List Literal) (u : Literal) → IsSearching p clauses trail count log → IsRising clause → IsWithin p.vars clause → propagate (numbered clauses) (map negate clause) hints ≡ Conflict → IsConsistent front → AreClosed (numbered clauses) front → IsAsserting front clause u → after.limit ≡ trail.limit → IsComplete (numbered (clauses ++ clause ∷ [])) after.entries → IsSearching p (clauses ++ clause ∷ []) after (count + 1) (log ++ addition clauses clause hints ∷ [])
+search_adds p clauses trail after_trail count log clause hints front u is rising within follows consistent closed asserting limit complete = record {
+  limit = limit ∙ is.limit;
+  complete = complete;
+  rising = All-push IsRising clauses clause is.rising rising;
+  within = All-push (IsWithin p.vars) clauses clause is.within within;
+  known = known_more p.clauses clauses (clauses ++ clause ∷ []) clause log lines hints is.known refl refl;
+  accepted = accepted-push (database_of p) log line is.accepted (last_is p clauses (after_all (database_of p) log) is.stands clause hints within follows);
+  fresh = fresh-push_addition (database_of p) p.clauses log id clause hints is.fresh (λ _. fresh);
+  stands = after_all-push (database_of p) log line ∙ ap (λ d. after d line) is.stands ∙ stand;
+  counted = additions-push log line ∙ ap (λ b. additions log + cond b 1 0) (counts id clause hints u asserting.here) ∙ ap (λ n. n + 1) is.counted;
+}
+  where
+    id : ℕ
+    id = length clauses + 1
+
+    line : Line
+    line = addition clauses clause hints
+
+    lines : List Line
+    lines = log ++ line ∷ []
+
+    fresh : IsFreshClause (after_all (database_of p) log).clauses (with_added p.clauses log) clause
+    fresh =
+        let all_closed : All (IsClosed front) clauses = all_from_numbered (IsClosed front) clauses closed in
+        subst (λ (d : Database). IsFreshClause d.clauses (with_added p.clauses log) clause) (sym is.stands)
+        (asserting_fresh (numbered clauses) front (with_added p.clauses log) clause u consistent closed
+        (λ k d h.
+        let there = is.known (get_or (with_added p.clauses log) k d) (Contains-get_or (with_added p.clauses log) k d h) in
+        (All-contains IsRising clauses _ is.rising there, All-contains (IsClosed front) clauses _ all_closed there))
+        asserting)
+
+    stand : database p.vars (length clauses + 1) (insert (numbered clauses) (length clauses + 1) clause) ≡ database p.vars (length (clauses ++ clause ∷ [])) (numbered (clauses ++ clause ∷ []))
+    stand =
+        let size : length (clauses ++ clause ∷ []) ≡ length clauses + 1 = length-append clauses (clause ∷ []) in
+        ap (λ n. database p.vars n (insert (numbered clauses) (length clauses + 1) clause)) (sym size) ∙ ap (database p.vars (length (clauses ++ clause ∷ []))) (sym (numbered-push clauses clause))
+
 -- a search learns from a conflict above level 0
 pub search_learns : (p : Problem) (clauses new : List (List Literal)) (trail after : LeveledTrail) (count more : ℕ) (log lines : List Line) (conflict : ℕ) → IsSearching p clauses trail count log → IsConflict (numbered clauses) trail.entries conflict → IsLearned clauses new trail after log lines conflict → more ≡ count + 1 → IsSearching p new after more lines
 search_learns p clauses new trail after_trail count more log lines conflict is at learned counted =
-    let named = conflict_clause (numbered clauses) trail.entries conflict at in
-    let hints = conflict_hints trail.entries conflict in
-    let id : ℕ = length clauses + 1 in
+    let standing = numbered clauses in
+    let named = conflict_clause standing trail.entries conflict at in
     let clause = learned.clause in
-    let line : Line = addition clauses clause hints in
-    let asserting = decision_asserting (numbered clauses) trail.entries learned.front learned.last learned.rest is.complete learned.at clause learned.same in
+    let front = learned.front in
+    let u = negate learned.last in
+    let asserting = decision_asserting standing trail.entries front learned.last learned.rest is.complete learned.at clause learned.same in
     let within = decision_within p trail clause is.limit learned.below learned.same in
-    let follows = decision_follows (numbered clauses) trail.entries learned.front learned.last learned.rest is.complete learned.at clause learned.same conflict named.0 named.1 named.2 in
-    let accepted : IsAccepted (after_all (database_of p) log) line = last_is p clauses (after_all (database_of p) log) is.stands clause hints within follows in
-    let grown : numbered new ≡ insert (numbered clauses) id clause = ap numbered learned.added ∙ numbered-push clauses clause in
-    record {
-      limit = ap (λ (t : LeveledTrail). t.limit) learned.asserted ∙ is.limit;
-      complete = subst (λ (t : LeveledTrail). IsComplete (numbered new) t.entries) (sym learned.asserted)
-          (subst (λ s. IsComplete s (learned.front ++ assigned (negate learned.last) (Some id) ∷ [])) (sym grown)
-          (asserted_complete (numbered clauses) learned.front id clause (negate learned.last) (numbered_past clauses) learned.rising
-          (front_complete (numbered clauses) trail.entries learned.front learned.last learned.rest is.complete learned.at)
-          (decision_closed (numbered clauses) trail.entries learned.front learned.last learned.rest is.complete learned.at clause learned.same)
-          asserting));
-      rising = subst (All IsRising) (sym learned.added) (All-push IsRising clauses clause is.rising learned.rising);
-      within = subst (AreWithin p.vars) (sym learned.added) (All-push (IsWithin p.vars) clauses clause is.within within);
-      known = known_more p.clauses clauses new clause log lines hints is.known learned.added learned.logged;
-      accepted = subst (IsAcceptedLog (database_of p)) (sym learned.logged) (accepted-push (database_of p) log line is.accepted accepted);
-      fresh = subst (IsFresh p) (sym learned.logged) (fresh-push_addition (database_of p) p.clauses log id clause hints is.fresh (λ _. fresh asserting));
-      stands = ap (after_all (database_of p)) learned.logged ∙ after_all-push (database_of p) log line ∙ ap (λ d. after d line) is.stands ∙ stand grown;
-      counted = ap additions learned.logged ∙ additions-push log line ∙ ap (λ b. additions log + cond b 1 0) (counts id clause hints (negate learned.last) asserting.here) ∙ ap (λ n. n + 1) is.counted ∙ sym counted;
-    }
-  where
-    fresh : IsAsserting (literals learned.front) learned.clause (negate learned.last) → IsFreshClause (after_all (database_of p) log).clauses (with_added p.clauses log) learned.clause
-    fresh asserting =
-        let closed : AreClosed (numbered clauses) (literals learned.front) = front_closed (numbered clauses) trail.entries learned.front learned.last learned.rest is.complete learned.at in
-        let all_closed : All (IsClosed (literals learned.front)) clauses = all_from_numbered (IsClosed (literals learned.front)) clauses closed in
-        let consistent = complete_consistent (numbered clauses) learned.front (front_complete (numbered clauses) trail.entries learned.front learned.last learned.rest is.complete learned.at) in
-        subst (λ (d : Database). IsFreshClause d.clauses (with_added p.clauses log) learned.clause) (sym is.stands)
-        (asserting_fresh (numbered clauses) (literals learned.front) (with_added p.clauses log) learned.clause (negate learned.last) consistent closed
-        (λ k d h.
-        let there = is.known (get_or (with_added p.clauses log) k d) (Contains-get_or (with_added p.clauses log) k d h) in
-        (All-contains IsRising clauses _ is.rising there, All-contains (IsClosed (literals learned.front)) clauses _ all_closed there))
-        asserting)
-
-    stand : numbered new ≡ insert (numbered clauses) (length clauses + 1) learned.clause → database p.vars (length clauses + 1) (insert (numbered clauses) (length clauses + 1) learned.clause) ≡ database p.vars (length new) (numbered new)
-    stand grown =
-        let size : length new ≡ length clauses + 1 = ap length learned.added ∙ length-append clauses (learned.clause ∷ []) in
-        ap (λ n. database p.vars n (insert (numbered clauses) (length clauses + 1) learned.clause)) (sym size) ∙ ap (database p.vars (length new)) (sym grown)
+    let follows = decision_follows standing trail.entries front learned.last learned.rest is.complete learned.at clause learned.same conflict named.0 named.1 named.2 in
+    let complete_before = front_complete standing trail.entries front learned.last learned.rest is.complete learned.at in
+    let closed = front_closed standing trail.entries front learned.last learned.rest is.complete learned.at in
+    let entries : List Assigned = front ++ assigned u (Some (length clauses + 1)) ∷ [] in
+    let complete : IsComplete (numbered (clauses ++ clause ∷ [])) entries =
+    subst (λ s. IsComplete s entries) (sym (numbered-push clauses clause))
+    (asserted_complete standing front (length clauses + 1) clause u (numbered_past clauses) learned.rising complete_before
+    (decision_closed standing trail.entries front learned.last learned.rest is.complete learned.at clause learned.same) asserting) in
+    let so = search_adds p clauses trail (leveled trail.limit entries) count log clause (conflict_hints trail.entries conflict) (literals front) u is learned.rising within follows (complete_consistent standing front complete_before) closed asserting refl complete in
+    subst (λ n. IsSearching p new after_trail n lines) (sym counted)
+    (subst (λ cs. IsSearching p cs after_trail (count + 1) lines) (sym learned.added)
+    (subst (λ t. IsSearching p (clauses ++ clause ∷ []) t (count + 1) lines) (sym learned.asserted)
+    (subst (λ ls. IsSearching p (clauses ++ clause ∷ []) (leveled trail.limit entries) (count + 1) ls) (sym learned.logged) so)))
 
 ends-push : (log : List Line) (line : Line) → ends_empty (log ++ line ∷ []) ≡ adds_empty line
 ends-push [] line = refl

@@ -1,9 +1,8 @@
 -- What a solver's end means: an unsettled database, a model, a refutation.
-use Rattle.std.proofs.Common.{◌≡◌, ℕ, ◌≤◌, Bool, true, false, List, [], ◌∷◌, ◌++◌, Option, None, Some, length, map, refl, sym, ap, ◌∙◌, subst, inl, inr, eqb, append_assoc, append-nil, arith}
+use Rattle.std.proofs.Common.{◌≡◌, ℕ, ◌≤◌, Bool, true, false, List, [], ◌∷◌, ◌++◌, Option, None, Some, length, map, refl, sym, ap, ◌∙◌, subst, inl, inr, append_assoc, append-nil, arith}
 use Rattle.std.specs.List.{All, cons_option}
 use Rattle.std.specs.FinMap.{get}
-use Rattle.std.proofs.lemmas.Bool.{false≢true, cases_Bool, and_from, or_cases, or_parts, or_from, ne_eqb, eq-eqb}
-use Rattle.std.proofs.lemmas.List.Folds.{list_any-append}
+use Rattle.std.proofs.lemmas.Bool.{false≢true, cases_Bool, and_from, or_cases}
 use Rattle.std.proofs.lemmas.List.Elements.{All-head, All-tail}
 use Rattle.bd_cnf.specs.Literal.{Literal, negate, literal_eq, has_literal, has_variable, literal_value}
 use Rattle.bd_cnf.specs.Clause.{IsTautology, clause_value, Satisfies}
@@ -15,32 +14,13 @@ use Rattle.bd_lrat.specs.declared.line.Hint.TheVariants as hint
 use Rattle.bd_lrat.specs.Propagation.{Conflict, propagate}
 use Rattle.bd_lrat.specs.Log.{IsUnsettled, HaveDifferentVariables}
 use Rattle.bd_lrat.proofs.Closed.{closed_no_conflict, closed_never_reaches}
-use Rattle.bd_cdcl.specs.Levels.{Assigned, literals, decided, decisions, reasons, ArePlaced, IsComplete}
-use Rattle.bd_cdcl.specs.inner.Trails.{IsLastDecision}
-use Rattle.bd_cdcl.proofs.Parts.{part_nil, has_here, literal_of, open_has, has_negated}
-use Rattle.bd_cdcl.proofs.Placed.{decisions_part, complete_consistent}
+use Rattle.bd_watch.specs.Levels.{Assigned, literals, decided, decisions, reasons, ArePlaced, IsComplete}
+use Rattle.bd_watch.specs.Trails.{IsLastDecision}
+use Rattle.bd_watch.proofs.Parts.{part_nil, has_here, literal_of, open_has, has_negated}
+use Rattle.bd_watch.proofs.Different.{different_push}
+use Rattle.bd_watch.proofs.Placed.{decisions_part, complete_consistent}
 use Rattle.bd_cdcl.proofs.Replay.{replay_conflict}
 use Rattle.bd_cdcl.proofs.Learned.{decisions_at, front_complete, front_closed, front_free}
-
--- one more literal whose variable is new
-pub different_push : (ls : List Literal) (l : Literal) → HaveDifferentVariables ls → has_variable ls l.var ≡ false → HaveDifferentVariables (ls ++ l ∷ [])
-different_push [] l so none = (refl, tt)
-different_push (m ∷ ms) l so none =
-    let parts = or_parts (eqb m.var l.var) _ none in (
-      list_any-append (λ (k : Literal). eqb k.var m.var) ms (l ∷ []) ∙ or_from _ _ so.0 (or_from _ _ (ne_eqb l.var m.var (λ e. false≢true (sym parts.0 ∙ eq-eqb m.var l.var (sym e)))) refl),
-      different_push ms l so.1 parts.1,
-    )
-
--- and conversely
-pub different_front : (ls : List Literal) (l : Literal) → HaveDifferentVariables (ls ++ l ∷ []) → HaveDifferentVariables ls × (has_variable ls l.var ≡ false)
-different_front [] l so = (tt, refl)
-different_front (m ∷ ms) l so =
-    let rest = different_front ms l so.1 in
-    let apart = or_parts _ _ (sym (list_any-append (λ (k : Literal). eqb k.var m.var) ms (l ∷ [])) ∙ so.0) in
-    let last = or_parts (eqb l.var m.var) _ apart.1 in (
-      (apart.0, rest.0),
-      or_from _ _ (ne_eqb m.var l.var (λ e. false≢true (sym last.0 ∙ eq-eqb l.var m.var (sym e)))) rest.1,
-    )
 
 placed_different : (standing : Standing) (before : List Literal) (trail : List Assigned) → HaveDifferentVariables before → ArePlaced standing before trail → HaveDifferentVariables (before ++ literals trail)
 placed_different standing before [] so all = subst HaveDifferentVariables (sym (append-nil before)) so

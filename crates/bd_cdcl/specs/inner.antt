@@ -1,3 +1,5 @@
-pub mod Trails
 pub mod Passes
 pub mod Search
+pub mod Analysis
+pub mod Analyses
+pub mod Descents

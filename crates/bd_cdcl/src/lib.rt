@@ -1,13 +1,18 @@
 //! Solvers that settle a formula in conjunctive normal form and log what they add.
 #![tactic(auto)]
 
+mod analysis;
+mod cdcl;
+mod descent;
+mod lesson;
+mod order;
 mod plain;
 mod propagation;
 mod scripted;
 mod search;
 mod solver;
-mod trail;
 
+pub use cdcl::Cdcl;
 pub use plain::Plain;
 pub use scripted::Scripted;
 pub use solver::{Found, HonestSolver, Solver};

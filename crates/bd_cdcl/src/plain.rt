@@ -7,9 +7,9 @@ ghost use Rattle.std.specs.Prelude.{true};
 use crate::propagation::propagate;
 use crate::search::{Search, copied};
 use crate::solver::{Found, HonestSolver, Solver};
-use crate::trail::Trail;
 use bd_cnf::Cnf;
 use bd_lrat::Log;
+use bd_watch::Trail;
 use std::alloc::{AllocError, Global};
 
 /// A solver by decisions and decision clauses, which it never deletes.

@@ -4,11 +4,12 @@ ghost use Rattle.std.specs.List.{All};
 ghost use Rattle.bd_cnf.specs.Standing.{IsBelow};
 ghost use Rattle.bd_cnf.specs.Trail.{open_literals};
 ghost use Rattle.bd_lrat.specs.Database.{numbered};
-ghost use Rattle.bd_cdcl.specs.Levels.{literals, IsComplete};
-ghost use Rattle.bd_cdcl.specs.inner.Passes.{IsOpen, IsPassed, IsConflict, AllClosed};
+ghost use Rattle.bd_watch.specs.Levels.{literals, IsComplete};
+ghost use Rattle.bd_cdcl.specs.inner.Passes.{IsOpen, IsPassed, AllClosed};
+ghost use Rattle.bd_watch.specs.Watching.{IsConflict};
 
-use crate::trail::Trail;
 use bd_cnf::{Clause, Lit};
+use bd_watch::Trail;
 
 /// How many literals of a clause aren't false.
 enum Open {
@@ -63,7 +64,8 @@ fn pass(clauses: &[Clause], trail: &mut Trail) -> Passed
             Open::Falsified => return Passed::Conflict(id),
             Open::Unit(lit) => {
                 if !trail.is_true(lit) {
-                    trail.assign(lit, Some(id));
+                    let code = trail.code(lit);
+                    trail.imply(code, id);
                     extended = true;
                 }
             }

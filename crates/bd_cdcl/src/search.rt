@@ -11,14 +11,14 @@ ghost use Rattle.bd_cnf.specs.Clause.{IsRising, SameLiterals};
 ghost use Rattle.bd_cnf.specs.Problem.{AreWithin};
 ghost use Rattle.bd_lrat.specs.Log.{HaveDifferentVariables};
 ghost use Rattle.bd_lrat.specs.Database.{numbered};
-ghost use Rattle.bd_cdcl.specs.Levels.{IsComplete};
-ghost use Rattle.bd_cdcl.specs.inner.Trails.{Decides, AllAssigned};
+ghost use Rattle.bd_watch.specs.Levels.{IsComplete};
+ghost use Rattle.bd_watch.specs.Trails.{Decides, AllAssigned};
 ghost use Rattle.bd_cdcl.specs.inner.Search.{conflict_hints, Resolves};
 
 use crate::solver::Found;
-use crate::trail::Trail;
 use bd_cnf::{Clause, Cnf, Lit};
 use bd_lrat::{Hint, Hints, Line, Log};
+use bd_watch::Trail;
 use std::alloc::{AllocError, Global};
 
 /// The clauses so far, with the ids from 1 and the formula's first, how many were learned, and the
@@ -52,7 +52,7 @@ fn copy_of(alloc: Global, clause: &Clause) -> Result<Clause, AllocError>
 }
 
 /// The reasons of the trail, and then the clause that it makes false.
-fn hints(alloc: Global, trail: &Trail, conflict: u64) -> Result<Hints, AllocError>
+pub(crate) fn hints(alloc: Global, trail: &Trail, conflict: u64) -> Result<Hints, AllocError>
     ensures { IfOk result (λ hints. hints ≡ conflict_hints trail.now.entries conflict) }
 {
     let mut hints = Hints::new(alloc);
@@ -95,7 +95,7 @@ impl Search {
     {
         match self.trail.free_variable() {
             Some(var) => {
-                self.trail.assign(Lit::new(var, false), None);
+                self.trail.decide(Lit::new(var, false));
                 true
             }
             None => false,
@@ -131,7 +131,8 @@ impl Search {
         self.clauses.push(copy_of(alloc, &clause)?)?;
         log.push(Line::Add { id, clause, hints })?;
         self.learned += 1;
-        self.trail.assign(last.negated(), Some(id));
+        let asserted = self.trail.code(last.negated());
+        self.trail.imply(asserted, id);
         Ok(None)
     }
 }

@@ -1,7 +1,7 @@
 ghost use Rattle.std.specs.Prelude.{◌≡◌, [], IfOk};
 ghost use Rattle.bd_cdcl.specs.Law.{IsLaw};
 
-use crate::{Found, HonestSolver, Plain, Scripted, Solver};
+use crate::{Cdcl, Found, HonestSolver, Plain, Scripted, Solver};
 use bd_cnf::{Assignment, Clause, Clauses, Cnf, Lit};
 use bd_lrat::{Checker, Log, lrat_text, refutes};
 use std::alloc::{AllocError, Global};
@@ -18,8 +18,9 @@ enum Said {
     Spent,
 }
 
-/// The number of variables, the clauses, the budget, and what is said, with which log.
-type Row = (u64, &'static [Parts], u32, Said, &'static str);
+/// The number of variables, the clauses, the budget, and what is said, with which log of decision
+/// clauses and which of clauses of first unique implication points.
+type Row = (u64, &'static [Parts], u32, Said, &'static str, &'static str);
 
 const SQUARE: &[Parts] = &[
     &[(1, true), (2, true)],
@@ -47,23 +48,51 @@ const BROKEN_CHAIN: &[Parts] = &[&[(1, true)], &[(1, false), (2, true)], &[(2, f
 
 const HALF_SQUARE: &[Parts] = &[&[(1, true), (2, true)], &[(1, true), (2, false)]];
 
+const SQUARE_LOG: &str = "5 1 0 1 2 0\n6 0 5 3 4 0\n";
+
+const CUBE_START: &str = "9 1 2 0 1 2 0\n10 1 0 9 3 4 0\n";
+
 const CUBE_LOG: &str = "9 1 2 0 1 2 0\n10 1 0 9 3 4 0\n11 2 0 10 5 6 0\n12 0 10 11 7 8 0\n";
 
+/// The second variable was true last, so it is decided to be true.
+const CUBE_SAVED: &str = "9 1 2 0 1 2 0\n10 1 0 9 3 4 0\n11 -2 0 10 7 8 0\n12 0 10 11 5 6 0\n";
+
 static ROWS: [Row; 14] = [
-    (2, SQUARE, 0, Said::Spent, ""),
-    (2, SQUARE, 1, Said::Refuted, "5 1 0 1 2 0\n6 0 5 3 4 0\n"),
-    (2, SQUARE, 2, Said::Refuted, "5 1 0 1 2 0\n6 0 5 3 4 0\n"),
-    (0, &[], 0, Said::Model, ""),
-    (1, &[&[]], 0, Said::Refuted, "2 0 1 0\n"),
-    (1, CONTRADICTION, 0, Said::Refuted, "3 0 1 2 0\n"),
-    (2, BROKEN_CHAIN, 0, Said::Refuted, "4 0 1 2 3 0\n"),
-    (2, CHAIN, 0, Said::Model, ""),
-    (2, HALF_SQUARE, 0, Said::Spent, ""),
-    (2, HALF_SQUARE, 1, Said::Model, "3 1 0 1 2 0\n"),
-    (5, &[&[(3, true)]], 7, Said::Model, ""),
-    (3, CUBE, 2, Said::Spent, "9 1 2 0 1 2 0\n10 1 0 9 3 4 0\n"),
-    (3, CUBE, 3, Said::Refuted, CUBE_LOG),
-    (3, CUBE, 4, Said::Refuted, CUBE_LOG),
+    (2, SQUARE, 0, Said::Spent, "", ""),
+    (2, SQUARE, 1, Said::Refuted, SQUARE_LOG, SQUARE_LOG),
+    (2, SQUARE, 2, Said::Refuted, SQUARE_LOG, SQUARE_LOG),
+    (0, &[], 0, Said::Model, "", ""),
+    (1, &[&[]], 0, Said::Refuted, "2 0 1 0\n", "2 0 1 0\n"),
+    (
+        1,
+        CONTRADICTION,
+        0,
+        Said::Refuted,
+        "3 0 1 2 0\n",
+        "3 0 1 2 0\n",
+    ),
+    (
+        2,
+        BROKEN_CHAIN,
+        0,
+        Said::Refuted,
+        "4 0 1 2 3 0\n",
+        "4 0 1 3 2 0\n",
+    ),
+    (2, CHAIN, 0, Said::Model, "", ""),
+    (2, HALF_SQUARE, 0, Said::Spent, "", ""),
+    (
+        2,
+        HALF_SQUARE,
+        1,
+        Said::Model,
+        "3 1 0 1 2 0\n",
+        "3 1 0 1 2 0\n",
+    ),
+    (5, &[&[(3, true)]], 7, Said::Model, "", ""),
+    (3, CUBE, 2, Said::Spent, CUBE_START, CUBE_START),
+    (3, CUBE, 3, Said::Refuted, CUBE_LOG, CUBE_SAVED),
+    (3, CUBE, 4, Said::Refuted, CUBE_LOG, CUBE_SAVED),
 ];
 
 fn clause(rt: &(impl Abort + AllocGlobal), parts: &[(u64, bool)]) -> Result<Clause, AllocError> {
@@ -110,7 +139,8 @@ fn accepted(alloc: Global, cnf: &Cnf, log: &Log) -> Result<bool, AllocError> {
 
 fn is_as_said(
     rt: &(impl Abort + AllocGlobal),
-    (_, _, _, want, lines): Row,
+    want: Said,
+    lines: &str,
     cnf: &Cnf,
     found: &Found,
     log: &Log,
@@ -140,21 +170,36 @@ fn solves<S: HonestSolver>(
     rt: &(impl Abort + AllocGlobal),
     solver: &mut S,
     row: Row,
+    lines: &str,
 ) -> Result<(), AllocError> {
-    let (vars, clauses, budget, _, _) = row;
+    let (vars, clauses, budget, want, _, _) = row;
     let cnf = formula(rt, vars, clauses)?;
     let mut log = Log::new(rt.alloc());
     let found = answer(solver, &cnf, budget, &mut log)?;
-    is_as_said(rt, row, &cnf, &found, &log)
+    is_as_said(rt, want, lines, &cnf, &found, &log)
 }
 
 /// Each formula twice: equal input gives equal output.
 #[test]
-fn formulas_are_settled_within_the_budget(rt: HostRuntime) -> Result<(), Fail> {
+fn decision_clauses_settle_formulas_within_the_budget(rt: HostRuntime) -> Result<(), Fail> {
     let mut solver = Plain::new(rt.alloc());
     for &row in &ROWS {
-        solves(&rt, &mut solver, row)?;
-        solves(&rt, &mut solver, row)?;
+        let (_, _, _, _, lines, _) = row;
+        solves(&rt, &mut solver, row, lines)?;
+        solves(&rt, &mut solver, row, lines)?;
+    }
+    Ok(())
+}
+
+#[test]
+fn unique_implication_points_settle_formulas_within_the_budget(
+    rt: HostRuntime,
+) -> Result<(), Fail> {
+    let mut solver = Cdcl::new(rt.alloc());
+    for &row in &ROWS {
+        let (_, _, _, _, _, lines) = row;
+        solves(&rt, &mut solver, row, lines)?;
+        solves(&rt, &mut solver, row, lines)?;
     }
     Ok(())
 }

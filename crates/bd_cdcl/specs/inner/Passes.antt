@@ -1,27 +1,22 @@
 -- What a pass over the clauses reports.
-use Rattle.std.specs.Prelude.{◌≡◌, ℕ, ◌<◌, ◌≤◌, Bool, true, false, List, [], ◌∷◌, length, IsSomeAnd}
+use Rattle.std.specs.Prelude.{◌≡◌, ◌<◌, ◌≤◌, Bool, true, false, List, [], ◌∷◌, length}
 use Rattle.std.specs.List.{All}
-use Rattle.std.specs.FinMap.{get}
 use Rattle.bd_cnf.specs.Literal.{Literal}
-use Rattle.bd_cnf.specs.Standing.{Standing}
 use Rattle.bd_lrat.specs.Database.{numbered}
-use Rattle.bd_cnf.specs.Trail.{open_literals, IsClosed}
+use Rattle.bd_cnf.specs.Trail.{IsClosed}
 use Rattle.bd_cdcl.specs.declared.propagation.Open.{Open}
 use Rattle.bd_cdcl.specs.declared.propagation.Open.TheVariants.{Falsified, Unit as UnitOpen, Unresolved}
 use Rattle.bd_cdcl.specs.declared.propagation.Passed.{Passed}
 use Rattle.bd_cdcl.specs.declared.propagation.Passed.TheVariants.{Conflict, Extended, Closed}
-use Rattle.bd_cdcl.specs.Levels.{Assigned, literals}
-use Rattle.bd_cdcl.specs.inner.Trails.{LeveledTrail}
+use Rattle.bd_watch.specs.Levels.{Assigned, literals}
+use Rattle.bd_watch.specs.Trails.{LeveledTrail}
+use Rattle.bd_watch.specs.Watching.{IsConflict}
 
 -- how many literals are open, and which where it is one
 abbrev pub IsOpen : Open → List Literal → Type 0
 IsOpen Falsified ls = ls ≡ []
 IsOpen (UnitOpen l) ls = ls ≡ l ∷ []
 IsOpen Unresolved ls = 2 ≤ length ls
-
--- the clause that stands under that id is false
-abbrev pub IsConflict : Standing → List Assigned → ℕ → Type 0
-IsConflict standing trail id = IsSomeAnd (get standing id) (λ clause. open_literals (literals trail) clause ≡ [])
 
 -- no clause is false or unit
 abbrev pub AllClosed : List (List Literal) → List Assigned → Type 0

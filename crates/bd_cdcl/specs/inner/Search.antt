@@ -14,8 +14,8 @@ use Rattle.bd_lrat.specs.Log.{IsAcceptedLog, IsFresh, after_all, additions, with
 use Rattle.bd_cdcl.specs.declared.search.Search.{Search}
 use Rattle.bd_cdcl.specs.declared.solver.Found.{Found}
 use Rattle.bd_cdcl.specs.declared.solver.Found.TheVariants.{Model, Refuted, Spent}
-use Rattle.bd_cdcl.specs.Levels.{Assigned, assigned, decisions, reasons, IsComplete}
-use Rattle.bd_cdcl.specs.inner.Trails.{LeveledTrail, leveled, IsLastDecision}
+use Rattle.bd_watch.specs.Levels.{Assigned, assigned, decisions, reasons, IsComplete}
+use Rattle.bd_watch.specs.Trails.{LeveledTrail, leveled, IsLastDecision}
 
 -- the reasons of a trail, and then the conflict
 abbrev pub conflict_hints : List Assigned → ℕ → List Hint

@@ -1,6 +1,6 @@
 use Rattle.std.proofs.Common.{arith, sym}
 use Rattle.bd_cnf.proofs.Opens.{two_open}
-use Rattle.bd_cdcl.specs.Levels.{literals}
+use Rattle.bd_watch.specs.Levels.{literals}
 use Rattle.bd_cdcl.proofs.propagation.open_part.Goals as goal
 
 pub returns-then-is_some : goal.returns-then-is_some

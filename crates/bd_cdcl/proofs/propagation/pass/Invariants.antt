@@ -1,6 +1,6 @@
 use Rattle.std.proofs.Common.{◌≡◌, take}
 use Rattle.bd_lrat.specs.Database.{numbered}
-use Rattle.bd_cdcl.specs.Levels.{IsComplete}
+use Rattle.bd_watch.specs.Levels.{IsComplete}
 use Rattle.bd_cdcl.specs.inner.Passes.{IsPassing}
 use Rattle.bd_cdcl.proofs.propagation.pass.Given as goal
 

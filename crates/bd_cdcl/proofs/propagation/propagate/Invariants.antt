@@ -1,6 +1,6 @@
 use Rattle.std.proofs.Common.{◌≡◌, ◌≤◌, ◌-◌, length}
 use Rattle.bd_lrat.specs.Database.{numbered}
-use Rattle.bd_cdcl.specs.Levels.{IsComplete}
+use Rattle.bd_watch.specs.Levels.{IsComplete}
 use Rattle.bd_cdcl.proofs.propagation.propagate.Given as goal
 
 abbrev pub invariant-loop-id : goal.invariant-loop-id

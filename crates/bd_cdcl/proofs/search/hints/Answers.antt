@@ -1,5 +1,5 @@
 use Rattle.std.proofs.Common.{◌∙◌}
-use Rattle.bd_cdcl.proofs.Entries.{reasons_pushed, reasons_passed}
+use Rattle.bd_watch.proofs.Entries.{reasons_pushed, reasons_passed}
 use Rattle.bd_cdcl.proofs.search.hints.Goals as goal
 use Rattle.bd_cdcl.proofs.search.hints.Goals.{in-Some+in_ok-push, in_default}
 

@@ -1,5 +1,5 @@
 use Rattle.std.proofs.Common.{◌≡◌, take}
-use Rattle.bd_cdcl.specs.Levels.{reasons}
+use Rattle.bd_watch.specs.Levels.{reasons}
 use Rattle.bd_cdcl.proofs.search.hints.Given as goal
 
 abbrev pub invariant-loop-entry : goal.invariant-loop-entry

@@ -1,8 +1,9 @@
 use Rattle.std.proofs.Common.{◌≤◌, List, Vec, Global, sym, ap, subst}
 use Rattle.bd_cnf.specs.Literal.{Literal}
 use Rattle.bd_lrat.specs.Database.{numbered}
-use Rattle.bd_cdcl.specs.Levels.{IsComplete}
-use Rattle.bd_cdcl.specs.inner.Passes.{IsConflict, AllClosed}
+use Rattle.bd_watch.specs.Levels.{IsComplete}
+use Rattle.bd_watch.specs.Watching.{IsConflict}
+use Rattle.bd_cdcl.specs.inner.Passes.{AllClosed}
 use Rattle.bd_cdcl.proofs.Searching.{search_moves, search_decided, search_ends, search_goes_on, search_is_done}
 use Rattle.bd_cdcl.proofs.plain.PlainSolver.solve.Goals as goal
 

@@ -1,0 +1,189 @@
+//! What a conflict teaches. From the end of the trail to its front, each literal by which the false
+//! clause came to be false is resolved with its reason, or its negation is kept. In the last level
+//! all are resolved but the first that all paths to the conflict go through (the first unique
+//! implication point). Below it the negations are kept, but for literals of level 0, and for those
+//! that others which are kept imply. What is kept is a clause that follows, by the reasons of what
+//! was resolved.
+ghost use Rattle.std.specs.Prelude.{◌≡◌, ◌<◌, ◌≤◌, ◌+◌, ◌++◌, ◌∷◌, [], List, length, map, reverse, IsSomeAnd, OnOk, IfOk};
+ghost use Rattle.std.specs.Bool.{OnTrue, OnFalse};
+ghost use Rattle.std.specs.FinMap.{get};
+ghost use Rattle.bd_cnf.specs.Literal.{Literal};
+ghost use Rattle.bd_lrat.specs.declared.line.Hint.TheVariants.{Unit};
+ghost use Rattle.bd_lrat.specs.Database.{numbered};
+ghost use Rattle.bd_watch.specs.Trails.{IsLastStart};
+ghost use Rattle.bd_watch.specs.Watching.{IsConflict};
+ghost use Rattle.bd_watch.specs.Watch.{IsWatching};
+ghost use Rattle.bd_cdcl.specs.inner.Analysis.{AreAssigned, Marks, IsMarkedIn, AreUnmarked};
+ghost use Rattle.bd_cdcl.specs.inner.Analyses.{IsClear, Analyzes, Keeps, Resolves, Analyzed};
+
+use bd_lrat::Hints;
+use bd_watch::{Code, Watch};
+use std::alloc::{AllocError, Global};
+use std::mem::replace;
+
+/// A conflict as far as it was taken apart.
+#[derive(Drop)]
+pub(crate) struct Analysis {
+    /// By place in the trail, whether the literal is still to be looked at.
+    marks: Vec<bool>,
+    /// The literals of the learned clause, that of the last level first.
+    pub(crate) kept: Vec<Code>,
+    /// The ids of the reasons of what was resolved, that of the last literal of the trail first.
+    pub(crate) ids: Vec<u64>,
+}
+
+/// Marks the places of a clause's literals.
+fn mark(marks: &mut Vec<bool>, watch: &Watch, clause: &[Code])
+    requires watching { IsWatching watch.now }
+    requires assigned { AreAssigned watch.now.trail.entries clause.now }
+    requires room { watch.now.trail.limit ≤ length marks.old.items }
+    ensures { Marks watch.now.trail.entries clause.now marks.old.items marks.new.items }
+{
+    let trail = watch.trail();
+    for &code in clause {
+        let place = trail.place(code);
+        marks[place] = true;
+    }
+}
+
+/// Whether some place is marked from the start up to the end.
+fn any_marked(marks: &[bool], start: usize, end: usize) -> bool
+    requires { end ≤ length marks.now }
+    ensures some { OnTrue result (IsMarkedIn marks.now start end) }
+    ensures none { OnFalse result (AreUnmarked marks.now start end) }
+{
+    let mut place = end;
+    while place > start {
+        place -= 1;
+        if marks[place] {
+            return true;
+        }
+    }
+    false
+}
+
+/// Whether all other literals of a reason are marked or of level 0.
+fn is_implied(marks: &[bool], watch: &Watch, reason: &[Code], place: usize, zero: usize) -> bool
+    requires assigned { AreAssigned watch.now.trail.entries reason.now }
+    requires room { length watch.now.trail.entries ≤ length marks.now }
+{
+    let trail = watch.trail();
+    for &code in reason {
+        let other = trail.place(code);
+        if other != place && other >= zero && !marks[other] {
+            return false;
+        }
+    }
+    true
+}
+
+impl Analysis {
+    /// With room for trails of the variables up to `vars`.
+    pub(crate) fn new(alloc: Global, vars: u64) -> Result<Analysis, AllocError>
+        ensures { IfOk result (IsClear (vars + 1)) }
+    {
+        let limit = vars.checked_add(1).ok_or(AllocError)? as usize;
+        Ok(Analysis {
+            marks: vec![in alloc; false; limit]?,
+            kept: Vec::new(alloc),
+            ids: Vec::new(alloc),
+        })
+    }
+
+    fn keep(&mut self, place: usize, code: Code) -> Result<(), AllocError>
+        requires { place < length self.old.marks.items }
+        ensures { OnOk result (Keeps self.old self.new place code) }
+    {
+        self.marks[place] = false;
+        self.kept.push(code)?;
+        Ok(())
+    }
+
+    fn resolve(&mut self, watch: &Watch, place: usize, id: u64) -> Result<(), AllocError>
+        requires watching { IsWatching watch.now }
+        requires assigned { IsSomeAnd (get (numbered watch.now.clauses) id)
+            (AreAssigned watch.now.trail.entries) }
+        requires room { watch.now.trail.limit ≤ length self.old.marks.items }
+        requires within { place < length watch.now.trail.entries }
+        ensures { OnOk result (Resolves watch.now self.old self.new place id) }
+    {
+        mark(&mut self.marks, watch, watch.clause(id));
+        self.marks[place] = false;
+        self.ids.push(id)?;
+        Ok(())
+    }
+
+    /// Looks at a place of the trail, behind which nothing is marked.
+    fn step(
+        &mut self,
+        watch: &Watch,
+        start: usize,
+        zero: usize,
+        place: usize,
+    ) -> Result<(), AllocError>
+        requires watching { IsWatching watch.now }
+        requires start { IsLastStart watch.now.trail.entries start }
+        requires within { place < length watch.now.trail.entries }
+        requires room { watch.now.trail.limit ≤ length self.old.marks.items }
+        ensures { OnOk result ((conflict : List Literal) →
+            Analyzes watch.now start conflict (place + 1) self.old →
+            Analyzes watch.now start conflict place self.new) }
+    {
+        if !self.marks[place] {
+            return Ok(());
+        }
+        let entry = watch.trail().as_slice()[place];
+        let negated = entry.code().negated();
+        let Some(id) = entry.reason() else {
+            return self.keep(place, negated);
+        };
+        let resolves = if place >= start {
+            any_marked(&self.marks, start, place)
+        } else {
+            is_implied(&self.marks, watch, watch.clause(id), place, zero)
+        };
+        if !resolves {
+            return self.keep(place, negated);
+        }
+        self.resolve(watch, place, id)
+    }
+
+    /// Gives the hints of what was resolved, and then of the conflict.
+    pub(crate) fn hints(&mut self, alloc: Global, conflict: u64) -> Result<Hints, AllocError>
+        ensures marks { self.new.marks ≡ self.old.marks }
+        ensures kept { self.new.kept ≡ self.old.kept }
+        ensures hints { IfOk result (λ hints. hints ≡
+            map Unit (reverse self.old.ids.items ++ conflict ∷ [])) }
+    {
+        self.ids.reverse();
+        self.ids.push(conflict)?;
+        let ids = replace(&mut self.ids, Vec::new(alloc));
+        Ok(Hints::from_ids(alloc, ids))
+    }
+
+    /// Takes a conflict above level 0 apart, whose level begins at that place.
+    pub(crate) fn analyze(
+        &mut self,
+        watch: &Watch,
+        start: usize,
+        conflict: u64,
+    ) -> Result<(), AllocError>
+        requires watching { IsWatching watch.now }
+        requires start { IsLastStart watch.now.trail.entries start }
+        requires conflict { IsConflict (numbered watch.now.clauses)
+            watch.now.trail.entries conflict }
+        requires clear { IsClear watch.now.trail.limit self.old }
+        ensures { OnOk result (Analyzed watch.now start conflict self.new) }
+    {
+        self.kept.clear();
+        self.ids.clear();
+        mark(&mut self.marks, watch, watch.clause(conflict));
+        let zero = watch.trail().start_from(0).unwrap_or(start);
+        let mut place = watch.trail().as_slice().len();
+        while place > 0 {
+            place -= 1;
+            self.step(watch, start, zero, place)?;
+        }
+        Ok(())
+    }
+}

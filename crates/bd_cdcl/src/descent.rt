@@ -1,0 +1,208 @@
+//! A search by watched clauses. A conflict above level 0 teaches a clause that is false but for one
+//! literal at the end of the level before, where no clause was false or unit: so nothing known said
+//! it before, and it is fresh. The trail is taken back to the end of the level of the clause's
+//! second highest literal, where it is unit.
+ghost use Rattle.std.specs.Prelude.{◌≡◌, ◌<◌, ◌≤◌, ◌+◌, ◌^◌, [], IfOk, IfSome, IfNone, OnOk, OnErr};
+ghost use Rattle.std.specs.Bool.{OnTrue, OnFalse};
+ghost use Rattle.bd_lrat.specs.Database.{numbered, database_of};
+ghost use Rattle.bd_lrat.specs.Log.{IsAcceptedLog};
+ghost use Rattle.bd_watch.specs.Trails.{IsLastStart, AllAssigned};
+ghost use Rattle.bd_watch.specs.Watching.{IsConflict};
+ghost use Rattle.bd_watch.specs.Watch.{IsWatching, IsPropagated};
+ghost use Rattle.bd_cdcl.specs.Law.{IsLaw};
+ghost use Rattle.bd_cdcl.specs.inner.Analyses.{IsClear};
+ghost use Rattle.bd_cdcl.specs.inner.Descents.{IsBegun, GoesOn, Refutes, IsChoice, Advances, Follows};
+
+use crate::analysis::Analysis;
+use crate::lesson::{Lesson, learned_from};
+use crate::order::Order;
+use crate::search::hints;
+use crate::solver::Found;
+use bd_cnf::{Clause, Cnf, Lit};
+use bd_lrat::{Line, Log};
+use bd_watch::Watch;
+use std::alloc::{AllocError, Global};
+
+/// Clauses and their trail, an analysis to use again, and what is decided next.
+#[derive(Drop)]
+pub(crate) struct Descent {
+    watch: Watch,
+    analysis: Analysis,
+    order: Order,
+    learned: u32,
+    /// Whether the trail is to be taken back to level 0.
+    restarts: bool,
+}
+
+impl Descent {
+    /// The clauses of a formula, before anything is assigned.
+    pub(crate) fn new(alloc: Global, cnf: &Cnf) -> Result<Descent, AllocError>
+        ensures { IfOk result (IsBegun cnf.now) }
+    {
+        let analysis = Analysis::new(alloc, cnf.vars())?;
+        let order = Order::new(alloc, cnf.vars())?;
+        let watch = Watch::load(alloc, cnf)?;
+        Ok(Descent {
+            watch,
+            analysis,
+            order,
+            learned: 0,
+            restarts: false,
+        })
+    }
+
+    /// Ends a search with a conflict at level 0.
+    fn refute(&mut self, alloc: Global, conflict: u64, log: &mut Log) -> Result<(), AllocError>
+        ensures ok { OnOk result (Refutes self.old conflict log.old log.new) }
+        ensures err { OnErr result (log.new ≡ log.old) }
+    {
+        let hints = hints(alloc, self.watch.trail(), conflict)?;
+        let id = self.watch.len() as u64 + 1;
+        let clause = Clause::from_rising(Vec::new(alloc));
+        log.push(Line::Add { id, clause, hints })
+    }
+
+    /// Learns from a conflict above level 0, whose level begins at that place.
+    fn learn(
+        &mut self,
+        alloc: Global,
+        start: usize,
+        conflict: u64,
+        log: &mut Log,
+    ) -> Result<(), AllocError>
+        requires watching { IsWatching self.old.watch }
+        requires clear { IsClear self.old.watch.trail.limit self.old.analysis }
+        requires start { IsLastStart self.old.watch.trail.entries start }
+        requires conflict { IsConflict (numbered self.old.watch.clauses)
+            self.old.watch.trail.entries conflict }
+        requires room { self.old.learned + 1 < 2 ^ 32 }
+        ensures ok { OnOk result (GoesOn self.old self.new log.old log.new) }
+        ensures err { OnErr result (log.new ≡ log.old) }
+    {
+        let lesson = learned_from(alloc, &self.watch, &mut self.analysis, start, conflict)?;
+        self.order.bump_all(&self.analysis.kept);
+        self.order
+            .release(&self.watch.trail().as_slice()[lesson.cut..]);
+        self.watch.go_back_to(lesson.cut);
+        let id = self.watch.len() as u64 + 1;
+        let Lesson {
+            clause,
+            hints,
+            first,
+            second,
+            ..
+        } = lesson;
+        self.watch.learn(clause.lits(), first, second)?;
+        log.push(Line::Add { id, clause, hints })?;
+        self.learned += 1;
+        self.restarts = self.learned % 64 == 0;
+        Ok(())
+    }
+
+    /// A variable without a value, and a sign for it.
+    fn choice(&mut self) -> Option<Lit>
+        ensures watch { self.new.watch ≡ self.old.watch }
+        ensures analysis { self.new.analysis ≡ self.old.analysis }
+        ensures learned { self.new.learned ≡ self.old.learned }
+        ensures restarts { self.new.restarts ≡ self.old.restarts }
+        ensures some { IfSome result (IsChoice self.old.watch) }
+        ensures none { IfNone result (AllAssigned self.old.watch.trail) }
+    {
+        let trail = self.watch.trail();
+        if let Some((var, positive)) = self.order.propose(trail) {
+            if var > 0 && var < trail.limit() && trail.is_free(var) {
+                return Some(Lit::new(var, positive));
+            }
+        }
+        let var = trail.free_variable()?;
+        Some(Lit::new(var, false))
+    }
+
+    /// Goes on where all is propagated: back to level 0, or by a decision. Answers whether it
+    /// could.
+    fn advance(&mut self) -> bool
+        requires watching { IsWatching self.old.watch }
+        requires propagated { IsPropagated self.old.watch }
+        ensures learned { self.new.learned ≡ self.old.learned }
+        ensures analysis { self.new.analysis ≡ self.old.analysis }
+        ensures advanced { OnTrue result (Advances self.old self.new) }
+        ensures ended { OnFalse result (AllAssigned self.old.watch.trail) }
+        ensures unchanged { OnFalse result (self.new.watch ≡ self.old.watch) }
+    {
+        if self.restarts {
+            self.restarts = false;
+            if let Some(start) = self.watch.trail().start_from(0) {
+                self.order.release(&self.watch.trail().as_slice()[start..]);
+                self.watch.go_back_to(start);
+            }
+            return true;
+        }
+        match self.choice() {
+            Some(lit) => {
+                self.watch.decide(lit);
+                true
+            }
+            None => false,
+        }
+    }
+
+    /// Follows a conflict: learns from it, or ends the search.
+    fn follow(
+        &mut self,
+        alloc: Global,
+        conflict: u64,
+        budget: u32,
+        log: &mut Log,
+    ) -> Result<Option<Found>, AllocError>
+        requires watching { IsWatching self.old.watch }
+        requires clear { IsClear self.old.watch.trail.limit self.old.analysis }
+        requires conflict { IsConflict (numbered self.old.watch.clauses)
+            self.old.watch.trail.entries conflict }
+        requires budget { self.old.learned ≤ budget }
+        ensures ok { IfOk result (Follows self.old self.new log.old log.new budget conflict) }
+        ensures err { OnErr result (log.new ≡ log.old) }
+    {
+        let Some(start) = self.watch.trail().last_start() else {
+            self.refute(alloc, conflict, log)?;
+            return Ok(Some(Found::Refuted));
+        };
+        if self.learned == budget {
+            return Ok(Some(Found::Spent));
+        }
+        self.learn(alloc, start, conflict, log)?;
+        Ok(None)
+    }
+
+    /// Searches to an end.
+    pub(crate) fn finish(
+        &mut self,
+        alloc: Global,
+        problem: &Cnf,
+        budget: u32,
+        log: &mut Log,
+    ) -> Result<Found, AllocError>
+        requires begun { IsBegun problem.now self.old }
+        requires empty { log.old ≡ [] }
+        ensures law { IfOk result (λ found. IsLaw problem.now budget found log.new) }
+        ensures err { OnErr result (IsAcceptedLog (database_of problem.now) log.new) }
+    {
+        if let Some(conflict) = self.watch.assign_units() {
+            self.refute(alloc, conflict, log)?;
+            return Ok(Found::Refuted);
+        }
+        loop {
+            match self.watch.propagate()? {
+                Some(conflict) => {
+                    if let Some(found) = self.follow(alloc, conflict, budget, log)? {
+                        return Ok(found);
+                    }
+                }
+                None => {
+                    if !self.advance() {
+                        return Ok(Found::Model(self.watch.trail().assignment(alloc)?));
+                    }
+                }
+            }
+        }
+    }
+}

@@ -1,0 +1,104 @@
+//! What is learned from a conflict that was taken apart, and where the trail is taken back to: the
+//! end of the level of the clause's second highest literal, where its first is implied.
+ghost use Rattle.std.specs.Prelude.{◌≡◌, true, IfOk, OnOk};
+ghost use Rattle.bd_cnf.specs.Literal.{Literal, has_literal};
+ghost use Rattle.bd_cnf.specs.Clause.{IsRising, SameLiterals, IsTautology};
+ghost use Rattle.bd_cnf.specs.Trail.{is_false};
+ghost use Rattle.bd_lrat.specs.Database.{numbered};
+ghost use Rattle.bd_watch.specs.Levels.{literals};
+ghost use Rattle.bd_watch.specs.Trails.{IsLastStart};
+ghost use Rattle.bd_watch.specs.Watching.{IsConflict};
+ghost use Rattle.bd_watch.specs.Watch.{IsWatching};
+ghost use Rattle.bd_cdcl.specs.inner.Analyses.{IsClear, IsSecond, IsLesson};
+
+use crate::analysis::Analysis;
+use bd_cnf::{Clause, Lit};
+use bd_lrat::Hints;
+use bd_watch::{Code, Watch};
+use std::alloc::{AllocError, Global};
+
+/// A literal of a clause, and the place behind it on the trail.
+pub(crate) struct Second {
+    code: Code,
+    floor: usize,
+}
+
+/// A clause, the hints by which it follows, its literals of the highest and the second highest
+/// level, and the place that the trail is taken back to.
+#[derive(Drop)]
+pub(crate) struct Lesson {
+    pub(crate) clause: Clause,
+    pub(crate) hints: Hints,
+    pub(crate) first: Code,
+    pub(crate) second: Code,
+    pub(crate) cut: usize,
+}
+
+/// Of some literals the one that became false last, or the first where there is none.
+fn last_falsified(watch: &Watch, first: Code, rest: &[Code]) -> Second
+    requires watching { IsWatching watch.now }
+    requires falsified { (l : Literal) → has_literal rest.now l ≡ true →
+        is_false (literals watch.now.trail.entries) l ≡ true }
+    ensures { IsSecond watch.now.trail.entries rest.now result }
+{
+    let trail = watch.trail();
+    let mut code = first;
+    let mut floor = 0;
+    for &other in rest {
+        let place = trail.place(other);
+        if place >= floor {
+            code = other;
+            floor = place + 1;
+        }
+    }
+    Second { code, floor }
+}
+
+/// The clause of some literals.
+fn clause_of(alloc: Global, kept: &[Code]) -> Result<Clause, AllocError>
+    requires { IsTautology kept.now → ⊥ }
+    ensures same { IfOk result (λ clause. SameLiterals clause kept.now) }
+    ensures rising { IfOk result IsRising }
+{
+    match Clause::from_vec(lits_of(alloc, kept)?) {
+        Some(clause) => Ok(clause),
+        None => unreachable!(),
+    }
+}
+
+fn lits_of(alloc: Global, kept: &[Code]) -> Result<Vec<Lit>, AllocError>
+    ensures { IfOk result (λ lits. lits.items ≡ kept.now) }
+{
+    kept.iter().map(|code| code.lit()).collect(alloc)
+}
+
+/// What the conflict of that id teaches, whose level begins at that place.
+pub(crate) fn learned_from(
+    alloc: Global,
+    watch: &Watch,
+    analysis: &mut Analysis,
+    start: usize,
+    conflict: u64,
+) -> Result<Lesson, AllocError>
+    requires watching { IsWatching watch.now }
+    requires clear { IsClear watch.now.trail.limit analysis.old }
+    requires start { IsLastStart watch.now.trail.entries start }
+    requires conflict { IsConflict (numbered watch.now.clauses) watch.now.trail.entries conflict }
+    ensures clear { OnOk result (IsClear watch.now.trail.limit analysis.new) }
+    ensures lesson { IfOk result (IsLesson watch.now start) }
+{
+    analysis.analyze(watch, start, conflict)?;
+    let kept = analysis.kept.as_slice();
+    let clause = clause_of(alloc, kept)?;
+    let first = kept[0];
+    let Second { code, floor } = last_falsified(watch, first, &kept[1..]);
+    let cut = watch.trail().start_from(floor).unwrap_or(start);
+    let hints = analysis.hints(alloc, conflict)?;
+    Ok(Lesson {
+        clause,
+        hints,
+        first,
+        second: code,
+        cut,
+    })
+}

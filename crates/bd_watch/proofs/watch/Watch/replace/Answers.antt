@@ -1,0 +1,15 @@
+use Rattle.std.proofs.Common.{◌<◌, length, refl, arith}
+use Rattle.bd_watch.specs.Codes.{code_of}
+use Rattle.bd_watch.proofs.Watching.{literal_below}
+use Rattle.bd_watch.proofs.Visiting.{code_listed, visits_replaced}
+use Rattle.bd_watch.proofs.watch.Watch.replace.Goals as goal
+
+pub index_mut-requires : goal.index_mut-requires
+index_mut-requires c =
+    let w = c.args.self.now in
+    let low : code_of c.args.pair.first < length w.lists.items = code_listed w c.args.pair.first c.requires.watching (literal_below w.clauses w.pairs.items w.lists.items w.trail.limit c.args.clause c.args.pair.first c.requires.watching.watched c.requires.long.within c.requires.pair.two.first) in
+    omega (arith, c.index.ensures, w.lists.ok.0)
+
+pub returns : goal.returns
+returns c l apart =
+    visits_replaced c.args.self.now _ _ c.args.clause c.index.result c.args.pair c.index_mut.result.now c.push.new.self (record { clause = c.args.clause; blocker = c.args.pair.second }) c.requires.watching c.requires.long c.requires.pair c.index.ensures c.index_mut.ensures.value c.in_ok-push.ensures.ok refl refl refl refl l apart

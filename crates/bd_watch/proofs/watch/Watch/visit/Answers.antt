@@ -1,0 +1,34 @@
+use Rattle.std.proofs.Common.{◌∙◌, refl, sym, subst}
+use Rattle.bd_watch.specs.Levels.{literals}
+use Rattle.bd_watch.specs.Watching.{clause_at}
+use Rattle.bd_watch.specs.inner.Visits.{IsReplacement}
+use Rattle.bd_watch.proofs.Visiting.{left_below, watcher_long, visits_true, pair_is, other_here, not_watched}
+use Rattle.bd_watch.proofs.watch.Watch.visit.Goals as goal
+
+pub has-requires : goal.has-requires
+has-requires c =
+    let w = c.args.self.now in
+    left_below w c.args.watcher.clause c.args.watcher.blocker c.args.watcher.blocker c.requires.watching (watcher_long w c.args.watcher c.requires.watcher) c.requires.watcher.blocker refl
+
+pub returns-then-has : goal.returns-then-has
+returns-then-has c = visits_true c.args.self.now c.args.watcher.clause c.args.watcher.blocker c.args.lit c.requires.watching c.requires.watcher.blocker (sym c.has.ensures ∙ c.if-has.true)
+
+pub has-requires-2 : goal.has-requires-2
+has-requires-2 c =
+    let w = c.args.self.now in
+    let long = watcher_long w c.args.watcher c.requires.watcher in
+    let pair = pair_is w c.args.watcher.clause c.index.result.now c.requires.watching long c.index.ensures in
+    left_below w c.args.watcher.clause c.in-Some.other c.in-Some.other c.requires.watching long (other_here (clause_at w.clauses c.args.watcher.clause) c.index.result.now c.args.lit c.in-Some.other pair c.in-Some.ensures.some).0 refl
+
+pub returns-then-has-2 : goal.returns-then-has-2
+returns-then-has-2 c =
+    let w = c.args.self.now in
+    let pair = pair_is w c.args.watcher.clause c.index.result.now c.requires.watching (watcher_long w c.args.watcher c.requires.watcher) c.index.ensures in
+    visits_true w c.args.watcher.clause c.in-Some.other c.args.lit c.requires.watching (other_here (clause_at w.clauses c.args.watcher.clause) c.index.result.now c.args.lit c.in-Some.other pair c.in-Some.ensures.some).0 (sym c.has-2.ensures ∙ c.if-has-2.true)
+
+pub returns-in_ok-replace-in-Some-replacement : goal.returns-in_ok-replace-in-Some-replacement
+returns-in_ok-replace-in-Some-replacement c =
+    let w = c.args.self.now in
+    let pair = pair_is w c.args.watcher.clause c.index.result.now c.requires.watching (watcher_long w c.args.watcher c.requires.watcher) c.index.ensures in
+    let new = subst (λ ls. IsReplacement (literals w.trail.entries) ls c.in-Some.other c.in-Some-replacement.first) c.get.ensures c.in-Some-replacement.ensures.some in
+    c.in_ok-replace-in-Some-replacement.ensures c.args.lit (not_watched (literals w.trail.entries) (clause_at w.clauses c.args.watcher.clause) c.index.result.now c.args.lit c.in-Some.other c.in-Some-replacement.first pair c.in-Some.ensures.some new c.requires.falsified)

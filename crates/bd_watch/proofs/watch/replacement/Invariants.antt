@@ -1,0 +1,7 @@
+use Rattle.std.proofs.Common.{take}
+use Rattle.bd_watch.specs.Levels.{literals}
+use Rattle.bd_watch.specs.inner.Visits.{AreFalseBesides}
+use Rattle.bd_watch.proofs.watch.replacement.Given as goal
+
+abbrev pub invariant-loop-code : goal.invariant-loop-code
+invariant-loop-code l = AreFalseBesides (literals l.trail.entries) (take l.code-index l.clause) l.other

@@ -1,0 +1,6 @@
+pub mod Codes
+pub mod Levels
+pub mod Trails
+pub mod Watching
+pub mod Watch
+pub mod inner

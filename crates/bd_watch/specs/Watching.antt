@@ -1,0 +1,96 @@
+-- Two watched literals for each clause of two or more (Moskewicz, Madigan, Zhao, Zhang and Malik, DAC 2001), and what they say of a trail.
+use Rattle.std.specs.Prelude.{◌≡◌, ◌≢◌, ◌<◌, ◌≤◌, ◌*◌, ◌^◌, ℕ, true, false, List, [], ◌⊎◌, length, take, slice_index_or, IsSomeAnd}
+use Rattle.std.specs.List.{All, list_any}
+use Rattle.std.specs.FinMap.{get}
+use Rattle.bd_cnf.specs.Literal.{Literal, has_literal, has_variable}
+use Rattle.bd_cnf.specs.Clause.{IsRising}
+use Rattle.bd_cnf.specs.Standing.{Standing, IsBelow}
+use Rattle.bd_cnf.specs.Trail.{is_false, open_literals}
+use Rattle.bd_lrat.specs.Database.{numbered}
+use Rattle.bd_watch.specs.declared.watcher.Watcher.{Watcher}
+use Rattle.bd_watch.specs.declared.watcher.Pair.{Pair}
+use Rattle.bd_watch.specs.Codes.{code_of}
+use Rattle.bd_watch.specs.Levels.{Assigned, literals, IsComplete}
+use Rattle.bd_watch.specs.Trails.{LeveledTrail, IsDecisionAt}
+
+-- the clause at a place, and the watchers of a literal
+abbrev pub clause_at : List (List Literal) → ℕ → List Literal
+clause_at clauses place = slice_index_or clauses place []
+
+abbrev pub list_at : List (List Watcher) → Literal → List Watcher
+list_at lists l = slice_index_or lists (code_of l) []
+
+-- a pair of watched literals
+abbrev pub pair_of : Literal → Literal → Pair
+pair_of first second = record { first = first; second = second }
+
+-- the literal is one of the two
+abbrev pub IsOneOf : Pair → Literal → Type 0
+IsOneOf p l = (l ≡ p.first) ⊎ (l ≡ p.second)
+
+-- two literals of the clause
+pub record IsPair (clause : List Literal) (p : Pair) : Type 0 where
+  pub first : has_literal clause p.first ≡ true
+  pub second : has_literal clause p.second ≡ true
+  pub apart : p.first ≢ p.second
+
+-- from that place on, some watcher of the list is for the clause
+pub record IsListed (watchers : List Watcher) (from clause : ℕ) : Type 0 where
+  pub place : ℕ
+  pub behind : from ≤ place
+  pub within : place < length watchers
+  pub is : (d : Watcher) → (slice_index_or watchers place d).clause ≡ clause
+
+-- a watcher is for a clause of two or more literals, one of which is its blocker
+pub record IsWatcher (clauses : List (List Literal)) (w : Watcher) : Type 0 where
+  pub within : w.clause < length clauses
+  pub long : 2 ≤ length (clause_at clauses w.clause)
+  pub blocker : has_literal (clause_at clauses w.clause) w.blocker ≡ true
+
+-- each clause of two or more literals watches two of them
+pub record AreWatched (limit : ℕ) (clauses : List (List Literal)) (pairs : List Pair) (lists : List (List Watcher)) : Type 0 where
+  pub coded : limit ≤ 2 ^ 31
+  pub paired : length pairs ≡ length clauses
+  pub sized : length lists ≡ 2 * limit
+  pub rising : All IsRising clauses
+  pub below : All (IsBelow limit) clauses
+  pub two : (i : ℕ) (d : Pair) → i < length clauses → 2 ≤ length (clause_at clauses i) → IsPair (clause_at clauses i) (slice_index_or pairs i d)
+  pub listed : (i : ℕ) (d : Pair) (l : Literal) → i < length clauses → 2 ≤ length (clause_at clauses i) → IsOneOf (slice_index_or pairs i d) l → IsListed (list_at lists l) 0 i
+  pub watchers : (code : ℕ) → All (IsWatcher clauses) (slice_index_or lists code [])
+
+-- a clause has two literals or more, and neither of the two that it watches is false
+pub record AreOpen (done clause : List Literal) (p : Pair) : Type 0 where
+  pub long : 2 ≤ length clause
+  pub first : is_false done p.first ≡ false
+  pub second : is_false done p.second ≡ false
+
+-- a clause is true, or what is done of the trail makes neither of its watched literals false
+abbrev pub IsGuarded : List Literal → List Literal → List Literal → Pair → Type 0
+IsGuarded done trail clause p = (list_any (has_literal trail) clause ≡ true) ⊎ AreOpen done clause p
+
+abbrev pub AreGuarded : List (List Literal) → List Pair → List Literal → List Literal → Type 0
+AreGuarded clauses pairs done trail = (i : ℕ) (d : Pair) → i < length clauses → IsGuarded done trail (clause_at clauses i) (slice_index_or pairs i d)
+
+-- the literals in front of a place
+abbrev pub front : List Assigned → ℕ → List Literal
+front trail place = literals (take place trail)
+
+-- a complete trail over watched clauses, of which so many literals are done
+pub record AreWatching (clauses : List (List Literal)) (pairs : List Pair) (lists : List (List Watcher)) (trail : LeveledTrail) (head : ℕ) : Type 0 where
+  pub watched : AreWatched trail.limit clauses pairs lists
+  pub complete : IsComplete (numbered clauses) trail.entries
+  pub room : length trail.entries ≤ trail.limit
+  pub below : IsBelow trail.limit (literals trail.entries)
+  pub done : head ≤ length trail.entries
+  pub guarded : AreGuarded clauses pairs (front trail.entries head) (literals trail.entries)
+  pub levels : (place : ℕ) → IsDecisionAt trail.entries place → AreGuarded clauses pairs (front trail.entries place) (front trail.entries place)
+
+-- the clause that stands under that id is false
+abbrev pub IsConflict : Standing → List Assigned → ℕ → Type 0
+IsConflict standing trail id = IsSomeAnd (get standing id) (λ clause. open_literals (literals trail) clause ≡ [])
+
+-- a clause is false at the end of a level, but for one literal, whose variable has no value there
+pub record IsAsserting (before clause : List Literal) (u : Literal) : Type 0 where
+  pub here : has_literal clause u ≡ true
+  pub free : has_variable before u.var ≡ false
+  pub others : (l : Literal) → has_literal clause l ≡ true → (l ≡ u → ⊥) → is_false before l ≡ true

@@ -1,0 +1,5 @@
+pub mod Numbers
+pub mod Spans
+pub mod Watchers
+pub mod Visits
+pub mod Loading

@@ -1,0 +1,20 @@
+-- Watchers of a literal, in a list whose order doesn't matter.
+use Rattle.std.specs.Prelude.{◌≡◌, ◌≢◌, ◌⊎◌, ◌<◌, ◌+◌, ◌-◌, ℕ, List, [], ◌∷◌, ◌++◌, length, slice_index_or, slice_set}
+use Rattle.bd_watch.specs.declared.watcher.Watcher.{Watcher}
+use Rattle.bd_watch.specs.declared.watcher.Pair.{Pair}
+use Rattle.bd_cnf.specs.Literal.{Literal}
+use Rattle.bd_watch.specs.Codes.{code_of}
+
+-- the two literals of the pair are these
+abbrev pub AreTwo : Pair → Literal → Literal → Type 0
+AreTwo p l other = ((l ≡ p.first) × (other ≡ p.second)) ⊎ ((l ≡ p.second) × (other ≡ p.first))
+
+-- one was taken out, and the last put into its place
+pub record Removes (old : List Watcher) (place : ℕ) (new : List Watcher) : Type 0 where
+  pub shorter : length new + 1 ≡ length old
+  pub moved : (d : Watcher) → place + 1 < length old → slice_index_or new place d ≡ slice_index_or old (length old - 1) d
+  pub kept : (k : ℕ) (d : Watcher) → k ≢ place → k + 1 < length old → slice_index_or new k d ≡ slice_index_or old k d
+
+-- the literal has one watcher more
+abbrev pub listed_more : List (List Watcher) → Literal → Watcher → List (List Watcher)
+listed_more lists l w = slice_set lists (code_of l) (slice_index_or lists (code_of l) [] ++ w ∷ [])

@@ -1,0 +1,155 @@
+//! Clauses put into a watch: a formula's before anything is assigned, and learned ones.
+ghost use Rattle.std.specs.Prelude.{◌≡◌, ◌≤◌, ◌<◌, ◌+◌, ◌^◌, [], length, replicate, IfOk, OnOk};
+ghost use Rattle.bd_cnf.specs.Clause.{IsRising};
+ghost use Rattle.bd_cnf.specs.Standing.{IsBelow};
+ghost use Rattle.bd_watch.specs.Codes.{code_of};
+ghost use Rattle.bd_watch.specs.Watching.{IsPair, AreWatched, pair_of};
+ghost use Rattle.bd_watch.specs.Watch.{IsLoaded, Starts};
+ghost use Rattle.bd_watch.specs.inner.Loading.{Lists, Adds, IsStarting, StartsUnit};
+
+use crate::arena::Arena;
+use crate::code::Code;
+use crate::trail::Trail;
+use crate::watch::Watch;
+use crate::watcher::{Pair, WatchList, Watcher};
+use bd_cnf::{Cnf, Lit};
+use std::alloc::{AllocError, Global};
+
+/// The first two literals, if there are two.
+fn first_pair(lits: &[Lit]) -> Pair
+    requires rising { IsRising lits.now }
+    requires coded { IsBelow (2 ^ 31) lits.now }
+    ensures { 2 ≤ length lits.now → IsPair lits.now result }
+{
+    if lits.len() < 2 {
+        let unused = Code::of(Lit::new(1, true));
+        return Pair {
+            first: unused,
+            second: unused,
+        };
+    }
+    Pair {
+        first: Code::of(lits[0]),
+        second: Code::of(lits[1]),
+    }
+}
+
+fn empty_lists(alloc: Global, count: usize) -> Result<Vec<WatchList>, AllocError>
+    ensures { IfOk result (λ lists. lists.items ≡ replicate count []) }
+{
+    let mut lists = Vec::new(alloc);
+    for _ in 0..count {
+        lists.push(WatchList::new(alloc))?;
+    }
+    Ok(lists)
+}
+
+impl Watch {
+    /// No clause and no literal, with room for the variables up to `vars`.
+    fn empty(alloc: Global, vars: u64) -> Result<Watch, AllocError>
+        ensures { IfOk result (IsLoaded (vars + 1) []) }
+    {
+        let trail = Trail::new(alloc, vars)?;
+        let lists = empty_lists(alloc, 2 * (vars as usize + 1))?;
+        Ok(Watch {
+            clauses: Arena::new(alloc),
+            pairs: Vec::new(alloc),
+            lists,
+            trail,
+            head: 0,
+        })
+    }
+
+    /// Puts a watcher behind the others of the literal.
+    fn list(&mut self, code: Code, watcher: Watcher) -> Result<(), AllocError>
+        requires { code_of code < length self.old.lists.items }
+        ensures { OnOk result (Lists self.old self.new code watcher) }
+    {
+        self.lists[code.index()].push(watcher)
+    }
+
+    /// Puts a clause behind the others, which watches those two literals if it has two or more.
+    pub(crate) fn add(&mut self, lits: &[Lit], first: Code, second: Code) -> Result<(), AllocError>
+        requires watched { AreWatched self.old.trail.limit self.old.clauses
+            self.old.pairs.items self.old.lists.items }
+        requires rising { IsRising lits.now }
+        requires below { IsBelow self.old.trail.limit lits.now }
+        requires pair { 2 ≤ length lits.now → IsPair lits.now (pair_of first second) }
+        ensures { OnOk result (Adds self.old self.new lits.now (pair_of first second)) }
+    {
+        let place = self.clauses.len();
+        if place >= 1 << 32 {
+            return Err(AllocError);
+        }
+        let clause = place as u32;
+        self.clauses.push(lits)?;
+        self.pairs.push(Pair { first, second })?;
+        if lits.len() < 2 {
+            return Ok(());
+        }
+        let blocker = second;
+        self.list(first, Watcher { clause, blocker })?;
+        let blocker = first;
+        self.list(second, Watcher { clause, blocker })
+    }
+
+    /// Puts the clauses of a formula in.
+    fn fill(&mut self, cnf: &Cnf) -> Result<(), AllocError>
+        requires { IsLoaded (cnf.now.vars + 1) [] self.old }
+        ensures { OnOk result (IsLoaded (cnf.now.vars + 1) cnf.now.clauses self.new) }
+    {
+        for clause in cnf.clauses() {
+            let lits = clause.lits();
+            let Pair { first, second } = first_pair(lits);
+            self.add(lits, first, second)?;
+        }
+        Ok(())
+    }
+
+    /// The clauses of a formula, with the ids from 1, and no literal yet. More variables or clauses
+    /// than numbers of 32 bits hold end as want of memory.
+    pub fn load(alloc: Global, cnf: &Cnf) -> Result<Watch, AllocError>
+        ensures { IfOk result (IsLoaded (cnf.now.vars + 1) cnf.now.clauses) }
+    {
+        let mut watch = Watch::empty(alloc, cnf.vars())?;
+        watch.fill(cnf)?;
+        Ok(watch)
+    }
+
+    /// Takes the literal of a clause as implied, if it is the only one. Answers whether the clause
+    /// is false.
+    fn assign_unit(&mut self, place: usize) -> bool
+        requires starting { IsStarting self.old place }
+        requires within { place < length self.old.clauses }
+        ensures { StartsUnit self.old self.new place result }
+    {
+        let clause = self.clauses.get(place);
+        if clause.len() >= 2 {
+            return false;
+        }
+        let Some(&code) = clause.first() else {
+            return true;
+        };
+        if self.trail.has(code.negated()) {
+            return true;
+        }
+        if !self.trail.has(code) {
+            self.trail.imply(code, place as u64 + 1);
+        }
+        false
+    }
+
+    /// Takes the literals of all clauses of one literal as implied, before anything is propagated.
+    /// Answers the id of a clause that is false then, if there is one.
+    pub fn assign_units(&mut self) -> Option<u64>
+        requires { IsLoaded self.old.trail.limit self.old.clauses self.old }
+        ensures { Starts self.old self.new result }
+    {
+        for place in 0..self.clauses.len() {
+            if self.assign_unit(place) {
+                return Some(place as u64 + 1);
+            }
+        }
+        None
+    }
+}

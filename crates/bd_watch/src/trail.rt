@@ -1,0 +1,294 @@
+//! The trail of a solver: the literals that it takes as true, in order, each with the clause that
+//! implied it or, for a decision, none. Tables beside it say of each literal whether it is true, of
+//! each variable where its literal stands, and where each level begins. So a literal is tested in
+//! one step, and going back costs what is taken off.
+ghost use Rattle.std.specs.Prelude.{◌≡◌, ℕ, ◌<◌, ◌≤◌, ◌+◌, ◌++◌, ◌∷◌, ◌^◌, [], length, not, take, true, false};
+ghost use Rattle.std.specs.Prelude.{Some, None, IfOk, OnOk, IfSome, IfNone, option_to_list};
+ghost use Rattle.bd_cnf.specs.Literal.{has_literal, has_variable};
+ghost use Rattle.bd_cnf.specs.Assignment.{value_of};
+ghost use Rattle.bd_cnf.specs.Standing.{IsBelow};
+ghost use Rattle.bd_cnf.specs.Trail.{is_false};
+ghost use Rattle.bd_watch.specs.Levels.{assigned, literals, decisions};
+ghost use Rattle.bd_watch.specs.Trails.{leveled, extended, IsPlaceOf, IsLastStart, IsStartFrom, IsDecisionAt, GoesBack, MakesTrue, AllAssigned};
+
+use crate::code::Code;
+use bd_cnf::{Assignment, Lit};
+use std::alloc::{AllocError, Global};
+use std::marker::Model;
+
+/// A literal on a trail: a decision where it has no reason.
+#[derive(Clone, Copy, Debug)]
+pub struct Assigned {
+    code: Code,
+    /// The id of the clause that implied it.
+    reason: Option<u64>,
+}
+
+impl Model for Assigned {
+    ghost use Rattle.bd_watch.specs.Levels.{Assigned as Entry, assigned};
+
+    ghost Value = { Entry };
+
+    ghost view = { λ a. assigned a.code a.reason };
+
+    ghost inverse = { λ a. record { code = a.literal; reason = a.reason } };
+}
+
+impl Assigned {
+    /// The literal.
+    pub fn code(self) -> Code
+        ensures { result ≡ self.literal }
+    {
+        self.code
+    }
+
+    /// The id of the clause that implied it, if it is no decision.
+    pub fn reason(self) -> Option<u64>
+        ensures { result ≡ self.reason }
+    {
+        self.reason
+    }
+}
+
+/// The literals that a solver takes as true, with what implied each.
+#[derive(Debug, Drop)]
+pub struct Trail {
+    /// By code, whether the literal is on the trail.
+    holds: Vec<bool>,
+    /// By variable, where its literal stands, if it has one.
+    places: Vec<usize>,
+    /// Where the levels above 0 begin.
+    starts: Vec<usize>,
+    entries: Vec<Assigned>,
+}
+
+impl Model for Trail {
+    ghost use Rattle.std.specs.Prelude.{length, vec_capacity};
+    ghost use Rattle.bd_watch.specs.Trails.{LeveledTrail, IsLeveled, leveled};
+
+    ghost Value = { LeveledTrail };
+
+    ghost view = { λ a. leveled (length a.places.items) a.entries.items };
+
+    ghost invariant = { λ a. IsLeveled a.holds.items a.places.items a.starts.items a.entries.items
+        (vec_capacity a.entries) (vec_capacity a.starts) };
+}
+
+impl Trail {
+    /// No literal, with room for those of the variables up to `vars`. More than 2^31 - 1 of them
+    /// end as want of memory.
+    pub fn new(alloc: Global, vars: u64) -> Result<Trail, AllocError>
+        ensures empty { IfOk result (λ t. t ≡ leveled (vars + 1) []) }
+        ensures coded { OnOk result (vars < 2 ^ 31) }
+    {
+        if vars >= 1 << 31 {
+            return Err(AllocError);
+        }
+        let limit = vars as usize + 1;
+        Ok(Trail {
+            holds: vec![in alloc; false; 2 * limit]?,
+            places: vec![in alloc; 0; limit]?,
+            starts: Vec::with_capacity(alloc, limit)?,
+            entries: Vec::with_capacity(alloc, limit)?,
+        })
+    }
+
+    /// Whether the literal is true.
+    pub fn has(&self, code: Code) -> bool
+        requires { code.var < self.now.limit }
+        ensures { result ≡ has_literal (literals self.now.entries) code }
+    {
+        self.holds[code.index()]
+    }
+
+    /// How many variables there is room for, 0 among them.
+    pub fn limit(&self) -> u64
+        ensures { result ≡ self.now.limit }
+    {
+        self.places.len() as u64
+    }
+
+    /// The code of a literal.
+    pub fn code(&self, lit: Lit) -> Code
+        requires { lit.var < self.now.limit }
+        ensures { result ≡ lit }
+    {
+        let _coded = &self.places;
+        Code::of(lit)
+    }
+
+    /// Whether the literal is true.
+    pub fn is_true(&self, lit: Lit) -> bool
+        requires { lit.var < self.now.limit }
+        ensures { result ≡ has_literal (literals self.now.entries) lit }
+    {
+        self.has(self.code(lit))
+    }
+
+    /// Whether the literal is false.
+    pub fn is_false(&self, lit: Lit) -> bool
+        requires { lit.var < self.now.limit }
+        ensures { result ≡ is_false (literals self.now.entries) lit }
+    {
+        self.is_true(lit.negated())
+    }
+
+    /// The literals in order, with their reasons.
+    pub fn as_slice(&self) -> &[Assigned]
+        ensures entries { result.now ≡ self.now.entries }
+        ensures below { IsBelow self.now.limit (literals self.now.entries) }
+    {
+        self.entries.as_slice()
+    }
+
+    /// Where the literal of a variable stands that has a value.
+    pub fn place(&self, code: Code) -> usize
+        requires { has_variable (literals self.now.entries) code.var ≡ true }
+        ensures { IsPlaceOf self.now.entries code.var result }
+    {
+        self.places[code.variable()]
+    }
+
+    /// Where the current level begins, if it is above level 0.
+    pub fn last_start(&self) -> Option<usize>
+        ensures some { IfSome result (IsLastStart self.now.entries) }
+        ensures none { IfNone result (decisions self.now.entries ≡ []) }
+    {
+        self.starts.last().copied()
+    }
+
+    /// Where the first level begins from that place on, if one does.
+    pub fn start_from(&self, place: usize) -> Option<usize>
+        ensures some { IfSome result (IsStartFrom self.now.entries place) }
+        ensures none { IfNone result ((start : ℕ) → IsDecisionAt self.now.entries start →
+            start < place) }
+    {
+        let mut count = self.starts.len();
+        while count > 0 && self.starts[count - 1] >= place {
+            count -= 1;
+        }
+        if count == self.starts.len() {
+            return None;
+        }
+        Some(self.starts[count])
+    }
+
+    /// Decides a literal whose variable has no value yet. Takes no memory.
+    pub fn decide(&mut self, lit: Lit)
+        requires within { lit.var < self.old.limit }
+        requires unassigned { has_variable (literals self.old.entries) lit.var ≡ false }
+        ensures decided { self.new ≡ extended self.old (assigned lit None) }
+        ensures room { length self.new.entries ≤ self.new.limit }
+    {
+        self.starts.push_reserved(self.entries.len());
+        let code = Code::of(lit);
+        self.holds[code.index()] = true;
+        self.places[code.variable()] = self.entries.len();
+        self.entries.push_reserved(Assigned { code, reason: None });
+    }
+
+    /// Takes a literal whose variable has no value yet as implied by the clause of that id. Takes
+    /// no memory.
+    pub fn imply(&mut self, code: Code, id: u64)
+        requires within { code.var < self.old.limit }
+        requires unassigned { has_variable (literals self.old.entries) code.var ≡ false }
+        ensures implied { self.new ≡ extended self.old (assigned code (Some id)) }
+        ensures room { length self.new.entries ≤ self.new.limit }
+    {
+        let reason = Some(id);
+        self.holds[code.index()] = true;
+        self.places[code.variable()] = self.entries.len();
+        self.entries.push_reserved(Assigned { code, reason });
+    }
+
+    /// Takes the last literal back.
+    fn pop(&mut self) -> Option<Assigned>
+        ensures limit { self.new.limit ≡ self.old.limit }
+        ensures entries { self.old.entries ≡ self.new.entries ++ option_to_list result }
+        ensures below { IfSome result (λ last. last.literal.var < self.new.limit) }
+        ensures none { IfNone result (self.old.entries ≡ []) }
+    {
+        let last = self.entries.pop()?;
+        self.holds[last.code.index()] = false;
+        if last.reason.is_none() {
+            self.starts.pop();
+        }
+        Some(last)
+    }
+
+    /// Takes the last decision back, and all that came behind it: what it led to.
+    pub fn go_back(&mut self) -> Option<Lit>
+        ensures limit { self.new.limit ≡ self.old.limit }
+        ensures decision { IfSome result (GoesBack self.old.entries self.new.entries) }
+        ensures below { IfSome result (λ decision. decision.var < self.new.limit) }
+        ensures level_zero { IfNone result (decisions self.old.entries ≡ []) }
+    {
+        while let Some(last) = self.pop() {
+            if last.reason.is_none() {
+                return Some(last.code.lit());
+            }
+        }
+        None
+    }
+
+    /// Takes back all literals from that place on.
+    pub fn truncate(&mut self, place: usize)
+        requires { place ≤ length self.old.entries }
+        ensures { self.new ≡ leveled self.old.limit (take place self.old.entries) }
+    {
+        while self.entries.len() > place {
+            self.pop();
+        }
+    }
+
+    /// The decisions, in order.
+    pub fn decisions(&self, alloc: Global) -> Result<Vec<Lit>, AllocError>
+        ensures same { IfOk result (λ found. found.items ≡ decisions self.now.entries) }
+        ensures below { OnOk result (IsBelow self.now.limit (decisions self.now.entries)) }
+    {
+        let mut found = Vec::new(alloc);
+        for entry in &self.entries {
+            if entry.reason.is_none() {
+                found.push(entry.code.lit())?;
+            }
+        }
+        Ok(found)
+    }
+
+    /// Whether the variable has no value.
+    pub fn is_free(&self, var: u64) -> bool
+        requires from_one { 0 < var }
+        requires within { var < self.now.limit }
+        ensures { result ≡ not (has_variable (literals self.now.entries) var) }
+    {
+        let lit = Lit::new(var, true);
+        !self.is_true(lit) && !self.is_false(lit)
+    }
+
+    /// The least variable that has no value.
+    pub fn free_variable(&self) -> Option<u64>
+        ensures from_one { IfSome result (λ var. 0 < var) }
+        ensures below { IfSome result (λ var. var < self.now.limit) }
+        ensures free { IfSome result (λ var. has_variable (literals self.now.entries) var ≡ false) }
+        ensures none { IfNone result (AllAssigned self.now) }
+    {
+        for var in 1..self.places.len() as u64 {
+            if self.is_free(var) {
+                return Some(var);
+            }
+        }
+        None
+    }
+
+    /// An assignment that makes each literal true.
+    pub fn assignment(&self, alloc: Global) -> Result<Assignment, AllocError>
+        ensures { IfOk result (λ a. MakesTrue (value_of a) (literals self.now.entries)) }
+    {
+        let mut assignment = Assignment::new(alloc);
+        for entry in &self.entries {
+            let lit = entry.code.lit();
+            assignment.set(lit.var(), lit.is_positive())?;
+        }
+        Ok(assignment)
+    }
+}

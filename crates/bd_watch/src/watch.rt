@@ -1,0 +1,180 @@
+//! Clauses that watch two of their literals, and the trail that they watch. A clause is looked at
+//! only where one of its two has become false: then it is true, or watches another literal from
+//! then on, or is unit, or false. Going back changes no watched literal: where the two were right at
+//! the end of a level, they still are.
+ghost use Rattle.std.specs.Prelude.{◌≡◌, ◌<◌, ◌≤◌, ◌+◌, ◌^◌, length, true, IfOk, IfSome, IfNone, OnOk};
+ghost use Rattle.bd_cnf.specs.Literal.{Literal};
+ghost use Rattle.bd_cnf.specs.Standing.{IsBelow};
+ghost use Rattle.bd_cnf.specs.Trail.{is_false};
+ghost use Rattle.bd_watch.specs.declared.watch.Visited.TheVariants.{Moved};
+ghost use Rattle.bd_watch.specs.Levels.{literals};
+ghost use Rattle.bd_watch.specs.Watching.{list_at, IsOneOf, IsWatcher};
+ghost use Rattle.bd_watch.specs.Watch.{IsWatching, IsPropagated, Propagates};
+ghost use Rattle.bd_watch.specs.inner.Visits.{IsReplacement, AreFalseBesides, IsLong, MayWatch, IsLeft, IsAt, IsStale, IsNext, Visits, Unwatches, Sweeps};
+
+use crate::arena::Arena;
+use crate::code::Code;
+use crate::trail::Trail;
+use crate::watcher::{Pair, WatchList, Watcher};
+use std::alloc::AllocError;
+
+/// Clauses and a trail.
+#[derive(Drop)]
+pub struct Watch {
+    pub(crate) clauses: Arena,
+    /// By the place of a clause, the literals that it watches, if it has two or more.
+    pub(crate) pairs: Vec<Pair>,
+    /// By code, the clauses that watch the literal.
+    pub(crate) lists: Vec<WatchList>,
+    pub(crate) trail: Trail,
+    /// How many literals of the trail were propagated.
+    pub(crate) head: usize,
+}
+
+/// What came of a clause whose watched literal has become false.
+enum Visited {
+    /// It watches another in its place.
+    Moved,
+    /// It is true.
+    Kept,
+    /// It is false.
+    Conflict,
+}
+
+/// Some literal of the clause besides the other that isn't false.
+fn replacement(trail: &Trail, clause: &[Code], other: Code) -> Option<Code>
+    requires { IsBelow trail.now.limit clause.now }
+    ensures some { IfSome result
+        (IsReplacement (literals trail.now.entries) clause.now other) }
+    ensures none { IfNone result
+        (AreFalseBesides (literals trail.now.entries) clause.now other) }
+{
+    for &code in clause {
+        if !code.is(other) && !trail.has(code.negated()) {
+            return Some(code);
+        }
+    }
+    None
+}
+
+impl Watch {
+    /// Lets a clause watch another literal, the first of the pair.
+    fn replace(&mut self, clause: u32, pair: Pair) -> Result<(), AllocError>
+        requires watching { IsWatching self.old }
+        requires long { IsLong self.old clause }
+        requires pair { MayWatch self.old clause pair }
+        ensures { OnOk result ((l : Literal) → (IsOneOf pair l → ⊥) →
+            Visits self.old self.new l clause Moved) }
+    {
+        let blocker = pair.second;
+        self.lists[pair.first.index()].push(Watcher { clause, blocker })?;
+        self.pairs[clause as usize] = pair;
+        Ok(())
+    }
+
+    /// Takes the one literal of a clause that is left as implied, if it isn't false.
+    fn conclude(&mut self, clause: u32, left: Code) -> Visited
+        requires watching { IsWatching self.old }
+        requires long { IsLong self.old clause }
+        requires left { IsLeft self.old clause left }
+        ensures { (l : Literal) → Visits self.old self.new l clause result }
+    {
+        if self.trail.has(left.negated()) {
+            return Visited::Conflict;
+        }
+        self.trail.imply(left, u64::from(clause) + 1);
+        Visited::Kept
+    }
+
+    /// Looks at the clause of a watcher of a literal that has become false.
+    fn visit(&mut self, watcher: Watcher, lit: Code) -> Result<Visited, AllocError>
+        requires watching { IsWatching self.old }
+        requires watcher { IsWatcher self.old.clauses watcher }
+        requires falsified { is_false (literals self.old.trail.entries) lit ≡ true }
+        ensures { IfOk result (Visits self.old self.new lit watcher.clause) }
+    {
+        if self.trail.has(watcher.blocker) {
+            return Ok(Visited::Kept);
+        }
+        let place = watcher.clause as usize;
+        let Some(other) = self.pairs[place].other(lit) else {
+            return Ok(Visited::Moved);
+        };
+        if self.trail.has(other) {
+            return Ok(Visited::Kept);
+        }
+        match replacement(&self.trail, self.clauses.get(place), other) {
+            Some(first) => {
+                let second = other;
+                self.replace(watcher.clause, Pair { first, second })?;
+                Ok(Visited::Moved)
+            }
+            None => Ok(self.conclude(watcher.clause, other)),
+        }
+    }
+
+    /// The watcher at that place of the literal's list.
+    fn watcher(&self, lit: Code, place: usize) -> Option<Watcher>
+        requires watching { IsWatching self.now }
+        requires below { lit.var < self.now.trail.limit }
+        ensures some { IfSome result (IsAt (list_at self.now.lists.items lit) place) }
+        ensures small { IfSome result (λ _. place + 1 < 2 ^ 64) }
+        ensures none { IfNone result (length (list_at self.now.lists.items lit) ≤ place) }
+    {
+        self.lists[lit.index()].get(place)
+    }
+
+    /// Takes out the watcher at that place of the literal's list, whose clause doesn't watch it.
+    fn unwatch(&mut self, lit: Code, place: usize)
+        requires watching { IsWatching self.old }
+        requires below { lit.var < self.old.trail.limit }
+        requires within { place < length (list_at self.old.lists.items lit) }
+        requires stale { IsStale self.old lit place }
+        ensures { Unwatches self.old self.new lit place }
+    {
+        self.lists[lit.index()].swap_remove(place);
+    }
+
+    /// Looks at all clauses that watch a literal which has become false, until one is false.
+    fn sweep(&mut self, lit: Code) -> Result<Option<u64>, AllocError>
+        requires watching { IsWatching self.old }
+        requires below { lit.var < self.old.trail.limit }
+        requires falsified { is_false (literals self.old.trail.entries) lit ≡ true }
+        ensures { IfOk result (Sweeps self.old self.new lit) }
+    {
+        let mut place = 0;
+        while let Some(watcher) = self.watcher(lit, place) {
+            let id = u64::from(watcher.clause) + 1;
+            match self.visit(watcher, lit)? {
+                Visited::Kept => place += 1,
+                Visited::Moved => self.unwatch(lit, place),
+                Visited::Conflict => return Ok(Some(id)),
+            }
+        }
+        Ok(None)
+    }
+
+    /// The negation of the next literal that is to be propagated.
+    fn next(&self) -> Option<Code>
+        requires { IsWatching self.now }
+        ensures some { IfSome result (IsNext self.now) }
+        ensures none { IfNone result (IsPropagated self.now) }
+    {
+        let entry = self.trail.as_slice().get(self.head)?;
+        Some(entry.code().negated())
+    }
+
+    /// Propagates until a clause is false, and answers its id, or until no clause is false or unit.
+    pub fn propagate(&mut self) -> Result<Option<u64>, AllocError>
+        requires { IsWatching self.old }
+        ensures { IfOk result (Propagates self.old self.new) }
+    {
+        while let Some(lit) = self.next() {
+            if let Some(id) = self.sweep(lit)? {
+                return Ok(Some(id));
+            }
+            self.head += 1;
+        }
+        Ok(None)
+    }
+}

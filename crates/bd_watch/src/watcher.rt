@@ -1,0 +1,90 @@
+//! Which clauses watch a literal. Each watcher has a second literal of its clause beside it, the
+//! blocker: while that is true, the clause need not be read.
+ghost use Rattle.std.specs.Prelude.{◌≡◌, ◌<◌, ◌≤◌, ◌+◌, ◌^◌, ◌++◌, ◌∷◌, [], Some, length, slice_get, OnOk, OnErr, IfSome, IfNone};
+ghost use Rattle.bd_watch.specs.Watching.{IsOneOf};
+ghost use Rattle.bd_watch.specs.inner.Watchers.{Removes, AreTwo};
+
+use crate::code::Code;
+use std::alloc::{AllocError, Global};
+use std::marker::Model;
+
+/// A clause that watches a literal, by its place, and another of its literals.
+#[derive(Clone, Copy, Debug)]
+pub(crate) struct Watcher {
+    pub(crate) clause: u32,
+    pub(crate) blocker: Code,
+}
+
+/// The two literals that a clause watches.
+#[derive(Clone, Copy, Debug)]
+pub(crate) struct Pair {
+    pub(crate) first: Code,
+    pub(crate) second: Code,
+}
+
+impl Pair {
+    /// The other of the two, if the literal is one of them.
+    pub(crate) fn other(self, code: Code) -> Option<Code>
+        ensures some { IfSome result (AreTwo self code) }
+        ensures none { IfNone result (IsOneOf self code → ⊥) }
+    {
+        if self.first.is(code) {
+            return Some(self.second);
+        }
+        if self.second.is(code) {
+            return Some(self.first);
+        }
+        None
+    }
+}
+
+/// The watchers of a literal.
+#[derive(Debug, Drop)]
+pub(crate) struct WatchList {
+    watchers: Vec<Watcher>,
+}
+
+impl Model for WatchList {
+    ghost use Rattle.std.specs.Prelude.{List};
+    ghost use Rattle.bd_watch.specs.declared.watcher.Watcher.{Watcher as Entry};
+
+    ghost Value = { List Entry };
+
+    ghost view = { λ a. a.watchers.items };
+}
+
+impl WatchList {
+    pub(crate) fn new(alloc: Global) -> WatchList
+        ensures { result ≡ [] }
+    {
+        WatchList {
+            watchers: Vec::new(alloc),
+        }
+    }
+
+    /// The watcher at that place.
+    pub(crate) fn get(&self, place: usize) -> Option<Watcher>
+        ensures some { IfSome result (λ w. slice_get self.now place ≡ Some w) }
+        ensures within { IfSome result (λ _. place < length self.now) }
+        ensures small { IfSome result (λ _. place + 1 < 2 ^ 64) }
+        ensures none { IfNone result (length self.now ≤ place) }
+    {
+        self.watchers.get(place).copied()
+    }
+
+    pub(crate) fn push(&mut self, watcher: Watcher) -> Result<(), AllocError>
+        ensures ok { OnOk result (self.new ≡ self.old ++ watcher ∷ []) }
+        ensures err { OnErr result (self.new ≡ self.old) }
+    {
+        self.watchers.push(watcher)?;
+        Ok(())
+    }
+
+    /// Takes a watcher out, and puts the last one into its place.
+    pub(crate) fn swap_remove(&mut self, place: usize)
+        requires { place < length self.old }
+        ensures { Removes self.old place self.new }
+    {
+        self.watchers.swap_remove(place);
+    }
+}
