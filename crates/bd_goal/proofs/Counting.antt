@@ -1,9 +1,6 @@
 -- The memories among the first entries.
-use Rattle.std.proofs.Common.{◌≡◌, ℕ, ◌+◌, ◌<◌, ◌≤◌, List, map, take, length, get_or, ap, sym, subst, ◌∙◌, arith, length-take}
-use Rattle.std.specs.Prelude.{Some, count_by, if◌then◌else◌, slice_get}
-use Rattle.std.specs.Option.{option_map}
-use Rattle.std.proofs.lemmas.List.{length-map}
-use Rattle.std.proofs.lemmas.Option.{slice_get-get_or, slice_get-map}
+use Rattle.std.proofs.Common.{◌≡◌, ℕ, ◌+◌, ◌<◌, ◌≤◌, List, take, length, get_or, ap, sym, ◌∙◌, arith, length-take}
+use Rattle.std.specs.Prelude.{count_by, if◌then◌else◌}
 use Rattle.std.proofs.lemmas.List.Sums.{count_by-le-length, sum_by_more}
 use Rattle.bd_model.specs.declared.design.Entry as entry
 use Rattle.bd_goal.specs.Formula.{is_memory}

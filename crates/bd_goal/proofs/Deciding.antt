@@ -1,5 +1,5 @@
 -- What makes a claim false decides which cases are such.
-use Rattle.std.proofs.Common.{◌≡◌, ◌≢◌, ℕ, Bool, true, false, inl, inr, List, [], ◌∷◌, slice_index_or, refl, ap, sym, ◌∙◌, subst, arith}
+use Rattle.std.proofs.Common.{◌≡◌, ◌≢◌, ℕ, Bool, true, false, inl, inr, List, [], ◌∷◌, slice_index_or, refl, ap, sym, ◌∙◌, arith}
 use Rattle.std.specs.Prelude.{IsTrue, if◌then◌else◌}
 use Rattle.std.specs.List.{AllByRecursion, AllPairs}
 use Rattle.bd_model.specs.Table.{at, row_value}
@@ -9,12 +9,10 @@ use Rattle.bd_model.specs.Cycle.{flushed}
 use Rattle.bd_model.specs.Same.{Same}
 use Rattle.bd_model.specs.Fits.{scalar_sort, TableFits, KeepsApart, InterpFits, Fits}
 use Rattle.bd_model.specs.Lawful.{IsLawful, IsLawfulGroup, IsConstant}
-use Rattle.bd_model.specs.Conditions.{Abstraction, BreaksBy, CommutesBy, KeepsInvariant, MeetsInvariant}
+use Rattle.bd_model.specs.Conditions.{Abstraction, CommutesBy, KeepsInvariant, MeetsInvariant}
 use Rattle.bd_model.specs.declared.case.Case.{Case}
-use Rattle.bd_model.specs.declared.case.Condition.{Condition}
 use Rattle.bd_model.specs.declared.case.Condition.TheVariants as condition
 use Rattle.bd_model.specs.declared.design.Sort.TheVariants as sort
-use Rattle.bd_model.specs.declared.design.Symbol.{Symbol}
 use Rattle.bd_model.specs.declared.table.Scalar.{Scalar}
 use Rattle.bd_model.specs.declared.table.Scalar.TheVariants as scalar
 use Rattle.bd_model.specs.declared.table.Table.{Table}
@@ -22,15 +20,10 @@ use Rattle.bd_model.specs.declared.table.Value.{Value}
 use Rattle.bd_model.proofs.Pairs.{AllZip-at}
 use Rattle.bd_model.proofs.SameDecided.{same_values, same_values-Decides}
 use Rattle.bd_model.proofs.Settled.{Settled, IsTrue-settled, Commutes-settled}
-use Rattle.bd_terms.specs.declared.node.Sym.TheVariants as symbol
-use Rattle.bd_terms.specs.declared.node.Node.{Node}
-use Rattle.bd_terms.specs.Graph.{HasSort, IsGraph}
-use Rattle.bd_terms.specs.Denotation.{World, applied, denoted, truth, truth_of}
-use Rattle.bd_terms.specs.Reaches.{AgreeBelow}
+use Rattle.bd_terms.specs.Denotation.{truth, truth_of}
 use Rattle.bd_terms.proofs.Resting.{denoted-alike}
-use Rattle.bd_goal.specs.Symbols.{ReachesKnown}
-use Rattle.bd_goal.specs.Formula.{Corresponds, CommutesAt, IsOutside, AgreesAt, EqualAt}
-use Rattle.bd_goal.specs.Claims.{Claims, Decides, IsValid, KeepsConstantsApart, case_world}
+use Rattle.bd_goal.specs.Formula.{Corresponds, IsOutside, AgreesAt}
+use Rattle.bd_goal.specs.Claims.{IsValid, KeepsConstantsApart, case_world}
 use Rattle.bd_goal.specs.Laws.{BreaksSome, Differs, ClaimDecides}
 use Rattle.bd_goal.proofs.Alike.{denoted-same}
 use Rattle.bd_goal.proofs.Realized.{case_of, case_of-fits, each-at, known-gives, words_of}

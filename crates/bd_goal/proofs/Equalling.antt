@@ -1,16 +1,14 @@
 -- Two visible states are equal entry by entry, each memory at an address of its own.
-use Rattle.std.proofs.Common.{◌≡◌, ℕ, zero, suc, ◌+◌, ◌*◌, ◌<◌, ◌≤◌, inl, inr, Bool, true, false, ◌&&◌, ◌==◌, if◌then◌else◌, List, [], ◌∷◌, drop, length, Ok, refl, ap, sym, ◌∙◌, subst, arith, eqb-true, eq-eqb}
-use Rattle.std.specs.Prelude.{◌↔◌, IsTrue, IfOk, Result, Err, Some, Contains, count_by, not, slice_get, slice_index_or}
+use Rattle.std.proofs.Common.{◌≡◌, ℕ, zero, suc, ◌+◌, ◌*◌, ◌<◌, ◌≤◌, inr, Bool, true, false, ◌&&◌, ◌==◌, if◌then◌else◌, List, [], ◌∷◌, drop, length, Ok, refl, ap, sym, ◌∙◌, subst, arith, eqb-true, eq-eqb}
+use Rattle.std.specs.Prelude.{◌↔◌, IsTrue, IfOk, Result, Some, Contains, not, slice_get, slice_index_or}
 use Rattle.std.specs.declared.alloc.AllocError.{AllocError}
 use Rattle.std.proofs.lemmas.Result.{IfOk-weaker}
-use Rattle.std.specs.List.{AllZip}
 use Rattle.std.specs.Cmp.{booleans_Decides}
 use Rattle.std.proofs.lemmas.List.{drop_all, length-map}
 use Rattle.std.proofs.lemmas.List.Sums.{count_by-le-length, sum_by-cons}
 use Rattle.std.proofs.lemmas.Option.{slice_get-map}
 use Rattle.std.specs.Option.{option_map}
 use Rattle.std.proofs.lemmas.Nat.{mul-add-lt}
-use Rattle.std.proofs.lemmas.Bool.Decides.{Decides-and}
 use Rattle.std.proofs.Math.Nat.{mul-le-mul}
 use Rattle.bd_model.specs.Table.{read}
 use Rattle.bd_model.specs.DesignView.{DesignView}
@@ -28,20 +26,20 @@ use Rattle.bd_terms.specs.declared.node.Sym.TheVariants as symbol
 use Rattle.bd_terms.specs.declared.node.Node.{Node}
 use Rattle.bd_terms.specs.Graph.{AddsUses, Extends, IsGraph, Use, sort_at}
 use Rattle.bd_terms.specs.Graph.{HasSort as TermHasSort}
-use Rattle.bd_terms.specs.Denotation.{World, Denoted, Denotes, Truth, Word, applied, contents, contents_of, denoted, denoted_sort, truth, truth_of, word, word_of}
+use Rattle.bd_terms.specs.Denotation.{World, Denotes, Truth, Word, applied, contents, contents_of, denoted, denoted_sort, truth, truth_of, word, word_of}
 use Rattle.bd_terms.proofs.Growth.{AddsUses-more, AddsUses-trans, Extends-trans, HasSort-Extends, denoted-Extends}
 use Rattle.bd_symbolic.proofs.Arms.{IfOk-sort, iff_ites}
 use Rattle.bd_terms.proofs.Simplifying.{denoted-sort}
 use Rattle.bd_symbolic.specs.World.{denotes_value}
-use Rattle.bd_symbolic.specs.Symbolic.{DenoteValues, HaveSorts}
-use Rattle.bd_goal.specs.Symbols.{GrowsKnown, IsKnown, KeepsAddresses, address_use}
+use Rattle.bd_symbolic.specs.Symbolic.{HaveSorts}
+use Rattle.bd_goal.specs.Symbols.{GrowsKnown, IsKnown, address_use}
 use Rattle.bd_goal.specs.Formula.{EqualAt, EqualFrom, is_memory, memory_count}
 use Rattle.bd_goal.specs.Claims.{Claims, case_world}
 use Rattle.bd_goal.specs.inner.Shown.{EqualTerms, ShowsValues, address_uses, are_equal}
 use Rattle.bd_goal.proofs.Counting.{memories_in}
 use Rattle.bd_goal.proofs.Lists.{drop-there, zip-length, zip-there}
-use Rattle.bd_goal.proofs.Known.{Known-by, Known-none, Known-trans, KeepsAddresses-Known}
-use Rattle.bd_goal.proofs.Showing.{HaveSorts-later, truth-later}
+use Rattle.bd_goal.proofs.Known.{Known-by, Known-none, Known-trans}
+use Rattle.bd_goal.proofs.Showing.{truth-later}
 
 -- the value that a term of a sort denotes is of that sort
 denoted_sort-value : (v : Value) → denoted_sort (denotes_value v) ≡ value_sort v

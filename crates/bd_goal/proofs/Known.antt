@@ -1,5 +1,5 @@
 -- What stays where a graph grows by the design's symbols and fresh addresses.
-use Rattle.std.proofs.Common.{◌≡◌, ℕ, ◌<◌, inl, inr, List, [], ◌∷◌, Contains, None, Some, refl, ap, sym, ◌∙◌, subst, arith}
+use Rattle.std.proofs.Common.{◌≡◌, ℕ, inl, inr, List, [], Contains, None, Some, refl, ap, sym, ◌∙◌, subst, arith}
 use Rattle.std.specs.Prelude.{IfOk, Result, Ok, Err}
 use Rattle.std.specs.declared.alloc.AllocError.{AllocError}
 use Rattle.std.proofs.lemmas.List.Elements.{Contains-append_cases}
@@ -8,11 +8,11 @@ use Rattle.bd_terms.specs.declared.node.Sym.{Sym}
 use Rattle.bd_terms.specs.declared.node.Sym.TheVariants as symbol
 use Rattle.bd_terms.specs.declared.node.Node.{Node}
 use Rattle.bd_model.specs.declared.design.Sort.TheVariants as sort
-use Rattle.bd_terms.specs.Graph.{AddsUses, Extends, KeepsSymbol, Use, uses}
-use Rattle.bd_terms.proofs.Growth.{Extends-self, Extends-trans, KeepsSymbol-empty}
+use Rattle.bd_terms.specs.Graph.{AddsUses, Extends, Use, uses}
+use Rattle.bd_terms.proofs.Growth.{Extends-trans, KeepsSymbol-empty}
 use Rattle.bd_terms.proofs.Symbols.{uses-get}
 use Rattle.bd_symbolic.specs.DesignSymbols.{GrowsWithin, IsDeclared, KeepsDesign, declared_use}
-use Rattle.bd_goal.specs.Symbols.{AppliesKnown, GrowsKnown, IsKnown, KeepsAddresses, ReachesKnown, address_use}
+use Rattle.bd_goal.specs.Symbols.{AppliesKnown, GrowsKnown, IsKnown, KeepsAddresses, ReachesKnown}
 
 pub Known-trans : (d : DesignView) (n : ℕ) (a b c : List Node) → GrowsKnown d n a b → GrowsKnown d n b c → GrowsKnown d n a c
 Known-trans d n a b c p q = record {

@@ -1,11 +1,11 @@
 -- Terms of expressions over a state's terms and lets of their own.
-use Rattle.std.proofs.Common.{◌≡◌, ℕ, zero, suc, ◌+◌, ◌<◌, ◌≤◌, List, [], ◌∷◌, ◌++◌, map, take, length, refl, ap, sym, ◌∙◌, subst, arith, append-nil}
+use Rattle.std.proofs.Common.{◌≡◌, ℕ, zero, suc, ◌+◌, ◌≤◌, List, [], ◌∷◌, ◌++◌, map, take, length, refl, sym, subst, arith}
 use Rattle.std.specs.Prelude.{Some, slice_get}
 use Rattle.std.specs.List.{AllZip}
 use Rattle.std.proofs.lemmas.List.{take_all}
 use Rattle.bd_model.specs.ExprView.{ExprView}
 use Rattle.bd_model.specs.DesignView.{DesignView, LocalView}
-use Rattle.bd_model.specs.Value.{value_of, env_of, let_values}
+use Rattle.bd_model.specs.Value.{value_of, env_of}
 use Rattle.bd_model.specs.Lawful.{Context, HasSort, LetsHaveSorts, entry_sorts}
 use Rattle.bd_model.specs.declared.design.Sort.{Sort}
 use Rattle.bd_model.specs.declared.case.Case.{Case}
@@ -16,16 +16,15 @@ use Rattle.bd_model.specs.declared.table.Value.TheVariants as value
 use Rattle.bd_model.specs.Fits.{Fits}
 use Rattle.bd_model.proofs.Pairs.{AllZip-append}
 use Rattle.bd_terms.specs.declared.node.Node.{Node}
-use Rattle.bd_terms.specs.Graph.{Extends, sort_at}
+use Rattle.bd_terms.specs.Graph.{sort_at}
 use Rattle.bd_terms.specs.Graph.{HasSort as TermHasSort}
 use Rattle.bd_terms.specs.Denotation.{World, denoted}
-use Rattle.bd_terms.proofs.Growth.{HasSort-Extends, denoted-Extends}
 use Rattle.bd_symbolic.specs.World.{denotes_value}
 use Rattle.bd_symbolic.specs.declared.state.SymState.{SymState}
 use Rattle.bd_symbolic.specs.DesignSymbols.{GrowsWithin, KeepsDesign}
-use Rattle.bd_symbolic.specs.Symbolic.{AreInside, AreTerms, DenoteEnv, DenotesExpr, DenoteValues, HaveSorts, context_in, terms_of}
+use Rattle.bd_symbolic.specs.Symbolic.{AreTerms, DenotesExpr, DenoteValues, HaveSorts, context_in, terms_of}
 use Rattle.bd_symbolic.specs.States.{DenoteLets, DenotesState, StateHasSorts, local_sorts, port_sorts}
-use Rattle.bd_symbolic.proofs.Growing.{AreInside-Extends, Denote-Extends, Grows-trans, KeepsDesign-Grows}
+use Rattle.bd_symbolic.proofs.Growing.{Denote-Extends, Grows-trans, KeepsDesign-Grows}
 use Rattle.bd_goal.specs.Claims.{case_world}
 use Rattle.bd_goal.specs.inner.Shown.{ShowsState}
 use Rattle.bd_goal.proofs.Lists.{map-push, take-next, zip-length}

@@ -6,10 +6,10 @@ use Rattle.std.specs.Cmp.Lexicographic.{same_text}
 use Rattle.std.proofs.lemmas.Option.{same_Some}
 use Rattle.bd_terms.proofs.Places.{AllByRecursion-get}
 use lib.Pointwise.{pointwise}
-use Rattle.bd_model.specs.Table.{row_value, slot_value, at, read}
-use Rattle.bd_model.specs.Value.{truth, table_of, no_table, scalar_truth, scalar_word}
+use Rattle.bd_model.specs.Table.{row_value, at}
+use Rattle.bd_model.specs.Value.{truth, table_of, no_table, scalar_word}
 use Rattle.bd_model.specs.DesignView.{DesignView, PortView}
-use Rattle.bd_model.specs.Fits.{scalar_sort, value_sort, result_sort, RowFits, TableFits, DefaultsDiffer, KeepsApart, InterpFits, ValuesFit, ScalarsFit, Fits}
+use Rattle.bd_model.specs.Fits.{scalar_sort, value_sort, result_sort, RowFits, TableFits, DefaultsDiffer, KeepsApart, Fits}
 use Rattle.bd_model.specs.Lawful.{IsLawful, IsLawfulPort, IsLawfulGroup, IsConstant}
 use Rattle.bd_model.specs.declared.case.Case.{Case}
 use Rattle.bd_model.specs.declared.design.Sort.{Sort}
@@ -30,7 +30,7 @@ use Rattle.bd_terms.specs.Graph.{Use}
 use Rattle.bd_terms.specs.Denotation.{World, applied}
 use Rattle.bd_symbolic.specs.World.{constant, slot_row, value_table}
 use Rattle.bd_symbolic.specs.DesignSymbols.{declared_use, function_use, entry_use, port_use, sort_use}
-use Rattle.bd_goal.specs.Symbols.{IsKnown, address_use}
+use Rattle.bd_goal.specs.Symbols.{IsKnown}
 use Rattle.bd_goal.specs.Claims.{KeepsConstantsApart, case_world}
 use Rattle.bd_goal.proofs.Alike.{as_sort, GivesSame}
 use Rattle.bd_goal.proofs.Telling.{listed, get-listed}

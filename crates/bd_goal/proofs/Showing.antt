@@ -1,22 +1,20 @@
 -- Claims and what they are made of.
-use Rattle.std.proofs.Common.{◌≡◌, ℕ, ◌<◌, inl, inr, Bool, true, false, ◌&&◌, ◌||◌, not, List, [], ◌∷◌, length, refl, ap, sym, ◌∙◌, subst, arith}
+use Rattle.std.proofs.Common.{◌≡◌, ℕ, Bool, true, false, ◌&&◌, ◌||◌, not, List, [], ◌∷◌, refl, ap, sym, subst}
 use Rattle.std.specs.Prelude.{◌↔◌, ◌⊎◌, IsTrue}
-use Rattle.std.specs.List.{AllZip}
 use Rattle.std.proofs.lemmas.Bool.Decides.{Decides-and, Decides-not, Decides-or}
 use Rattle.bd_model.specs.DesignView.{DesignView}
 use Rattle.bd_model.specs.Fits.{Fits}
 use Rattle.bd_model.specs.declared.case.Case.{Case}
 use Rattle.bd_model.specs.declared.design.Sort.{Sort}
-use Rattle.bd_model.specs.declared.design.Sort.TheVariants as sort
 use Rattle.bd_model.specs.declared.table.Value.{Value}
 use Rattle.bd_terms.specs.declared.node.Node.{Node}
 use Rattle.bd_terms.specs.Graph.{Extends}
 use Rattle.bd_terms.specs.Graph.{HasSort as TermHasSort}
-use Rattle.bd_terms.specs.Denotation.{World, Denoted, Truth, Denotes, truth, truth_of}
+use Rattle.bd_terms.specs.Denotation.{World, Truth, Denotes, truth, truth_of}
 use Rattle.bd_terms.proofs.Growth.{HasSort-Extends, denoted-Extends}
 use Rattle.bd_symbolic.specs.declared.state.SymState.{SymState}
-use Rattle.bd_symbolic.specs.Symbolic.{AreInside, DenoteValues, HaveSorts}
-use Rattle.bd_symbolic.specs.States.{DenotesState, StateHasSorts}
+use Rattle.bd_symbolic.specs.Symbolic.{AreInside, HaveSorts}
+use Rattle.bd_symbolic.specs.States.{StateHasSorts}
 use Rattle.bd_symbolic.proofs.Growing.{Denote-Extends}
 use Rattle.bd_goal.specs.Claims.{Claims, case_world}
 use Rattle.bd_goal.specs.inner.Shown.{IsVisible, ShowsState, ShowsValues}

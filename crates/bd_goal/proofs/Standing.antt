@@ -1,6 +1,6 @@
 -- What the invariant and an abstraction come out as.
-use Rattle.std.proofs.Common.{◌≡◌, ℕ, List, [], ◌∷◌, map, length, refl, ap, sym, ◌∙◌, subst}
-use Rattle.std.specs.Prelude.{◌↔◌, IsTrue, IfOk, Result, Ok, Err}
+use Rattle.std.proofs.Common.{◌≡◌, ℕ, List, [], ◌∷◌, map, length, ap, sym, ◌∙◌}
+use Rattle.std.specs.Prelude.{IfOk, Result, Ok, Err}
 use Rattle.std.specs.declared.alloc.AllocError.{AllocError}
 use Rattle.std.specs.List.{AllByRecursion, AllZip}
 use Rattle.std.proofs.lemmas.List.{length-map}
@@ -8,29 +8,25 @@ use Rattle.bd_model.specs.ExprView.{ExprView}
 use Rattle.bd_model.specs.DesignView.{DesignView, ExactView, LocalView}
 use Rattle.bd_model.specs.Value.{value_of, env_of, is_true}
 use Rattle.bd_model.specs.Cycle.{flush, flushed, invariant, look}
-use Rattle.bd_model.specs.Fits.{Fits}
-use Rattle.bd_model.specs.Lawful.{HasSort, IsLawful, IsLawfulExact, context_of, entry_sorts}
+use Rattle.bd_model.specs.Lawful.{HasSort, IsLawful, IsLawfulExact, entry_sorts}
 use Rattle.bd_model.specs.Conditions.{MeetsInvariant}
 use Rattle.bd_model.specs.declared.case.Case.{Case}
-use Rattle.bd_model.specs.declared.design.Sort.{Sort}
 use Rattle.bd_model.specs.declared.design.Sort.TheVariants as sort
 use Rattle.bd_model.specs.declared.design.Entry as entry
 use Rattle.bd_model.specs.declared.table.Value.{Value}
 use Rattle.bd_model.proofs.Pairs.{AllZip-map_first}
 use Rattle.bd_terms.specs.declared.node.Node.{Node}
 use Rattle.bd_terms.specs.Graph.{HasSort as TermHasSort}
-use Rattle.bd_terms.specs.Denotation.{World, denoted, truth, truth_of}
-use Rattle.bd_symbolic.specs.World.{denotes_value}
+use Rattle.bd_terms.specs.Denotation.{World, truth, truth_of}
 use Rattle.bd_symbolic.specs.declared.state.SymState.{SymState}
 use Rattle.bd_symbolic.specs.Symbolic.{DenotesExpr, DenoteValues, HaveSorts, terms_of}
-use Rattle.bd_symbolic.specs.States.{DenotesFlush, DenotesState, StateHasSorts, port_sorts}
+use Rattle.bd_symbolic.specs.States.{DenotesFlush, StateHasSorts, port_sorts}
 use Rattle.bd_symbolic.proofs.Denoting.{truth_of-value}
 use Rattle.bd_goal.specs.Abstraction.{IsLawfulGiven, values_by}
 use Rattle.bd_goal.specs.Claims.{Claims, case_world}
-use Rattle.bd_goal.specs.inner.Shown.{AreConditions, IsVisible, ShowsState, ShowsValues, StandsFor}
+use Rattle.bd_goal.specs.inner.Shown.{AreConditions, ShowsState, StandsFor}
 use Rattle.bd_goal.proofs.Lists.{zip-length}
 use Rattle.bd_goal.proofs.Named.{Gathered, IsNamed, alone-shows, named_context, term-value}
-use Rattle.bd_goal.proofs.Showing.{claims_by}
 
 -- the term of the invariant claims it
 pub invariant-claims : (d : DesignView) (old mid new : List Node) (state alone : SymState) (lets : List ℕ) (id : ℕ) → IsNamed d [] old mid alone d.inv_locals lets → alone.entries ≡ state.entries → alone.inputs ≡ []

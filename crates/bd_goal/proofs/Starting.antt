@@ -1,10 +1,9 @@
 -- The states that a cycle is judged by, before the first number of steps, and what a root over them claims.
-use Rattle.std.proofs.Common.{◌≡◌, ℕ, suc, ◌+◌, ◌*◌, List, [], refl, ap, sym, ◌∙◌, subst, arith}
+use Rattle.std.proofs.Common.{◌≡◌, ℕ, suc, ◌+◌, ◌*◌, List, [], ap, sym, subst, arith}
 use Rattle.std.specs.Prelude.{◌↔◌, ◌||◌, slice_index_or}
 use Rattle.std.proofs.Math.Path.{fun_ext}
 use Rattle.bd_model.specs.DesignView.{DesignView}
 use Rattle.bd_model.specs.Cycle.{step, spec_steps}
-use Rattle.bd_model.specs.Fits.{Fits}
 use Rattle.bd_model.specs.Lawful.{entry_sorts}
 use Rattle.bd_model.specs.Conditions.{Abstraction, IsAllowed}
 use Rattle.bd_model.specs.declared.case.Case.{Case}
@@ -16,15 +15,15 @@ use Rattle.bd_terms.specs.Graph.{HasSort as TermHasSort}
 use Rattle.bd_terms.specs.Denotation.{Denotes, Truth, truth}
 use Rattle.bd_terms.proofs.Growth.{Extends-trans}
 use Rattle.bd_symbolic.specs.DesignSymbols.{GrowsWithin}
-use Rattle.bd_symbolic.specs.States.{DenotesCases, DenotesSpecStep, DenotesState, DenotesStep, StateHasSorts}
+use Rattle.bd_symbolic.specs.States.{DenotesCases, DenotesSpecStep, DenotesStep, StateHasSorts}
 use Rattle.bd_symbolic.specs.declared.state.SymState.{SymState}
 use Rattle.bd_symbolic.specs.Symbolic.{DenoteScalars}
 use Rattle.bd_symbolic.proofs.Growing.{Denote-Extends, Grows-trans}
-use Rattle.bd_goal.specs.Symbols.{GrowsKnown, KeepsAddresses}
+use Rattle.bd_goal.specs.Symbols.{GrowsKnown}
 use Rattle.bd_goal.specs.Formula.{EqualAt, EqualFrom, address_count, address_number}
 use Rattle.bd_goal.specs.Claims.{Claims, case_world}
 use Rattle.bd_goal.specs.inner.Shown.{AreConditions, IsVisible, ShowsState, ShowsValues, StandsFor}
-use Rattle.bd_goal.proofs.Known.{KeepsAddresses-Known, Known-within}
+use Rattle.bd_goal.proofs.Known.{Known-within}
 use Rattle.bd_goal.proofs.Showing.{IsVisible-later, ShowsState-later, StateHasSorts-later, ShowsValues-later, inside_sorts}
 use Rattle.bd_goal.proofs.Joining.{Commuting, commuting-next, commuting-none, conditions-later, step-shows}
 

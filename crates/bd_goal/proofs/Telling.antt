@@ -7,7 +7,7 @@ use Rattle.std.proofs.lemmas.Nat.{div-mul-add, mod-mul-add, mul-add-lt}
 use Rattle.bd_model.specs.Table.{slot_value, read, ReadSame}
 use Rattle.bd_model.specs.DesignView.{DesignView}
 use Rattle.bd_model.specs.Cycle.{step, spec_steps}
-use Rattle.bd_model.specs.Same.{SameValue, Same}
+use Rattle.bd_model.specs.Same.{Same}
 use Rattle.bd_model.specs.Conditions.{Abstraction, CommutesBy}
 use Rattle.bd_model.specs.declared.case.Case.{Case}
 use Rattle.bd_model.specs.declared.table.Slot.{Slot}
@@ -15,7 +15,7 @@ use Rattle.bd_model.specs.declared.table.Memory.{Memory}
 use Rattle.bd_model.specs.declared.table.Value.{Value}
 use Rattle.bd_model.specs.declared.table.Value.TheVariants as value
 use Rattle.bd_model.proofs.Memories.{alike_by_rows}
-use Rattle.bd_goal.specs.Formula.{EqualFrom, EqualAt, CommutesAt, AgreesAt, address_number}
+use Rattle.bd_goal.specs.Formula.{EqualFrom, EqualAt, CommutesAt, address_number}
 
 -- a word above the addresses of all rows
 abbrev far : List Slot → ℕ

@@ -1,6 +1,6 @@
 -- The correspondence formula in a case, with a word for each fresh address (Burch and Dill 1994): the conditions of
 -- a cycle, where memories are compared at one address each.
-use Rattle.std.specs.Prelude.{◌≡◌, ◌≤◌, ◌+◌, ◌*◌, ℕ, suc, Bool, true, false, List, [], ◌∷◌, length, count_by, slice_index_or}
+use Rattle.std.specs.Prelude.{◌≡◌, ◌≤◌, ◌+◌, ◌*◌, ℕ, suc, Bool, true, false, List, [], ◌∷◌, count_by, slice_index_or}
 use Rattle.bd_model.specs.Table.{read}
 use Rattle.bd_model.specs.DesignView.{DesignView}
 use Rattle.bd_model.specs.Cycle.{step, flushed, spec_steps}

@@ -18,7 +18,7 @@ use Rattle.bd_terms.specs.Graph.{AddsUses, Extends, HasSort, Use}
 use Rattle.bd_terms.specs.Denotation.{World, Denoted, applied, contents_of, denoted, truth, truth_of, word_of}
 use Rattle.bd_symbolic.specs.declared.state.SymState.{SymState}
 use Rattle.bd_symbolic.specs.Symbolic.{DenoteValues, HaveSorts}
-use Rattle.bd_symbolic.specs.States.{DenotesState, StateHasSorts}
+use Rattle.bd_symbolic.specs.States.{DenotesState}
 use Rattle.bd_goal.specs.Claims.{case_world}
 use Rattle.bd_goal.specs.Symbols.{address_use}
 

@@ -1,4 +1,4 @@
-use Rattle.std.proofs.Common.{◌≡◌, ◌≤◌, ◌∙◌, [], map, ap, sym, subst, length, arith}
+use Rattle.std.proofs.Common.{◌≤◌, ◌∙◌, [], map, ap, sym, subst, length, arith}
 use Rattle.std.specs.Prelude.{slice_get}
 use Rattle.bd_model.specs.DesignView.{design_view, local_view}
 use Rattle.bd_model.specs.ExprView.{expr_view, expr_views, list_of_views}

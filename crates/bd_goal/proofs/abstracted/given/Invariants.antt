@@ -1,4 +1,4 @@
-use Rattle.std.proofs.Common.{List, [], map}
+use Rattle.std.proofs.Common.{[], map}
 use Rattle.bd_model.specs.DesignView.{design_view, local_view}
 use Rattle.bd_model.specs.ExprView.{expr_views, list_of_views}
 use Rattle.bd_model.specs.Lawful.{entry_sorts}

@@ -1,5 +1,4 @@
-use Rattle.std.proofs.Common.{◌≡◌, length, ap, arith, eqb-true, eq-eqb}
-use Rattle.std.specs.Prelude.{Some, slice_get}
+use Rattle.std.proofs.Common.{length, ap, arith, eqb-true, eq-eqb}
 use Rattle.bd_model.specs.DesignView.{design_view, exact_view}
 use Rattle.bd_model.specs.declared.design.Sort.TheVariants as sort
 use Rattle.bd_terms.proofs.Growth.{AddsUses-trans, HasSort-Extends}

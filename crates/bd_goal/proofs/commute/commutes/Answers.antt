@@ -1,7 +1,5 @@
 use Rattle.std.proofs.Common.{◌≡◌, ℕ, ◌≤◌, sym, subst, arith}
-use Rattle.bd_model.specs.DesignView.{DesignView, design_view}
-use Rattle.bd_model.specs.Conditions.{Abstraction}
-use Rattle.bd_model.specs.declared.case.Case.{Case}
+use Rattle.bd_model.specs.DesignView.{design_view}
 use Rattle.bd_model.specs.declared.design.Sort.TheVariants as sort
 use Rattle.bd_terms.proofs.Growth.{Extends-trans, HasSort-Extends}
 use Rattle.bd_symbolic.proofs.Growing.{Grows-trans, KeepsDesign-Grows}

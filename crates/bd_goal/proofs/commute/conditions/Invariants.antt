@@ -1,4 +1,4 @@
-use Rattle.std.proofs.Common.{List, [], map}
+use Rattle.std.proofs.Common.{map}
 use Rattle.bd_model.specs.DesignView.{ExactView, design_view}
 use Rattle.bd_model.specs.declared.design.Sort.TheVariants as sort
 use Rattle.bd_symbolic.specs.States.{port_sorts}

@@ -1,4 +1,3 @@
-use Rattle.std.proofs.Common.{arith}
 use Rattle.bd_model.specs.DesignView.{design_view}
 use Rattle.bd_model.specs.Lawful.{entry_sorts}
 use Rattle.bd_model.specs.declared.design.Sort.TheVariants as sort

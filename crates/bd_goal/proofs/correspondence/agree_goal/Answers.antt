@@ -10,7 +10,6 @@ use Rattle.bd_symbolic.proofs.Growing.{Grows-trans, KeepsDesign-Grows}
 use Rattle.bd_goal.specs.Abstraction.{abstraction_of}
 use Rattle.bd_goal.specs.Formula.{EqualAt, memory_count}
 use Rattle.bd_goal.specs.Symbols.{GrowsKnown}
-use Rattle.bd_goal.specs.inner.Shown.{ShowsValues}
 use Rattle.bd_goal.proofs.Known.{KeepsAddresses-Known, Known-none, Known-trans, Known-within, Reaches-Known}
 use Rattle.bd_goal.proofs.Showing.{Claims-implies, Claims-later, Claims-same, HaveSorts-later, ShowsState-later, ShowsValues-later, StateHasSorts-later, inside_sorts}
 use Rattle.bd_goal.proofs.Starting.{first-shows, plain-address}

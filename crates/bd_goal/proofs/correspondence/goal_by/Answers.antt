@@ -1,10 +1,8 @@
-use Rattle.std.proofs.Common.{◌≡◌, ◌≤◌, ◌+◌, ◌*◌, ap, arith}
-use Rattle.std.proofs.Math.Nat.{mul-le-mul}
+use Rattle.std.proofs.Common.{◌+◌, ◌*◌, ap}
 use Rattle.bd_model.specs.Conditions.{KeepsInvariant, MeetsInvariant}
 use Rattle.bd_model.specs.Cycle.{step}
-use Rattle.bd_model.specs.DesignView.{DesignView, design_view}
+use Rattle.bd_model.specs.DesignView.{design_view}
 use Rattle.bd_model.specs.declared.design.Sort.TheVariants as sort
-use Rattle.bd_terms.specs.Graph.{Extends}
 use Rattle.bd_terms.proofs.Growth.{Extends-trans, HasSort-Extends}
 use Rattle.bd_symbolic.specs.DesignSymbols.{GrowsWithin}
 use Rattle.bd_symbolic.proofs.Growing.{Grows-trans, KeepsDesign-Grows}
@@ -12,7 +10,7 @@ use Rattle.bd_goal.specs.Abstraction.{abstraction_of}
 use Rattle.bd_goal.specs.Formula.{CommutesAt, address_count}
 use Rattle.bd_goal.specs.Symbols.{GrowsKnown}
 use Rattle.bd_goal.proofs.Known.{KeepsAddresses-Known, Known-none, Known-trans, Known-within, Reaches-Known}
-use Rattle.bd_goal.proofs.Showing.{Claims-and, Claims-implies, Claims-later, ShowsState-later, StateHasSorts-later}
+use Rattle.bd_goal.proofs.Showing.{Claims-and, Claims-implies, Claims-later, StateHasSorts-later}
 use Rattle.bd_goal.proofs.Starting.{ShowsCycle, cycle-first, cycle-later}
 use Rattle.bd_goal.proofs.correspondence.goal_by.Goals as goal
 

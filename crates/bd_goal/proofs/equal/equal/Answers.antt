@@ -1,4 +1,4 @@
-use Rattle.std.proofs.Common.{◌≡◌, ◌<◌, ap, arith, length}
+use Rattle.std.proofs.Common.{◌<◌, ap, arith, length}
 use Rattle.bd_model.specs.DesignView.{design_view}
 use Rattle.bd_model.specs.declared.design.Sort.TheVariants as sort
 use Rattle.bd_terms.proofs.Growth.{HasSort-Extends}
