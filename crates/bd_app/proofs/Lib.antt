@@ -4,5 +4,6 @@ pub mod Shapes
 pub mod Reading
 pub mod Depth
 pub mod Verdicts
-pub mod HeldLemmas
+pub mod Loading
+pub mod Taking
 pub mod Printing

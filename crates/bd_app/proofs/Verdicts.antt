@@ -15,7 +15,7 @@ use Rattle.bd_app.specs.inner.Decided.{IsDecided}
 use Rattle.bd_app.specs.Form.{Denotes, IsText, IsPipeline, IsSpecification, pipeline_tree}
 use Rattle.bd_app.specs.OneBit.{design_of}
 use Rattle.bd_app.specs.declared.answer.Ended.{Ended}
-use Rattle.bd_app.specs.declared.answer.Ended.TheVariants.{Correct, Wrong, Usage, Unread, Device, Memory}
+use Rattle.bd_app.specs.declared.answer.Ended.TheVariants.{Correct, Wrong, Memory}
 use Rattle.bd_app.proofs.Depth.{NestsWithinLimit, pipeline_depth, specification_depth}
 use Rattle.bd_app.proofs.OneBitLaws.{no_case_breaks, case_breaks, one_bit_lawful}
 use Rattle.bd_app.proofs.Reading.{HasOneReading}
@@ -61,7 +61,5 @@ answered nests compose pipe spec a b e f is also (Wrong k c) (names, (x, y, case
       subst (λ k. IsJudged (design_of a b e f) c (judged.Broken k)) (sym names)
           (subst (λ c. IsJudged (design_of a b e f) c (judged.Broken condition.Commute)) (sym case) shown.1),
     )
-answered nests compose pipe spec a b e f is also Usage h = absurd h
-answered nests compose pipe spec a b e f is also (Unread t) h = absurd h
-answered nests compose pipe spec a b e f is also (Device w) h = absurd h
 answered nests compose pipe spec a b e f is also Memory h = tt
+answered nests compose pipe spec a b e f is also _ h = absurd h

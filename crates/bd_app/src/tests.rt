@@ -1,5 +1,8 @@
 //! Examples over files and sinks in memory.
 
+mod replays;
+
+use self::replays::{INCREMENT, INCREMENTS, REPLAY, REPLAYS, RUNS, WITHIN};
 use crate::answer::Ended;
 use crate::run;
 use bd_files::{Files, LoadError, Page, PutError, SaveError, Shelf, Sink};
@@ -20,7 +23,7 @@ const KEEPS: &str = "(specification (latch a bool) (next a a))";
 const CHECK: &[&str] = &["burch_dill", "check", "p", "s"];
 
 const USAGE: &str = "usage: burch_dill check PIPE SPEC [INV] [--budget N] [--cnf FILE] \
-[--lrat FILE] | replay PIPE SPEC CASE [INV] | run PIPE SPEC CASE CYCLES | gen DEPTH DROP";
+[--lrat FILE] | replay PIPE SPEC CASE [INV] | run PIPE SPEC CASE CYCLES | gen DEPTH DROP\n";
 
 const UNREAD_PIPE: &str = "pipe: not read yet\n";
 
@@ -33,6 +36,8 @@ struct Row<'a> {
     words: &'static [&'static str],
     pipe: &'a str,
     spec: &'a str,
+    case: &'a str,
+    inv: &'a str,
     /// The number of the load that fails, or 0.
     failing_load: u64,
     /// How many bytes the put on the output keeps, if it fails.
@@ -40,8 +45,8 @@ struct Row<'a> {
     /// How many bytes the error output takes.
     err_room: usize,
     status: u8,
-    out: &'static str,
-    err: &'static str,
+    out: &'a str,
+    err: &'a str,
 }
 
 /// The stalling bit, to be filled in.
@@ -50,6 +55,8 @@ const STALLING: Row<'static> = Row {
     words: CHECK,
     pipe: STALLS,
     spec: TURNS,
+    case: "",
+    inv: "",
     failing_load: 0,
     kept: None,
     err_room: 200,
@@ -80,7 +87,9 @@ fn holds_of(alloc: Global, row: &Row, words: &[String]) -> Result<bool, AllocErr
 fn shelf_of(alloc: Global, row: &Row) -> Result<Shelf, AllocError> {
     let pipe = file(alloc, "p", row.pipe)?;
     let spec = file(alloc, "s", row.spec)?;
-    let held = vec![in alloc; pipe, spec]?;
+    let case = file(alloc, "c", row.case)?;
+    let inv = file(alloc, "i", row.inv)?;
+    let held = vec![in alloc; pipe, spec, case, inv]?;
     Shelf::new(alloc, held, vec![in alloc; row.failing_load]?)
 }
 
@@ -239,19 +248,19 @@ static DEVICES: [Row<'static>; 6] = [
         ..STALLING
     },
     Row {
-        name: "a report cut after three bytes",
-        kept: Some(3),
+        name: "the third load fails",
+        words: REPLAY,
+        failing_load: 3,
         status: 5,
-        out: "cor",
-        err: "cannot write\n",
+        err: "cannot read\n",
         ..STALLING
     },
     Row {
-        name: "a report that fails at its end",
-        kept: Some(8),
+        name: "the fourth load fails",
+        words: WITHIN,
+        failing_load: 4,
         status: 5,
-        out: "correct\n",
-        err: "cannot write\n",
+        err: "cannot read\n",
         ..STALLING
     },
     Row {
@@ -262,6 +271,68 @@ static DEVICES: [Row<'static>; 6] = [
         ..STALLING
     },
 ];
+
+#[test]
+fn replays_cases(rt: HostRuntime) -> Result<(), Fail> {
+    for row in &REPLAYS {
+        assert!(rt; holds(rt.alloc(), row)?, "{}", row.name);
+    }
+    Ok(())
+}
+
+#[test]
+fn runs_cases(rt: HostRuntime) -> Result<(), Fail> {
+    for row in &RUNS {
+        assert!(rt; holds(rt.alloc(), row)?, "{}", row.name);
+    }
+    Ok(())
+}
+
+/// Whether the case that ends after so many bytes is refused there.
+fn refuses_at(alloc: Global, length: usize) -> Result<bool, AllocError> {
+    let Some(case) = INCREMENTS.get(..length) else {
+        return Ok(false);
+    };
+    let err = format!(in alloc; "case:{length}: E02 unbalanced parenthesis\n")?;
+    let row = Row {
+        case,
+        status: 3,
+        err: err.as_str(),
+        ..INCREMENT
+    };
+    holds(alloc, &row)
+}
+
+#[test]
+fn refuses_a_case_that_is_cut(rt: HostRuntime) -> Result<(), Fail> {
+    for length in 1..58 {
+        assert!(rt; refuses_at(rt.alloc(), length)?, "{length}");
+    }
+    Ok(())
+}
+
+/// Whether an output that fails after so many bytes has just those.
+fn cuts_at(alloc: Global, kept: usize) -> Result<bool, AllocError> {
+    let Some(out) = "correct\n".get(..kept) else {
+        return Ok(false);
+    };
+    let row = Row {
+        kept: Some(kept),
+        status: 5,
+        out,
+        err: "cannot write\n",
+        ..STALLING
+    };
+    holds(alloc, &row)
+}
+
+#[test]
+fn puts_a_prefix_where_the_output_fails(rt: HostRuntime) -> Result<(), Fail> {
+    for kept in 0..=8 {
+        assert!(rt; cuts_at(rt.alloc(), kept)?, "{kept}");
+    }
+    Ok(())
+}
 
 #[test]
 fn answers_each_pair_of_texts(rt: HostRuntime) -> Result<(), Fail> {
@@ -376,19 +447,32 @@ struct Calls {
     err: &'static [&'static str],
 }
 
+const PIPE_Z: Load = Load {
+    name: "z",
+    most: 1_048_576,
+    text: STALLS,
+};
+
+const SPEC_A: Load = Load {
+    name: "a",
+    most: 1_048_576,
+    text: TURNS,
+};
+
+const CASE_C: Load = Load {
+    name: "c",
+    most: 1_048_576,
+    text: "(case 1 (latch a true) (input go true))",
+};
+
+const INV_I: Load = Load {
+    name: "i",
+    most: 1_048_576,
+    text: "(invariant true)",
+};
+
 /// Loads of two files, in the order of the words.
-const BOTH: &[Load] = &[
-    Load {
-        name: "z",
-        most: 1_048_576,
-        text: STALLS,
-    },
-    Load {
-        name: "a",
-        most: 1_048_576,
-        text: TURNS,
-    },
-];
+const BOTH: &[Load] = &[PIPE_Z, SPEC_A];
 
 /// Loads of a pipeline alone, for both files.
 const TWICE: &[Load] = &[
@@ -409,11 +493,19 @@ const NOT_TAKEN: Calls = Calls {
     words: &[],
     loads: &[],
     out: &[],
-    err: &[USAGE, "\n"],
+    err: &[USAGE],
+};
+
+/// Words that ask for what isn't there yet.
+const NOT_YET: Calls = Calls {
+    words: &[],
+    loads: &[],
+    out: &[],
+    err: &["not there yet\n"],
 };
 
 /// `usage` and others: which calls are made.
-static CALLS: [Calls; 11] = [
+static CALLS: [Calls; 22] = [
     Calls {
         words: &["burch_dill", "check", "z", "a"],
         loads: BOTH,
@@ -424,7 +516,7 @@ static CALLS: [Calls; 11] = [
         words: &["burch_dill", "check", "p", "p"],
         loads: TWICE,
         out: &[],
-        err: &["spec: not read yet", "\n"],
+        err: &["spec", ": not read yet\n"],
     },
     Calls {
         words: &[],
@@ -443,7 +535,57 @@ static CALLS: [Calls; 11] = [
         ..NOT_TAKEN
     },
     Calls {
-        words: &["burch_dill", "check", "p", "s", "s"],
+        words: &["burch_dill", "check", "p", "s", "i", "x"],
+        ..NOT_TAKEN
+    },
+    Calls {
+        words: &["burch_dill", "check", "p", "s", "--budget", "1000000001"],
+        ..NOT_TAKEN
+    },
+    Calls {
+        words: &["burch_dill", "run", "p", "s", "c", "1001"],
+        ..NOT_TAKEN
+    },
+    Calls {
+        words: &["burch_dill", "check", "--budget=200000", "--", "z", "a"],
+        loads: BOTH,
+        out: &["correct\n"],
+        err: &[],
+    },
+    Calls {
+        words: &["burch_dill", "check", "p", "s", "i"],
+        ..NOT_YET
+    },
+    Calls {
+        words: &["burch_dill", "check", "p", "s", "--budget", "1000000000"],
+        ..NOT_YET
+    },
+    Calls {
+        words: &["burch_dill", "check", "p", "s", "--cnf", "c"],
+        ..NOT_YET
+    },
+    Calls {
+        words: &["burch_dill", "check", "p", "s", "--lrat", "l"],
+        ..NOT_YET
+    },
+    Calls {
+        words: &["burch_dill", "replay", "z", "a", "c", "i"],
+        loads: &[PIPE_Z, SPEC_A, CASE_C, INV_I],
+        out: &["holds\n"],
+        err: &[],
+    },
+    Calls {
+        words: &["burch_dill", "run", "z", "a", "c", "0"],
+        loads: &[PIPE_Z, SPEC_A, CASE_C],
+        out: &["cycle 0\n (latch a true)\n"],
+        err: &[],
+    },
+    Calls {
+        words: &["burch_dill", "gen", "12", "11"],
+        ..NOT_YET
+    },
+    Calls {
+        words: &["burch_dill", "gen", "2", "12"],
         ..NOT_TAKEN
     },
     Calls {
@@ -539,10 +681,19 @@ fn reads_files_of_the_most_bytes(rt: HostRuntime) -> Result<(), Fail> {
     };
     assert!(rt; holds(rt.alloc(), &longest)?);
     let too_long = padded(rt.alloc(), STALLS, 1_048_577)?;
+    let no_case = Row {
+        words: WITHIN,
+        case: too_long.as_str(),
+        pipe: "",
+        status: 3,
+        err: "case:1048576: E00 file too long\n",
+        ..STALLING
+    };
+    assert!(rt; holds(rt.alloc(), &no_case)?);
     let too_long = Row {
         pipe: too_long.as_str(),
         status: 3,
-        err: UNREAD_PIPE,
+        err: "pipe:1048576: E00 file too long\n",
         ..STALLING
     };
     assert!(rt; holds(rt.alloc(), &too_long)?);

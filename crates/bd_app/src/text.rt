@@ -9,15 +9,13 @@ ghost use Rattle.bd_app.specs.inner.Shape.{bit_of, shape_of};
 ghost use Rattle.bd_app.specs.Form.{IsText, IsPipelineTree, IsSpecificationTree, IsPipeline, IsSpecification};
 
 use crate::form::{FormError, Names, bit};
+use crate::load::MAX_FILE;
 use crate::machines::{PipelineParts, pipeline_parts, specification_value};
 use crate::truth::Truth;
 use bd_syntax::is_name;
 use bd_text::laws::one_reading;
 use bd_text::{TextFault, Tree, Trees, read_trees};
 use std::alloc::Global;
-
-/// The most bytes of a file.
-pub const MAX_FILE: usize = 1_048_576;
 
 /// The only tree.
 #[tactic(auto, using(crate::proofs::Shapes::none_of_no_nodes))]

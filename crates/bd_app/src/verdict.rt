@@ -9,12 +9,13 @@ ghost use Rattle.bd_app.specs.inner.Told.{IsAnswer};
 ghost use Rattle.bd_app.specs.inner.Shape.{bit_of};
 ghost use Rattle.bd_app.specs.inner.Decided.{IsDecided, case_at};
 
-use crate::answer::{Ended, Text};
+use crate::answer::Ended;
 use crate::form::FormError;
 use crate::text::{read_pipeline, read_specification};
 use crate::truth::{Truth, Values, split};
 use bd_model::{Case, Condition, Inputs, Interp, Scalar, State, Value, cycles_compose};
 use bd_text::laws::{one_reading, reads_readable};
+use bd_typer::Text;
 use std::alloc::{AllocError, Global};
 
 /// The case of these values.

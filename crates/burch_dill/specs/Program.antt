@@ -6,14 +6,17 @@ use Rattle.bd_model.specs.Conditions.{IsJudged}
 use Rattle.bd_model.specs.Right.{IsRight}
 use Rattle.bd_model.specs.declared.case.Case.{Case}
 use Rattle.bd_model.specs.declared.case.Condition.{Condition}
+use Rattle.bd_model.specs.declared.case.Judged.{Judged}
 use Rattle.bd_model.specs.declared.case.Judged.TheVariants.{Broken}
 use Rattle.bd_files.specs.Devices.{Held, Blame, Rose, Appends, AppendsPrefix, PutsOrFaults}
-use Rattle.bd_app.specs.Answer.{Asks, IsTrueVerdict, IsVerdict, IsUnreadPipe, IsUnreadSpec, BlamesLoad, status_of, report_of, fault_line_of}
+use Rattle.bd_app.specs.Answer.{Asks, ForQuestion, HasReport, IsReport, IsTold, IsRefused, IsUnreadPipe, IsUnreadSpec, BlamesLoad, MayHave, Reads, status_of, fault_line_of}
 use Rattle.bd_app.specs.Words.{taken}
-use Rattle.bd_app.specs.declared.answer.Text.TheVariants.{Pipe, Spec}
+use Rattle.bd_text.specs.declared.code.Code.{Code}
+use Rattle.bd_typer.specs.declared.fault.Text.{Text}
+use Rattle.bd_typer.specs.declared.fault.Text.TheVariants.{Pipe, Spec}
 use Rattle.bd_app.specs.declared.answer.Which.TheVariants.{Load, Out}
 use Rattle.bd_app.specs.declared.answer.Ended.{Ended}
-use Rattle.bd_app.specs.declared.answer.Ended.TheVariants.{Correct, Wrong, Usage, Unread, Device, Memory}
+use Rattle.bd_app.specs.declared.answer.Ended.TheVariants.{Correct, Wrong, Replayed, Ran, Usage, NotYet, Unread, Refused, Device, Memory}
 
 -- files as a caller sees them: what they hold, how many faults came, and the blame
 pub record FilesSeen : Type 0 where
@@ -41,25 +44,39 @@ pub record IsRun (words : List (List ℕ)) (status : ℕ)
   pub ended : Ended
   pub status_is : status ≡ status_of ended
   pub correct : ended ≡ Correct →
-      IfSome files.held (λ held. (d : DesignView) × Asks held words d × IsRight d)
+      ForQuestion words (λ q. IfSome files.held (λ held.
+      (d : DesignView) × Asks held q d × IsRight d))
   pub wrong : (k : Condition) (c : Case) → ended ≡ Wrong k c →
-      IfSome files.held (λ held.
-      (d : DesignView) × Asks held words d × Fits d c × IsJudged d c (Broken k))
+      ForQuestion words (λ q. IfSome files.held (λ held.
+      (d : DesignView) × Asks held q d × Fits d c × IsJudged d c (Broken k)))
   pub usage_only : ended ≡ Usage → taken words ≡ None
   pub usage : taken words ≡ None → (ended ≡ Usage) ⊎ (ended ≡ Memory)
-  pub unread_pipe : ended ≡ Unread Pipe → IfSome files.held (λ held. IsUnreadPipe held words)
-  pub unread_spec : ended ≡ Unread Spec → IfSome files.held (λ held. IsUnreadSpec held words)
+  pub question : ended ≢ Usage → ended ≢ Memory → ForQuestion words (λ q. MayHave q ended)
+  pub replayed : (j : Judged) → ended ≡ Replayed j →
+      ForQuestion words (λ q. IfSome files.held (λ held.
+      (d : DesignView) × (c : Case) × Reads held q d c × IsJudged d c j))
+  pub ran : ended ≡ Ran →
+      ForQuestion words (λ q. IfSome files.held (λ held.
+      (d : DesignView) × (c : Case) × Reads held q d c))
+  pub refused : (file : Text) (offset : ℕ) (code : Code) → ended ≡ Refused file offset code →
+      ForQuestion words (λ q. IfSome files.held (λ held. IsRefused held q file offset code))
+  pub unread_pipe : ended ≡ Unread Pipe →
+      ForQuestion words (λ q. IfSome files.held (λ held. IsUnreadPipe held q))
+  pub unread_spec : ended ≡ Unread Spec →
+      ForQuestion words (λ q. IfSome files.held (λ held. IsUnreadSpec held q))
   pub load_rose : ended ≡ Device Load → Rose files.faults files'.faults
   pub load_blamed : ended ≡ Device Load → BlamesLoad files'.blame words
   pub else_keeps_blame : ended ≢ Device Load → files'.blame ≡ files.blame
   pub untouched : taken words ≡ None → files' ≡ files
+  pub not_yet : ended ≡ NotYet → files' ≡ files
   pub out_rose : ended ≡ Device Out → Rose out.faults out'.faults
-  pub printed : IsVerdict ended → Appends out.written out'.written (report_of ended)
-  pub cut : ended ≡ Device Out → (e : Ended) × IsVerdict e
-      × AppendsPrefix out.written out'.written (report_of e)
-      × IfSome files.held (λ held. IsTrueVerdict held words e)
-  pub silent : ¬ IsVerdict ended → ended ≢ Device Out → out' ≡ out
+  pub printed : HasReport ended → (text : List ℕ)
+      × Appends out.written out'.written text × IsReport files.held words ended text
+  pub cut : ended ≡ Device Out → (e : Ended) × (text : List ℕ) × HasReport e
+      × AppendsPrefix out.written out'.written text × IsReport files.held words e text
+      × ForQuestion words (λ q. IfSome files.held (λ held. IsTold held q e))
+  pub silent : ¬ HasReport ended → ended ≢ Device Out → out' ≡ out
   pub line : PutsOrFaults (λ (sink : SinkSeen). sink.written) (λ (sink : SinkSeen). sink.faults)
       err err' (fault_line_of ended)
-  pub no_line : IsVerdict ended → err' ≡ err
+  pub no_line : HasReport ended → err' ≡ err
   pub held : files'.held ≡ files.held

@@ -7,7 +7,7 @@ use Rattle.bd_model.specs.declared.table.Scalar.TheVariants as scalar
 use Rattle.bd_model.specs.declared.case.Condition.TheVariants as condition
 use Rattle.bd_app.specs.Bit.{Bit, latch, input, negation, choice}
 use Rattle.bd_app.specs.declared.answer.Ended.{Ended}
-use Rattle.bd_app.specs.declared.answer.Ended.TheVariants.{Correct, Wrong, Usage, Unread, Device, Memory}
+use Rattle.bd_app.specs.declared.answer.Ended.TheVariants.{Correct, Wrong, Memory}
 
 -- the value where the latch and the input have these values
 abbrev pub bit_value : Bool → Bool → Bit → Bool
@@ -35,7 +35,5 @@ IsDecided e f Correct = IsUnbroken e f
 IsDecided e f (Wrong k c) =
     (k ≡ condition.Commute)
     × ((a : Bool) × (b : Bool) × (c ≡ case_at a b) × (is_broken e f a b ≡ true))
-IsDecided e f Usage = ⊥
-IsDecided e f (Unread t) = ⊥
-IsDecided e f (Device w) = ⊥
 IsDecided e f Memory = Unit {0}
+IsDecided e f _ = ⊥

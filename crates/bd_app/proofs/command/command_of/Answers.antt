@@ -1,0 +1,26 @@
+use Rattle.std.proofs.Common.{◌≡◌, ◌∙◌, sym, ap}
+use Rattle.std.specs.Prelude.{option_map}
+use Rattle.bd_app.specs.Words.{texts_of}
+use Rattle.bd_app.specs.inner.Asked.{asked}
+use Rattle.bd_app.proofs.Taking.{met, rows_met, seen}
+use Rattle.bd_app.proofs.command.command_of.Goals as goal
+
+pub returns-in_default-clause-usage : goal.returns-in_default-clause-usage
+returns-in_default-clause-usage c = λ is.
+    let parsed = c.in_ok-matches.ensures.parsed in
+    let rows = rows_met _ c.subcommand.result c.subcommand.ensures.name c.subcommand.ensures.rows in
+    met (texts_of c.args.words.now) _ parsed.no_fault (sym parsed.met ∙ rows ∙ ap (option_map seen) c.in_default.is)
+
+pub returns-in-Some-question-clause-asked : goal.returns-in-Some-question-clause-asked
+returns-in-Some-question-clause-asked c =
+    let parsed = c.in_ok-matches.ensures.parsed in
+    let rows = rows_met _ c.subcommand.result c.subcommand.ensures.name c.subcommand.ensures.rows in
+    met (texts_of c.args.words.now) _ parsed.no_fault (sym parsed.met ∙ rows ∙ ap (option_map seen) c.in-Some.is)
+    ∙ sym c.question.ensures ∙ ap (option_map asked) c.in-Some-question.is
+
+pub returns-clause-usage : goal.returns-clause-usage
+returns-clause-usage c = λ is.
+    let parsed = c.in_ok-matches.ensures.parsed in
+    let rows = rows_met _ c.subcommand.result c.subcommand.ensures.name c.subcommand.ensures.rows in
+    met (texts_of c.args.words.now) _ parsed.no_fault (sym parsed.met ∙ rows ∙ ap (option_map seen) c.in-Some.is)
+    ∙ sym c.question.ensures ∙ ap (option_map asked) c.in-None.is

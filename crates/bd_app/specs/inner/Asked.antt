@@ -1,0 +1,31 @@
+-- The program's own commands as the definitions see them.
+use Rattle.std.specs.Prelude.{◌≡◌, ℕ, List, [], ◌∷◌, ◌++◌, Option}
+use Rattle.std.specs.Option.{option_map}
+use Rattle.std.specs.Borrow.{Bor}
+use Rattle.clap.specs.Walk.{Rule}
+use Rattle.clap.specs.Simple.{Shape, subcommand_of, subcommand_rows_of}
+use Rattle.clap.specs.Faults.{fault_of}
+use Rattle.clap.specs.declared.parser.matches.ArgMatches.{ArgMatches}
+use Rattle.bd_app.specs.Words.{Name, Question, check, replay, run, gen, command_line}
+use Rattle.bd_app.specs.declared.command.Command.{Command}
+use Rattle.bd_app.specs.declared.command.Command.TheVariants.{Check, Replay, Run, Gen}
+
+-- the text of a name, where one is given
+abbrev pub given : Option (Bor (List ℕ)) → Option Name
+given = option_map (λ name. name.now)
+
+abbrev pub asked : Command → Question
+asked (Check pipe spec inv budget cnf lrat) =
+    check pipe.now spec.now (given inv) budget (given cnf) (given lrat)
+asked (Replay pipe spec case inv) = replay pipe.now spec.now case.now (given inv)
+asked (Run pipe spec case cycles) = run pipe.now spec.now case.now cycles
+asked (Gen depth drop) = gen depth drop
+
+-- a command with one more argument
+abbrev pub and_rule : Shape → Rule → Shape
+and_rule command rule = record command { rules = command.rules ++ rule ∷ [] }
+
+-- clap finds no fault in the words, and met this subcommand
+pub record IsParsed (words : List (List ℕ)) (m : ArgMatches) : Type 0 where
+  pub no_fault : fault_of command_line words ≡ []
+  pub met : subcommand_rows_of m ≡ subcommand_of command_line words
