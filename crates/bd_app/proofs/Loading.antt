@@ -2,7 +2,6 @@
 use Rattle.std.proofs.Common.{◌≡◌, ◌≢◌, suc, ◌+◌, ◌<◌, ◌≤◌, ℕ, false, List, [], ◌∷◌, ◌++◌, length, take, refl, ap, append_assoc, ◌∙◌, sym, subst, inl, inr, ap₂, drop, drop-cons, get_or, add-one, arith, length-take, take_all}
 use Rattle.std.specs.Option.{option_map}
 use Rattle.std.specs.Prelude.{Option, Some, None, Result, Ok, Err, IfSome, IfErr, IsErrAnd}
-use Rattle.std.specs.List.{AllByRecursion}
 use Rattle.bd_files.specs.Devices.{Blame, Held, IsLoaded}
 use Rattle.bd_app.specs.Answer.{Checks, HasReport, IsReplay, IsRun, IsTold, MayHave, Reads, cycles_of, is_not_yet, plain_check}
 use Rattle.bd_app.specs.Files.{AreTexts, BlamesOneOf, File, HoldTexts, HoldsShort, HoldsShortIf, IsShort, IsFirstLong, Texts, case_files, files_of, one_if}
@@ -12,11 +11,13 @@ use Rattle.bd_model.specs.DesignView.{DesignView}
 use Rattle.bd_model.specs.declared.case.Case.{Case}
 use Rattle.bd_model.specs.declared.table.Value.{Value}
 use Rattle.bd_text.specs.declared.code.Code.{Code}
+use Rattle.bd_typer.specs.Denotes.{Denotes}
+use Rattle.bd_typer.specs.Faults.{FileFault}
 use Rattle.bd_app.specs.inner.Told.{IsAnswer, IsCaseRefused, IsJudgedTold, IsLoadFault, IsRunTold, IsTextsRun, IsTextsTold}
 use Rattle.bd_typer.specs.declared.fault.Text.{Text}
 use Rattle.bd_typer.specs.declared.fault.Text.TheVariants as text
 use Rattle.bd_app.specs.declared.answer.Ended.{Ended}
-use Rattle.bd_app.specs.declared.answer.Ended.TheVariants.{Correct, Wrong, Replayed, Ran, Usage, NotYet, Unread, Refused, Device, Memory}
+use Rattle.bd_app.specs.declared.answer.Ended.TheVariants.{Correct, Wrong, Replayed, Ran, Unread, Refused, Device, Memory}
 use Rattle.bd_app.specs.declared.answer.Which.TheVariants as which
 
 -- behind a file that isn't too long
@@ -208,3 +209,8 @@ fault_in held files _ fault = absurd fault
 
 pub told_in : (told : DesignView → List ℕ → Ended → Type 0) (t : Texts) (e : Ended) → ((d : DesignView) → ¬ told d t.case (Device which.Out)) → IsTextsTold told t e → e ≢ Device which.Out
 told_in told t e none is = λ same. let out = subst (λ x. IsTextsTold told t x) same is in none out.0 out.2
+
+-- the same texts denote the same
+pub denotes_same : (p u s v : List ℕ) (i j : Option (List ℕ)) (r : Result DesignView FileFault) → p ≡ u → s ≡ v → i ≡ j → Denotes p s i r → Denotes u v j r
+denotes_same p u s v i j r pu sv ij h =
+    subst (λ x. Denotes u v x r) ij (subst (λ x. Denotes u x i r) sv (subst (λ x. Denotes x s i r) pu h))

@@ -1,5 +1,5 @@
 -- What a run answers, prints and ends with.
-use Rattle.std.specs.Prelude.{◌≡◌, ◌⊎◌, ◌||◌, ◌==◌, not, true, false, Bool, ℕ, List, [], ◌∷◌, ◌++◌, codes, Option, Some, None, Result, Ok, Err, IfSome, is_some}
+use Rattle.std.specs.Prelude.{◌≡◌, ◌⊎◌, ◌||◌, ◌==◌, not, true, false, Bool, ℕ, List, [], ◌∷◌, ◌++◌, codes, Option, Some, None, Ok, Err, IfSome, is_some}
 use Rattle.std.specs.Fmt.{decimal}
 use Rattle.bd_model.specs.DesignView.{DesignView}
 use Rattle.bd_model.specs.Fits.{Fits}
@@ -7,7 +7,6 @@ use Rattle.bd_model.specs.Conditions.{IsJudged}
 use Rattle.bd_model.specs.Right.{IsRight}
 use Rattle.bd_model.specs.declared.case.Case.{Case}
 use Rattle.bd_model.specs.declared.case.Condition.TheVariants as condition
-use Rattle.bd_model.specs.declared.case.Judged.{Judged}
 use Rattle.bd_model.specs.declared.case.Judged.TheVariants as judged
 use Rattle.bd_text.specs.CodeText.{code_name, code_text}
 use Rattle.bd_text.specs.declared.code.Code.{Code}

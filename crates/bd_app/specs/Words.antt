@@ -1,8 +1,7 @@
 -- The command line: which words are taken, and what they ask for.
 -- Source: what `clap` makes of the words of a simple command, as the crate states it.
-use Rattle.std.specs.Prelude.{ℕ, ◌^◌, ◌&&◌, ◌==◌, true, false, List, [], ◌∷◌, map, length, codes, pos, Option, Some, None, nat_lt, if◌then◌else◌, String, string_bytes}
+use Rattle.std.specs.Prelude.{ℕ, ◌^◌, ◌&&◌, true, false, List, [], ◌∷◌, map, codes, pos, Option, Some, None, nat_lt, if◌then◌else◌, String, string_bytes}
 use Rattle.std.specs.declared.alloc.Global.{Global}
-use Rattle.std.specs.Option.{option_map_or}
 use Rattle.std.specs.Str.{bytes_eq}
 use Rattle.std.specs.Str.Parse.{digits_value, without_leading_plus}
 use Rattle.clap.specs.Walk.{Row, Rule, first_of, one_of}

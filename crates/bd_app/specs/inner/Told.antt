@@ -1,5 +1,5 @@
 -- What the parts of a run say before anything is printed.
-use Rattle.std.specs.Prelude.{◌≡◌, ◌⊎◌, ℕ, List, Option, Some, None, Result, Ok, Err, IfSome}
+use Rattle.std.specs.Prelude.{◌≡◌, ◌⊎◌, ℕ, List, Option, None, Result, Ok, Err, IfSome}
 use Rattle.bd_model.specs.DesignView.{DesignView}
 use Rattle.bd_model.specs.Fits.{Fits}
 use Rattle.bd_model.specs.Conditions.{IsJudged}
@@ -21,7 +21,7 @@ use Rattle.bd_case.specs.Reads as case
 use Rattle.bd_typer.specs.declared.fault.Text.TheVariants as text
 use Rattle.bd_app.specs.declared.answer.Which.TheVariants as which
 use Rattle.bd_app.specs.declared.answer.Ended.{Ended}
-use Rattle.bd_app.specs.declared.answer.Ended.TheVariants.{Correct, Wrong, Replayed, Ran, Usage, NotYet, Unread, Refused, Device, Memory}
+use Rattle.bd_app.specs.declared.answer.Ended.TheVariants.{Correct, Wrong, Replayed, Ran, Usage, Unread, Refused, Device, Memory}
 use Rattle.bd_app.specs.declared.report.Answer.{Answer}
 
 -- the answer, also where it is a fault

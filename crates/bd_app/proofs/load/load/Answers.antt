@@ -1,4 +1,4 @@
-use Rattle.std.proofs.Common.{◌≡◌, ◌<◌, ◌≤◌, length, refl}
+use Rattle.std.proofs.Common.{◌<◌, ◌≤◌, length, refl}
 use Rattle.bd_app.proofs.Loading.{loaded_long, loaded_short}
 use Rattle.bd_app.proofs.load.load.Goals as goal
 

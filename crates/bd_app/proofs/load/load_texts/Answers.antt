@@ -1,4 +1,4 @@
-use Rattle.std.proofs.Common.{◌≡◌, ◌<◌, ◌∙◌, ℕ, length, arith, refl}
+use Rattle.std.proofs.Common.{arith, refl}
 use Rattle.bd_typer.specs.declared.fault.Text.TheVariants as text
 use Rattle.bd_app.proofs.Loading.{all_held, blames_last, fault_before, fault_behind, passed_with, short_file}
 use Rattle.bd_app.proofs.Reading.{passed_on}

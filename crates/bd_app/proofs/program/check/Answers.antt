@@ -1,7 +1,6 @@
-use Rattle.std.proofs.Common.{◌≡◌, sym, subst, inl, inr}
+use Rattle.std.proofs.Common.{sym, subst, inl, inr}
 use Rattle.std.specs.Prelude.{IfSome}
 use Rattle.bd_app.specs.Answer.{IsTold, plain_check}
-use Rattle.bd_app.specs.Files.{HoldsShort}
 use Rattle.bd_typer.specs.declared.fault.Text.TheVariants as text
 use Rattle.bd_app.specs.declared.answer.Ended.{Ended}
 use Rattle.bd_app.proofs.Loading.{answer_told, fault_before, fault_behind, fault_told, memory_told, short_file}

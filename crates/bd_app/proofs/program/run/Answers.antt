@@ -1,4 +1,4 @@
-use Rattle.std.proofs.Common.{◌≡◌, subst}
+use Rattle.std.proofs.Common.{subst}
 use Rattle.bd_app.specs.Words.{texts_of}
 use Rattle.bd_app.specs.inner.Told.{IsSaid}
 use Rattle.bd_app.specs.declared.answer.Ended.{Ended}

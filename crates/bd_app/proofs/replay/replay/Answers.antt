@@ -1,4 +1,4 @@
-use Rattle.std.proofs.Common.{◌≡◌, ◌∙◌, false, refl, sym, subst}
+use Rattle.std.proofs.Common.{◌∙◌, refl, sym, subst}
 use Rattle.std.specs.Prelude.{IfSome}
 use Rattle.bd_app.specs.Answer.{IsTold, MayHave}
 use Rattle.bd_app.specs.declared.answer.Ended.{Ended}
