@@ -15,6 +15,30 @@ use faults::{
 use std::alloc::{AllocError, Global};
 use std::test::Fail;
 
+/// The most bytes of a text that is read.
+const MOST: usize = 1_048_576;
+
+/// What texts denote, if none is too long.
+fn read(
+    alloc: Global,
+    pipe: &[u8],
+    spec: &[u8],
+    inv: Option<&[u8]>,
+) -> Result<Design, DesignFault> {
+    if pipe.len() > MOST || spec.len() > MOST {
+        return Err(DesignFault::Memory);
+    }
+    match inv {
+        Some(inv) => {
+            if inv.len() > MOST {
+                return Err(DesignFault::Memory);
+            }
+            design_of(alloc, pipe, spec, Some(inv))
+        }
+        None => design_of(alloc, pipe, spec, None),
+    }
+}
+
 /// The first fault of what was read.
 fn fault(read: &Result<Design, DesignFault>) -> Option<DesignFault> {
     match read {
@@ -30,7 +54,7 @@ fn bad(file: Text, offset: usize, code: Code) -> Option<DesignFault> {
 #[test]
 fn finds_faults_across_files(rt: HostRuntime) {
     for Row(pipe, spec, inv, file, offset, code) in &ROWS {
-        let got = fault(&design_of(rt.alloc(), *pipe, *spec, *inv));
+        let got = fault(&read(rt.alloc(), *pipe, *spec, *inv));
         assert_eq!(rt; got, bad(*file, *offset, *code));
     }
 }
@@ -38,7 +62,7 @@ fn finds_faults_across_files(rt: HostRuntime) {
 #[test]
 fn finds_faults_of_pipelines(rt: HostRuntime) {
     for At(text, offset, code) in &PIPE {
-        let got = fault(&design_of(rt.alloc(), *text, EMPTY, None));
+        let got = fault(&read(rt.alloc(), *text, EMPTY, None));
         assert_eq!(rt; got, bad(Text::Pipe, *offset, *code));
     }
 }
@@ -46,11 +70,11 @@ fn finds_faults_of_pipelines(rt: HostRuntime) {
 #[test]
 fn finds_faults_of_specifications(rt: HostRuntime) {
     for At(text, offset, code) in &SPEC {
-        let got = fault(&design_of(rt.alloc(), NOTHING, *text, None));
+        let got = fault(&read(rt.alloc(), NOTHING, *text, None));
         assert_eq!(rt; got, bad(Text::Spec, *offset, *code));
     }
     for At(text, offset, code) in &SPEC_IN_FILE {
-        let got = fault(&design_of(rt.alloc(), FILE, *text, None));
+        let got = fault(&read(rt.alloc(), FILE, *text, None));
         assert_eq!(rt; got, bad(Text::Spec, *offset, *code));
     }
 }
@@ -58,11 +82,11 @@ fn finds_faults_of_specifications(rt: HostRuntime) {
 #[test]
 fn finds_faults_of_invariants(rt: HostRuntime) {
     for At(text, offset, code) in &INV {
-        let got = fault(&design_of(rt.alloc(), NOTHING, EMPTY, Some(*text)));
+        let got = fault(&read(rt.alloc(), NOTHING, EMPTY, Some(*text)));
         assert_eq!(rt; got, bad(Text::Inv, *offset, *code));
     }
     for At(text, offset, code) in &INV_IN_FILE {
-        let got = fault(&design_of(rt.alloc(), FILE, EMPTY, Some(*text)));
+        let got = fault(&read(rt.alloc(), FILE, EMPTY, Some(*text)));
         assert_eq!(rt; got, bad(Text::Inv, *offset, *code));
     }
 }
@@ -80,7 +104,7 @@ fn inside(alloc: Global, items: &[u8]) -> Result<Vec<u8>, AllocError> {
 fn finds_faults_of_expressions(rt: HostRuntime) -> Result<(), Fail> {
     for At(items, offset, code) in &INSIDE {
         let text = inside(rt.alloc(), *items)?;
-        let got = fault(&design_of(rt.alloc(), &text, EMPTY, None));
+        let got = fault(&read(rt.alloc(), &text, EMPTY, None));
         assert_eq!(rt; got, bad(Text::Pipe, FRONT.len() + 1 + *offset, *code));
     }
     Ok(())
@@ -96,7 +120,7 @@ fn is_design(read: &Result<Design, DesignFault>, want: &Result<Design, AllocErro
 
 fn denotes(alloc: Global, row: &Denoted) -> bool {
     is_design(
-        &design_of(alloc, row.0, row.1, row.2),
+        &read(alloc, row.0, row.1, row.2),
         &draft::design(alloc, row.3),
     )
 }
@@ -168,7 +192,7 @@ static LONG: [Long; 4] = [
 fn reads_long_files(rt: HostRuntime) -> Result<(), Fail> {
     for Long(before, part, copies, after, want) in &LONG {
         let text = around(rt.alloc(), *before, *part, *copies, *after)?;
-        let got = fault(&design_of(rt.alloc(), &text, EMPTY, None));
+        let got = fault(&read(rt.alloc(), &text, EMPTY, None));
         let want = match want {
             Some((offset, code)) => bad(Text::Pipe, *offset, *code),
             None => None,
