@@ -105,7 +105,14 @@ fn finds_faults_of_expressions(rt: HostRuntime) -> Result<(), Fail> {
     for At(items, offset, code) in &INSIDE {
         let text = inside(rt.alloc(), *items)?;
         let got = fault(&read(rt.alloc(), &text, EMPTY, None));
-        assert_eq!(rt; got, bad(Text::Pipe, FRONT.len() + 1 + *offset, *code));
+        assert_eq!(rt;
+            got,
+            bad(
+                Text::Pipe,
+                (FRONT.len() + 1).saturating_add(*offset),
+                *code,
+            )
+        );
     }
     Ok(())
 }
