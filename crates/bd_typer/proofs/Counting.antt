@@ -1,5 +1,5 @@
 -- What must stand once, gone through item by item.
-use Rattle.std.proofs.Common.{◌≡◌, ℕ, ◌≤◌, Bool, true, false, cond, List, [], ◌∷◌, length, map, drop, Option, Some, None, refl, ap, sym, ◌∙◌}
+use Rattle.std.proofs.Common.{◌≡◌, ℕ, ◌≤◌, true, false, cond, List, [], ◌∷◌, length, map, drop, Option, Some, None, refl, ap, sym, ◌∙◌}
 use Rattle.std.specs.Prelude.{fold}
 use Rattle.std.proofs.lemmas.List.{at_drop_all, length-map}
 use Rattle.bd_syntax.specs.Forms.{ItemView, item_view}
@@ -8,7 +8,7 @@ use Rattle.std.specs.List.{filter_map, cons_option}
 use Rattle.bd_typer.specs.Declarations.{not_once}
 use Rattle.bd_typer.specs.declared.declarations.Counted.{Counted}
 use Rattle.bd_typer.specs.inner.Located.{first_offset, least_offset}
-use Rattle.bd_typer.specs.inner.Roles.{counted_with, counted_again}
+use Rattle.bd_typer.specs.inner.Roles.{counted_with}
 use Rattle.bd_typer.proofs.Firsts.{first_offset-assoc}
 
 filter_map-map : {X : Type 0} (f : X → Option ℕ) (xs : List X) → filter_map (λ o. o) (map f xs) ≡ filter_map f xs

@@ -1,7 +1,6 @@
 -- Three texts denote at most one design or first fault.
-use Rattle.std.proofs.Common.{◌≡◌, ⊎_elim, inl, inr, ℕ, List, Option, Some, None, Result, Ok, Err, refl, ap, sym, ◌∙◌, subst}
+use Rattle.std.proofs.Common.{◌≡◌, inl, inr, ℕ, List, Option, Some, None, Result, Ok, Err, refl, sym, ◌∙◌, subst}
 use Rattle.bd_text.specs.Nodes.{Nodes}
-use Rattle.bd_text.specs.declared.code.Code.{Code}
 use Rattle.bd_text.proofs.FirstFaults.{one_first}
 use Rattle.bd_text.proofs.Unique.{one_reading-holds}
 use Rattle.bd_model.specs.DesignView.{DesignView}

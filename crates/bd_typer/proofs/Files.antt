@@ -1,5 +1,5 @@
 -- Faults with their file.
-use Rattle.std.proofs.Common.{◌≡◌, ℕ, Result, Ok, Err, refl, ap}
+use Rattle.std.proofs.Common.{ℕ, Result, refl}
 use Rattle.bd_text.specs.Faults.{OnBad}
 use Rattle.bd_text.specs.declared.code.Code.{Code}
 use Rattle.bd_text.specs.declared.fault.TextFault.{TextFault}

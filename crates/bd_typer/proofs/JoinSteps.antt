@@ -1,10 +1,10 @@
 -- Joining files, step by step.
-use Rattle.std.proofs.Common.{◌≡◌, List, length, Option, Some, Result, Ok, Err, true, false, refl, ap, sym, ◌∙◌, subst}
+use Rattle.std.proofs.Common.{◌≡◌, List, length, Some, Result, Ok, true, false, refl, ap, sym, ◌∙◌, subst}
 use Rattle.bd_model.specs.declared.design.Symbol as symbol
 use Rattle.bd_model.specs.declared.design.Sort.TheVariants as sorts
 use Rattle.bd_model.specs.ExprView.{ExprView}
 use Rattle.bd_syntax.specs.Forms.{ItemView, InvView}
-use Rattle.bd_syntax.specs.Reading.{Fault, Fails}
+use Rattle.bd_syntax.specs.Reading.{Fails}
 use Rattle.bd_syntax.specs.declared.fault.FormFault.{FormFault}
 use Rattle.bd_typer.specs.declared.fault.TypeFault.{TypeFault}
 use Rattle.bd_typer.specs.declared.fault.TypeFault.TheVariants as faults
@@ -12,7 +12,7 @@ use Rattle.bd_typer.specs.Faults.{◌>>=◌, FileFault, FailsIn}
 use Rattle.bd_typer.specs.Names.{Names, Scope, scope_of}
 use Rattle.bd_typer.specs.Typing.{typed}
 use Rattle.bd_typer.specs.Walk.{Typed, typed_items}
-use Rattle.bd_typer.specs.Joined.{start, TypedMachine, typed_machine, TypedInv, typed_inv}
+use Rattle.bd_typer.specs.Joined.{start, typed_machine, typed_inv}
 use Rattle.bd_typer.proofs.Loops.{fails_then}
 
 module _ (others : Names) (symbols : List symbol.Symbol) (items : List ItemView) (scope : Scope) (first : Typed) (scope-is : scope ≡ scope_of others symbols items) (first-is : first ≡ start scope.names (length scope.entries)) where

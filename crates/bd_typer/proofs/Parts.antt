@@ -1,12 +1,12 @@
 -- The parts of an expression are typed one after the other.
-use Rattle.std.proofs.Common.{◌≡◌, ℕ, zero, suc, ◌+◌, ◌<◌, ◌≤◌, Bool, List, [], ◌∷◌, length, get_or, drop, Result, Ok, Err, refl, ap, sym, ◌∙◌, subst, arith}
+use Rattle.std.proofs.Common.{◌≡◌, ℕ, zero, suc, ◌+◌, ◌<◌, ◌≤◌, Bool, List, [], ◌∷◌, length, get_or, drop, Ok, refl, ap, sym, ◌∙◌, subst, arith}
 use Rattle.std.proofs.lemmas.List.{at_drop_more, at_drop_all}
 use Rattle.bd_model.specs.ExprView.{ExprView}
 use Rattle.bd_model.specs.declared.design.Sort.{Sort}
 use Rattle.bd_syntax.specs.Forms.{Expressions, application, expression_of, expressions_of_all, expression_count}
 use Rattle.bd_syntax.specs.Words.{operator_of}
 use Rattle.bd_syntax.specs.WellFormed.{expression_nesting, nesting_of_all}
-use Rattle.bd_syntax.specs.Reading.{Fault, Fails}
+use Rattle.bd_syntax.specs.Reading.{Fails}
 use Rattle.bd_syntax.specs.declared.form.Form.{Form}
 use Rattle.bd_syntax.specs.declared.form.Spot.{Spot}
 use Rattle.bd_syntax.specs.declared.fault.FormFault.{FormFault}

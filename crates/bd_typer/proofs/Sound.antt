@@ -1,6 +1,6 @@
 -- What is typed has its sort, uses an input only where it may, and nests no deeper than its form.
-use Rattle.std.proofs.Common.{◌≡◌, ℕ, ◌+◌, ◌≤◌, suc, zero, Bool, true, false, cond, List, [], ◌∷◌, length, max, Option, Some, None, Result, Ok, Err, refl, ap, sym, ◌∙◌, subst, arith}
-use Rattle.std.specs.Prelude.{◌||◌, ◌==◌, not, slice_get, slice_index_or, IsTrue, codes, nat_le}
+use Rattle.std.proofs.Common.{◌≡◌, ℕ, ◌+◌, ◌≤◌, suc, Bool, true, false, cond, List, [], ◌∷◌, max, Option, Some, None, Result, Ok, Err, refl, ap, sym, ◌∙◌, subst, arith}
+use Rattle.std.specs.Prelude.{◌||◌, ◌==◌, not, slice_get, codes}
 use Rattle.std.proofs.lemmas.Option.{get_or_from_slice_get}
 use Rattle.std.proofs.lemmas.Bool.Decides.{nat_tests}
 use Rattle.bd_model.specs.ExprView.{ExprView, ExprViews, Truth, no_exprs, expr, views_of_list, count_of, depth, exprs_depth, width, exprs_width}
@@ -12,7 +12,6 @@ use Rattle.bd_model.specs.declared.design.Sort.TheVariants as sorts
 use Rattle.bd_model.specs.declared.design.Symbol.{Symbol as SymbolOf}
 use Rattle.bd_syntax.specs.Words.{is_word, operator_of, operator_takes}
 use Rattle.bd_syntax.specs.Forms.{Expression, word, application, Expressions, no_expressions, expression, expression_count}
-use Rattle.bd_syntax.specs.Reading.{Fault, refused}
 use Rattle.bd_syntax.specs.WellFormed.{IsHead, IsExpression, AreExpressions, expression_nesting, nesting_of_all, HasFewParts, HaveFewParts}
 use Rattle.bd_syntax.specs.declared.form.Spot.{Spot}
 use Rattle.bd_syntax.specs.declared.operator.Operator as operator
@@ -23,7 +22,7 @@ use Rattle.bd_typer.specs.declared.operation.Operation.{Operation}
 use Rattle.bd_typer.specs.declared.operation.Operation.TheVariants.{Operator, Apply}
 use Rattle.bd_typer.specs.Faults.{◌>>=◌}
 use Rattle.bd_typer.specs.Names.{Names}
-use Rattle.bd_typer.specs.Typing.{same_sort, of_sort, value_named, word_value, typed_word, operator_sort, symbol_sort, symbol_named, operation, part_sort, of_two, of_three, of_one_part, of_two_parts, of_three_parts, built, typed, typed_parts}
+use Rattle.bd_typer.specs.Typing.{same_sort, of_sort, value_named, word_value, typed_word, operator_sort, symbol_sort, symbol_named, operation, part_sort, of_one_part, of_two_parts, of_three_parts, built, typed, typed_parts}
 
 -- a meaning is that of something in the context
 abbrev pub Fits : Context → List Bool → Bool → Meaning → Type 0

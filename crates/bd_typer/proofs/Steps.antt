@@ -1,5 +1,5 @@
 -- Loops over items, one step on.
-use Rattle.std.proofs.Common.{◌≡◌, ℕ, ◌+◌, ◌<◌, ◌≤◌, Bool, true, false, cond, List, [], ◌∷◌, ◌++◌, length, map, drop, get_or, Option, Some, None, Result, Ok, Err, refl, ap, sym, ◌∙◌, subst}
+use Rattle.std.proofs.Common.{◌≡◌, ℕ, ◌+◌, ◌<◌, Bool, true, false, cond, List, [], ◌∷◌, ◌++◌, length, map, drop, get_or, Option, Some, None, Result, Ok, refl, ap, sym, ◌∙◌, subst}
 use Rattle.std.specs.Prelude.{fold}
 use Rattle.std.proofs.Math.Path.{fun_ext}
 use Rattle.std.proofs.lemmas.List.{at_drop_more}
@@ -14,7 +14,6 @@ use Rattle.bd_typer.specs.declared.names.Outer.{Outer}
 use Rattle.bd_typer.specs.Faults.{◌>>=◌}
 use Rattle.bd_typer.specs.Names.{Names, declare, Scope, with_item, shared_names}
 use Rattle.bd_model.specs.ExprView.{ExprView}
-use Rattle.bd_model.specs.DesignView.{LocalView}
 use Rattle.bd_model.specs.Lawful.{uses_input}
 use Rattle.bd_model.specs.declared.design.Sort.{Sort}
 use Rattle.bd_typer.specs.declared.names.Meaning.TheVariants.{Local}

@@ -1,7 +1,7 @@
 -- What holds of the expressions of a machine file, once all its items are gone through.
-use Rattle.std.proofs.Common.{◌≡◌, ◌≢◌, ⊎_elim, inl, inr, ℕ, zero, suc, ◌+◌, ◌<◌, ◌≤◌, Bool, true, false, cond, List, [], ◌∷◌, ◌++◌, length, map, set, get_or, Option, Some, None, Result, Ok, Err, refl, ap, sym, ◌∙◌, subst, arith, length-append, append_assoc}
-use Rattle.std.specs.Prelude.{◌⊎◌, ◌==◌, ◌&&◌, not, IsTrue, slice_get, slice_index_or, if◌then◌else◌}
-use Rattle.std.specs.List.{filter_map, cons_option, AllByRecursion, AllPairs, AllZip}
+use Rattle.std.proofs.Common.{◌≡◌, ◌≢◌, ⊎_elim, inl, inr, ℕ, zero, suc, ◌+◌, ◌<◌, ◌≤◌, Bool, true, false, cond, List, [], ◌∷◌, ◌++◌, length, map, set, get_or, Option, Some, None, Result, Ok, refl, ap, sym, ◌∙◌, subst, arith, length-append, append_assoc}
+use Rattle.std.specs.Prelude.{◌⊎◌, ◌==◌, ◌&&◌, not, slice_get, if◌then◌else◌}
+use Rattle.std.specs.List.{filter_map, cons_option, AllByRecursion, AllPairs}
 use Rattle.std.proofs.lemmas.List.{append-nil, map_push}
 use Rattle.std.proofs.lemmas.Bool.Decides.{nat_tests}
 use Rattle.std.proofs.lemmas.Option.{slice_get_within}
@@ -10,7 +10,6 @@ use Rattle.std.proofs.lemmas.List.{get_or-set_other, length-set}
 use Rattle.std.proofs.lemmas.List.Elements.{All-from_recursion}
 use Rattle.std.proofs.lemmas.List.Kept.{AllPairs-cons}
 use Rattle.std.proofs.lemmas.Bool.{cases_eq}
-use Rattle.bd_list.specs.Grown.{grown}
 use Rattle.bd_list.proofs.Grown.{grown-push}
 use Rattle.bd_model.specs.ExprView.{ExprView, Truth}
 use Rattle.bd_model.specs.DesignView.{LocalView, PortView, ExactView}
@@ -31,11 +30,11 @@ use Rattle.bd_typer.specs.Declarations.{next_name}
 use Rattle.bd_typer.specs.Names.{Names, declare}
 use Rattle.bd_typer.specs.Typing.{typed}
 use Rattle.bd_typer.specs.Walk.{Typed, typed_input, with_local, typed_let, entry_named, typed_next, typed_exact, constant_named, constants, typed_distinct, typed_item, typed_items}
-use Rattle.bd_typer.proofs.Lists.{some_is, both_true, is_word-true, is_word-same, get-left, get-end, get-push}
+use Rattle.bd_typer.proofs.Lists.{some_is, both_true, is_word-true, is_word-same, get-left, get-end}
 use Rattle.bd_typer.specs.Repeats.{Texts, no_texts, with_text, with_names}
 use Rattle.bd_typer.proofs.Scoping.{Stands, LetIsLater, input_entry}
 use Rattle.bd_text.specs.declared.code.Code.TheVariants.{DeclaredTwice}
-use Rattle.bd_typer.proofs.Sound.{Fits, NamesFit, IsSound, typed_sound, then_ok, passes}
+use Rattle.bd_typer.proofs.Sound.{Fits, NamesFit, typed_sound, then_ok, passes}
 
 -- an expression of a sort, that uses no input where none may be used, within the limits
 pub record IsTyped (c : Context) (flags : List Bool) (inputs : Bool) (s : Sort) (e : ExprView) : Type 0 where
@@ -109,7 +108,7 @@ get-map g [] n x h = absurd (cc h)
 get-map g (y ∷ xs) zero x h = let e : y ≡ x = cc h in ap (λ z. Some (g z)) e
 get-map g (y ∷ xs) (suc n) x h = get-map g xs n x h
 
-map_append : {X Y : Type 0} (g : X → Y) (xs ys : List X) → map g (xs ++ ys) ≡ map g xs ++ map g ys
+pub map_append : {X Y : Type 0} (g : X → Y) (xs ys : List X) → map g (xs ++ ys) ≡ map g xs ++ map g ys
 map_append g [] ys = refl
 map_append g (x ∷ xs) ys = ap (λ zs. g x ∷ zs) (map_append g xs ys)
 
@@ -156,7 +155,7 @@ names_fit f names locals flags inputs stands are locals' flags' more further e g
       is_let (Symbol n a b) p = absurd p
       is_let Later p = absurd p
 
-local_end : (ls : List LocalView) (l : LocalView) → slice_get (local_sorts (ls ++ l ∷ [])) (length ls) ≡ Some l.sort
+pub local_end : (ls : List LocalView) (l : LocalView) → slice_get (local_sorts (ls ++ l ∷ [])) (length ls) ≡ Some l.sort
 local_end [] l = refl
 local_end (x ∷ ls) l = local_end ls l
 
@@ -369,7 +368,7 @@ module _ (f : Fixed) (stands : FixedStands f) (final t : Typed) (given : Texts) 
   fits_then inputs g = names_fit f t.names t.locals t.flags inputs stands ok.names final.locals final.flags g.locals g.flags g.locals-are g.flags-are
 
   -- and now
-  fits_now : (inputs : Bool) → NamesFit (context f t.locals) t.flags inputs t.names
+  pub fits_now : (inputs : Bool) → NamesFit (context f t.locals) t.flags inputs t.names
   fits_now inputs = names_fit f t.names t.locals t.flags inputs stands ok.names t.locals t.flags [] [] (sym (append-nil t.locals)) (sym (append-nil t.flags))
 
   input_is : (name : Spot) (sort : Sort) (idle : Expression) (u : Typed) → sort ≢ sorts.Memory → IsExpression idle → IsLimited idle → Grows t final → typed_input t name sort idle ≡ Ok u → WalkIs f final u given
@@ -481,26 +480,31 @@ port_entry p = record { name = p.name; sort = p.sort }
 pub record Adds (t u : Typed) (inputs : List entry.Entry) : Type 0 where
   pub grows : Grows t u
   pub ports : map port_entry u.ports ≡ map port_entry t.ports ++ inputs
-  pub count : length u.locals ≤ length t.locals + 1
+  pub locals : length u.locals ≤ length t.locals + 1
+  pub exact : length u.exact ≤ length t.exact + 1
+  pub distinct : length u.distinct ≤ length t.distinct + 1
 
-adds_nothing : (t u : Typed) → t.locals ≡ u.locals → t.flags ≡ u.flags → t.ports ≡ u.ports → Adds t u []
-adds_nothing t u e g h = record { grows = grows_not t u e g; ports = ap (map port_entry) (sym h) ∙ sym (append-nil (map port_entry t.ports)); count = omega (arith, ap length e) }
+-- an item without an expression
+adds_nothing : (t u : Typed) → t ≡ u → Adds t u []
+adds_nothing t u e = subst (λ v. Adds t v []) e (record { grows = grows_not t t refl refl; ports = sym (append-nil (map port_entry t.ports)); locals = omega arith; exact = omega arith; distinct = omega arith })
 
 pub item_adds : (inputs : Bool) (t u : Typed) (item : ItemView) → typed_item inputs t item ≡ Ok u → Adds t u (cons_option (input_entry item) [])
 unfolding typed_input typed_let typed_next typed_exact typed_distinct
-item_adds inputs t u (latch_item offset name sort) h = let e : t ≡ u = cc h in adds_nothing t u (ap (λ (x : Typed). x.locals) e) (ap (λ (x : Typed). x.flags) e) (ap (λ (x : Typed). x.ports) e)
-item_adds inputs t u (memory_item offset name) h = let e : t ≡ u = cc h in adds_nothing t u (ap (λ (x : Typed). x.locals) e) (ap (λ (x : Typed). x.flags) e) (ap (λ (x : Typed). x.ports) e)
-item_adds inputs t u (function_item offset name arity) h = let e : t ≡ u = cc h in adds_nothing t u (ap (λ (x : Typed). x.locals) e) (ap (λ (x : Typed). x.flags) e) (ap (λ (x : Typed). x.ports) e)
-item_adds inputs t u (predicate_item offset name arity) h = let e : t ≡ u = cc h in adds_nothing t u (ap (λ (x : Typed). x.locals) e) (ap (λ (x : Typed). x.flags) e) (ap (λ (x : Typed). x.ports) e)
-item_adds inputs t u (flush_item offset count) h = let e : t ≡ u = cc h in adds_nothing t u (ap (λ (x : Typed). x.locals) e) (ap (λ (x : Typed). x.flags) e) (ap (λ (x : Typed). x.ports) e)
-item_adds inputs t u (steps_item offset count) h = let e : t ≡ u = cc h in adds_nothing t u (ap (λ (x : Typed). x.locals) e) (ap (λ (x : Typed). x.flags) e) (ap (λ (x : Typed). x.ports) e)
+item_adds inputs t u (latch_item offset name sort) h = adds_nothing t u (cc h)
+item_adds inputs t u (memory_item offset name) h = adds_nothing t u (cc h)
+item_adds inputs t u (function_item offset name arity) h = adds_nothing t u (cc h)
+item_adds inputs t u (predicate_item offset name arity) h = adds_nothing t u (cc h)
+item_adds inputs t u (flush_item offset count) h = adds_nothing t u (cc h)
+item_adds inputs t u (steps_item offset count) h = adds_nothing t u (cc h)
 item_adds inputs t u (input_item offset name sort idle) h =
     let p = then_ok (typed t.names false sort idle) (λ e. Ok (record t { ports = t.ports ++ record { name = name.text; sort = sort; idle = e } ∷ [] })) u h in
     let e : record t { ports = t.ports ++ record { name = name.text; sort = sort; idle = p.0 } ∷ [] } ≡ u = cc p.2 in
     subst (λ v. Adds t v (record { name = name.text; sort = sort } ∷ [])) e (record {
       grows = grows_not t _ refl refl;
       ports = map_push port_entry t.ports (record { name = name.text; sort = sort; idle = p.0 });
-      count = omega arith;
+      locals = omega arith;
+      exact = omega arith;
+      distinct = omega arith;
     })
 item_adds inputs t u (let_item offset name sort value) h =
     let p = then_ok (typed t.names inputs sort value) (λ e. Ok (with_local t name.text sort e)) u h in
@@ -508,37 +512,61 @@ item_adds inputs t u (let_item offset name sort value) h =
     subst (λ v. Adds t v []) e (record {
       grows = record { locals = record { sort = sort; value = p.0 } ∷ []; flags = uses_input t.flags p.0 ∷ []; locals-are = refl; flags-are = refl };
       ports = sym (append-nil (map port_entry t.ports));
-      count = omega (arith, length-append t.locals (record { sort = sort; value = p.0 } ∷ []));
+      locals = omega (arith, length-append t.locals (record { sort = sort; value = p.0 } ∷ []));
+      exact = omega arith;
+      distinct = omega arith;
     })
 item_adds inputs t u (next_item offset name value) h =
     let p = then_ok (entry_named name.offset (t.names name.text)) (λ entry. typed t.names true entry.1 value >>= λ e. Ok (record t { nexts = set t.nexts entry.0 e })) u h in
     let q = then_ok (typed t.names true p.0.1 value) (λ e. Ok (record t { nexts = set t.nexts p.0.0 e })) u p.2 in
     let e : record t { nexts = set t.nexts p.0.0 q.0 } ≡ u = cc q.2 in
-    subst (λ v. Adds t v []) e (adds_nothing t _ refl refl refl)
+    subst (λ v. Adds t v []) e (record { grows = grows_not t _ refl refl; ports = sym (append-nil (map port_entry t.ports)); locals = omega arith; exact = omega arith; distinct = omega arith })
 item_adds inputs t u (exact_item offset count when) h =
     let p = then_ok (typed t.names true sorts.Bool when) (λ e. Ok (record t { exact = t.exact ++ record { count = count; when = e } ∷ [] })) u h in
     let e : record t { exact = t.exact ++ record { count = count; when = p.0 } ∷ [] } ≡ u = cc p.2 in
-    subst (λ v. Adds t v []) e (adds_nothing t _ refl refl refl)
+    subst (λ v. Adds t v []) e (record {
+      grows = grows_not t _ refl refl;
+      ports = sym (append-nil (map port_entry t.ports));
+      locals = omega arith;
+      exact = omega (arith, length-append t.exact (record { count = count; when = p.0 } ∷ []));
+      distinct = omega arith;
+    })
 item_adds inputs t u (distinct_item offset names) h =
     let p = then_ok (constants t.names no_texts names) (λ group. Ok (record t { distinct = t.distinct ++ group ∷ [] })) u h in
     let e : record t { distinct = t.distinct ++ p.0 ∷ [] } ≡ u = cc p.2 in
-    subst (λ v. Adds t v []) e (adds_nothing t _ refl refl refl)
+    subst (λ v. Adds t v []) e (record {
+      grows = grows_not t _ refl refl;
+      ports = sym (append-nil (map port_entry t.ports));
+      locals = omega arith;
+      exact = omega arith;
+      distinct = omega (arith, length-append t.distinct (p.0 ∷ []));
+    })
 
-pub record AddAll (t u : Typed) (inputs : List entry.Entry) : Type 0 where
+pub record AddAll (t u : Typed) (inputs : List entry.Entry) (n : ℕ) : Type 0 where
   pub grows : Grows t u
   pub ports : map port_entry u.ports ≡ map port_entry t.ports ++ inputs
+  pub locals : length u.locals ≤ length t.locals + n
+  pub exact : length u.exact ≤ length t.exact + n
+  pub distinct : length u.distinct ≤ length t.distinct + n
 
-adds_then : (t u v : Typed) (item : ItemView) (items : List ItemView) → Adds t u (cons_option (input_entry item) []) → AddAll u v (filter_map input_entry items) → AddAll t v (filter_map input_entry (item ∷ items))
+adds_then : (t u v : Typed) (item : ItemView) (items : List ItemView) → Adds t u (cons_option (input_entry item) []) → AddAll u v (filter_map input_entry items) (length items)
+    → AddAll t v (filter_map input_entry (item ∷ items)) (length (item ∷ items))
 adds_then t u v item items a b = record {
   grows = grows_then t u v a.grows b.grows;
   ports = b.ports ∙ ap (λ xs. xs ++ filter_map input_entry items) a.ports ∙ append_assoc (map port_entry t.ports) (cons_option (input_entry item) []) (filter_map input_entry items) ∙ ap (λ xs. map port_entry t.ports ++ xs) (one (input_entry item));
+  locals = omega (arith, a.locals, b.locals);
+  exact = omega (arith, a.exact, b.exact);
+  distinct = omega (arith, a.distinct, b.distinct);
 } where
   one : (o : Option entry.Entry) → cons_option o [] ++ filter_map input_entry items ≡ cons_option o (filter_map input_entry items)
   one None = refl
   one (Some e) = refl
 
-pub items_add : (items : List ItemView) (t u : Typed) → typed_items true t items ≡ Ok u → AddAll t u (filter_map input_entry items)
-items_add [] t u h = let e : t ≡ u = cc h in let a = adds_nothing t u (ap (λ (x : Typed). x.locals) e) (ap (λ (x : Typed). x.flags) e) (ap (λ (x : Typed). x.ports) e) in record { grows = a.grows; ports = a.ports }
+pub items_add : (items : List ItemView) (t u : Typed) → typed_items true t items ≡ Ok u → AddAll t u (filter_map input_entry items) (length items)
+items_add [] t u h =
+    let a = adds_nothing t u (cc h) in
+    let e : t ≡ u = cc h in
+    record { grows = a.grows; ports = a.ports; locals = omega (arith, ap (λ (x : Typed). length x.locals) e); exact = omega (arith, ap (λ (x : Typed). length x.exact) e); distinct = omega (arith, ap (λ (x : Typed). length x.distinct) e) }
 items_add (item ∷ items) t u h =
     let p = then_ok (typed_item true t item) (λ v. typed_items true v items) u h in
     adds_then t p.0 u item items (item_adds true t p.0 item p.1) (items_add items p.0 u p.2)

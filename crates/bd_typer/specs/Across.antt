@@ -1,11 +1,11 @@
 -- The faults across the two machine files, as a set: all stand in the specification. The language is this
 -- project's own.
-use Rattle.std.specs.Prelude.{ℕ, ◌==◌, Bool, true, false, ◌&&◌, not, List, [], ◌∷◌, ◌++◌, Option, Some, None, if◌then◌else◌}
+use Rattle.std.specs.Prelude.{ℕ, ◌==◌, Bool, true, false, ◌&&◌, not, List, ◌++◌, Option, Some, None, if◌then◌else◌}
 use Rattle.std.specs.List.{filter_map}
 use Rattle.bd_text.specs.declared.code.Code.TheVariants.{NotInPipeline, FunctionDiffers}
 use Rattle.bd_model.specs.declared.design.Sort.{Sort}
 use Rattle.bd_model.specs.declared.design.Sort.TheVariants as sorts
-use Rattle.bd_syntax.specs.Forms.{ItemView, latch_item, memory_item, input_item, function_item, predicate_item, let_item}
+use Rattle.bd_syntax.specs.Forms.{ItemView, latch_item, memory_item, function_item, predicate_item, let_item}
 use Rattle.bd_syntax.specs.Reading.{Fault}
 use Rattle.bd_syntax.specs.declared.form.Spot.{Spot}
 use Rattle.bd_typer.specs.declared.names.Meaning.{Meaning}

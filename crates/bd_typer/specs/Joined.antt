@@ -1,6 +1,6 @@
 -- The design that files denote, or their first fault: the passes follow each other, and each goes over the
 -- pipeline, the specification and the invariant. The language is this project's own.
-use Rattle.std.specs.Prelude.{ℕ, Bool, true, false, List, [], ◌∷◌, ◌++◌, map, length, replicate, Option, Some, None, Result, Ok, Err}
+use Rattle.std.specs.Prelude.{ℕ, true, false, List, [], ◌∷◌, ◌++◌, map, length, replicate, Option, Some, None, Result, Ok}
 use Rattle.std.specs.List.{filter_map}
 use Rattle.bd_model.specs.declared.design.Sort.TheVariants as sorts
 use Rattle.bd_model.specs.declared.design.Entry as entry
@@ -14,7 +14,7 @@ use Rattle.bd_typer.specs.declared.names.Meaning.{Meaning}
 use Rattle.bd_typer.specs.declared.names.Meaning.TheVariants.{Entry}
 use Rattle.bd_typer.specs.Faults.{◌>>=◌, FileFault, in_file, without_faults}
 use Rattle.bd_typer.specs.Declarations.{declaration_faults, invariant_faults}
-use Rattle.bd_typer.specs.Names.{Names, no_names, Scope, scope_of, shared_names}
+use Rattle.bd_typer.specs.Names.{Names, no_names, scope_of, shared_names}
 use Rattle.bd_typer.specs.Typing.{typed}
 use Rattle.bd_typer.specs.Walk.{Typed, typed_items}
 use Rattle.bd_typer.specs.Across.{across_faults}

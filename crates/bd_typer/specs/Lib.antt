@@ -2,6 +2,7 @@ pub mod Across
 pub mod Declarations
 pub mod Denotes
 pub mod Faults
+pub mod Given
 pub mod Joined
 pub mod Names
 pub mod Repeats

@@ -7,7 +7,7 @@ use Rattle.bd_model.specs.declared.design.Symbol as symbol
 use Rattle.bd_syntax.specs.Words.{is_word}
 use Rattle.bd_syntax.specs.Forms.{ItemView, latch_item, memory_item, input_item, function_item, predicate_item, let_item}
 use Rattle.bd_typer.specs.declared.names.Meaning.{Meaning}
-use Rattle.bd_typer.specs.declared.names.Meaning.TheVariants.{Entry, Input, Symbol, Local, Later}
+use Rattle.bd_typer.specs.declared.names.Meaning.TheVariants.{Entry, Input, Symbol, Later}
 
 -- what each text means, if it is a name that is declared
 abbrev pub Names : Type 0

@@ -1,5 +1,5 @@
 -- The expressions of a file, item by item. The language is this project's own.
-use Rattle.std.specs.Prelude.{ℕ, ◌+◌, ◌==◌, ◌&&◌, not, Bool, true, false, List, [], ◌∷◌, ◌++◌, length, map, set, Option, Some, None, Result, Ok, Err, if◌then◌else◌}
+use Rattle.std.specs.Prelude.{ℕ, ◌==◌, ◌&&◌, not, Bool, true, false, List, [], ◌∷◌, ◌++◌, length, set, Option, Some, None, Result, Ok, if◌then◌else◌}
 use Rattle.bd_text.specs.declared.code.Code.TheVariants.{UnknownName, DeclaredTwice, NotConstant}
 use Rattle.bd_model.specs.declared.design.Sort.{Sort}
 use Rattle.bd_model.specs.declared.design.Sort.TheVariants as sorts
@@ -10,7 +10,7 @@ use Rattle.bd_syntax.specs.Forms.{Expression, ItemView, input_item, let_item, ne
 use Rattle.bd_syntax.specs.Reading.{Fault, refused}
 use Rattle.bd_syntax.specs.declared.form.Spot.{Spot}
 use Rattle.bd_typer.specs.declared.names.Meaning.{Meaning}
-use Rattle.bd_typer.specs.declared.names.Meaning.TheVariants.{Entry, Input, Symbol, Local, Later}
+use Rattle.bd_typer.specs.declared.names.Meaning.TheVariants.{Entry, Symbol, Local}
 use Rattle.bd_typer.specs.Faults.{◌>>=◌}
 use Rattle.bd_typer.specs.Names.{Names, declare}
 use Rattle.bd_typer.specs.Repeats.{Texts, no_texts, with_text}

@@ -6,10 +6,13 @@ ghost use Rattle.bd_text.specs.Faults.{HasNoFault, IsFirstFault};
 ghost use Rattle.bd_text.specs.Grammar.{Spells};
 ghost use Rattle.bd_text.specs.View.{nodes_of};
 ghost use Rattle.bd_model.specs.DesignView.{design_view};
+ghost use Rattle.bd_model.specs.Lawful.{IsLawful};
 ghost use Rattle.bd_syntax.specs.Forms.{ast_view};
-ghost use Rattle.bd_syntax.specs.WellFormed.{AreLimited, AreWithinLimits};
+ghost use Rattle.bd_syntax.specs.WellFormed.{AreWithinLimits};
+ghost use Rattle.bd_syntax.specs.declared.ast.Kind.TheVariants.{Pipeline, Specification};
 ghost use Rattle.bd_typer.specs.Denotes.{Denotes, OnDesign, design_of_trees};
 ghost use Rattle.bd_typer.specs.Faults.{GivesIn};
+ghost use Rattle.bd_typer.specs.Given.{IsMachineFile};
 ghost use Rattle.bd_typer.specs.inner.After.{RestOfPipe, RestOfTexts, after_machine_forms, after_pipe_form};
 ghost use Rattle.bd_typer.specs.inner.Located.{OnText};
 
@@ -38,8 +41,8 @@ fn trees(alloc: Global, file: Text, bytes: &[u8]) -> Result<Trees, TypeFault>
 
 /// What is left once the forms of the machines have no fault.
 fn joined_forms(alloc: Global, pipe: &Ast, spec: &Ast, inv: &Trees) -> Result<Design, TypeFault>
-    requires pipe { AreLimited (ast_view pipe.now).items }
-    requires spec { AreLimited (ast_view spec.now).items }
+    requires pipe { IsMachineFile Pipeline (ast_view pipe.now) }
+    requires spec { IsMachineFile Specification (ast_view spec.now) }
     requires inv { AreWithinLimits (nodes_of inv.now) }
     ensures { GivesIn design_view result
         (after_machine_forms (ast_view pipe.now) (ast_view spec.now) (Some (nodes_of inv.now))) }
@@ -57,8 +60,8 @@ fn machine_forms(
     spec: &Ast,
     inv: Option<&Trees>,
 ) -> Result<Design, TypeFault>
-    requires pipe { AreLimited (ast_view pipe.now).items }
-    requires spec { AreLimited (ast_view spec.now).items }
+    requires pipe { IsMachineFile Pipeline (ast_view pipe.now) }
+    requires spec { IsMachineFile Specification (ast_view spec.now) }
     requires inv { IfSome inv (λ inv. AreWithinLimits (nodes_of inv.now)) }
     ensures { GivesIn design_view result (after_machine_forms (ast_view pipe.now)
         (ast_view spec.now) (option_map (λ inv. nodes_of inv.now) inv.entry)) }
@@ -76,7 +79,7 @@ fn pipe_form(
     spec: &Trees,
     inv: Option<&Trees>,
 ) -> Result<Design, TypeFault>
-    requires pipe { AreLimited (ast_view pipe.now).items }
+    requires pipe { IsMachineFile Pipeline (ast_view pipe.now) }
     requires spec { AreWithinLimits (nodes_of spec.now) }
     requires inv { IfSome inv (λ inv. AreWithinLimits (nodes_of inv.now)) }
     ensures { GivesIn design_view result (after_pipe_form (ast_view pipe.now)
@@ -188,6 +191,7 @@ pub fn design_of(
     requires inv { IfSome inv (λ inv. length inv.now ≤ 1048576) }
     ensures exact { OnDesign result
         (Denotes pipe.now spec.now (option_map (λ inv. inv.now) inv.entry)) }
+    ensures lawful { IfOk result (λ d. IsLawful (design_view d)) }
 {
     denoted(alloc, pipe, spec, inv)
 }

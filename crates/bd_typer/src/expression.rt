@@ -121,7 +121,8 @@ fn operation(
     parts: usize,
 ) -> Result<Operation, FormFault>
     ensures { Gives (λ how. how) result
-        (operation (lookup_names names.entry) want offset head.now parts (operator_of head.now.text)) }
+        (operation (lookup_names names.entry) want offset head.now parts
+        (operator_of head.now.text)) }
 {
     let text = head.text.as_slice();
     if let Some(operator) = Operator::from_text(text) {

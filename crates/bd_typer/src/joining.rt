@@ -5,12 +5,15 @@ ghost use Rattle.std.specs.List.{filter_map};
 ghost use Rattle.std.specs.Option.{option_map};
 ghost use Rattle.bd_model.specs.DesignView.{design_view, machine_view as view_of};
 ghost use Rattle.bd_model.specs.ExprView.{Truth, expr_view};
+ghost use Rattle.bd_model.specs.Lawful.{IsLawful};
 ghost use Rattle.bd_model.specs.declared.design.Entry.{Entry};
 ghost use Rattle.bd_model.specs.declared.design.Symbol.{Symbol};
 ghost use Rattle.bd_syntax.specs.Forms.{ast_view, invariant_view, item_view};
 ghost use Rattle.bd_syntax.specs.Reading.{Gives};
-ghost use Rattle.bd_syntax.specs.WellFormed.{AreLimited, IsLimitedInvAst};
+ghost use Rattle.bd_syntax.specs.WellFormed.{IsLimitedInvAst};
+ghost use Rattle.bd_syntax.specs.declared.ast.Kind.TheVariants.{Pipeline, Specification};
 ghost use Rattle.bd_typer.specs.Faults.{GivesIn};
+ghost use Rattle.bd_typer.specs.Given.{IsInvFile, IsMachineFile};
 ghost use Rattle.bd_typer.specs.Joined.{assembled, declared, entry_place, joined, machine_of, start, typed_inv, typed_machine};
 ghost use Rattle.bd_typer.specs.inner.After.{after_declarations, after_inv, after_machines, after_pipe};
 ghost use Rattle.bd_typer.specs.inner.Held.{inv_view, machine_view, meanings, meanings_within, typed_view};
@@ -346,7 +349,8 @@ fn joined(alloc: Global, pipe: &Ast, spec: &Ast, inv: Option<&InvAst>) -> Result
     }
 }
 
-/// The design that the forms of a pipeline, a specification and an invariant denote, or their first fault.
+/// The design that the forms of a pipeline, a specification and an invariant denote, or their first fault. The forms
+/// are such as `read_machine` and `read_invariant` give of trees within the limits.
 ///
 /// The passes follow each other, and each goes over the pipeline, the specification and the invariant. Declarations:
 /// `E07` at a name that is declared before, `E12` at a latch or memory without a next or at a second next, `E13` at a
@@ -361,11 +365,12 @@ pub fn join(
     spec: &Ast,
     inv: Option<&InvAst>,
 ) -> Result<Design, TypeFault>
-    requires pipe { AreLimited (ast_view pipe.now).items }
-    requires spec { AreLimited (ast_view spec.now).items }
-    requires inv { IfSome inv (λ inv. IsLimitedInvAst (invariant_view inv.now)) }
+    requires pipe { IsMachineFile Pipeline (ast_view pipe.now) }
+    requires spec { IsMachineFile Specification (ast_view spec.now) }
+    requires inv { IfSome inv (λ inv. IsInvFile (invariant_view inv.now)) }
     ensures exact { GivesIn design_view result (joined (ast_view pipe.now) (ast_view spec.now)
         (option_map (λ inv. invariant_view inv.now) inv.entry)) }
+    ensures lawful { IfOk result (λ d. IsLawful (design_view d)) }
 {
     joined(alloc, pipe, spec, inv)
 }

@@ -1,4 +1,4 @@
-//! What holds of all texts: laws that are proved, and have no code.
+//! What holds of all texts: laws that are proved, and have no code. Three texts denote exactly one thing.
 
 ghost use Rattle.std.specs.Prelude.{◌≡◌, ℕ, List, Option, Result};
 ghost use Rattle.bd_model.specs.DesignView.{DesignView};
@@ -9,4 +9,10 @@ ghost use Rattle.bd_typer.specs.Faults.{FileFault};
 pub fn denotes_once()
     ensures { (pipe spec : List ℕ) (inv : Option (List ℕ)) (r q : Result DesignView FileFault) →
         Denotes pipe spec inv r → Denotes pipe spec inv q → r ≡ q }
+{}
+
+/// Three texts denote something: a design, or a first fault.
+pub fn some_result()
+    ensures { (pipe spec : List ℕ) (inv : Option (List ℕ)) →
+        (r : Result DesignView FileFault) × Denotes pipe spec inv r }
 {}

@@ -8,6 +8,7 @@ use crate::{DesignFault, Text, design_of};
 use bd_model::Design;
 use bd_text::Code;
 use designs::{DENOTED, Denoted};
+use draft::{DesignDraft, is_design};
 use faults::{
     At, BACK, EMPTY, FILE, FRONT, INSIDE, INV, INV_IN_FILE, NOTHING, PIPE, ROWS, Row, SPEC,
     SPEC_IN_FILE,
@@ -47,6 +48,11 @@ fn fault(read: &Result<Design, DesignFault>) -> Option<DesignFault> {
     }
 }
 
+/// The first fault of texts, if they have one.
+fn first_fault(alloc: Global, pipe: &[u8], spec: &[u8], inv: Option<&[u8]>) -> Option<DesignFault> {
+    fault(&read(alloc, pipe, spec, inv))
+}
+
 fn bad(file: Text, offset: usize, code: Code) -> Option<DesignFault> {
     Some(DesignFault::Bad { file, offset, code })
 }
@@ -54,7 +60,7 @@ fn bad(file: Text, offset: usize, code: Code) -> Option<DesignFault> {
 #[test]
 fn finds_faults_across_files(rt: HostRuntime) {
     for Row(pipe, spec, inv, file, offset, code) in &ROWS {
-        let got = fault(&read(rt.alloc(), *pipe, *spec, *inv));
+        let got = first_fault(rt.alloc(), *pipe, *spec, *inv);
         assert_eq!(rt; got, bad(*file, *offset, *code));
     }
 }
@@ -62,7 +68,7 @@ fn finds_faults_across_files(rt: HostRuntime) {
 #[test]
 fn finds_faults_of_pipelines(rt: HostRuntime) {
     for At(text, offset, code) in &PIPE {
-        let got = fault(&read(rt.alloc(), *text, EMPTY, None));
+        let got = first_fault(rt.alloc(), *text, EMPTY, None);
         assert_eq!(rt; got, bad(Text::Pipe, *offset, *code));
     }
 }
@@ -70,11 +76,11 @@ fn finds_faults_of_pipelines(rt: HostRuntime) {
 #[test]
 fn finds_faults_of_specifications(rt: HostRuntime) {
     for At(text, offset, code) in &SPEC {
-        let got = fault(&read(rt.alloc(), NOTHING, *text, None));
+        let got = first_fault(rt.alloc(), NOTHING, *text, None);
         assert_eq!(rt; got, bad(Text::Spec, *offset, *code));
     }
     for At(text, offset, code) in &SPEC_IN_FILE {
-        let got = fault(&read(rt.alloc(), FILE, *text, None));
+        let got = first_fault(rt.alloc(), FILE, *text, None);
         assert_eq!(rt; got, bad(Text::Spec, *offset, *code));
     }
 }
@@ -82,11 +88,11 @@ fn finds_faults_of_specifications(rt: HostRuntime) {
 #[test]
 fn finds_faults_of_invariants(rt: HostRuntime) {
     for At(text, offset, code) in &INV {
-        let got = fault(&read(rt.alloc(), NOTHING, EMPTY, Some(*text)));
+        let got = first_fault(rt.alloc(), NOTHING, EMPTY, Some(*text));
         assert_eq!(rt; got, bad(Text::Inv, *offset, *code));
     }
     for At(text, offset, code) in &INV_IN_FILE {
-        let got = fault(&read(rt.alloc(), FILE, EMPTY, Some(*text)));
+        let got = first_fault(rt.alloc(), FILE, EMPTY, Some(*text));
         assert_eq!(rt; got, bad(Text::Inv, *offset, *code));
     }
 }
@@ -104,7 +110,7 @@ fn inside(alloc: Global, items: &[u8]) -> Result<Vec<u8>, AllocError> {
 fn finds_faults_of_expressions(rt: HostRuntime) -> Result<(), Fail> {
     for At(items, offset, code) in &INSIDE {
         let text = inside(rt.alloc(), *items)?;
-        let got = fault(&read(rt.alloc(), &text, EMPTY, None));
+        let got = first_fault(rt.alloc(), &text, EMPTY, None);
         assert_eq!(rt;
             got,
             bad(
@@ -117,19 +123,16 @@ fn finds_faults_of_expressions(rt: HostRuntime) -> Result<(), Fail> {
     Ok(())
 }
 
-/// Whether the design that was read is the one written out.
-fn is_design(read: &Result<Design, DesignFault>, want: &Result<Design, AllocError>) -> bool {
-    match (read, want) {
-        (Ok(read), Ok(want)) => read == want,
-        _ => false,
+/// Whether the design that was read is the one written down.
+fn is_read(read: &Result<Design, DesignFault>, draft: &DesignDraft) -> bool {
+    match read {
+        Ok(design) => is_design(design, draft),
+        Err(_) => false,
     }
 }
 
 fn denotes(alloc: Global, row: &Denoted) -> bool {
-    is_design(
-        &read(alloc, row.0, row.1, row.2),
-        &draft::design(alloc, row.3),
-    )
+    is_read(&read(alloc, row.0, row.1, row.2), row.3)
 }
 
 #[test]
@@ -199,12 +202,49 @@ static LONG: [Long; 4] = [
 fn reads_long_files(rt: HostRuntime) -> Result<(), Fail> {
     for Long(before, part, copies, after, want) in &LONG {
         let text = around(rt.alloc(), *before, *part, *copies, *after)?;
-        let got = fault(&read(rt.alloc(), &text, EMPTY, None));
+        let got = first_fault(rt.alloc(), &text, EMPTY, None);
         let want = match want {
             Some((offset, code)) => bad(Text::Pipe, *offset, *code),
             None => None,
         };
         assert_eq!(rt; got, want);
     }
+    Ok(())
+}
+
+/// The last digit of a number.
+fn digit(number: u32) -> u8 {
+    b'0' + (number % 10) as u8
+}
+
+/// The last five digits of a number.
+fn digits(number: u32) -> [u8; 5] {
+    [
+        digit(number / 10000),
+        digit(number / 1000),
+        digit(number / 100),
+        digit(number / 10),
+        digit(number),
+    ]
+}
+
+/// A pipeline with so many lets behind its first, each of which is the one before it.
+fn chain(alloc: Global, lets: u32) -> Result<Vec<u8>, AllocError> {
+    let mut text = Vec::from_slice(alloc, b"(pipeline (let v00000 bool true)")?;
+    for before in 0..lets {
+        text.extend_from_slice(b" (let v")?;
+        text.extend_from_slice(&digits(before + 1))?;
+        text.extend_from_slice(b" bool v")?;
+        text.extend_from_slice(&digits(before))?;
+        text.push(b')')?;
+    }
+    text.extend_from_slice(b" (flush 0) (steps 0))")?;
+    Ok(text)
+}
+
+#[test]
+fn reads_long_chains(rt: HostRuntime) -> Result<(), Fail> {
+    let text = chain(rt.alloc(), 20000)?;
+    assert_eq!(rt; first_fault(rt.alloc(), &text, EMPTY, None), None);
     Ok(())
 }

@@ -167,7 +167,8 @@ impl<'a> Typed<'a> {
     ) -> Result<(), FormFault>
         requires { length self.old.locals < 4294967296 }
         ensures { Gives (λ _. typed_view outer.entry self.new) result
-            (typed_let inputs (typed_view outer.entry self.old) name.now sort (expression_of value.now)) }
+            (typed_let inputs (typed_view outer.entry self.old) name.now sort
+            (expression_of value.now)) }
     {
         let value = expression(alloc, self.lookup(outer), inputs, sort, value)?;
         self.keep(name, sort, value)?;

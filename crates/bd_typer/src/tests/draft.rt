@@ -1,9 +1,5 @@
-//! Designs written down as data, and the making of them.
-use bd_model::{
-    Design, Distinct, Entries, Entry, Exact, Exacts, Expr, Exprs, Local, Locals, Machine, Name,
-    Places, Port, Ports, Sequence, Sort, Symbol, Symbols,
-};
-use std::alloc::{AllocError, Global};
+//! Designs written down as data, and whether a design is one. It is compared by reference, so nothing is made.
+use bd_model::{Design, Entry, Exact, Expr, Local, Machine, Name, Places, Port, Sort, Symbol};
 
 /// An expression.
 #[derive(Clone, Copy)]
@@ -71,139 +67,161 @@ pub const NO_MACHINE: MachineDraft = MachineDraft {
     nexts: &[],
 };
 
+/// Whether an expression is the one written down.
 #[cycle(draft)]
-pub fn expr(alloc: Global, draft: &Draft) -> Result<Expr, AllocError> {
+fn is_expr(expr: &Expr, draft: &Draft) -> bool {
     match draft {
-        Draft::Truth(b) => Ok(Expr::Bool(*b)),
-        Draft::Entry(i) => Ok(Expr::Entry(*i)),
-        Draft::Input(i) => Ok(Expr::Input(*i)),
-        Draft::Local(i) => Ok(Expr::Local(*i)),
-        Draft::Not(a) => Ok(Expr::Not(boxed(alloc, a)?)),
-        Draft::And(parts) => Ok(Expr::And(exprs(alloc, parts)?)),
-        Draft::Or(parts) => Ok(Expr::Or(exprs(alloc, parts)?)),
-        Draft::Implies(a, b) => Ok(Expr::Implies(boxed(alloc, a)?, boxed(alloc, b)?)),
-        Draft::Iff(a, b) => Ok(Expr::Iff(boxed(alloc, a)?, boxed(alloc, b)?)),
-        Draft::Equal(a, b) => Ok(Expr::Equal(boxed(alloc, a)?, boxed(alloc, b)?)),
-        Draft::Ite(p, a, b) => {
-            let p = boxed(alloc, p)?;
-            let a = boxed(alloc, a)?;
-            Ok(Expr::Ite(p, a, boxed(alloc, b)?))
-        }
-        Draft::Read(m, a) => Ok(Expr::Read(boxed(alloc, m)?, boxed(alloc, a)?)),
-        Draft::Write(m, a, d) => {
-            let m = boxed(alloc, m)?;
-            let a = boxed(alloc, a)?;
-            Ok(Expr::Write(m, a, boxed(alloc, d)?))
-        }
-        Draft::Apply(f, args) => Ok(Expr::Apply(*f, exprs(alloc, args)?)),
+        Draft::Truth(b) => matches!(expr, Expr::Bool(c) if c == b),
+        Draft::Entry(i) => matches!(expr, Expr::Entry(j) if j == i),
+        Draft::Input(i) => matches!(expr, Expr::Input(j) if j == i),
+        Draft::Local(i) => matches!(expr, Expr::Local(j) if j == i),
+        Draft::Not(a) => match expr {
+            Expr::Not(x) => is_expr(x, a),
+            _ => false,
+        },
+        Draft::And(drafts) => match expr {
+            Expr::And(parts) => are_exprs(parts.items.as_slice(), drafts),
+            _ => false,
+        },
+        Draft::Or(drafts) => match expr {
+            Expr::Or(parts) => are_exprs(parts.items.as_slice(), drafts),
+            _ => false,
+        },
+        Draft::Implies(a, b) => match expr {
+            Expr::Implies(x, y) => is_expr(x, a) && is_expr(y, b),
+            _ => false,
+        },
+        Draft::Iff(a, b) => match expr {
+            Expr::Iff(x, y) => is_expr(x, a) && is_expr(y, b),
+            _ => false,
+        },
+        Draft::Equal(a, b) => match expr {
+            Expr::Equal(x, y) => is_expr(x, a) && is_expr(y, b),
+            _ => false,
+        },
+        Draft::Ite(p, a, b) => match expr {
+            Expr::Ite(q, x, y) => is_expr(q, p) && is_expr(x, a) && is_expr(y, b),
+            _ => false,
+        },
+        Draft::Read(m, a) => match expr {
+            Expr::Read(n, x) => is_expr(n, m) && is_expr(x, a),
+            _ => false,
+        },
+        Draft::Write(m, a, d) => match expr {
+            Expr::Write(n, x, e) => is_expr(n, m) && is_expr(x, a) && is_expr(e, d),
+            _ => false,
+        },
+        Draft::Apply(f, drafts) => match expr {
+            Expr::Apply(g, args) => g == f && are_exprs(args.items.as_slice(), drafts),
+            _ => false,
+        },
     }
 }
 
 #[cycle(draft)]
-fn boxed(alloc: Global, draft: &Draft) -> Result<Box<Expr>, AllocError> {
-    Ok(Box::new(alloc, expr(alloc, draft)?)?)
-}
-
-#[cycle(draft)]
-fn exprs(alloc: Global, drafts: &[Draft]) -> Result<Exprs, AllocError> {
-    let mut items = Vec::new(alloc);
-    for draft in drafts {
-        items.push(expr(alloc, draft)?)?;
+fn are_exprs(exprs: &[Expr], drafts: &[Draft]) -> bool {
+    let mut rest = drafts;
+    for expr in exprs {
+        let Some((draft, others)) = rest.split_first() else {
+            return false;
+        };
+        if !is_expr(expr, draft) {
+            return false;
+        }
+        rest = others;
     }
-    Ok(Exprs { items })
+    rest.is_empty()
 }
 
-fn name(alloc: Global, text: &str) -> Result<Name, AllocError> {
-    Ok(Sequence::from_vec(text.as_bytes().to_vec(alloc)?))
+fn is_name(name: &Name, text: &str) -> bool {
+    name.as_slice() == text.as_bytes()
 }
 
-fn symbols(alloc: Global, drafts: &[(&str, u32, bool)]) -> Result<Symbols, AllocError> {
-    let mut symbols = Vec::new(alloc);
-    for (text, arity, predicate) in drafts {
-        symbols.push(Symbol {
-            name: name(alloc, text)?,
-            arity: *arity,
-            predicate: *predicate,
-        })?;
+fn are_symbols(symbols: &[Symbol], drafts: &[(&str, u32, bool)]) -> bool {
+    for (symbol, draft) in symbols.iter().zip(drafts) {
+        if !is_name(&symbol.name, draft.0)
+            || symbol.arity != draft.1
+            || symbol.predicate != draft.2
+        {
+            return false;
+        }
     }
-    Ok(Sequence::from_vec(symbols))
+    symbols.len() == drafts.len()
 }
 
-fn entries(alloc: Global, drafts: &[(&str, Sort)]) -> Result<Entries, AllocError> {
-    let mut entries = Vec::new(alloc);
-    for (text, sort) in drafts {
-        entries.push(Entry {
-            name: name(alloc, text)?,
-            sort: *sort,
-        })?;
+fn are_entries(entries: &[Entry], drafts: &[(&str, Sort)]) -> bool {
+    for (entry, draft) in entries.iter().zip(drafts) {
+        if !is_name(&entry.name, draft.0) || entry.sort != draft.1 {
+            return false;
+        }
     }
-    Ok(Sequence::from_vec(entries))
+    entries.len() == drafts.len()
 }
 
-fn ports(alloc: Global, inputs: &[(&str, Sort, Draft)]) -> Result<Ports, AllocError> {
-    let mut ports = Vec::new(alloc);
-    for (text, sort, idle) in inputs {
-        let name = name(alloc, text)?;
-        let idle = expr(alloc, idle)?;
-        ports.push(Port {
-            name,
-            sort: *sort,
-            idle,
-        })?;
+fn are_ports(ports: &[Port], drafts: &[(&str, Sort, Draft)]) -> bool {
+    for (port, draft) in ports.iter().zip(drafts) {
+        if !is_name(&port.name, draft.0) || port.sort != draft.1 || !is_expr(&port.idle, &draft.2) {
+            return false;
+        }
     }
-    Ok(Sequence::from_vec(ports))
+    ports.len() == drafts.len()
 }
 
-fn locals(alloc: Global, drafts: &[(Sort, Draft)]) -> Result<Locals, AllocError> {
-    let mut locals = Vec::new(alloc);
-    for (sort, value) in drafts {
-        locals.push(Local {
-            sort: *sort,
-            value: expr(alloc, value)?,
-        })?;
+fn are_locals(locals: &[Local], drafts: &[(Sort, Draft)]) -> bool {
+    for (local, draft) in locals.iter().zip(drafts) {
+        if local.sort != draft.0 || !is_expr(&local.value, &draft.1) {
+            return false;
+        }
     }
-    Ok(Sequence::from_vec(locals))
+    locals.len() == drafts.len()
 }
 
-fn exacts(alloc: Global, drafts: &[(u32, Draft)]) -> Result<Exacts, AllocError> {
-    let mut exacts = Vec::new(alloc);
-    for (count, when) in drafts {
-        exacts.push(Exact {
-            count: *count,
-            when: expr(alloc, when)?,
-        })?;
+fn are_exacts(exacts: &[Exact], drafts: &[(u32, Draft)]) -> bool {
+    for (exact, draft) in exacts.iter().zip(drafts) {
+        if exact.count != draft.0 || !is_expr(&exact.when, &draft.1) {
+            return false;
+        }
     }
-    Ok(Sequence::from_vec(exacts))
+    exacts.len() == drafts.len()
 }
 
-fn machine(alloc: Global, draft: &MachineDraft) -> Result<Machine, AllocError> {
-    Ok(Machine {
-        entries: entries(alloc, draft.entries)?,
-        ports: ports(alloc, draft.inputs)?,
-        locals: locals(alloc, draft.locals)?,
-        nexts: exprs(alloc, draft.nexts)?,
-    })
-}
-
-fn groups(alloc: Global, drafts: &[&[u32]]) -> Result<Distinct, AllocError> {
-    let mut groups = Vec::new(alloc);
-    for group in drafts {
-        groups.push(Places::from_vec(group.to_vec(alloc)?))?;
+fn are_groups(groups: &[Places], drafts: &[&[u32]]) -> bool {
+    for (group, draft) in groups.iter().zip(drafts) {
+        if group.as_slice() != *draft {
+            return false;
+        }
     }
-    Ok(Sequence::from_vec(groups))
+    groups.len() == drafts.len()
 }
 
-pub fn design(alloc: Global, draft: &DesignDraft) -> Result<Design, AllocError> {
-    Ok(Design {
-        pipe: machine(alloc, &draft.pipe)?,
-        spec: machine(alloc, &draft.spec)?,
-        symbols: symbols(alloc, draft.symbols)?,
-        visible: Sequence::from_vec(draft.visible.to_vec(alloc)?),
-        flush: draft.flush,
-        steps: draft.steps,
-        inv_locals: locals(alloc, draft.inv_locals)?,
-        inv: expr(alloc, &draft.inv)?,
-        exact: exacts(alloc, draft.exact)?,
-        distinct: groups(alloc, draft.distinct)?,
-    })
+fn is_machine(machine: &Machine, draft: &MachineDraft) -> bool {
+    are_entries(machine.entries.as_slice(), draft.entries)
+        && are_ports(machine.ports.as_slice(), draft.inputs)
+        && are_locals(machine.locals.as_slice(), draft.locals)
+        && are_exprs(machine.nexts.items.as_slice(), draft.nexts)
+}
+
+fn is_invariant(design: &Design, draft: &DesignDraft) -> bool {
+    are_locals(design.inv_locals.as_slice(), draft.inv_locals) && is_expr(&design.inv, &draft.inv)
+}
+
+fn has_counts(design: &Design, draft: &DesignDraft) -> bool {
+    design.flush == draft.flush
+        && design.steps == draft.steps
+        && are_exacts(design.exact.as_slice(), draft.exact)
+}
+
+fn has_symbols(design: &Design, draft: &DesignDraft) -> bool {
+    are_symbols(design.symbols.as_slice(), draft.symbols)
+        && are_groups(design.distinct.as_slice(), draft.distinct)
+        && design.visible.as_slice() == draft.visible
+}
+
+/// Whether a design is the one written down.
+pub fn is_design(design: &Design, draft: &DesignDraft) -> bool {
+    is_machine(&design.pipe, &draft.pipe)
+        && is_machine(&design.spec, &draft.spec)
+        && has_symbols(design, draft)
+        && has_counts(design, draft)
+        && is_invariant(design, draft)
 }

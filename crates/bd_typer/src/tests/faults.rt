@@ -33,7 +33,7 @@ pub struct Row(
 );
 
 /// Pipelines, beside an empty specification.
-pub static PIPE: [At; 54] = [
+pub static PIPE: [At; 64] = [
     At(b"(pipeline \x7f)", 10, Code::ByteNotAllowed),
     At(b")", 0, Code::Unbalanced),
     At(b"(pipeline (flush 0) (steps 0)", 29, Code::Unbalanced),
@@ -46,6 +46,16 @@ pub static PIPE: [At; 54] = [
     At(b"(pipeline (latch a byte))", 19, Code::Malformed),
     At(b"(pipeline (latch a))", 10, Code::Malformed),
     At(b"(pipeline (latch not bool))", 17, Code::NotName),
+    At(b"(pipeline (latch true bool))", 17, Code::NotName),
+    At(b"(pipeline (latch false bool))", 17, Code::NotName),
+    At(b"(pipeline (latch and bool))", 17, Code::NotName),
+    At(b"(pipeline (latch or bool))", 17, Code::NotName),
+    At(b"(pipeline (latch implies bool))", 17, Code::NotName),
+    At(b"(pipeline (latch iff bool))", 17, Code::NotName),
+    At(b"(pipeline (latch ite bool))", 17, Code::NotName),
+    At(b"(pipeline (latch read bool))", 17, Code::NotName),
+    At(b"(pipeline (latch write bool))", 17, Code::NotName),
+    At(b"(pipeline (latch let bool))", 17, Code::NotName),
     At(b"(pipeline (next 1 a))", 16, Code::NotName),
     At(b"(pipeline (flush 65))", 17, Code::NotNumber),
     At(b"(pipeline (steps 01))", 17, Code::NotNumber),

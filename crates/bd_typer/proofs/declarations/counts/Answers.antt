@@ -1,10 +1,8 @@
-use Rattle.std.proofs.Common.{map, ap, sym, ◌∙◌}
+use Rattle.std.proofs.Common.{map, sym}
 use Rattle.std.specs.List.{filter_map}
 use Rattle.bd_text.specs.declared.code.Code.TheVariants.{FlushOrSteps}
 use Rattle.bd_syntax.specs.Forms.{item_view}
-use Rattle.bd_typer.specs.Declarations.{count_faults, not_once, flush_offset, steps_offset}
-use Rattle.bd_typer.specs.Faults.{least}
-use Rattle.bd_typer.specs.inner.Located.{fault_at}
+use Rattle.bd_typer.specs.Declarations.{not_once, flush_offset, steps_offset}
 use Rattle.bd_typer.proofs.Firsts.{least-one_code}
 use Rattle.bd_typer.proofs.declarations.counts.Goals as goal
 

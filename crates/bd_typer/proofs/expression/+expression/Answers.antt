@@ -1,12 +1,12 @@
-use Rattle.std.proofs.Common.{◌≡◌, ◌≤◌, ◌+◌, ◌∷◌, [], ◌++◌, length, get_or, map, drop, ap, ◌∙◌, sym, arith, length-append}
-use Rattle.std.proofs.lemmas.List.{map_push, length-map}
+use Rattle.std.proofs.Common.{◌≡◌, ◌≤◌, ◌+◌, ◌∷◌, [], ◌++◌, get_or, map, drop, ap, ◌∙◌, arith}
+use Rattle.std.proofs.lemmas.List.{map_push}
 use Rattle.std.proofs.lemmas.Result.{err_from_is_err_and}
 use Rattle.std.specs.Prelude.{vec_len}
 use Rattle.bd_model.specs.ExprView.{expr_view}
 use Rattle.bd_syntax.specs.Forms.{application, expression_of, expressions_of, expressions_of_all}
 use Rattle.bd_syntax.specs.WellFormed.{expression_nesting, nesting_of_all}
 use Rattle.bd_syntax.proofs.Views.{expression_of-List}
-use Rattle.bd_typer.specs.Typing.{part_sort, typed_parts}
+use Rattle.bd_typer.specs.Typing.{typed_parts}
 use Rattle.bd_typer.specs.inner.Held.{lookup_names}
 use Rattle.bd_typer.proofs.Loops.{goes_on, ends, is_done}
 use Rattle.bd_typer.proofs.Parts.{nesting-part, parts_fail, parts_done, part_fails, part_done, no_more_parts}

@@ -1,4 +1,4 @@
-use Rattle.std.proofs.Common.{◌≡◌, length, map, drop}
+use Rattle.std.proofs.Common.{◌≡◌, map, drop}
 use Rattle.std.specs.Prelude.{vec_len}
 use Rattle.bd_model.specs.ExprView.{expr_view}
 use Rattle.bd_syntax.specs.Forms.{expression_of, expressions_of_all}

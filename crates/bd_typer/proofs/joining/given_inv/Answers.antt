@@ -1,4 +1,4 @@
-use Rattle.std.proofs.Common.{◌≡◌, map, Option, Some}
+use Rattle.std.proofs.Common.{Option, Some}
 use Rattle.bd_typer.specs.declared.names.Outer.{Outer}
 use Rattle.std.proofs.lemmas.Result.{err_from_is_err_and}
 use Rattle.bd_model.specs.ExprView.{expr_view}

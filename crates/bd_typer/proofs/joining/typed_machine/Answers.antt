@@ -1,4 +1,4 @@
-use Rattle.std.proofs.Common.{◌≡◌, length, map, None}
+use Rattle.std.proofs.Common.{map, None}
 use Rattle.std.proofs.lemmas.Result.{err_from_is_err_and}
 use Rattle.bd_syntax.specs.Forms.{item_view}
 use Rattle.bd_typer.specs.inner.Held.{meanings, scope_view, typed_view}

@@ -1,4 +1,4 @@
-use Rattle.std.proofs.Common.{map, length, arith, ap}
+use Rattle.std.proofs.Common.{arith}
 use Rattle.bd_syntax.specs.Forms.{item_view}
 use Rattle.bd_typer.specs.inner.Held.{meanings, scope_view}
 use Rattle.bd_typer.proofs.Steps.{scope_more, scope_counts}

@@ -1,4 +1,4 @@
-use Rattle.std.proofs.Common.{map, length, arith, ap}
+use Rattle.std.proofs.Common.{arith}
 use Rattle.std.proofs.lemmas.List.{length-map}
 use Rattle.bd_model.specs.DesignView.{local_view}
 use Rattle.bd_syntax.specs.Forms.{item_view}
@@ -14,5 +14,5 @@ loop-item-preserved c =
     let n = item_adds c.args.inputs old new (item_view c.item-item.result) c.in_ok-item.ensures in
     record {
       typed = walk_more c.args.inputs old new c.args.items.now c.loop-item.item-index c.item-item.result _ c.loop-item-test.true c.item-item.is c.in_ok-item.ensures c.loop-item.invariant.typed;
-      locals = omega (arith, n.count, length-map c.loop-item.self.locals local_view, length-map c.item.new.self.locals local_view, c.loop-item.invariant.locals);
+      locals = omega (arith, n.locals, length-map c.loop-item.self.locals local_view, length-map c.item.new.self.locals local_view, c.loop-item.invariant.locals);
     }
