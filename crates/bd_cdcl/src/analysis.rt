@@ -16,6 +16,7 @@ ghost use Rattle.bd_watch.specs.Watch.{IsWatching};
 ghost use Rattle.bd_cdcl.specs.inner.Analysis.{AreAssigned, Marks, IsMarkedIn, AreUnmarked};
 ghost use Rattle.bd_cdcl.specs.inner.Analyses.{IsClear, Analyzes, Keeps, Resolves, Analyzed};
 
+use crate::guide::Guide;
 use bd_lrat::Hints;
 use bd_watch::{Code, Watch};
 use std::alloc::{AllocError, Global};
@@ -62,21 +63,6 @@ fn any_marked(marks: &[bool], start: usize, end: usize) -> bool
     false
 }
 
-/// Whether all other literals of a reason are marked or of level 0.
-fn is_implied(marks: &[bool], watch: &Watch, reason: &[Code], place: usize, zero: usize) -> bool
-    requires assigned { AreAssigned watch.now.trail.entries reason.now }
-    requires room { length watch.now.trail.entries ≤ length marks.now }
-{
-    let trail = watch.trail();
-    for &code in reason {
-        let other = trail.place(code);
-        if other != place && other >= zero && !marks[other] {
-            return false;
-        }
-    }
-    true
-}
-
 impl Analysis {
     /// With room for trails of the variables up to `vars`.
     pub(crate) fn new(alloc: Global, vars: u64) -> Result<Analysis, AllocError>
@@ -113,10 +99,34 @@ impl Analysis {
         Ok(())
     }
 
+    /// Whether a marked literal that has a reason is resolved, and not kept.
+    fn is_resolved(
+        &self,
+        watch: &Watch,
+        guide: &mut Guide,
+        start: usize,
+        zero: usize,
+        place: usize,
+    ) -> Result<bool, AllocError>
+        requires watching { IsWatching watch.now }
+        requires within { place ≤ length self.now.marks.items }
+        ensures more { IfOk result (λ resolved. OnTrue resolved
+            (start ≤ place → IsMarkedIn self.now.marks.items start place)) }
+        ensures lone { IfOk result (λ resolved. OnFalse resolved
+            (start ≤ place → AreUnmarked self.now.marks.items start place)) }
+    {
+        let marks = self.marks.as_slice();
+        if place < start {
+            return guide.reach.is_implied(marks, watch, place, zero);
+        }
+        Ok(any_marked(marks, start, place))
+    }
+
     /// Looks at a place of the trail, behind which nothing is marked.
     fn step(
         &mut self,
         watch: &Watch,
+        guide: &mut Guide,
         start: usize,
         zero: usize,
         place: usize,
@@ -134,14 +144,11 @@ impl Analysis {
         }
         let entry = watch.trail().as_slice()[place];
         let negated = entry.code().negated();
+        guide.order.bump(negated);
         let Some(id) = entry.reason() else {
             return self.keep(place, negated);
         };
-        let resolves = if place >= start {
-            any_marked(&self.marks, start, place)
-        } else {
-            is_implied(&self.marks, watch, watch.clause(id), place, zero)
-        };
+        let resolves = self.is_resolved(watch, guide, start, zero, place)?;
         if !resolves {
             return self.keep(place, negated);
         }
@@ -165,6 +172,7 @@ impl Analysis {
     pub(crate) fn analyze(
         &mut self,
         watch: &Watch,
+        guide: &mut Guide,
         start: usize,
         conflict: u64,
     ) -> Result<(), AllocError>
@@ -175,6 +183,7 @@ impl Analysis {
         requires clear { IsClear watch.now.trail.limit self.old }
         ensures { OnOk result (Analyzed watch.now start conflict self.new) }
     {
+        guide.reach.begin();
         self.kept.clear();
         self.ids.clear();
         mark(&mut self.marks, watch, watch.clause(conflict));
@@ -182,7 +191,7 @@ impl Analysis {
         let mut place = watch.trail().as_slice().len();
         while place > 0 {
             place -= 1;
-            self.step(watch, start, zero, place)?;
+            self.step(watch, guide, start, zero, place)?;
         }
         Ok(())
     }

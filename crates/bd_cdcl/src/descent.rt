@@ -14,8 +14,8 @@ ghost use Rattle.bd_cdcl.specs.inner.Analyses.{IsClear};
 ghost use Rattle.bd_cdcl.specs.inner.Descents.{IsBegun, GoesOn, Refutes, IsChoice, Advances, Follows};
 
 use crate::analysis::Analysis;
+use crate::guide::Guide;
 use crate::lesson::{Lesson, learned_from};
-use crate::order::Order;
 use crate::search::hints;
 use crate::solver::Found;
 use bd_cnf::{Clause, Cnf, Lit};
@@ -23,12 +23,12 @@ use bd_lrat::{Line, Log};
 use bd_watch::Watch;
 use std::alloc::{AllocError, Global};
 
-/// Clauses and their trail, an analysis to use again, and what is decided next.
+/// Clauses and their trail, an analysis to use again, and what guides the search.
 #[derive(Drop)]
 pub(crate) struct Descent {
     watch: Watch,
     analysis: Analysis,
-    order: Order,
+    guide: Guide,
     learned: u32,
     /// Whether the trail is to be taken back to level 0.
     restarts: bool,
@@ -40,12 +40,12 @@ impl Descent {
         ensures { IfOk result (IsBegun cnf.now) }
     {
         let analysis = Analysis::new(alloc, cnf.vars())?;
-        let order = Order::new(alloc, cnf.vars())?;
+        let guide = Guide::new(alloc, cnf.vars())?;
         let watch = Watch::load(alloc, cnf)?;
         Ok(Descent {
             watch,
             analysis,
-            order,
+            guide,
             learned: 0,
             restarts: false,
         })
@@ -79,9 +79,17 @@ impl Descent {
         ensures ok { OnOk result (GoesOn self.old self.new log.old log.new) }
         ensures err { OnErr result (log.new ≡ log.old) }
     {
-        let lesson = learned_from(alloc, &self.watch, &mut self.analysis, start, conflict)?;
-        self.order.bump_all(&self.analysis.kept);
-        self.order
+        let lesson = learned_from(
+            alloc,
+            &self.watch,
+            &mut self.analysis,
+            &mut self.guide,
+            start,
+            conflict,
+        )?;
+        self.guide.order.decay();
+        self.guide
+            .order
             .release(&self.watch.trail().as_slice()[lesson.cut..]);
         self.watch.go_back_to(lesson.cut);
         let id = self.watch.len() as u64 + 1;
@@ -95,7 +103,7 @@ impl Descent {
         self.watch.learn(clause.lits(), first, second)?;
         log.push(Line::Add { id, clause, hints })?;
         self.learned += 1;
-        self.restarts = self.learned % 64 == 0;
+        self.restarts = self.guide.restarts.count();
         Ok(())
     }
 
@@ -109,7 +117,7 @@ impl Descent {
         ensures none { IfNone result (AllAssigned self.old.watch.trail) }
     {
         let trail = self.watch.trail();
-        if let Some((var, positive)) = self.order.propose(trail) {
+        if let Some((var, positive)) = self.guide.order.propose(trail) {
             if var > 0 && var < trail.limit() && trail.is_free(var) {
                 return Some(Lit::new(var, positive));
             }
@@ -132,7 +140,9 @@ impl Descent {
         if self.restarts {
             self.restarts = false;
             if let Some(start) = self.watch.trail().start_from(0) {
-                self.order.release(&self.watch.trail().as_slice()[start..]);
+                self.guide
+                    .order
+                    .release(&self.watch.trail().as_slice()[start..]);
                 self.watch.go_back_to(start);
             }
             return true;

@@ -12,6 +12,7 @@ ghost use Rattle.bd_watch.specs.Watch.{IsWatching};
 ghost use Rattle.bd_cdcl.specs.inner.Analyses.{IsClear, IsSecond, IsLesson};
 
 use crate::analysis::Analysis;
+use crate::guide::Guide;
 use bd_cnf::{Clause, Lit};
 use bd_lrat::Hints;
 use bd_watch::{Code, Watch};
@@ -77,6 +78,7 @@ pub(crate) fn learned_from(
     alloc: Global,
     watch: &Watch,
     analysis: &mut Analysis,
+    guide: &mut Guide,
     start: usize,
     conflict: u64,
 ) -> Result<Lesson, AllocError>
@@ -87,7 +89,7 @@ pub(crate) fn learned_from(
     ensures clear { OnOk result (IsClear watch.now.trail.limit analysis.new) }
     ensures lesson { IfOk result (IsLesson watch.now start) }
 {
-    analysis.analyze(watch, start, conflict)?;
+    analysis.analyze(watch, guide, start, conflict)?;
     let kept = analysis.kept.as_slice();
     let clause = clause_of(alloc, kept)?;
     let first = kept[0];

@@ -4,10 +4,13 @@
 mod analysis;
 mod cdcl;
 mod descent;
+mod guide;
 mod lesson;
 mod order;
 mod plain;
 mod propagation;
+mod reach;
+mod restarts;
 mod scripted;
 mod search;
 mod solver;

@@ -15,7 +15,7 @@ pub returns-in-Some-3-clause-law : goal.returns-in-Some-3-clause-law
 returns-in-Some-3-clause-law c =
     let p = c.args.problem.now in
     let d = c.loop-conflict.self in
-    let new : Descent = record { watch = c.propagate.new.self; analysis = d.analysis; order = d.order; learned = d.learned; restarts = d.restarts } in
+    let new : Descent = record { watch = c.propagate.new.self; analysis = d.analysis; guide = d.guide; learned = d.learned; restarts = d.restarts } in
     let propagates = subst (Propagates d.watch c.propagate.new.self) c.in-Some-2.is c.in_ok-conflict.ensures in
     let is = descent_moves p d new c.loop-conflict.log c.loop-conflict.invariant.descending propagates.watching propagates.clauses propagates.limit refl refl in
     descent_ends p new c.follow.new.self c.loop-conflict.log c.follow.new.log c.args.budget c.in-Some-2.conflict c.in_ok-found-in-Some-2.field-0 c.in-Some-3.found is propagates.end c.in_ok-found-in-Some-2.ensures.ok c.in-Some-3.is
@@ -24,7 +24,7 @@ pub loop-conflict-preserved-in_default-2 : goal.loop-conflict-preserved-in_defau
 loop-conflict-preserved-in_default-2 c =
     let p = c.args.problem.now in
     let d = c.loop-conflict.self in
-    let new : Descent = record { watch = c.propagate.new.self; analysis = d.analysis; order = d.order; learned = d.learned; restarts = d.restarts } in
+    let new : Descent = record { watch = c.propagate.new.self; analysis = d.analysis; guide = d.guide; learned = d.learned; restarts = d.restarts } in
     let propagates = subst (Propagates d.watch c.propagate.new.self) c.in-Some-2.is c.in_ok-conflict.ensures in
     let is = descent_moves p d new c.loop-conflict.log c.loop-conflict.invariant.descending propagates.watching propagates.clauses propagates.limit refl refl in
     let so = descent_goes_on p new c.follow.new.self c.loop-conflict.log c.follow.new.log c.args.budget c.in-Some-2.conflict c.in_ok-found-in-Some-2.field-0 is c.in_ok-found-in-Some-2.ensures.ok c.in_default-2.is in
@@ -36,7 +36,7 @@ pub returns-then-not-advance-clause-law : goal.returns-then-not-advance-clause-l
 returns-then-not-advance-clause-law c =
     let p = c.args.problem.now in
     let d = c.loop-conflict.self in
-    let new : Descent = record { watch = c.propagate.new.self; analysis = d.analysis; order = d.order; learned = d.learned; restarts = d.restarts } in
+    let new : Descent = record { watch = c.propagate.new.self; analysis = d.analysis; guide = d.guide; learned = d.learned; restarts = d.restarts } in
     let propagates = subst (Propagates d.watch c.propagate.new.self) c.in-None.is c.in_ok-conflict.ensures in
     let is = descent_moves p d new c.loop-conflict.log c.loop-conflict.invariant.descending propagates.watching propagates.clauses propagates.limit refl refl in
     let a = c.in_ok-assignment-in-None.field-0 in
@@ -48,7 +48,7 @@ pub loop-conflict-preserved : goal.loop-conflict-preserved
 loop-conflict-preserved c =
     let p = c.args.problem.now in
     let d = c.loop-conflict.self in
-    let new : Descent = record { watch = c.propagate.new.self; analysis = d.analysis; order = d.order; learned = d.learned; restarts = d.restarts } in
+    let new : Descent = record { watch = c.propagate.new.self; analysis = d.analysis; guide = d.guide; learned = d.learned; restarts = d.restarts } in
     let propagates = subst (Propagates d.watch c.propagate.new.self) c.in-None.is c.in_ok-conflict.ensures in
     let is = descent_moves p d new c.loop-conflict.log c.loop-conflict.invariant.descending propagates.watching propagates.clauses propagates.limit refl refl in
     let advanced = c.if-not-advance.ensures.advanced in
