@@ -61,6 +61,7 @@ pub record HasVariable (syms : List FlatSym) (order : Order) (classes : List ℕ
   pub same : holder.sym ≡ Function f
   pub row : FlatRow
   pub has : Contains holder.rows row
+  pub first : slice_get holder.rows 0 ≡ Some row
   pub word : x ≡ scalar.Word (decoded_word order classes row.var)
 
 module _ (d : DesignView) (nodes : List Node) (syms : List FlatSym) (order : Order) (atoms : List (Atom × Bool)) (classes : List ℕ) (v : ℕ → Scalar) (s : IsSettled d nodes syms order atoms classes v) where
@@ -115,6 +116,7 @@ module _ (d : DesignView) (nodes : List Node) (syms : List FlatSym) (order : Ord
             same = h.same;
             row = r;
             has = there;
+            first = ap (λ l. slice_get l 0) q;
             word = ap (function_default (length order.vertices) f y) is
                 ∙ default-given (length order.vertices) f y (table_with (map (row_of v nodes) (r ∷ rows))) refl
                 ∙ ap (λ b. scalar_as (if b then sort.Bool else sort.Word) (default_by (arguments v nodes r) (v r.var))) predicate
@@ -151,7 +153,7 @@ module _ (d : DesignView) (nodes : List Node) (syms : List FlatSym) (order : Ord
       (λ q.
       let one = (s.flat.different a.holder b.holder a.row b.row a.listed a.has b.listed b.has q).0 in
       let bad : Function f ≡ Function g = sym a.same ∙ one ∙ b.same in ne (function-number f g bad))
-      (s.apart.apart group p f g pf pg ne a.holder b.holder a.listed b.listed a.same b.same a.row b.row a.has b.has)
+      (s.apart.apart group p f g pf pg ne a.holder b.holder a.listed b.listed a.same b.same a.row b.row a.first b.first)
       (ap scalar_word (sym a.word ∙ e ∙ b.word))
     where
       function-number : (m n : ℕ) → Function m ≡ Function n → m ≡ n

@@ -1,5 +1,5 @@
 -- What a case from values of atoms has to be: one in whose world each symbol has the table of the decoded values.
-use Rattle.std.specs.Prelude.{◌≡◌, ◌≢◌, ◌⊎◌, ◌<◌, ℕ, Bool, false, List, Contains, length}
+use Rattle.std.specs.Prelude.{◌≡◌, ◌≢◌, ◌⊎◌, ◌<◌, ℕ, Bool, false, List, Contains, Some, length, slice_get}
 use Rattle.bd_model.specs.DesignView.{DesignView}
 use Rattle.bd_model.specs.Table.{at}
 use Rattle.bd_model.specs.declared.case.Case.{Case}
@@ -44,11 +44,11 @@ abbrev pub AreToldApart : Order → (ℕ → Bool) → ℕ → ℕ → Type 0
 AreToldApart order value x y =
     ((e : ℕ) × JoinsAt order.edges e x y × (value e ≡ false)) ⊎ ((¬ IsEnd order.edges x) ⊎ (¬ IsEnd order.edges y))
 
--- two constants of one group that both have a variable are told apart
+-- two constants of one group that both have a variable, that of their first application, are told apart
 pub record TellsApart (d : DesignView) (syms : List FlatSym) (order : Order) (value : ℕ → Bool) : Type 0 where
   pub apart : (group : List ℕ) → Contains d.distinct group → (f g : ℕ) → Contains group f → Contains group g → f ≢ g
       → (s t : FlatSym) → Contains syms s → Contains syms t → s.sym ≡ symbol.Function f → t.sym ≡ symbol.Function g
-      → (q r : FlatRow) → Contains s.rows q → Contains t.rows r → AreToldApart order value q.var r.var
+      → (q r : FlatRow) → slice_get s.rows 0 ≡ Some q → slice_get t.rows 0 ≡ Some r → AreToldApart order value q.var r.var
 
 -- in the case's world, with some addresses, each symbol with rows has at all arguments the value of its table
 pub record IsLifted (nodes : List Node) (syms : List FlatSym) (order : Order) (atoms : List (Atom × Bool)) (c : Case) : Type 0 where

@@ -1,1 +1,3 @@
 pub mod Settled
+pub mod Verdict
+pub mod inner

@@ -7,6 +7,8 @@ use std::alloc::AllocError;
 use std::process::Abort;
 use std::test::Fail;
 
+mod verdicts;
+
 type Parts = &'static [(u64, bool)];
 
 static SQUARE: [Parts; 4] = [

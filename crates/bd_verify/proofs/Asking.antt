@@ -1,0 +1,42 @@
+-- The roots of the questions.
+use Rattle.std.proofs.Common.{◌≡◌, ℕ, List, [], Result, Ok, Err, IfOk, sym, subst}
+use Rattle.std.specs.declared.alloc.AllocError.{AllocError}
+use Rattle.bd_model.specs.DesignView.{DesignView}
+use Rattle.bd_model.specs.Cycle.{flushed}
+use Rattle.bd_model.specs.Lawful.{IsLawful}
+use Rattle.bd_model.specs.Conditions.{MeetsInvariant}
+use Rattle.bd_model.specs.declared.design.Sort.TheVariants as sort
+use Rattle.bd_terms.specs.declared.node.Node.{Node}
+use Rattle.bd_terms.specs.Graph.{HasSort}
+use Rattle.bd_goal.specs.Claims.{Claims}
+use Rattle.bd_goal.specs.Formula.{Corresponds, IsOutside}
+use Rattle.bd_goal.specs.Laws.{BreaksSome}
+use Rattle.bd_goal.specs.Symbols.{AppliesKnown, ReachesKnown}
+use Rattle.bd_goal.proofs.Deciding.{breaks_from, breaks_to, decides, meets_from, meets_to}
+use Rattle.bd_goal.proofs.Known.{AppliesKnown-empty}
+use Rattle.bd_verify.specs.declared.verdict.Question.{Question}
+use Rattle.bd_verify.specs.declared.verdict.Question.TheVariants as question
+use Rattle.bd_verify.specs.inner.Kept.{Asks}
+
+-- a graph of no term applies what is known
+pub known-empty : (d : DesignView) (n : ℕ) (old : List Node) → old ≡ [] → AppliesKnown d n old
+known-empty d n old e = subst (AppliesKnown d n) (sym e) (AppliesKnown-empty d n)
+
+module _ (d : DesignView) (lawful : IsLawful d) (asked : Question) (nodes : List Node) where
+  pub asks-breaks : (root n : ℕ) → asked ≡ question.Breaks → HasSort nodes root sort.Bool → ReachesKnown d n nodes root → Claims d (Corresponds d (flushed d)) nodes root → Asks d asked nodes root
+  asks-breaks root n e sorted known claims = subst (λ q. Asks d q nodes root) (sym e) (record {
+    sorted = sorted;
+    decides = λ g. decides d (Corresponds d (flushed d)) (BreaksSome d (flushed d)) lawful (breaks_from d (flushed d)) (breaks_to d (flushed d)) n nodes root g sorted known claims;
+    count = n;
+    known = known;
+  })
+
+  pub asks-meets : (old : List Node) → old ≡ [] → asked ≡ question.Meets → (r : Result ℕ AllocError) → IfOk r (λ root. HasSort nodes root sort.Bool) → IfOk r (λ root. Claims d (IsOutside d) nodes root)
+      → IfOk r (λ root. (n : ℕ) → AppliesKnown d n old → ReachesKnown d n nodes root) → IfOk r (Asks d asked nodes)
+  asks-meets old empty e (Ok root) sorted claims known = subst (λ q. Asks d q nodes root) (sym e) (record {
+    sorted = sorted;
+    decides = λ g. decides d (IsOutside d) (λ c. MeetsInvariant d c.interp c.state) lawful (meets_from d) (meets_to d) 0 nodes root g sorted (known 0 (known-empty d 0 old empty)) claims;
+    count = 0;
+    known = known 0 (known-empty d 0 old empty);
+  })
+  asks-meets old empty e (Err error) sorted claims known = tt

@@ -1,0 +1,139 @@
+-- What a solver's answer says of a question.
+use Rattle.std.proofs.Common.{◌≡◌, ◌↔◌, ℕ, zero, suc, ◌+◌, ◌<◌, ◌==◌, ◌||◌, Bool, true, false, cond, IsTrue, inl, inr, List, [], ◌∷◌, All, Contains, length, get_or, map, slice_get, Some, None, unwrap_or, refl, ap, sym, ◌∙◌, subst, arith, eqb}
+use Rattle.std.specs.List.{list_any}
+use Rattle.std.specs.Map.{lookup}
+use Rattle.std.proofs.lemmas.Bool.{cases_Bool, eq-eqb, eqb-true, false_from_ne_true, or_right, or_left, true≢false}
+use Rattle.std.proofs.lemmas.List.Elements.{All-contains, All-contains_itself, All-weaker}
+use Rattle.std.proofs.lemmas.Option.{same_Some, slice_get-get_or}
+use Rattle.bd_model.specs.DesignView.{DesignView}
+use Rattle.bd_model.specs.Fits.{Fits}
+use Rattle.bd_model.specs.Lawful.{IsLawful}
+use Rattle.bd_model.specs.Value.{scalar_truth, scalar_word}
+use Rattle.bd_model.specs.declared.case.Case.{Case}
+use Rattle.bd_model.specs.declared.design.Sort.TheVariants as sort
+use Rattle.bd_model.specs.declared.table.Scalar.{Scalar}
+use Rattle.bd_terms.specs.declared.node.Node.{Node}
+use Rattle.bd_function.specs.declared.flat.FlatSym.{FlatSym}
+use Rattle.bd_function.specs.Flat.{IsFlat}
+use Rattle.bd_prop.specs.declared.atom.Atom.{Atom}
+use Rattle.bd_prop.specs.declared.atom.Atom.TheVariants as atom
+use Rattle.bd_prop.specs.Values.{is_atom, truth_of}
+use Rattle.bd_prop.proofs.Same.{atom_eq, atom_eq-refl, atom_same}
+use Rattle.bd_prop.proofs.Values.{atom_eq-is}
+use Rattle.bd_cnf.specs.Clause.{Satisfies}
+use Rattle.bd_cnf.specs.Problem.{Problem}
+use Rattle.bd_lrat.specs.declared.line.Line.{Line}
+use Rattle.bd_lrat.specs.Database.{database_of}
+use Rattle.bd_lrat.specs.Log.{IsAcceptedLog, adds_empty}
+use Rattle.bd_lrat.proofs.Soundness.{log_refutes, models_formula}
+use Rattle.bd_cdcl.specs.Law.{IsLaw, ends_empty}
+use Rattle.bd_cdcl.specs.declared.solver.Found.TheVariants as found
+use Rattle.bd_transitive.specs.declared.graph.Edge.{Edge}
+use Rattle.bd_transitive.specs.declared.graph.Order.{Order}
+use Rattle.bd_transitive.specs.Edges.{JoinsAt}
+use Rattle.bd_transitive.specs.Orders.{IsOrder}
+use Rattle.bd_transitive.specs.Triangle.{value_at}
+use Rattle.bd_tseitin.specs.declared.row.AtomVar.{AtomVar}
+use Rattle.bd_tseitin.specs.Rows.{Agree, AreApart, AreRows}
+use Rattle.bd_equality.specs.Edges.{IsEdge}
+use Rattle.bd_equality.specs.Encoding.{AgreesWith, IsVariable}
+use Rattle.bd_lift.specs.Decoded.{AreDecoded, decoded_word, edge_truths}
+use Rattle.bd_lift.specs.Lifted.{IsLifted}
+use Rattle.bd_lift.proofs.Deciding.{words-edge}
+use Rattle.bd_verify.specs.declared.verdict.Question.{Question}
+use Rattle.bd_cdcl.specs.declared.solver.Found.{Found}
+use Rattle.bd_verify.specs.declared.verdict.Work.{Work}
+use Rattle.bd_verify.specs.Verdict.{IsAsked, IsWorkOf, Keeps}
+use Rattle.bd_verify.specs.inner.Edges.{edge_value}
+use Rattle.bd_verify.specs.inner.Kept.{AsksFlat, Formulates, IsAdmitted}
+use Rattle.bd_verify.proofs.Formulated.{StandsIn, stands-in}
+use Rattle.bd_verify.proofs.Lifting.{HasCase, case-exists}
+
+-- a log that ends with the empty clause adds it
+ends-adds : (log : List Line) → IsTrue (ends_empty log) → IsTrue (list_any adds_empty log)
+ends-adds [] h = h
+ends-adds (line ∷ []) h = or_left (adds_empty line) false h
+ends-adds (line ∷ next ∷ log) h = or_right (adds_empty line) (list_any adds_empty (next ∷ log)) (ends-adds (next ∷ log) h)
+
+-- a refuted formula isn't satisfiable
+pub refuted : (p : Problem) (budget : ℕ) (log : List Line) → IsLaw p budget found.Refuted log → (a : ℕ → Bool) → Satisfies a p.clauses → ⊥
+refuted p budget log law a sat = log_refutes log (database_of p) law.accepted (ends-adds log law.answer) a (models_formula a p sat)
+
+-- the values that an assignment gives the atoms of rows
+pub given_values : (ℕ → Bool) → List AtomVar → List (Atom × Bool)
+given_values a [] = []
+given_values a (r ∷ rows) = (r.atom, a r.var) ∷ given_values a rows
+
+is_atom-refl : (q : Atom) → is_atom q q ≡ true
+is_atom-refl q = sym (atom_eq-is q q) ∙ atom_eq-refl q
+
+given-at : (a : ℕ → Bool) (rows : List AtomVar) (k : ℕ) (r : AtomVar) → slice_get rows k ≡ Some r → ((i : ℕ) (s : AtomVar) → slice_get rows i ≡ Some s → s.atom ≡ r.atom → i ≡ k) → truth_of (given_values a rows) r.atom ≡ a r.var
+unfolding given_values
+given-at a [] k r at first = absurd (cc at)
+given-at a (s ∷ rows) zero r at first =
+    let e : s ≡ r = same_Some s r at in
+    ap (λ (x : AtomVar). unwrap_or (cond (is_atom r.atom x.atom) (Some (a x.var)) (lookup (is_atom r.atom) (given_values a rows))) false) e
+    ∙ ap (λ b. unwrap_or (cond b (Some (a r.var)) (lookup (is_atom r.atom) (given_values a rows))) false) (is_atom-refl r.atom)
+given-at a (s ∷ rows) (suc k) r at first =
+    by_test (given-at a rows k r at (λ i t h same. let next : suc i ≡ suc k = first (suc i) t h same in omega (arith, next))) (is_atom r.atom s.atom) refl
+  where
+    by_test : truth_of (given_values a rows) r.atom ≡ a r.var → (b : Bool) → is_atom r.atom s.atom ≡ b → truth_of (given_values a (s ∷ rows)) r.atom ≡ a r.var
+    by_test rest true e =
+        let same : r.atom ≡ s.atom = atom_same r.atom s.atom (atom_eq-is r.atom s.atom ∙ e) in
+        let bad : 0 ≡ suc k = first 0 s refl (sym same) in absurd (omega (arith, bad))
+    by_test rest false e = ap (λ b. unwrap_or (cond b (Some (a s.var)) (lookup (is_atom r.atom) (given_values a rows))) false) e ∙ rest
+
+-- values of the atoms that agree with an assignment
+pub agree-given : (vars : ℕ) (rows : List AtomVar) → AreRows vars rows → (a : ℕ → Bool) → Agree a (truth_of (given_values a rows)) rows
+agree-given vars rows are a k dft lt =
+    let r : AtomVar = get_or rows k dft in
+    given-at a rows k r (slice_get-get_or rows k dft lt) (λ i s h same. are.atoms i k s r h (slice_get-get_or rows k dft lt) same)
+
+bool-from : (b : Bool) (x y : ℕ) → IsTrue b ↔ (x ≡ y) → b ≡ eqb x y
+bool-from true x y h = sym (eq-eqb x y (h.0 refl))
+bool-from false x y h = sym (false_from_ne_true (eqb x y) (λ e. true≢false (sym (h.1 (eqb-true x y e)))))
+
+-- decoded values agree with the atoms at edges between variables
+pub decoded-agree : (nodes : List Node) (order : Order) (atoms : List (Atom × Bool)) (given : List Edge) (v : ℕ → Scalar) → IsOrder order → All (IsEdge nodes None) given
+    → ((edge : Edge) → Contains given edge → Contains order.edges edge) → AreDecoded nodes order atoms v → AgreesWith nodes given (truth_of atoms) v
+decoded-agree nodes order atoms given v is vertices ordered d = record {
+  edges = λ edge p.
+      let s : StandsIn order.edges (truth_of atoms) edge = stands-in order.edges (truth_of atoms) edge (ordered edge p) in
+      let ends : IsEdge nodes None edge = All-contains (IsEdge nodes None) given edge vertices p in
+      let w = words-edge order atoms d.classes is d.are s.at edge.from edge.to s.joins in
+      let from : scalar_word (v edge.from) ≡ decoded_word order d.classes edge.from = ap scalar_word (d.by.words edge.from ends.from.variable) in
+      let to : scalar_word (v edge.to) ≡ decoded_word order d.classes edge.to = ap scalar_word (d.by.words edge.to ends.to.variable) in
+      sym s.is ∙ bool-from (value_at (edge_truths atoms order.edges) s.at) (decoded_word order d.classes edge.from) (decoded_word order d.classes edge.to) w
+      ∙ (λ i. eqb (sym from i) (sym to i));
+  truths = λ x p. sym (ap scalar_truth (d.by.truths x p));
+}
+
+module _ (d : DesignView) (asked : Question) (nodes : List Node) (root : ℕ) (syms : List FlatSym) (order : Order) (formula : Problem) (rows : List AtomVar)
+    (asks : AsksFlat d asked nodes root syms) (f : Formulates d nodes root syms order formula rows) where
+  -- a case that is lifted from admitted values is such
+  pub lifted-asked : (atoms : List (Atom × Bool)) (c : Case) → Fits d c → IsLifted nodes syms order atoms c → IsAdmitted d nodes root syms order f.given (truth_of atoms) → IsAsked asked d c
+  lifted-asked atoms c fits l admitted =
+      asks.to_case order atoms c fits l (admitted.refutes l.values (decoded-agree nodes order atoms f.given l.values f.is_order f.vertices f.ordered l.decoded))
+
+  pub case-from : IsLawful d → IsFlat nodes root syms → AreRows formula.vars rows → (a : ℕ → Bool) → Satisfies a formula.clauses → (c : Case) × Fits d c × IsAsked asked d c
+  case-from lawful flat are a sat =
+      let atoms : List (Atom × Bool) = given_values a rows in
+      let admitted = f.down a (truth_of atoms) sat (agree-given formula.vars rows are a) in
+      let h : HasCase d nodes syms order atoms = case-exists d nodes root syms order atoms lawful asks.graph asks.known flat f.is_order admitted.triangles admitted.constants in
+      (h.case, h.fits, lifted-asked atoms h.case h.fits h.lifted admitted)
+
+  pub from-case : (c : Case) → Fits d c → IsAsked asked d c → (a : ℕ → Bool) × Satisfies a formula.clauses
+  from-case c fits is = let v = asks.from_case c fits is in f.up v.0 v.1 v.2
+
+  pub keeps : IsLawful d → IsFlat nodes root syms → AreRows formula.vars rows → Keeps d (IsAsked asked d) formula
+  keeps lawful flat are = record {
+    decides = (λ s. case-from lawful flat are s.0 s.1, λ c. from-case c.0 c.1 c.2);
+  }
+
+-- the work of a question, where it has the formula and the log
+pub work-of : (d : DesignView) (asked : Question) (budget : ℕ) (answer : Found) (p : Problem) (log : List Line) (w : Work) → w.cnf ≡ p → w.log ≡ log → Keeps d (IsAsked asked d) p → IsLaw p budget answer log
+    → IsWorkOf d asked budget answer w
+work-of d asked budget answer p log w cnf is keeps law = record {
+  keeps = subst (Keeps d (IsAsked asked d)) (sym cnf) keeps;
+  law = subst (λ l. IsLaw w.cnf budget answer l) (sym is) (subst (λ q. IsLaw q budget answer log) (sym cnf) law);
+}

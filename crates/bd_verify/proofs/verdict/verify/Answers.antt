@@ -1,0 +1,22 @@
+use Rattle.std.proofs.Common.{◌≡◌, Ok, Some, IfOk, None, subst}
+use Rattle.std.proofs.lemmas.Option.{same_Some}
+use Rattle.bd_model.specs.DesignView.{design_view}
+use Rattle.bd_verify.specs.inner.Decided.{IsDecided, IsFound}
+use Rattle.bd_verify.specs.declared.verdict.Question.TheVariants as question
+use Rattle.bd_verify.proofs.Judging.{holds-found, right-found}
+use Rattle.bd_verify.proofs.verdict.verify.Goals as goal
+
+pub returns-then-not-given-clause-correct : goal.returns-then-not-given-clause-correct
+returns-then-not-given-clause-correct g c = λ k work e.
+    right-found (design_view c.args.design.now) c.args.budget None k work c.requires.lawful (subst (λ r. IfOk r (IsFound (design_view c.args.design.now) c.args.budget None)) e c.breaks.ensures)
+
+pub returns-in-Some-clause-correct : goal.returns-in-Some-clause-correct
+returns-in-Some-clause-correct g c = λ k work e.
+    right-found (design_view c.args.design.now) c.args.budget (Some c.in-Some.case) k work c.requires.lawful
+    (subst (λ r. IfOk r (IsFound (design_view c.args.design.now) c.args.budget (Some c.in-Some.case))) e c.breaks-in-Some.ensures)
+
+pub returns-in-Some-clause-holds : goal.returns-in-Some-clause-holds
+returns-in-Some-clause-holds g c = λ k work e.
+    let d = design_view c.args.design.now in
+    let found = subst (IsDecided d question.Meets c.args.budget) c.in-Some.is c.in_ok-work.ensures in
+    holds-found d c.args.budget c.in-Some.case k work found.0 found.1 (subst (λ r. IfOk r (IsFound d c.args.budget (Some c.in-Some.case))) e c.breaks-in-Some.ensures)

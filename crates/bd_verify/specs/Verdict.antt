@@ -1,0 +1,40 @@
+-- What a verdict on a design means, and what stands behind it: a formula that is satisfiable exactly where some case is
+-- such as was asked, and the log of an honest solver's answer over it (Burch and Dill 1994; DIMACS CNF; textual LRAT).
+use Rattle.std.specs.Prelude.{◌↔◌, ℕ, Bool, List, Option}
+use Rattle.bd_model.specs.DesignView.{DesignView}
+use Rattle.bd_model.specs.Fits.{Fits}
+use Rattle.bd_model.specs.Cycle.{flushed}
+use Rattle.bd_model.specs.Conditions.{Breaks, MeetsInvariant}
+use Rattle.bd_model.specs.declared.case.Case.{Case}
+use Rattle.bd_model.specs.declared.case.Condition.{Condition}
+use Rattle.bd_cnf.specs.Clause.{Satisfies}
+use Rattle.bd_cnf.specs.Problem.{Problem}
+use Rattle.bd_cdcl.specs.Law.{IsLaw}
+use Rattle.bd_cdcl.specs.declared.solver.Found.{Found}
+use Rattle.bd_cdcl.specs.declared.solver.Found.TheVariants as found
+use Rattle.bd_verify.specs.declared.verdict.Question.{Question}
+use Rattle.bd_verify.specs.declared.verdict.Question.TheVariants as question
+use Rattle.bd_verify.specs.declared.verdict.Work.{Work}
+use Rattle.bd_verify.specs.declared.verdict.Verdict.{Verdict}
+use Rattle.bd_verify.specs.declared.verdict.Verdict.TheVariants.{Correct, Wrong, Void, Undecided}
+
+-- what a question asks of a case: that it breaks a condition, or that its state meets the invariant
+abbrev pub IsAsked : Question → DesignView → Case → Type 0
+IsAsked question.Breaks d c = (which : Condition) × Breaks d c which
+IsAsked question.Meets d c = MeetsInvariant d c.interp c.state
+
+-- the formula is satisfiable exactly where some fitting case is such
+pub record Keeps (d : DesignView) (such : Case → Type 0) (formula : Problem) : Type 0 where
+  pub decides : ((v : ℕ → Bool) × Satisfies v formula.clauses) ↔ ((c : Case) × Fits d c × such c)
+
+-- the formula of a question, and the log of an honest solver's answer over it
+pub record IsWorkOf (d : DesignView) (asked : Question) (budget : ℕ) (answer : Found) (work : Work) : Type 0 where
+  pub keeps : Keeps d (IsAsked asked d) work.cnf
+  pub law : IsLaw work.cnf budget answer work.log
+
+-- the work of a verdict: a refutation for `correct` and `void`, a model for `wrong`, else the budget is spent
+abbrev pub HasWork : DesignView → ℕ → Verdict → Type 0
+HasWork d budget (Correct c work) = IsWorkOf d question.Breaks budget found.Refuted work
+HasWork d budget (Wrong k c work) = (model : _) × IsWorkOf d question.Breaks budget (found.Model model) work
+HasWork d budget (Void work) = IsWorkOf d question.Meets budget found.Refuted work
+HasWork d budget (Undecided asked work) = IsWorkOf d asked budget found.Spent work

@@ -1,0 +1,69 @@
+-- What leads from a question to its formula, and from an assignment back to a case.
+use Rattle.std.specs.Prelude.{◌≢◌, ℕ, Bool, IsTrue, List, All, Contains, None}
+use Rattle.bd_model.specs.DesignView.{DesignView}
+use Rattle.bd_model.specs.Fits.{Fits}
+use Rattle.bd_model.specs.Value.{scalar_word}
+use Rattle.bd_model.specs.declared.case.Case.{Case}
+use Rattle.bd_model.specs.declared.design.Sort.TheVariants as sort
+use Rattle.bd_model.specs.declared.table.Scalar.{Scalar}
+use Rattle.bd_terms.specs.declared.node.Node.{Node}
+use Rattle.bd_terms.specs.Denotation.{truth}
+use Rattle.bd_terms.specs.Graph.{HasSort, IsGraph}
+use Rattle.bd_function.specs.declared.flat.FlatSym.{FlatSym}
+use Rattle.bd_function.specs.Flat.{under}
+use Rattle.bd_prop.specs.declared.atom.Atom.{Atom}
+use Rattle.bd_cnf.specs.Clause.{Satisfies}
+use Rattle.bd_cnf.specs.Problem.{Problem}
+use Rattle.bd_equality.specs.Edges.{IsApart, IsEdge}
+use Rattle.bd_equality.specs.Encoding.{AgreesWith}
+use Rattle.bd_goal.specs.Claims.{Decides}
+use Rattle.bd_goal.specs.Symbols.{ReachesKnown}
+use Rattle.bd_lift.specs.Lifted.{AreKnown, IsLifted, TellsApart}
+use Rattle.bd_transitive.specs.declared.graph.Edge.{Edge}
+use Rattle.bd_transitive.specs.declared.graph.Order.{Order}
+use Rattle.bd_transitive.specs.Orders.{IsOrder}
+use Rattle.bd_transitive.specs.Triangle.{MeetsTriangles, value_at}
+use Rattle.bd_tseitin.specs.declared.row.AtomVar.{AtomVar}
+use Rattle.bd_tseitin.specs.Rows.{Agree}
+use Rattle.bd_verify.specs.declared.verdict.Question.{Question}
+use Rattle.bd_verify.specs.Verdict.{IsAsked}
+use Rattle.bd_verify.specs.inner.Edges.{edge_values}
+
+-- the root decides whether some fitting case is such as is asked, and reaches symbols of the design and addresses alone
+pub record Asks (d : DesignView) (asked : Question) (nodes : List Node) (root : ℕ) : Type 0 where
+  pub sorted : HasSort nodes root sort.Bool
+  pub decides : IsGraph nodes → Decides d (IsAsked asked d) nodes root
+  pub count : ℕ
+  pub known : ReachesKnown d count nodes root
+
+-- the variables of two constants that are kept apart have different words
+pub record KeepsWordsApart (d : DesignView) (nodes : List Node) (syms : List FlatSym) (v : ℕ → Scalar) : Type 0 where
+  pub differ : (edge : Edge) → IsApart nodes syms d.distinct None edge → scalar_word (v edge.from) ≢ scalar_word (v edge.to)
+
+-- The flat formula decides whether some fitting case is such as is asked. Where a case is, it is false under some values
+-- that keep constants apart; and where it is false under values that a fitting case is lifted from, the case is such.
+pub record AsksFlat (d : DesignView) (asked : Question) (nodes : List Node) (root : ℕ) (syms : List FlatSym) : Type 0 where
+  pub graph : IsGraph nodes
+  pub known : AreKnown d nodes syms
+  pub from_case : (c : Case) → Fits d c → IsAsked asked d c
+      → (v : ℕ → Scalar) × KeepsWordsApart d nodes syms v × (¬ IsTrue (truth (under v) nodes root))
+  pub to_case : (order : Order) (atoms : List (Atom × Bool)) (c : Case) → Fits d c → (l : IsLifted nodes syms order atoms c)
+      → ¬ IsTrue (truth (under l.values) nodes root) → IsAsked asked d c
+
+-- what an assignment that satisfies the formula says of the atoms, with these edges of the order given
+pub record IsAdmitted (d : DesignView) (nodes : List Node) (root : ℕ) (syms : List FlatSym) (order : Order) (given : List Edge) (value : Atom → Bool) :
+    Type 0 where
+  pub triangles : MeetsTriangles order (value_at (edge_values value order.edges))
+  pub constants : TellsApart d syms order (value_at (edge_values value order.edges))
+  pub refutes : (v : ℕ → Scalar) → AgreesWith nodes given value v → ¬ IsTrue (truth (under v) nodes root)
+
+-- The formula is that of the flat one. Values that make this false, and keep constants apart, extend to an assignment
+-- that satisfies it; and such an assignment says of the atoms what a case needs.
+pub record Formulates (d : DesignView) (nodes : List Node) (root : ℕ) (syms : List FlatSym) (order : Order) (formula : Problem) (rows : List AtomVar) :
+    Type 0 where
+  pub is_order : IsOrder order
+  pub given : List Edge
+  pub vertices : All (IsEdge nodes None) given
+  pub ordered : (edge : Edge) → Contains given edge → Contains order.edges edge
+  pub up : (v : ℕ → Scalar) → KeepsWordsApart d nodes syms v → ¬ IsTrue (truth (under v) nodes root) → (a : ℕ → Bool) × Satisfies a formula.clauses
+  pub down : (a : ℕ → Bool) (value : Atom → Bool) → Satisfies a formula.clauses → Agree a value rows → IsAdmitted d nodes root syms order given value

@@ -1,0 +1,99 @@
+//! The formula that is kept of a question: satisfiable exactly where some fitting case is such as is asked.
+ghost use Rattle.std.specs.Prelude.{◌≡◌, [], IfOk};
+ghost use Rattle.bd_model.specs.DesignView.{design_view};
+ghost use Rattle.bd_model.specs.Lawful.{IsLawful};
+ghost use Rattle.bd_lift.specs.Lifted.{AreKnown};
+ghost use Rattle.bd_verify.specs.inner.Kept.{Asks, AsksFlat, Formulates};
+ghost use Rattle.bd_verify.specs.inner.Reduced.{IsFlatOf, IsFormulaOf};
+
+use crate::edges::with_edges;
+use crate::verdict::Question;
+use bd_equality::encode;
+use bd_function::{Flat, flatten};
+use bd_goal::{goal, meets};
+use bd_memory::forward;
+use bd_model::Design;
+use bd_terms::{Graph, Id};
+use bd_transitive::{Order, order, triangles};
+use bd_tseitin::{Formula, clauses};
+use std::alloc::{AllocError, Global};
+
+/// A formula, and what leads from its assignments back to a case.
+#[derive(Drop)]
+pub(crate) struct Reduction {
+    pub flat: Flat,
+    pub order: Order,
+    pub formula: Formula,
+}
+
+/// The formula of a question.
+pub(crate) fn reduced(
+    alloc: Global,
+    design: &Design,
+    asked: Question,
+) -> Result<Reduction, AllocError>
+    requires { IsLawful (design_view design.now) }
+    ensures flat { IfOk result (IsFlatOf (design_view design.now) asked) }
+    ensures formula { IfOk result (IsFormulaOf (design_view design.now)) }
+{
+    let flat = flat_of(alloc, design, asked)?;
+    let (order, formula) = formula_of(alloc, design, &flat)?;
+    Ok(Reduction {
+        flat,
+        order,
+        formula,
+    })
+}
+
+/// The formula of a flat one.
+fn formula_of(alloc: Global, design: &Design, flat: &Flat) -> Result<(Order, Formula), AllocError>
+    requires lawful { IsLawful (design_view design.now) }
+    requires known { AreKnown (design_view design.now) flat.now.graph flat.now.syms }
+    ensures { IfOk result (λ r.
+        Formulates (design_view design.now) flat.now.graph flat.now.root flat.now.syms r.0
+        r.1.cnf r.1.atoms) }
+{
+    let encoded = encode(alloc, flat, &design.distinct, None)?;
+    let mut prop = encoded.prop;
+    let denied = prop.mk_not(encoded.root)?;
+    let formula = clauses(alloc, &prop, denied)?;
+    let order = order(alloc, &encoded.edges)?;
+    let triangles = triangles(alloc, &order)?;
+    let apart = encoded.apart.as_slice();
+    let formula = with_edges(alloc, formula, &order, triangles.as_slice(), apart)?;
+    Ok((order, formula))
+}
+
+/// The question without memories and functions.
+fn flat_of(alloc: Global, design: &Design, asked: Question) -> Result<Flat, AllocError>
+    requires { IsLawful (design_view design.now) }
+    ensures { IfOk result (λ flat.
+        AsksFlat (design_view design.now) asked flat.graph flat.root flat.syms) }
+{
+    let mut graph = Graph::new(alloc);
+    let root = root_of(alloc, &mut graph, design, asked)?;
+    let (plain, root) = forward(alloc, &graph, root)?;
+    let flat = flatten(alloc, &plain, root)?;
+    prove!(flat.root.index() < flat.graph.len());
+    Ok(flat)
+}
+
+/// The term of the question.
+fn root_of(
+    alloc: Global,
+    graph: &mut Graph,
+    design: &Design,
+    asked: Question,
+) -> Result<Id, AllocError>
+    requires lawful { IsLawful (design_view design.now) }
+    requires empty { graph.old ≡ [] }
+    ensures { IfOk result (Asks (design_view design.now) asked graph.new) }
+{
+    match asked {
+        Question::Breaks => {
+            let goal = goal(alloc, graph, design)?;
+            Ok(goal.root)
+        }
+        Question::Meets => meets(alloc, graph, design),
+    }
+}

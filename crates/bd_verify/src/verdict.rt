@@ -1,0 +1,119 @@
+//! The verdict on a design.
+ghost use Rattle.std.specs.Prelude.{◌≡◌, true, is_some, Option, Ok, Some, IfOk, IfSome};
+ghost use Rattle.bd_model.specs.DesignView.{design_view};
+ghost use Rattle.bd_model.specs.Fits.{Fits};
+ghost use Rattle.bd_model.specs.Conditions.{IsJudged, MeetsInvariant, SomeCaseMeetsInvariant};
+ghost use Rattle.bd_model.specs.Lawful.{IsLawful};
+ghost use Rattle.bd_model.specs.Right.{IsRight};
+ghost use Rattle.bd_verify.specs.Verdict.{HasWork};
+ghost use Rattle.bd_verify.specs.inner.Decided.{IsFound};
+
+use crate::deciding::{Decision, decide};
+use bd_cdcl::HonestSolver;
+use bd_cnf::Cnf;
+use bd_lrat::Log;
+use bd_model::{Case, Condition, Design, Judged};
+use bd_sim::judge;
+use std::alloc::{AllocError, Global};
+
+/// What is asked of a design's cases.
+#[derive(Clone, Copy, Debug, PartialEq, Eq)]
+pub enum Question {
+    /// Whether one breaks a condition.
+    Breaks,
+    /// Whether one meets the invariant.
+    Meets,
+}
+
+/// The formula of a question, and the log of the solver's answer over it: with the clauses from 1 in order, each line
+/// is accepted on what stands before it.
+#[derive(Debug, Drop)]
+pub struct Work {
+    pub cnf: Cnf,
+    pub log: Log,
+}
+
+/// What a pipeline is found to be. Each verdict has the work of the question that gave it.
+#[derive(Debug, Drop)]
+pub enum Verdict {
+    /// It obeys its specification. Where an invariant was given: a case that meets it and breaks nothing.
+    Correct(Option<Case>, Work),
+    /// A case breaks the condition.
+    Wrong(Condition, Case, Work),
+    /// No case meets the invariant.
+    Void(Work),
+    /// The budget was spent on the question.
+    Undecided(Question, Work),
+}
+
+/// The verdict on a lawful design by any honest solver, which may add `budget` clauses for each question. Where an
+/// invariant is given, it is asked first whether any case meets it (Burch and Dill 1994).
+pub fn verify<S: HonestSolver>(
+    alloc: Global,
+    solver: &mut S,
+    design: &Design,
+    budget: u32,
+    given: bool,
+) -> Result<Verdict, AllocError>
+    requires lawful { IsLawful (design_view design.now) }
+    ensures correct { (c : Option Case) (work : Work) → result ≡ Ok (Verdict.Correct c work) →
+        IsRight (design_view design.now) }
+    ensures carried { (c : Option Case) (work : Work) → result ≡ Ok (Verdict.Correct c work) →
+        is_some c ≡ given }
+    ensures holds { (c : Case) (work : Work) → result ≡ Ok (Verdict.Correct (Some c) work) →
+        Fits (design_view design.now) c × IsJudged (design_view design.now) c Judged.Holds }
+    ensures wrong { (k : Condition) (c : Case) (work : Work) →
+        result ≡ Ok (Verdict.Wrong k c work) →
+        Fits (design_view design.now) c × IsJudged (design_view design.now) c (Judged.Broken k) }
+    ensures void { (work : Work) → result ≡ Ok (Verdict.Void work) →
+        ¬ SomeCaseMeetsInvariant (design_view design.now) }
+    ensures void_given { (work : Work) → result ≡ Ok (Verdict.Void work) → given ≡ true }
+    ensures meets_given { (work : Work) → result ≡ Ok (Verdict.Undecided Question.Meets work) →
+        given ≡ true }
+    ensures met { (work : Work) → result ≡ Ok (Verdict.Undecided Question.Breaks work) →
+        given ≡ true → SomeCaseMeetsInvariant (design_view design.now) }
+    ensures work { IfOk result (HasWork (design_view design.now) budget) }
+{
+    if !given {
+        return breaks(alloc, solver, design, budget, None);
+    }
+    match decide(alloc, solver, design, budget, Question::Meets)? {
+        Decision::None(work) => Ok(Verdict::Void(work)),
+        Decision::Some(case, _) => breaks(alloc, solver, design, budget, Some(case)),
+        Decision::Spent(work) => Ok(Verdict::Undecided(Question::Meets, work)),
+    }
+}
+
+/// Whether a case breaks a condition, where this one, if any, meets the invariant.
+fn breaks<S: HonestSolver>(
+    alloc: Global,
+    solver: &mut S,
+    design: &Design,
+    budget: u32,
+    met: Option<Case>,
+) -> Result<Verdict, AllocError>
+    requires lawful { IsLawful (design_view design.now) }
+    requires met { IfSome met (λ c. Fits (design_view design.now) c
+        × MeetsInvariant (design_view design.now) c.interp c.state) }
+    ensures { IfOk result (IsFound (design_view design.now) budget met) }
+{
+    match decide(alloc, solver, design, budget, Question::Breaks)? {
+        Decision::None(work) => Ok(Verdict::Correct(met, work)),
+        Decision::Some(case, work) => {
+            let condition = broken(judge(alloc, design, &case)?);
+            Ok(Verdict::Wrong(condition, case, work))
+        }
+        Decision::Spent(work) => Ok(Verdict::Undecided(Question::Breaks, work)),
+    }
+}
+
+/// The condition that is judged to be broken.
+fn broken(judged: Judged) -> Condition
+    requires { (which : Condition) × (judged ≡ Judged.Broken which) }
+    ensures { judged ≡ Judged.Broken result }
+{
+    match judged {
+        Judged::Broken(condition) => condition,
+        _ => unreachable!(),
+    }
+}
