@@ -1,0 +1,12 @@
+pub mod Walking
+pub mod Passing
+pub mod Inserting
+pub mod Applying
+pub mod Marking
+pub mod Reading
+pub mod Spreading
+pub mod Settling
+pub mod Existing
+pub mod Deciding
+pub mod Rowing
+pub mod Valuing

@@ -1,0 +1,95 @@
+-- Variables of rows, a row and a symbol at a time.
+use Rattle.std.proofs.Common.{◌≡◌, ◌⊎◌, ◌↔◌, inl, inr, ℕ, suc, ◌+◌, ◌<◌, ◌==◌, Bool, true, false, if◌then◌else◌, List, [], ◌∷◌, ◌++◌, length, take, get_or, Contains, refl, ap, sym, ◌∙◌, subst, arith, true≢false, eqb-true, eq-eqb}
+use Rattle.std.proofs.lemmas.List.{take_more}
+use Rattle.std.proofs.lemmas.List.Elements.{Contains-append_left, Contains-push, Contains-push_cases}
+use Rattle.bd_terms.specs.declared.node.Sym.{Sym}
+use Rattle.bd_function.specs.declared.flat.FlatRow.{FlatRow}
+use Rattle.bd_function.specs.declared.flat.FlatSym.{FlatSym}
+use Rattle.bd_function.specs.Values.{is_marked}
+use Rattle.bd_diverse.specs.Marked.{HasMarkedRow, HasVariable}
+use Rattle.bd_diverse.proofs.Walking.{Contains-none}
+
+module _ (old new : List ℕ) (var : ℕ) (is : (v : ℕ) → is_marked new v ≡ (if var == v then true else is_marked old v)) where
+  came_by : (x : ℕ) (b : Bool) → (var == x) ≡ b → is_marked new x ≡ true → (is_marked old x ≡ true) ⊎ (var ≡ x)
+  came_by x true e h = inr (eqb-true var x e)
+  came_by x false e h = inl (sym (is x ∙ ap (λ t. if t then true else is_marked old x) e) ∙ h)
+
+  stays_by : (x : ℕ) (b : Bool) → (var == x) ≡ b → is_marked old x ≡ true → is_marked new x ≡ true
+  stays_by x true e h = is x ∙ ap (λ t. if t then true else is_marked old x) e
+  stays_by x false e h = is x ∙ ap (λ t. if t then true else is_marked old x) e ∙ h
+
+  -- a variable more
+  pub inserted_variable : (x : ℕ) → (is_marked new x ≡ true) ↔ ((is_marked old x ≡ true) ⊎ (var ≡ x))
+  inserted_variable x = (
+    came_by x (var == x) refl,
+    λ h. elim h [
+      | inl q ↦ stays_by x (var == x) refl q
+      | inr e ↦ is x ∙ ap (λ t. if t then true else is_marked old x) (eq-eqb var x e)
+    ],
+  )
+
+-- the set has these variables beside the old ones
+abbrev pub Marks : List ℕ → List ℕ → (ℕ → Type 0) → Type 0
+Marks old new P = (x : ℕ) → (is_marked new x ≡ true) ↔ ((is_marked old x ≡ true) ⊎ P x)
+
+pub Marks-none : (old : List ℕ) → Marks old old (HasVariable [])
+Marks-none old x = (λ h. inl h, λ h. elim h [ inl q ↦ q | inr v ↦ absurd (Contains-none v.row v.has) ])
+
+pub Marks-row : (old now new : List ℕ) (rows : List FlatRow) (i : ℕ) (d : FlatRow) → i < length rows → Marks old now (HasVariable (take i rows))
+    → ((v : ℕ) → is_marked new v ≡ (if (get_or rows i d).var == v then true else is_marked now v)) → Marks old new (HasVariable (take (i + 1) rows))
+Marks-row old now new rows i d inside h is x =
+    let r = get_or rows i d in
+    let more : take (i + 1) rows ≡ take i rows ++ r ∷ [] = take_more rows i d inside in
+    let one = inserted_variable now new r.var is x in (
+      λ k. elim (one.0 k) [
+        | inl q ↦ elim ((h x).0 q) [
+          | inl p ↦ inl p
+          | inr v ↦ inr (record { row = v.row; has = subst (λ l. Contains l v.row) (sym more) (Contains-append_left (take i rows) (r ∷ []) v.row v.has); same = v.same })
+        ]
+        | inr e ↦ inr (record { row = r; has = subst (λ l. Contains l r) (sym more) (Contains-push (take i rows) r); same = e })
+      ],
+      λ k. one.1 (elim k [
+        | inl p ↦ inl ((h x).1 (inl p))
+        | inr v ↦ elim (Contains-push_cases (take i rows) r v.row (subst (λ l. Contains l v.row) more v.has)) [
+          | inl q ↦ inl ((h x).1 (inr (record { row = v.row; has = q; same = v.same })))
+          | inr e ↦ inr (ap (λ (y : FlatRow). y.var) e ∙ v.same)
+        ]
+      ]),
+    )
+
+-- the set has the variables of the rows of positive symbols so far
+abbrev pub MarksSymbols : List Sym → List FlatSym → List ℕ → Type 0
+MarksSymbols positive syms marked = (x : ℕ) → (is_marked marked x ≡ true) ↔ HasMarkedRow positive syms x
+
+pub MarksSymbols-none : (positive : List Sym) → MarksSymbols positive [] []
+MarksSymbols-none positive x = (λ h. absurd (true≢false (sym h)), λ h. absurd (Contains-none h.holder h.listed))
+
+module _ (positive : List Sym) (now : List ℕ) (syms : List FlatSym) (i : ℕ) (d : FlatSym) (inside : i < length syms) (h : MarksSymbols positive (take i syms) now) where
+  more : take (i + 1) syms ≡ take i syms ++ get_or syms i d ∷ []
+  more = take_more syms i d inside
+
+  earlier : (x : ℕ) → HasMarkedRow positive (take i syms) x → HasMarkedRow positive (take (i + 1) syms) x
+  earlier x v = record { holder = v.holder; listed = subst (λ l. Contains l v.holder) (sym more) (Contains-append_left (take i syms) (get_or syms i d ∷ []) v.holder v.listed); among = v.among; row = v.row }
+
+  -- a symbol that isn't positive
+  pub MarksSymbols-passed : (Contains positive (get_or syms i d).sym → ⊥) → MarksSymbols positive (take (i + 1) syms) now
+  MarksSymbols-passed none x = (
+    λ k. earlier x ((h x).0 k),
+    λ v. elim (Contains-push_cases (take i syms) (get_or syms i d) v.holder (subst (λ l. Contains l v.holder) more v.listed)) [
+      | inl q ↦ (h x).1 (record { holder = v.holder; listed = q; among = v.among; row = v.row })
+      | inr e ↦ absurd (none (subst (λ (y : FlatSym). Contains positive y.sym) (sym e) v.among))
+    ],
+  )
+
+  -- one that is
+  pub MarksSymbols-more : (new : List ℕ) → Contains positive (get_or syms i d).sym → Marks now new (HasVariable (get_or syms i d).rows) → MarksSymbols positive (take (i + 1) syms) new
+  MarksSymbols-more new among adds x = (
+    λ k. elim ((adds x).0 k) [
+      | inl q ↦ earlier x ((h x).0 q)
+      | inr v ↦ record { holder = get_or syms i d; listed = subst (λ l. Contains l (get_or syms i d)) (sym more) (Contains-push (take i syms) (get_or syms i d)); among = among; row = v }
+    ],
+    λ v. (adds x).1 (elim (Contains-push_cases (take i syms) (get_or syms i d) v.holder (subst (λ l. Contains l v.holder) more v.listed)) [
+      | inl q ↦ inl ((h x).1 (record { holder = v.holder; listed = q; among = v.among; row = v.row }))
+      | inr e ↦ inr (subst (λ (y : FlatSym). HasVariable y.rows x) (sym e) v.row)
+    ]),
+  )

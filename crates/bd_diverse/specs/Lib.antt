@@ -1,0 +1,5 @@
+pub mod Positive
+pub mod Diverse
+pub mod Marked
+pub mod Laws
+pub mod inner

@@ -1,0 +1,20 @@
+//! Positive equality (Bryant, German and Velev 2001): function symbols whose applications may be taken as different from
+//! all else, and worlds in which they are.
+#![tactic(auto)]
+
+mod adding;
+mod diverse;
+mod finding;
+mod laws;
+mod old;
+mod scalars;
+mod symbols;
+mod ways;
+
+pub use diverse::diversify;
+pub use finding::{marked, positive};
+pub use laws::diverse_decides;
+pub use symbols::Positive;
+
+#[cfg(test)]
+mod tests;
