@@ -1,9 +1,6 @@
-pub mod Splitting
-pub mod OneBitLaws
-pub mod Shapes
 pub mod Reading
-pub mod Depth
-pub mod Verdicts
 pub mod Loading
 pub mod Taking
+pub mod Saving
+pub mod Verdicts
 pub mod Printing

@@ -3,21 +3,19 @@ use Rattle.std.proofs.Common.{◌≡◌, ◌≢◌, suc, ◌+◌, ◌<◌, ◌�
 use Rattle.std.specs.Option.{option_map}
 use Rattle.std.specs.Prelude.{Option, Some, None, Result, Ok, Err, IfSome, IfErr, IsErrAnd}
 use Rattle.bd_files.specs.Devices.{Blame, Held, IsLoaded}
-use Rattle.bd_app.specs.Answer.{Checks, HasReport, IsReplay, IsRun, IsTold, MayHave, Reads, cycles_of, is_not_yet, plain_check}
-use Rattle.bd_app.specs.Files.{AreTexts, BlamesOneOf, File, HoldTexts, HoldsShort, HoldsShortIf, IsShort, IsFirstLong, Texts, case_files, files_of, one_if}
-use Rattle.bd_app.specs.Run.{cycle_text, cycles_text, run_text}
+use Rattle.bd_app.specs.Answer.{IsTold}
+use Rattle.bd_app.specs.Files.{BlamesOneOf, File, HoldSources, HoldsShort, HoldsShortIf, IsShort, IsFirstLong, Sources, case_files, design_files, files_of, one_if}
+use Rattle.bd_app.specs.Run.{cycle_text, cycles_text}
 use Rattle.bd_app.specs.Words.{Question}
 use Rattle.bd_model.specs.DesignView.{DesignView}
-use Rattle.bd_model.specs.declared.case.Case.{Case}
 use Rattle.bd_model.specs.declared.table.Value.{Value}
-use Rattle.bd_text.specs.declared.code.Code.{Code}
 use Rattle.bd_typer.specs.Denotes.{Denotes}
 use Rattle.bd_typer.specs.Faults.{FileFault}
-use Rattle.bd_app.specs.inner.Told.{IsAnswer, IsCaseRefused, IsJudgedTold, IsLoadFault, IsRunTold, IsTextsRun, IsTextsTold}
+use Rattle.bd_app.specs.inner.Told.{AreDesign, IsCaseRefused, IsJudgedTold, IsLoadFault, IsReadFault, IsToldOf, IsToldOfCase}
 use Rattle.bd_typer.specs.declared.fault.Text.{Text}
 use Rattle.bd_typer.specs.declared.fault.Text.TheVariants as text
 use Rattle.bd_app.specs.declared.answer.Ended.{Ended}
-use Rattle.bd_app.specs.declared.answer.Ended.TheVariants.{Correct, Wrong, Replayed, Ran, Unread, Refused, Device, Memory}
+use Rattle.bd_app.specs.declared.answer.Ended.TheVariants.{Refused, Device, Memory, Replayed}
 use Rattle.bd_app.specs.declared.answer.Which.TheVariants as which
 
 -- behind a file that isn't too long
@@ -46,7 +44,7 @@ IfSome-map : {A : Type 0} (P Q : A → Type 0) (o : Option A) → ((x : A) → P
 IfSome-map P Q None f h = tt
 IfSome-map P Q (Some x) f h = f x h
 
-IfSome-both : {A : Type 0} (P Q R : A → Type 0) (o : Option A) → ((x : A) → P x → Q x → R x) → IfSome o P → IfSome o Q → IfSome o R
+pub IfSome-both : {A : Type 0} (P Q R : A → Type 0) (o : Option A) → ((x : A) → P x → Q x → R x) → IfSome o P → IfSome o Q → IfSome o R
 IfSome-both P Q R None f p q = tt
 IfSome-both P Q R (Some x) f p q = f x p q
 
@@ -64,29 +62,9 @@ fault_before held files more (Device which.Load) fault = tt
 fault_before held files more Memory fault = tt
 fault_before held files more _ fault = absurd fault
 
-IfSome-all : {A : Type 0} (P : A → Type 0) (o : Option A) → ((x : A) → P x) → IfSome o P
+pub IfSome-all : {A : Type 0} (P : A → Type 0) (o : Option A) → ((x : A) → P x) → IfSome o P
 IfSome-all P None f = tt
 IfSome-all P (Some x) f = f x
-
--- a load that gave no bytes is an answer to the question that the files are of
-pub fault_told : (held : Option Held) (q : Question) (e : Ended) → IsLoadFault held (files_of q) e → IfSome held (λ h. IsTold h q e)
-fault_told held q (Refused text offset code) fault =
-    IfSome-map _ _ held (λ h first. inl (record { first = first; at_limit = fault.0; too_long = fault.1 })) fault.2
-fault_told held q (Device which.Load) fault = IfSome-all _ held (λ h. tt)
-fault_told held q Memory fault = IfSome-all _ held (λ h. tt)
-fault_told held q _ fault = absurd fault
-
-pub fault_may : (held : Option Held) (files : List File) (q : Question) (e : Ended) → is_not_yet q ≡ false → IsLoadFault held files e → MayHave q e
-fault_may held files q (Refused text offset code) reads fault = reads
-fault_may held files q (Device which.Load) reads fault = reads
-fault_may held files q Memory reads fault = tt
-fault_may held files q _ reads fault = absurd fault
-
-pub fault_silent : (held : Option Held) (files : List File) (e : Ended) → IsLoadFault held files e → ¬ HasReport e
-fault_silent held files (Refused text offset code) fault = λ h. h
-fault_silent held files (Device which.Load) fault = λ h. h
-fault_silent held files Memory fault = λ h. h
-fault_silent held files _ fault = absurd fault
 
 -- ---- what was loaded of a file
 
@@ -116,25 +94,6 @@ loaded_long (Some held) text name bytes loaded many =
     let full = held_bytes 1048576 (held name) bytes loaded in
     record { before = []; name = name; behind = []; order = refl; short = tt; long = (full.0, full.1, many_held 1048576 full.0 bytes full.2 many) }
 
--- an answer about the two texts that were loaded tells of what is held
-pub answer_told : (held : Option Held) (p s : List ℕ) (pipe spec : List ℕ) (e : Ended) → IfSome held (λ h. HoldsShort h p pipe) → IfSome held (λ h. HoldsShort h s spec)
-    → IsAnswer pipe spec e → IfSome held (λ h. IsTold h (plain_check p s) e)
-answer_told None p s pipe spec e loaded also answer = tt
-answer_told (Some held) p s pipe spec e loaded also answer = told e answer where
-  checks : Checks held (plain_check p s) pipe spec
-  checks = record { pipe_name = p; spec_name = s; asked = refl; pipe_held = loaded; spec_held = also }
-
-  told : (e : Ended) → IsAnswer pipe spec e → IsTold held (plain_check p s) e
-  told Correct (d, denotes, right) = (d, (pipe, spec, checks, denotes), right)
-  told (Wrong k c) (d, denotes, fits, judged) = (d, (pipe, spec, checks, denotes), fits, judged)
-  told (Unread text.Pipe) none = (pipe, spec, checks, none)
-  told (Unread text.Spec) (is, none) = (pipe, spec, checks, is, none)
-  told Memory answer = tt
-  told _ answer = absurd answer
-
-pub memory_told : (held : Option Held) (q : Question) → IfSome held (λ h. IsTold h q Memory)
-memory_told held q = IfSome-all _ held (λ h. tt)
-
 pub short_file : (held : Option Held) (t : Text) (name bytes : List ℕ) → IfSome held (λ h. HoldsShort h name bytes) → IfSome held (λ h. IsShort h (t, name))
 short_file held t name bytes loaded = IfSome-map _ _ held (λ h short. (bytes, short)) loaded
 
@@ -143,52 +102,16 @@ pub passed_with : {T E : Type 0} (P : E → Type 0) (r : Result T E) (e : E) →
 passed_with P (Ok x) e h p = absurd h
 passed_with P (Err y) e h p = subst P (sym h) p
 
--- ---- what was read of the texts of a case
-
-module _ (h : Held) (q : Question) (t : Texts) (held : AreTexts h q t) where
-  refused_told : (told : DesignView → List ℕ → Ended → Type 0) (file : Text) (offset : ℕ) (code : Code)
-      → ((d : DesignView) → told d t.case (Refused file offset code) → IsCaseRefused d t.case file offset code)
-      → IsTextsTold told t (Refused file offset code) → IsTold h q (Refused file offset code)
-  refused_told told file offset code of_case is = elim is [
-    | inl fault ↦ inr (inl (record { texts = t; loaded = held; fault = fault }))
-    | inr p ↦ inr (inr (record { is_case = (of_case p.0 p.2).0; texts = t; loaded = held; view = p.0; design = p.1; fault = (of_case p.0 p.2).1 }))
-  ]
-
-  pub judged_told : (e : Ended) → IsTextsTold IsJudgedTold t e → IsTold h q e
-  judged_told (Refused file offset code) is = refused_told IsJudgedTold file offset code (λ d p. p) is
-  judged_told (Replayed j) (d, design, (c, case, judged)) = (d, c, record { texts = t; loaded = held; design = design; case = case }, judged)
-  judged_told Memory is = tt
-  judged_told _ is = absurd is.2
-
-  pub run_told : (e : Ended) → IsTextsTold IsRunTold t e → IsTold h q e
-  run_told (Refused file offset code) is = refused_told IsRunTold file offset code (λ d p. p) is
-  run_told Ran (d, design, (c, case)) = (d, c, record { texts = t; loaded = held; design = design; case = case })
-  run_told Memory is = tt
-  run_told _ is = absurd is.2
-
-  pub run_rest : (report : List ℕ) → IsTextsRun t (cycles_of q) report → (d : DesignView) × (c : Case) × Reads h q d c × (report ≡ run_text d c (cycles_of q))
-  run_rest report (d, design, (c, case, is)) = (d, c, record { texts = t; loaded = held; design = design; case = case }, is)
-
--- the answers of a replay and of a run
-pub judged_may : (q : Question) (t : Texts) (e : Ended) → IsReplay q → is_not_yet q ≡ false → IsTextsTold IsJudgedTold t e → MayHave q e
-judged_may q t (Refused file offset code) replay reads is = reads
-judged_may q t (Replayed j) replay reads is = replay
-judged_may q t Memory replay reads is = tt
-judged_may q t _ replay reads is = absurd is.2
-
-pub run_may : (q : Question) (t : Texts) (e : Ended) → IsRun q → is_not_yet q ≡ false → IsTextsTold IsRunTold t e → MayHave q e
-run_may q t (Refused file offset code) run reads is = reads
-run_may q t Ran run reads is = run
-run_may q t Memory run reads is = tt
-run_may q t _ run reads is = absurd is.2
-
 pub IfSome-weaker : {A : Type 0} (P Q : A → Type 0) (o : Option A) → ((x : A) → P x → Q x) → IfSome o P → IfSome o Q
 IfSome-weaker P Q o f h = IfSome-map P Q o f h
 
-pub all_held : (held : Option Held) (pipe spec case : List ℕ) (inv : Option (List ℕ)) (t : Texts) → IfSome held (λ h. HoldsShort h pipe t.pipe) → IfSome held (λ h. HoldsShort h spec t.spec)
-    → IfSome held (λ h. HoldsShort h case t.case) → IfSome held (λ h. HoldsShortIf h inv t.inv) → IfSome held (λ h. HoldTexts h pipe spec case inv t)
-all_held None pipe spec case inv t a b c d = tt
-all_held (Some h) pipe spec case inv t a b c d = record { pipe_held = a; spec_held = b; case_held = c; inv_held = d }
+pub all_held : (held : Option Held) (pipe spec : List ℕ) (inv : Option (List ℕ)) (s : Sources) → IfSome held (λ h. HoldsShort h pipe s.pipe) → IfSome held (λ h. HoldsShort h spec s.spec)
+    → IfSome held (λ h. HoldsShortIf h inv s.inv) → IfSome held (λ h. HoldSources h pipe spec inv s)
+all_held None pipe spec inv s a b c = tt
+all_held (Some h) pipe spec inv s a b c = record { pipe_held = a; spec_held = b; inv_held = c }
+
+pub blames_third : (blame : Option Blame) (pipe spec : List ℕ) (inv : Option (List ℕ)) → BlamesOneOf blame (one_if text.Inv inv) → BlamesOneOf blame (design_files pipe spec inv)
+blames_third blame pipe spec inv (name, (i, lt, at), is) = (name, (suc (suc i), omega arith, at), is)
 
 pub blames_last : (blame : Option Blame) (pipe spec case : List ℕ) (inv : Option (List ℕ)) → BlamesOneOf blame (one_if text.Inv inv) → BlamesOneOf blame (case_files pipe spec case inv)
 blames_last blame pipe spec case inv (name, (i, lt, at), is) = (name, (suc (suc (suc i)), omega arith, at), is)
@@ -200,17 +123,21 @@ next_state d n states x e text after whole lt at is before =
     ap (λ t. t ++ cycles_text d (n + 1) (drop (n + 1) states)) is ∙ append_assoc text (cycle_text d n x) (cycles_text d (n + 1) (drop (n + 1) states))
     ∙ ap (λ s. text ++ cycles_text d n s) (sym next) ∙ before
 
--- no load and no text fails the output
-pub fault_in : (held : Option Held) (files : List File) (e : Ended) → IsLoadFault held files e → e ≢ Device which.Out
-fault_in held files (Refused text offset code) fault = λ is. cc is
-fault_in held files (Device which.Load) fault = λ is. cc is
-fault_in held files Memory fault = λ is. cc is
-fault_in held files _ fault = absurd fault
-
-pub told_in : (told : DesignView → List ℕ → Ended → Type 0) (t : Texts) (e : Ended) → ((d : DesignView) → ¬ told d t.case (Device which.Out)) → IsTextsTold told t e → e ≢ Device which.Out
-told_in told t e none is = λ same. let out = subst (λ x. IsTextsTold told t x) same is in none out.0 out.2
-
 -- the same texts denote the same
 pub denotes_same : (p u s v : List ℕ) (i j : Option (List ℕ)) (r : Result DesignView FileFault) → p ≡ u → s ≡ v → i ≡ j → Denotes p s i r → Denotes u v j r
 denotes_same p u s v i j r pu sv ij h =
     subst (λ x. Denotes u v x r) ij (subst (λ x. Denotes u x i r) sv (subst (λ x. Denotes x s i r) pu h))
+
+-- ---- from the bytes of a case to a question on it
+
+module _ (s : Sources) (d : DesignView) (bytes : List ℕ) (design : AreDesign s d) where
+  refused_told : (e : Ended) → IsCaseRefused d bytes e → IsToldOfCase s bytes e
+  refused_told (Refused file offset code) fault = λ h q given case.
+      inr (inr (record { is_case = fault.0; view = d; design = record { sources = s; given = given; denoted = design }; source = bytes; given = case; fault = fault.1 }))
+  refused_told Memory fault = λ h q given case. tt
+  refused_told _ fault = absurd fault
+
+  pub judged_told : (e : Ended) → IsJudgedTold d bytes e → IsToldOfCase s bytes e
+  judged_told (Replayed j) (c, read, fits, judged) = λ h q given case.
+      (d, c, record { design = record { sources = s; given = given; denoted = design }; source = bytes; given = case; case = read; fits = fits }, judged)
+  judged_told e is = refused_told e is

@@ -1,65 +1,142 @@
--- From what is read of two texts and decided of their expressions to what is answered.
-use Rattle.std.proofs.Common.{◌≡◌, ℕ, List, refl, sym, ap, ◌∙◌, subst}
-use Rattle.bd_text.specs.Nodes.{Node, no_nodes, node}
-use Rattle.bd_text.specs.Written.{without_offsets}
+-- What verdicts are as answers.
+use Rattle.std.proofs.Common.{◌≡◌, ◌≢◌, ◌∙◌, ℕ, true, false, Bool, List, [], ◌∷◌, ◌++◌, append_assoc, refl, sym, subst, ap}
+use Rattle.std.specs.Prelude.{Option, Some, None, Result, Ok, Err, IfOk, IfErr, IfSome, IsErrAnd, is_some}
+use Rattle.std.specs.Borrow.{Bor}
 use Rattle.bd_model.specs.DesignView.{DesignView}
 use Rattle.bd_model.specs.Fits.{Fits}
-use Rattle.bd_model.specs.Conditions.{IsJudged}
-use Rattle.bd_model.specs.Laws.{CyclesCompose}
-use Rattle.bd_model.specs.Lawful.{IsLawful}
-use Rattle.bd_model.specs.declared.case.Condition.TheVariants as condition
+use Rattle.bd_model.specs.Conditions.{IsJudged, SomeCaseMeetsInvariant}
+use Rattle.bd_model.specs.Right.{IsRight}
+use Rattle.bd_model.specs.declared.case.Case.{Case}
+use Rattle.bd_model.specs.declared.case.Condition.{Condition}
 use Rattle.bd_model.specs.declared.case.Judged.TheVariants as judged
-use Rattle.bd_app.specs.inner.Told.{IsAnswer}
-use Rattle.bd_app.specs.Bit.{Bit}
-use Rattle.bd_app.specs.inner.Decided.{IsDecided}
-use Rattle.bd_app.specs.Form.{Denotes, IsText, IsPipeline, IsSpecification, pipeline_tree}
-use Rattle.bd_app.specs.OneBit.{design_of}
+use Rattle.bd_verify.specs.Verdict.{HasWork}
+use Rattle.bd_verify.specs.declared.verdict.Work.{Work}
+use Rattle.bd_files.specs.Devices.{Held}
+use Rattle.bd_verify.specs.declared.verdict.Question.TheVariants.{Breaks, Meets}
+use Rattle.bd_verify.specs.declared.verdict.Verdict.{Verdict}
+use Rattle.bd_verify.specs.declared.verdict.Verdict.TheVariants as verdict
+use Rattle.bd_app.specs.Files.{AreSources, Sources}
+use Rattle.bd_app.specs.Answer.{Asks, AsksVerdict, ForDesign, ForQuestion, HasReport, IsDecided, IsRest, IsShown, IsTold, IsVerdict, MayGive, MayHave, budget_of, ended_by, first_line_of, is_given, is_shown, lead_of, shown_case, verdict_line, verdict_words}
+use Rattle.bd_app.specs.Words.{Question}
+use Rattle.bd_app.specs.declared.answer.Which.TheVariants as which
 use Rattle.bd_app.specs.declared.answer.Ended.{Ended}
-use Rattle.bd_app.specs.declared.answer.Ended.TheVariants.{Correct, Wrong, Memory}
-use Rattle.bd_app.proofs.Depth.{NestsWithinLimit, pipeline_depth, specification_depth}
-use Rattle.bd_app.proofs.OneBitLaws.{no_case_breaks, case_breaks, one_bit_lawful}
-use Rattle.bd_app.proofs.Reading.{HasOneReading}
+use Rattle.bd_app.specs.declared.answer.Ended.TheVariants.{Replayed, Ran, Usage, Refused, Device, Memory}
+use Rattle.bd_app.specs.declared.report.Answer.{Answer}
+use Rattle.bd_app.specs.declared.verdict.Asked.{Asked}
+use Rattle.bd_app.specs.declared.verdict.Found.{Found}
+use Rattle.bd_app.specs.inner.Asked.{given}
+use Rattle.bd_app.specs.inner.Told.{AreDesign, IsCheckFault, IsFound, IsFoundFor, IsFoundOf, IsPart, IsSaid, IsVerdictAnswer}
+use Rattle.bd_app.proofs.Loading.{IfSome-all, IfSome-weaker}
 
--- a text is of one shape at most
-one_shape : HasOneReading → (bytes : List ℕ) (t u : Node) → IsText bytes t → IsText bytes u → t ≡ u
-one_shape one bytes t u read again =
-    let same : read.tree ≡ again.tree = cc (one bytes (node read.tree no_nodes) (node again.tree no_nodes) read.spelled again.spelled) in
-    sym read.shaped ∙ ap without_offsets same ∙ again.shaped
+-- a verdict has a report
+pub verdict_reports : (v : Verdict) → HasReport (ended_by v)
+verdict_reports (verdict.Correct c work) = tt
+verdict_reports (verdict.Wrong k c work) = tt
+verdict_reports (verdict.Void work) = tt
+verdict_reports (verdict.Undecided asked work) = tt
 
--- a pipeline's text names one latch
-one_latch_name : HasOneReading → (bytes a b : List ℕ) (e : Bit) (p q : List ℕ) (f : Bit) → IsPipeline bytes a b e → IsPipeline bytes p q f → a ≡ p
-one_latch_name one bytes a b e p q f (t, text, is) (u, other, also) =
-    let same : pipeline_tree a b e ≡ pipeline_tree p q f = sym is.tree ∙ one_shape one bytes t u text other ∙ also.tree in
-    cc same
+-- what has no report is no verdict
+pub no_verdict : (e : Ended) (v : Verdict) → ¬ HasReport e → e ≢ ended_by v
+no_verdict e v silent is = silent (subst HasReport (sym is) (verdict_reports v))
 
--- where the specification isn't of the form over the pipeline's latch, the texts denote no design
-pub not_denoted : HasOneReading → (pipe spec a b : List ℕ) (e : Bit) → IsPipeline pipe a b e → ((f : Bit) → ¬ IsSpecification spec a f) → (d : DesignView) → ¬ Denotes pipe spec d
-not_denoted one pipe spec a b e is none d denotes =
-    let latch : denotes.latch ≡ a = one_latch_name one pipe denotes.latch denotes.input denotes.next a b e denotes.pipeline is in
-    none denotes.spec_next (subst (λ n. IsSpecification spec n denotes.spec_next) latch denotes.specification)
+pub told_verdict : (h : Held) (q : Question) (v : Verdict) → IsDecided h q v → IsTold h q (ended_by v)
+told_verdict h q (verdict.Correct c work) is = is
+told_verdict h q (verdict.Wrong k c work) is = is
+told_verdict h q (verdict.Void work) is = is
+told_verdict h q (verdict.Undecided asked work) is = is
 
-denoted : (pipe spec a b : List ℕ) (e f : Bit) → IsPipeline pipe a b e → IsSpecification spec a f → Denotes pipe spec (design_of a b e f)
-denoted pipe spec a b e f is also =
-    record { latch = a; input = b; next = e; spec_next = f; pipeline = is; specification = also; design = refl }
+pub may_verdict : (q : Question) (v : Verdict) → AsksVerdict q → MayGive (is_given q) v → MayHave q (ended_by v)
+may_verdict q (verdict.Correct c work) asks may = (asks, may)
+may_verdict q (verdict.Wrong k c work) asks may = asks
+may_verdict q (verdict.Void work) asks may = (asks, may)
+may_verdict q (verdict.Undecided asked work) asks may = (asks, may)
 
-lawful : NestsWithinLimit → (pipe spec a b : List ℕ) (e f : Bit) → IsPipeline pipe a b e → IsSpecification spec a f → IsLawful (design_of a b e f)
-lawful nests pipe spec a b e f is also =
-    one_bit_lawful a b e f is.2.latch is.2.input is.2.different (pipeline_depth nests pipe a b e is) (specification_depth nests spec a f also) also.2.no_input
+pub line_verdict : (q : Question) (v : Verdict) → first_line_of q (ended_by v) ≡ verdict_line q v
+line_verdict q (verdict.Correct c work) = refl
+line_verdict q (verdict.Wrong k c work) = refl
+line_verdict q (verdict.Void work) = refl
+line_verdict q (verdict.Undecided asked work) = refl
 
--- what is decided of the expressions holds of the texts
-pub answered : NestsWithinLimit → CyclesCompose → (pipe spec a b : List ℕ) (e f : Bit) → IsPipeline pipe a b e → IsSpecification spec a f → (r : Ended) → IsDecided e f r → IsAnswer pipe spec r
-answered nests compose pipe spec a b e f is also Correct unbroken = (
-  design_of a b e f,
-  denoted pipe spec a b e f is also,
-  (compose (design_of a b e f) (lawful nests pipe spec a b e f is also)).0 (no_case_breaks a b e f also.2.no_input unbroken),
-)
-answered nests compose pipe spec a b e f is also (Wrong k c) (names, (x, y, case, broken)) =
-    let shown = case_breaks a b e f also.2.no_input x y broken in (
-      design_of a b e f,
-      denoted pipe spec a b e f is also,
-      subst (λ c. Fits (design_of a b e f) c) (sym case) shown.0,
-      subst (λ k. IsJudged (design_of a b e f) c (judged.Broken k)) (sym names)
-          (subst (λ c. IsJudged (design_of a b e f) c (judged.Broken condition.Commute)) (sym case) shown.1),
-    )
-answered nests compose pipe spec a b e f is also Memory h = tt
-answered nests compose pipe spec a b e f is also _ h = absurd h
+shown_void : (held : Option Held) (q : Question) (b : Bool) (work : _) (rest : List ℕ) → IsShown held q (shown_case b (verdict.Void work)) rest → rest ≡ []
+shown_void held q true work rest is = is
+shown_void held q false work rest is = is
+
+shown_undecided : (held : Option Held) (q : Question) (b : Bool) (asked : _) (work : _) (rest : List ℕ) → IsShown held q (shown_case b (verdict.Undecided asked work)) rest → rest ≡ []
+shown_undecided held q true asked work rest is = is
+shown_undecided held q false asked work rest is = is
+
+pub rest_verdict : (held : Option Held) (q : Question) (v : Verdict) (rest : List ℕ) → IsShown held q (shown_case (is_shown q) v) rest → IsRest held q (ended_by v) rest
+rest_verdict held q (verdict.Correct c work) rest is = is
+rest_verdict held q (verdict.Wrong k c work) rest is = is
+rest_verdict held q (verdict.Void work) rest is = shown_void held q (is_shown q) work rest is
+rest_verdict held q (verdict.Undecided asked work) rest is = shown_undecided held q (is_shown q) asked work rest is
+
+-- from the design of sources to that of a question
+shown_part : (held : Option Held) (q : Question) (s : Sources) (d : DesignView) (c : Option Case) (bytes : List ℕ) → IfSome held (λ h. AreSources h q s) → AreDesign s d → IsPart d c bytes
+    → IsShown held q c bytes
+shown_part held q s d None bytes are design is = is
+shown_part held q s d (Some c) bytes are design is =
+    IfSome-weaker _ _ held (λ h given. (d, record { sources = s; given = given; denoted = design }, is)) are
+
+pub found_for : (held : Option Held) (q : Question) (s : Sources) (asked : Asked) (f : Found) → IfSome held (λ h. AreSources h q s) → asked.given ≡ is_given q → asked.budget ≡ budget_of q
+    → asked.shows ≡ is_shown q → IsFoundOf s asked f → IsFoundFor held q f
+found_for held q s asked f are given budget shows (d, design, is) = record {
+  given = subst (λ b. MayGive b f.verdict) given is.given;
+  told = IfSome-weaker _ _ held (λ h a. (
+    d,
+    record { sources = s; given = a; denoted = design },
+    subst (λ n. IsVerdict d (is_given q) n f.verdict) budget (subst (λ b. IsVerdict d b asked.budget f.verdict) given is.verdict),
+  )) are;
+  shown = shown_part held q s d _ _ are design (subst (λ b. IsPart d (shown_case b f.verdict) f.case.items) shows is.case);
+}
+
+-- a verdict's answer says of the words what the verdict does
+pub verdict_said : (held : Option Held) (words : List (List ℕ)) (v : Verdict) → IsSaid held words (ended_by v) → ForQuestion words (λ q. MayHave q (ended_by v) × IfSome held (λ h. IsDecided h q v))
+verdict_said held words (verdict.Correct c work) said = said
+verdict_said held words (verdict.Wrong k c work) said = said
+verdict_said held words (verdict.Void work) said = said
+verdict_said held words (verdict.Undecided asked work) said = said
+
+pub for_design : (held : Option Held) (words : List (List ℕ)) (P : Question → DesignView → Type 0) (v : Verdict) → ((q : Question) (d : DesignView) → IsVerdict d (is_given q) (budget_of q) v → P q d)
+    → IsSaid held words (ended_by v) → ForDesign held words P
+for_design held words P v f said =
+    let told = verdict_said held words v said in
+    (told.0, told.1, IfSome-weaker _ _ held (λ h is. (is.0, is.1, f told.0 is.0 is.2)) told.2.1)
+
+pub no_out_verdict : (v : Verdict) → ended_by v ≢ Device which.Out
+no_out_verdict (verdict.Correct c work) is = cc is
+no_out_verdict (verdict.Wrong k c work) is = cc is
+no_out_verdict (verdict.Void work) is = cc is
+no_out_verdict (verdict.Undecided asked work) is = cc is
+
+-- what is ensured of each verdict
+pub verdict_is : (d : DesignView) (given : Bool) (budget : ℕ) (v : Verdict) → ((c : Option Case) (work : Work) → v ≡ verdict.Correct c work → IsRight d)
+    → ((c : Case) (work : Work) → v ≡ verdict.Correct (Some c) work → Fits d c × IsJudged d c judged.Holds)
+    → ((k : Condition) (c : Case) (work : Work) → v ≡ verdict.Wrong k c work → Fits d c × IsJudged d c (judged.Broken k))
+    → ((work : Work) → v ≡ verdict.Void work → ¬ SomeCaseMeetsInvariant d) → ((work : Work) → v ≡ verdict.Undecided Breaks work → given ≡ true → SomeCaseMeetsInvariant d)
+    → HasWork d budget v → IsVerdict d given budget v
+verdict_is d given budget (verdict.Correct None work) right holds wrong void met has = record { is_true = (right None work refl, tt); work = has }
+verdict_is d given budget (verdict.Correct (Some c) work) right holds wrong void met has = record { is_true = (right (Some c) work refl, holds c work refl); work = has }
+verdict_is d given budget (verdict.Wrong k c work) right holds wrong void met has = record { is_true = wrong k c work refl; work = has }
+verdict_is d given budget (verdict.Void work) right holds wrong void met has = record { is_true = void work refl; work = has }
+verdict_is d given budget (verdict.Undecided Breaks work) right holds wrong void met has = record { is_true = met work refl; work = has }
+verdict_is d given budget (verdict.Undecided Meets work) right holds wrong void met has = record { is_true = tt; work = has }
+
+-- whether an invariant is named
+pub same_given : (inv : Option (Bor (List ℕ))) (b : Bool) → b ≡ is_some inv → b ≡ is_some (given inv)
+same_given None b is = is
+same_given (Some name) b is = is
+
+-- an answer that is made of what was found
+pub found_answer : (held : Option Held) (q : Question) (f : Found) (lead case : List ℕ) (budget : ℕ) (r : Result Answer Ended) → lead ≡ lead_of q → case ≡ f.case.items → budget ≡ budget_of q
+    → IsFoundFor held q f → IfOk r (λ a. a.ended ≡ ended_by f.verdict) → IfOk r (λ a. a.report.items ≡ (lead ++ verdict_words budget f.verdict ++ 10 ∷ []) ++ case) → IfOk r (IsVerdictAnswer held q)
+found_answer held q f lead case budget (Ok a) led shown spent is ended report = record {
+  verdict = f.verdict;
+  ended = ended;
+  given = is.given;
+  told = is.told;
+  rest = f.case.items;
+  report = report ∙ cc (led, shown, spent);
+  shown = is.shown;
+}
+found_answer held q f lead case budget (Err e) led shown spent is ended report = tt

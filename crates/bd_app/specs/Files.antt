@@ -1,9 +1,14 @@
--- The files that a question reads.
--- Source: this project's own command line.
-use Rattle.std.specs.Prelude.{◌≡◌, ◌≤◌, ◌<◌, ℕ, List, [], ◌∷◌, ◌++◌, length, map, Option, Some, None}
+-- The files that a question reads, and those that it saves to.
+-- Source: this project's own command line; what is saved is DIMACS CNF and textual LRAT.
+use Rattle.std.specs.Prelude.{◌≡◌, ◌≢◌, ◌⊎◌, ◌≤◌, ◌<◌, ℕ, List, [], ◌∷◌, ◌++◌, length, map, Option, Some, None}
 use Rattle.std.specs.List.{AllByRecursion, Contains}
-use Rattle.bd_files.specs.Devices.{Blame, Held}
+use Rattle.bd_cnf.specs.Problem.{dimacs}
+use Rattle.bd_files.specs.Devices.{Blame, Held, Holds, KeepsOthers}
 use Rattle.bd_files.specs.declared.devices.FileCall.TheVariants as call
+use Rattle.bd_gen.specs.Pipeline.{pipeline_text}
+use Rattle.bd_gen.specs.Specification.{specification_text}
+use Rattle.bd_lrat.specs.Text.{lrat as lrat_text}
+use Rattle.bd_verify.specs.declared.verdict.Work.{Work}
 use Rattle.bd_app.specs.Words.{Name, Question, check, replay, run, gen}
 use Rattle.bd_typer.specs.declared.fault.Text.{Text}
 use Rattle.bd_typer.specs.declared.fault.Text.TheVariants.{Pipe, Spec, Inv, Case}
@@ -16,15 +21,18 @@ abbrev pub one_if : Text → Option Name → List File
 one_if text None = []
 one_if text (Some name) = (text, name) ∷ []
 
--- the files of a case, in the order of the words
+-- the files of a design, in the order of the words
+abbrev pub design_files : Name → Name → Option Name → List File
+design_files pipe spec inv = (Pipe, pipe) ∷ (Spec, spec) ∷ one_if Inv inv
+
+-- those of a case
 abbrev pub case_files : Name → Name → Name → Option Name → List File
 case_files pipe spec case inv =
     (Pipe, pipe) ∷ (Spec, spec) ∷ (Case, case) ∷ one_if Inv inv
 
 -- in the order of the words
 abbrev pub files_of : Question → List File
-files_of (check pipe spec inv budget cnf lrat) =
-    (Pipe, pipe) ∷ (Spec, spec) ∷ one_if Inv inv
+files_of (check pipe spec inv budget cnf lrat) = design_files pipe spec inv
 files_of (replay pipe spec case inv) = case_files pipe spec case inv
 files_of (run pipe spec case cycles) = case_files pipe spec case None
 files_of (gen depth drop) = []
@@ -53,11 +61,10 @@ abbrev pub BlamesOneOf : Option Blame → List File → Type 0
 BlamesOneOf blame files =
     (name : Name) × Contains (map (λ f. f.1) files) name × (blame ≡ Some (call.Load, name))
 
--- the bytes of the files of a case
-pub record Texts : Type 0 where
+-- the bytes of the files of a design
+pub record Sources : Type 0 where
   pub pipe : List ℕ
   pub spec : List ℕ
-  pub case : List ℕ
   pub inv : Option (List ℕ)
 
 abbrev pub HoldsShortIf : Held → Option Name → Option (List ℕ) → Type 0
@@ -66,16 +73,75 @@ HoldsShortIf held None (Some bytes) = ⊥
 HoldsShortIf held (Some name) None = ⊥
 HoldsShortIf held (Some name) (Some bytes) = HoldsShort held name bytes
 
-pub record HoldTexts (held : Held) (pipe spec case : Name) (inv : Option Name) (texts : Texts) :
+pub record HoldSources (held : Held) (pipe spec : Name) (inv : Option Name) (sources : Sources) :
     Type 0 where
-  pub pipe_held : HoldsShort held pipe texts.pipe
-  pub spec_held : HoldsShort held spec texts.spec
-  pub case_held : HoldsShort held case texts.case
-  pub inv_held : HoldsShortIf held inv texts.inv
+  pub pipe_held : HoldsShort held pipe sources.pipe
+  pub spec_held : HoldsShort held spec sources.spec
+  pub inv_held : HoldsShortIf held inv sources.inv
 
--- the bytes that are held of the files of a question on a case
-abbrev pub AreTexts : Held → Question → Texts → Type 0
-AreTexts held (check pipe spec inv budget cnf lrat) texts = ⊥
-AreTexts held (replay pipe spec case inv) texts = HoldTexts held pipe spec case inv texts
-AreTexts held (run pipe spec case cycles) texts = HoldTexts held pipe spec case None texts
-AreTexts held (gen depth drop) texts = ⊥
+-- the texts of the generated pipeline, and of its specification
+abbrev pub generated : ℕ → ℕ → Sources
+generated depth drop =
+    record { pipe = pipeline_text depth drop; spec = specification_text; inv = None }
+
+-- the bytes that a question's design is read from: those held of its files, or those generated
+abbrev pub AreSources : Held → Question → Sources → Type 0
+AreSources held (check pipe spec inv budget cnf lrat) sources =
+    HoldSources held pipe spec inv sources
+AreSources held (replay pipe spec case inv) sources = HoldSources held pipe spec inv sources
+AreSources held (run pipe spec case cycles) sources = HoldSources held pipe spec None sources
+AreSources held (gen depth drop) sources = sources ≡ generated depth drop
+
+-- the bytes that are held of its case
+abbrev pub IsCaseSource : Held → Question → List ℕ → Type 0
+IsCaseSource held (replay pipe spec case inv) bytes = HoldsShort held case bytes
+IsCaseSource held (run pipe spec case cycles) bytes = HoldsShort held case bytes
+IsCaseSource held _ bytes = ⊥
+
+-- ---- the files that a question saves to
+
+-- where the formula is saved
+abbrev pub cnf_of : Question → Option Name
+cnf_of (check pipe spec inv budget cnf lrat) = cnf
+cnf_of _ = None
+
+-- where the proof is saved
+abbrev pub lrat_of : Question → Option Name
+lrat_of (check pipe spec inv budget cnf lrat) = lrat
+lrat_of _ = None
+
+-- one of two names, of which either may not be given
+abbrev pub IsEither : Option Name → Option Name → Name → Type 0
+IsEither cnf lrat name = (cnf ≡ Some name) ⊎ (lrat ≡ Some name)
+
+abbrev pub SavesTo : Question → Name → Type 0
+SavesTo q name = IsEither (cnf_of q) (lrat_of q) name
+
+-- the last call that failed was a save under one of the two names
+abbrev pub BlamesSaveOf : Option Blame → Option Name → Option Name → Type 0
+BlamesSaveOf blame cnf lrat =
+    (name : Name) × IsEither cnf lrat name × (blame ≡ Some (call.Save, name))
+
+-- what is held under each name that isn't among these stands as it was
+abbrev pub KeepsAllBut : Option Held → Option Held → (Name → Type 0) → Type 0
+KeepsAllBut None after IsNamed = after ≡ None
+KeepsAllBut (Some held) None IsNamed = ⊥
+KeepsAllBut (Some held) (Some after) IsNamed =
+    (other : Name) → ¬ IsNamed other → after other ≡ held other
+
+-- a verdict's work is saved: the formula, and then the proof, so that the proof stands where both
+-- have one name
+pub record AreSaved (after : Option Held) (cnf lrat : Option Name) (work : Work) : Type 0 where
+  pub formula : (name : Name) → cnf ≡ Some name → lrat ≢ Some name →
+      Holds after name (dimacs work.cnf)
+  pub proof : (name : Name) → lrat ≡ Some name → Holds after name (lrat_text work.log)
+
+-- one of the two saves failed, and the names differ: where it was that of the formula, all but the
+-- file of its name stands; where it was that of the proof, the formula is saved
+pub record AreSavedUpTo (before after : Option Held) (blame : Option Blame)
+    (cnf lrat : Option Name) (work : Work) : Type 0 where
+  pub at_formula : (name : Name) → cnf ≡ Some name → lrat ≢ Some name →
+      blame ≡ Some (call.Save, name) → KeepsOthers before after name
+  pub at_proof : (name other : Name) →
+      lrat ≡ Some name → cnf ≡ Some other → other ≢ name →
+      blame ≡ Some (call.Save, name) → Holds after other (dimacs work.cnf)

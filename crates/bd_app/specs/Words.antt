@@ -1,6 +1,6 @@
 -- The command line: which words are taken, and what they ask for.
 -- Source: what `clap` makes of the words of a simple command, as the crate states it.
-use Rattle.std.specs.Prelude.{ℕ, ◌^◌, ◌&&◌, true, false, List, [], ◌∷◌, map, codes, pos, Option, Some, None, nat_lt, if◌then◌else◌, String, string_bytes}
+use Rattle.std.specs.Prelude.{ℕ, ◌^◌, ◌&&◌, true, false, List, [], ◌∷◌, map, codes, pos, Option, Some, None, nat_le, nat_lt, if◌then◌else◌, String, string_bytes}
 use Rattle.std.specs.declared.alloc.Global.{Global}
 use Rattle.std.specs.Str.{bytes_eq}
 use Rattle.std.specs.Str.Parse.{digits_value, without_leading_plus}
@@ -140,7 +140,7 @@ unfoldable pub gen_question : List Row → Option Question
 gen_question rows = do
   depth ← number_at (codes "DEPTH") rows
   drop ← number_at (codes "DROP") rows
-  Some (gen depth drop)
+  if nat_le 2 depth && nat_le depth 12 then Some (gen depth drop) else None
 
 unfoldable pub question_of : List ℕ → List Row → Option Question
 question_of name rows =

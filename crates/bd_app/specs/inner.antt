@@ -1,5 +1,3 @@
 pub mod Asked
-pub mod Decided
 pub mod Loaded
-pub mod Shape
 pub mod Told

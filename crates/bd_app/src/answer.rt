@@ -1,16 +1,17 @@
 //! How a run ends, and what it prints.
 //!
 //! A verdict, a judgement and a run have a report, which goes to the output in one put, and no line.
-//! A fault has a line, which goes to the error output, and no report. So what a reader of the two streams sees tells the
-//! answers apart, and the status tells them apart once more.
+//! A fault has a line, which goes to the error output, and no report. So what a reader of the two
+//! streams sees tells the answers apart, and the status tells them apart once more.
 ghost use Rattle.std.specs.Prelude.{◌≡◌, ◌↔◌, ◌≤◌, IsTrue, flat_map};
 ghost use Rattle.bd_files.specs.Devices.{PutsOrFaults};
-ghost use Rattle.bd_app.specs.Answer.{status_of, first_line_of, fault_line_of, file_word, device_text, refusal_of, refusal_line, HasReport};
+ghost use Rattle.bd_app.specs.Answer.{status_of, ended_by, fault_line_of, file_word, device_text, refusal_of, refusal_line, HasReport};
 
 use bd_files::{Sink, put_pieces};
 use bd_model::{Case, Condition, Judged};
 use bd_text::Code;
 use bd_typer::Text;
+use bd_verify::{Question, Verdict, Work};
 use itoa::Buffer;
 
 /// A call on a device.
@@ -18,6 +19,8 @@ use itoa::Buffer;
 pub enum Which {
     /// A load of a file.
     Load,
+    /// A save of a formula or of a proof.
+    Save,
     /// A put on the output.
     Out,
 }
@@ -25,20 +28,21 @@ pub enum Which {
 /// The answer of a run.
 #[derive(Debug, Drop)]
 pub enum Ended {
-    /// The pipeline is right over every run.
-    Correct,
+    /// The pipeline is right over every run. Where an invariant was given: a case that meets it and
+    /// breaks nothing.
+    Correct(Option<Case>, Work),
     /// The case breaks the condition.
-    Wrong(Condition, Case),
+    Wrong(Condition, Case, Work),
+    /// No case meets the invariant.
+    Void(Work),
+    /// The budget was spent on the question.
+    Undecided(Question, Work),
     /// What the case shows.
     Replayed(Judged),
     /// The case was run.
     Ran,
     /// The words aren't taken.
     Usage,
-    /// The words ask for what isn't there yet.
-    NotYet,
-    /// The file isn't of the form that `check` reads.
-    Unread(Text),
     /// The file has a fault, at that offset in bytes.
     Refused {
         file: Text,
@@ -70,25 +74,39 @@ impl Which {
     {
         match self {
             Which::Load => b"cannot read",
+            Which::Save => b"cannot save",
             Which::Out => b"cannot write",
         }
     }
 }
 
 impl Ended {
+    /// The answer that a verdict is.
+    pub(crate) fn from_verdict(verdict: Verdict) -> Ended
+        ensures { result ≡ ended_by verdict }
+    {
+        match verdict {
+            Verdict::Correct(case, work) => Ended::Correct(case, work),
+            Verdict::Wrong(condition, case, work) => Ended::Wrong(condition, case, work),
+            Verdict::Void(work) => Ended::Void(work),
+            Verdict::Undecided(asked, work) => Ended::Undecided(asked, work),
+        }
+    }
+
     /// The status that the program ends with.
     pub fn status(&self) -> u8
         ensures { result ≡ status_of self.now }
     {
         match self {
-            Ended::Correct | Ended::Replayed(Judged::Holds) | Ended::Ran => 0,
-            Ended::Wrong(_, _) | Ended::Replayed(Judged::Broken(_)) => 1,
+            Ended::Correct(_, _) | Ended::Replayed(Judged::Holds) | Ended::Ran => 0,
+            Ended::Wrong(_, _, _) | Ended::Replayed(Judged::Broken(_)) => 1,
             Ended::Usage => 2,
-            Ended::Unread(_) | Ended::Refused { .. } => 3,
+            Ended::Refused { .. } => 3,
+            Ended::Undecided(_, _) => 4,
             Ended::Device(_) => 5,
             Ended::Memory => 6,
+            Ended::Void(_) => 7,
             Ended::Replayed(Judged::Outside) => 8,
-            Ended::NotYet => 9,
         }
     }
 
@@ -96,26 +114,10 @@ impl Ended {
     pub fn has_report(&self) -> bool
         ensures { IsTrue result ↔ HasReport self.now }
     {
-        matches!(
+        !matches!(
             self,
-            Ended::Correct | Ended::Wrong(_, _) | Ended::Replayed(_) | Ended::Ran
+            Ended::Usage | Ended::Refused { .. } | Ended::Device(_) | Ended::Memory
         )
-    }
-
-    /// The first line of the report; that of a run has none, and a fault has no report.
-    pub fn first_line(&self) -> &'static [u8]
-        ensures { result.now ≡ first_line_of self.now }
-    {
-        match self {
-            Ended::Correct => b"correct\n",
-            Ended::Wrong(Condition::Invariant, _) => b"wrong invariant\n",
-            Ended::Wrong(Condition::Commute, _) => b"wrong commute\n",
-            Ended::Replayed(Judged::Holds) => b"holds\n",
-            Ended::Replayed(Judged::Outside) => b"outside\n",
-            Ended::Replayed(Judged::Broken(Condition::Invariant)) => b"broken invariant\n",
-            Ended::Replayed(Judged::Broken(Condition::Commute)) => b"broken commute\n",
-            _ => b"",
-        }
     }
 
     /// Puts the line of a fault on the error output, in pieces and without memory: a put that fails
@@ -126,13 +128,11 @@ impl Ended {
         ensures never_falls { E.faults err.old ≤ E.faults err.new }
     {
         match self {
-            Ended::Correct | Ended::Wrong(_, _) | Ended::Replayed(_) | Ended::Ran => (),
             Ended::Usage => put_text(err, &[USAGE]),
-            Ended::NotYet => put_text(err, &[b"not there yet\n"]),
-            Ended::Unread(file) => put_text(err, &[file_word(*file), b": not read yet\n"]),
             Ended::Refused { file, offset, code } => put_refusal(err, *file, *offset, *code),
             Ended::Device(which) => put_text(err, &[which.text(), b"\n"]),
             Ended::Memory => put_text(err, &[b"out of memory\n"]),
+            _ => (),
         }
     }
 }

@@ -3,12 +3,12 @@
 //! The four commands are subcommands of one simple command, of which `clap` states what it makes of
 //! any words. So which words are taken, and what they ask for, is a definition on the words, and the
 //! code is shown to give it exactly.
-ghost use Rattle.std.specs.Prelude.{◌≡◌, false, [], None, Some, IfOk, IsErrOf, codes};
+ghost use Rattle.std.specs.Prelude.{◌≡◌, false, [], None, Some, IfSome, IfOk, IsErrOf, codes};
 ghost use Rattle.std.specs.Option.{option_map};
 ghost use Rattle.clap.specs.declared.builder.command.Command.TheViews.{out-Command as fields_of};
 ghost use Rattle.clap.specs.Words.{app_of, first_of, found_of, rows_of, rule_of, shape_of};
 ghost use Rattle.bd_app.specs.Words.{taken, texts_of, required, option, in_range, budget_option, machines_command, check_command, replay_command, run_command, gen_command, command_line, check_question, replay_question, run_question, gen_question, question_of, number_at};
-ghost use Rattle.bd_app.specs.inner.Asked.{asked, and_rule, IsParsed};
+ghost use Rattle.bd_app.specs.inner.Asked.{asked, and_rule, HasDepth, IsParsed};
 
 use clap::error::ErrorKind;
 use clap::{Arg, ArgMatches, value_parser};
@@ -192,7 +192,8 @@ fn number_at(matches: &ArgMatches<'_>, id: &str) -> Option<u32>
 
 #[tactic(auto, unfolding(crate::specs::Words::check_question))]
 fn check_of<'a>(matches: &ArgMatches<'a>) -> Option<Command<'a>>
-    ensures { option_map asked result ≡ check_question (rows_of (found_of matches.now)) }
+    ensures asked { option_map asked result ≡ check_question (rows_of (found_of matches.now)) }
+    ensures bounded { IfSome result HasDepth }
 {
     Some(Command::Check {
         pipe: word_at(matches, "PIPE")?,
@@ -206,7 +207,8 @@ fn check_of<'a>(matches: &ArgMatches<'a>) -> Option<Command<'a>>
 
 #[tactic(auto, unfolding(crate::specs::Words::replay_question))]
 fn replay_of<'a>(matches: &ArgMatches<'a>) -> Option<Command<'a>>
-    ensures { option_map asked result ≡ replay_question (rows_of (found_of matches.now)) }
+    ensures asked { option_map asked result ≡ replay_question (rows_of (found_of matches.now)) }
+    ensures bounded { IfSome result HasDepth }
 {
     Some(Command::Replay {
         pipe: word_at(matches, "PIPE")?,
@@ -218,7 +220,8 @@ fn replay_of<'a>(matches: &ArgMatches<'a>) -> Option<Command<'a>>
 
 #[tactic(auto, unfolding(crate::specs::Words::run_question))]
 fn run_of<'a>(matches: &ArgMatches<'a>) -> Option<Command<'a>>
-    ensures { option_map asked result ≡ run_question (rows_of (found_of matches.now)) }
+    ensures asked { option_map asked result ≡ run_question (rows_of (found_of matches.now)) }
+    ensures bounded { IfSome result HasDepth }
 {
     Some(Command::Run {
         pipe: word_at(matches, "PIPE")?,
@@ -230,18 +233,24 @@ fn run_of<'a>(matches: &ArgMatches<'a>) -> Option<Command<'a>>
 
 #[tactic(auto, unfolding(crate::specs::Words::gen_question))]
 fn gen_of<'a>(matches: &ArgMatches<'a>) -> Option<Command<'a>>
-    ensures { option_map asked result ≡ gen_question (rows_of (found_of matches.now)) }
+    ensures asked { option_map asked result ≡ gen_question (rows_of (found_of matches.now)) }
+    ensures bounded { IfSome result HasDepth }
 {
-    Some(Command::Gen {
-        depth: number_at(matches, "DEPTH")?,
-        drop: number_at(matches, "DROP")?,
-    })
+    let depth = number_at(matches, "DEPTH")?;
+    let drop = number_at(matches, "DROP")?;
+    if 2 <= depth && depth <= 12 {
+        Some(Command::Gen { depth, drop })
+    } else {
+        None
+    }
 }
 
 /// What a command with these arguments asks for.
 #[tactic(auto, unfolding(crate::specs::Words::question_of))]
 fn question<'a>(name: &str, matches: &ArgMatches<'a>) -> Option<Command<'a>>
-    ensures { option_map asked result ≡ question_of name.now (rows_of (found_of matches.now)) }
+    ensures asked { option_map asked result
+        ≡ question_of name.now (rows_of (found_of matches.now)) }
+    ensures bounded { IfSome result HasDepth }
 {
     if name == "check" {
         check_of(matches)
@@ -273,6 +282,7 @@ fn parsed<'a>(alloc: Global, words: &'a [String]) -> Result<ArgMatches<'a>, Word
 /// What the words ask for, the program's name first.
 pub fn command_of<'a>(alloc: Global, words: &'a [String]) -> Result<Command<'a>, WordsFault>
     ensures asked { IfOk result (λ c. taken (texts_of words.entry.now) ≡ Some (asked c)) }
+    ensures bounded { IfOk result HasDepth }
     ensures usage { IsErrOf result WordsFault.Usage → taken (texts_of words.entry.now) ≡ None }
 {
     let matches = parsed(alloc, words)?;

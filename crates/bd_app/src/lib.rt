@@ -2,15 +2,14 @@
 #![tactic(auto)]
 
 mod answer;
+mod check;
 mod command;
-mod form;
+mod design;
 mod load;
-mod machines;
 mod program;
 mod replay;
 mod report;
-mod text;
-mod truth;
+mod save;
 mod verdict;
 
 pub use answer::{Ended, Which};

@@ -1,10 +1,10 @@
 //! Loading the files that the words name.
 ghost use Rattle.std.specs.Prelude.{◌≡◌, ◌≤◌, [], ◌∷◌, length, Some, IfSome, IfOk, IfErr, IsErrOf};
 ghost use Rattle.bd_files.specs.Devices.{Rose};
-ghost use Rattle.bd_app.specs.Files.{BlamesOneOf, HoldTexts, HoldsShort, HoldsShortIf, one_if};
+ghost use Rattle.bd_app.specs.Files.{BlamesOneOf, HoldSources, HoldsShort, HoldsShortIf, design_files, one_if};
 ghost use Rattle.bd_app.specs.inner.Asked.{given};
 ghost use Rattle.bd_app.specs.inner.Told.{IsLoadFault};
-ghost use Rattle.bd_app.specs.inner.Loaded.{AreShort, bytes_of, names_files, texts_view};
+ghost use Rattle.bd_app.specs.inner.Loaded.{AreShort, bytes_of, names_files, sources_view};
 
 use crate::answer::{Ended, Which};
 use bd_files::{FileCall, Files, LoadError};
@@ -71,6 +71,41 @@ fn load_if<F: Files>(
     }
 }
 
+/// The bytes of the files of a design.
+#[derive(Debug, Drop)]
+pub struct Sources {
+    pub pipe: Vec<u8>,
+    pub spec: Vec<u8>,
+    pub inv: Option<Vec<u8>>,
+}
+
+/// The bytes of the files of a design, loaded in the order of the words.
+pub fn load_sources<'a, F: Files>(
+    files: &mut F,
+    pipe: &'a str,
+    spec: &'a str,
+    inv: Option<&'a str>,
+) -> Result<Sources, Ended>
+    ensures loaded { IfOk result (λ s. IfSome (F.held files.old) (λ held.
+        HoldSources held pipe.now spec.now (given inv.entry) (sources_view s))) }
+    ensures short { IfOk result (λ s. AreShort (sources_view s)) }
+    ensures fault { IfErr result (IsLoadFault (F.held files.old)
+        (design_files pipe.now spec.now (given inv.entry))) }
+    ensures rose { IsErrOf result (Ended.Device Which.Load) →
+        Rose (F.faults files.old) (F.faults files.new) }
+    ensures blamed { IsErrOf result (Ended.Device Which.Load) →
+        BlamesOneOf (F.blame files.new) (design_files pipe.now spec.now (given inv.entry)) }
+    ensures else_keeps_blame { ¬ IsErrOf result (Ended.Device Which.Load) →
+        F.blame files.new ≡ F.blame files.old }
+    ensures held { F.held files.new ≡ F.held files.old }
+    ensures never_falls { F.faults files.old ≤ F.faults files.new }
+{
+    let pipe = load(files, Text::Pipe, pipe)?;
+    let spec = load(files, Text::Spec, spec)?;
+    let inv = load_if(files, Text::Inv, inv)?;
+    Ok(Sources { pipe, spec, inv })
+}
+
 /// The names of the files of a case.
 #[derive(Clone, Copy, Debug)]
 pub struct Names<'a> {
@@ -83,18 +118,17 @@ pub struct Names<'a> {
 /// Their bytes.
 #[derive(Debug, Drop)]
 pub struct Texts {
-    pub pipe: Vec<u8>,
-    pub spec: Vec<u8>,
+    pub sources: Sources,
     pub case: Vec<u8>,
-    pub inv: Option<Vec<u8>>,
 }
 
 /// The bytes of the files of a case, loaded in the order of the words.
 pub fn load_texts<F: Files>(files: &mut F, names: Names<'_>) -> Result<Texts, Ended>
     ensures loaded { IfOk result (λ texts. IfSome (F.held files.old) (λ held.
-        HoldTexts held names.entry.pipe.now names.entry.spec.now names.entry.case.now
-        (given names.entry.inv) (texts_view texts))) }
-    ensures short { IfOk result (λ texts. AreShort (texts_view texts)) }
+        HoldSources held names.entry.pipe.now names.entry.spec.now (given names.entry.inv)
+        (sources_view texts.sources)
+        × HoldsShort held names.entry.case.now texts.case.items)) }
+    ensures short { IfOk result (λ texts. AreShort (sources_view texts.sources)) }
     ensures fault { IfErr result (IsLoadFault (F.held files.old) (names_files names.entry)) }
     ensures rose { IsErrOf result (Ended.Device Which.Load) →
         Rose (F.faults files.old) (F.faults files.new) }
@@ -109,10 +143,6 @@ pub fn load_texts<F: Files>(files: &mut F, names: Names<'_>) -> Result<Texts, En
     let spec = load(files, Text::Spec, names.spec)?;
     let case = load(files, Text::Case, names.case)?;
     let inv = load_if(files, Text::Inv, names.inv)?;
-    Ok(Texts {
-        pipe,
-        spec,
-        case,
-        inv,
-    })
+    let sources = Sources { pipe, spec, inv };
+    Ok(Texts { sources, case })
 }

@@ -3,56 +3,37 @@
 //! All files are loaded before the first is read, and a design is read before its case. So the first
 //! fault in this order refuses: a file that is too long, a fault of the design's files, one of the
 //! case.
-ghost use Rattle.std.specs.Prelude.{◌≡◌, ◌≢◌, ◌≤◌, ◌++◌, IfSome, IfOk, IfErr, OnOk, Ok, None};
+ghost use Rattle.std.specs.Prelude.{◌≡◌, ◌≤◌, ◌++◌, IfSome, IfOk, IfErr, IsErrOf, OnOk, Ok, None};
 ghost use Rattle.bd_files.specs.Devices.{Rose};
 ghost use Rattle.bd_model.specs.DesignView.{design_view};
-ghost use Rattle.bd_typer.specs.Denotes.{Denotes};
+ghost use Rattle.bd_model.specs.Fits.{Fits};
+ghost use Rattle.bd_model.specs.Lawful.{IsLawful};
 ghost use Rattle.bd_case.specs.Reads.{IsReading};
-ghost use Rattle.bd_app.specs.Answer.{HasReport, IsRest, IsTold, MayHave, first_line_of};
+ghost use Rattle.bd_app.specs.Answer.{IsRest, IsTold};
 ghost use Rattle.bd_app.specs.Files.{BlamesOneOf, case_files};
 ghost use Rattle.bd_app.specs.Words.{run};
 ghost use Rattle.bd_app.specs.Run.{cycle_text, cycles_text, run_text};
-ghost use Rattle.bd_app.specs.inner.Loaded.{AreShort, names_files, replay_of, texts_view};
-ghost use Rattle.bd_app.specs.inner.Told.{ended_of, IsCaseRefused, IsJudgedTold, IsRunTold, IsRunText, IsTextsTold, IsTextsRun};
+ghost use Rattle.bd_app.specs.inner.Loaded.{AreShort, names_files, replay_of, sources_view};
+ghost use Rattle.bd_app.specs.inner.Told.{ended_of, IsCaseRefused, IsJudgedReport, IsJudgedTold, IsReadFault, IsRunReport, IsRunTold, IsTextFault, IsToldOfCase};
 
 use crate::answer::{Ended, Which};
+use crate::design::design;
 use crate::load::{Names, Texts, load_texts};
-use crate::report::{Answer, reported};
+use crate::report::{Answer, judged_answer};
 use bd_case::{CaseFault, read_case, state_text};
 use bd_files::Files;
 use bd_model::{Case, Design, State};
 use bd_sim::{judge, trace};
-use bd_typer::{DesignFault, Text, design_of};
+use bd_typer::Text;
 use itoa::Buffer;
 use std::alloc::{AllocError, Global};
 
-/// The design of texts.
-fn design(alloc: Global, texts: &Texts) -> Result<Design, Ended>
-    requires { AreShort (texts_view texts.now) }
-    ensures read { IfOk result (λ d. let t = texts_view texts.now in
-        Denotes t.pipe t.spec t.inv (Ok (design_view d))) }
-    ensures judged { IfErr result (IsTextsTold IsJudgedTold (texts_view texts.now)) }
-    ensures run { IfErr result (IsTextsTold IsRunTold (texts_view texts.now)) }
-    ensures fault { IfErr result (λ e. ¬ HasReport e) }
-{
-    let inv = match &texts.inv {
-        Some(inv) => Some(inv.as_slice()),
-        None => None,
-    };
-    match design_of(alloc, texts.pipe.as_slice(), texts.spec.as_slice(), inv) {
-        Ok(design) => Ok(design),
-        Err(DesignFault::Bad { file, offset, code }) => Err(Ended::Refused { file, offset, code }),
-        Err(DesignFault::Memory) => Err(Ended::Memory),
-    }
-}
-
 /// The case of bytes.
 fn case(alloc: Global, design: &Design, bytes: &[u8]) -> Result<Case, Ended>
+    requires { IsLawful (design_view design.now) }
     ensures read { IfOk result (λ c.
-        IsReading (design_view design.now) bytes.now (Ok c)) }
-    ensures judged { IfErr result (IsJudgedTold (design_view design.now) bytes.now) }
-    ensures run { IfErr result (IsRunTold (design_view design.now) bytes.now) }
-    ensures fault { IfErr result (λ e. ¬ HasReport e) }
+        IsReading (design_view design.now) bytes.now (Ok c) × Fits (design_view design.now) c) }
+    ensures refused { IfErr result (IsCaseRefused (design_view design.now) bytes.now) }
 {
     match read_case(alloc, design, bytes) {
         Ok(case) => Ok(case),
@@ -67,14 +48,14 @@ fn case(alloc: Global, design: &Design, bytes: &[u8]) -> Result<Case, Ended>
 
 /// What a case shows.
 fn judged(alloc: Global, design: &Design, bytes: &[u8]) -> Result<Answer, Ended>
+    requires { IsLawful (design_view design.now) }
     ensures told { IsJudgedTold (design_view design.now) bytes.now (ended_of result) }
-    ensures report { IfOk result (λ a. HasReport a.ended
-        × (a.report.items ≡ first_line_of a.ended)) }
-    ensures fault { IfErr result (λ e. ¬ HasReport e) }
+    ensures report { IfOk result IsJudgedReport }
+    ensures fault { IfErr result IsTextFault }
 {
     let case = case(alloc, design, bytes)?;
     match judge(alloc, design, &case) {
-        Ok(judged) => reported(alloc, Ended::Replayed(judged)),
+        Ok(judged) => judged_answer(alloc, judged),
         Err(_) => Err(Ended::Memory),
     }
 }
@@ -122,10 +103,10 @@ fn run_text(alloc: Global, design: &Design, case: &Case, cycles: u32) -> Result<
 
 /// The run of a case.
 fn ran(alloc: Global, design: &Design, bytes: &[u8], cycles: u32) -> Result<Answer, Ended>
-    ensures told { IsRunTold (design_view design.now) bytes.now (ended_of result) }
+    requires { IsLawful (design_view design.now) }
     ensures report { IfOk result (λ a. (a.ended ≡ Ended.Ran)
-        × IsRunText (design_view design.now) bytes.now cycles a.report.items) }
-    ensures fault { IfErr result (λ e. ¬ HasReport e) }
+        × IsRunTold (design_view design.now) bytes.now cycles a.report.items) }
+    ensures refused { IfErr result (IsCaseRefused (design_view design.now) bytes.now) }
 {
     let case = case(alloc, design, bytes)?;
     match run_text(alloc, design, &case, cycles) {
@@ -139,43 +120,41 @@ fn ran(alloc: Global, design: &Design, bytes: &[u8], cycles: u32) -> Result<Answ
 
 /// What the case of texts shows.
 fn judged_texts(alloc: Global, texts: &Texts) -> Result<Answer, Ended>
-    requires { AreShort (texts_view texts.now) }
-    ensures told { IsTextsTold IsJudgedTold (texts_view texts.now) (ended_of result) }
-    ensures report { IfOk result (λ a. HasReport a.ended
-        × (a.report.items ≡ first_line_of a.ended)) }
-    ensures fault { IfErr result (λ e. ¬ HasReport e) }
+    requires { AreShort (sources_view texts.now.sources) }
+    ensures told { IsToldOfCase (sources_view texts.now.sources) texts.now.case.items
+        (ended_of result) }
+    ensures report { IfOk result IsJudgedReport }
+    ensures fault { IfErr result IsTextFault }
 {
-    let design = design(alloc, texts)?;
+    let design = design(alloc, &texts.sources)?;
     judged(alloc, &design, texts.case.as_slice())
 }
 
 /// The run of the case of texts.
 fn ran_texts(alloc: Global, texts: &Texts, cycles: u32) -> Result<Answer, Ended>
-    requires { AreShort (texts_view texts.now) }
-    ensures told { IsTextsTold IsRunTold (texts_view texts.now) (ended_of result) }
-    ensures report { IfOk result (λ a. (a.ended ≡ Ended.Ran)
-        × IsTextsRun (texts_view texts.now) cycles a.report.items) }
-    ensures fault { IfErr result (λ e. ¬ HasReport e) }
+    requires { AreShort (sources_view texts.now.sources) }
+    ensures report { IfOk result
+        (IsRunReport (sources_view texts.now.sources) texts.now.case.items cycles) }
+    ensures told { IfErr result
+        (IsToldOfCase (sources_view texts.now.sources) texts.now.case.items) }
+    ensures fault { IfErr result IsTextFault }
 {
-    let design = design(alloc, texts)?;
+    let design = design(alloc, &texts.sources)?;
     ran(alloc, &design, texts.case.as_slice(), cycles)
 }
 
 /// What a case shows.
 pub fn replay<F: Files>(alloc: Global, files: &mut F, names: Names<'_>) -> Result<Answer, Ended>
-    ensures may_have { MayHave (replay_of names.entry) (ended_of result) }
     ensures told { IfSome (F.held files.old) (λ held.
         IsTold held (replay_of names.entry) (ended_of result)) }
-    ensures report { IfOk result (λ a. HasReport a.ended
-        × (a.report.items ≡ first_line_of a.ended)) }
-    ensures fault { IfErr result (λ e. ¬ HasReport e) }
-    ensures rose { ended_of result ≡ Ended.Device Which.Load →
+    ensures report { IfOk result IsJudgedReport }
+    ensures fault { IfErr result IsReadFault }
+    ensures rose { IsErrOf result (Ended.Device Which.Load) →
         Rose (F.faults files.old) (F.faults files.new) }
-    ensures blamed { ended_of result ≡ Ended.Device Which.Load →
+    ensures blamed { IsErrOf result (Ended.Device Which.Load) →
         BlamesOneOf (F.blame files.new) (names_files names.entry) }
-    ensures else_keeps_blame { ended_of result ≢ Ended.Device Which.Load →
+    ensures else_keeps_blame { ¬ IsErrOf result (Ended.Device Which.Load) →
         F.blame files.new ≡ F.blame files.old }
-    ensures out { ended_of result ≢ Ended.Device Which.Out }
     ensures held { F.held files.new ≡ F.held files.old }
     ensures never_falls { F.faults files.old ≤ F.faults files.new }
 {
@@ -192,19 +171,17 @@ pub fn run_case<'a, F: Files>(
     case: &'a str,
     cycles: u32,
 ) -> Result<Answer, Ended>
-    ensures may_have { MayHave (run pipe.now spec.now case.now cycles) (ended_of result) }
     ensures told { IfSome (F.held files.old) (λ held.
         IsTold held (run pipe.now spec.now case.now cycles) (ended_of result)) }
     ensures report { IfOk result (λ a. (a.ended ≡ Ended.Ran) × IsRest (F.held files.old)
         (run pipe.now spec.now case.now cycles) Ended.Ran a.report.items) }
-    ensures fault { IfErr result (λ e. ¬ HasReport e) }
-    ensures rose { ended_of result ≡ Ended.Device Which.Load →
+    ensures fault { IfErr result IsReadFault }
+    ensures rose { IsErrOf result (Ended.Device Which.Load) →
         Rose (F.faults files.old) (F.faults files.new) }
-    ensures blamed { ended_of result ≡ Ended.Device Which.Load →
+    ensures blamed { IsErrOf result (Ended.Device Which.Load) →
         BlamesOneOf (F.blame files.new) (case_files pipe.now spec.now case.now None) }
-    ensures else_keeps_blame { ended_of result ≢ Ended.Device Which.Load →
+    ensures else_keeps_blame { ¬ IsErrOf result (Ended.Device Which.Load) →
         F.blame files.new ≡ F.blame files.old }
-    ensures out { ended_of result ≢ Ended.Device Which.Out }
     ensures held { F.held files.new ≡ F.held files.old }
     ensures never_falls { F.faults files.old ≤ F.faults files.new }
 {

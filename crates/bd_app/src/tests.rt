@@ -1,14 +1,18 @@
 //! Examples over files and sinks in memory.
 
+mod calls;
+mod checks;
 mod replays;
+mod saves;
 
+use self::checks::{CHECK_WITHIN, CHECKS, Check, WITHIN_BUDGET};
 use self::replays::{INCREMENT, INCREMENTS, REPLAY, REPLAYS, RUNS, WITHIN};
-use crate::answer::Ended;
 use crate::run;
-use bd_files::{Files, LoadError, Page, PutError, SaveError, Shelf, Sink};
-use bd_model::{Condition, Scalar};
-use bd_syntax::is_name;
+use bd_files::{Page, Shelf};
+use bd_gen::design_text;
+use bd_typer::design_of;
 use std::alloc::{AllocError, Global};
+use std::str;
 use std::test::Fail;
 
 /// A one-bit pipeline that stalls where its input is false.
@@ -25,10 +29,6 @@ const CHECK: &[&str] = &["burch_dill", "check", "p", "s"];
 const USAGE: &str = "usage: burch_dill check PIPE SPEC [INV] [--budget N] [--cnf FILE] \
 [--lrat FILE] | replay PIPE SPEC CASE [INV] | run PIPE SPEC CASE CYCLES | gen DEPTH DROP\n";
 
-const UNREAD_PIPE: &str = "pipe: not read yet\n";
-
-const UNREAD_SPEC: &str = "spec: not read yet\n";
-
 /// What a run is given, and what it ends with and prints.
 #[derive(Clone, Copy)]
 struct Row<'a> {
@@ -38,8 +38,8 @@ struct Row<'a> {
     spec: &'a str,
     case: &'a str,
     inv: &'a str,
-    /// The number of the load that fails, or 0.
-    failing_load: u64,
+    /// The number of the call on the files that fails, or 0.
+    failing: u64,
     /// How many bytes the put on the output keeps, if it fails.
     kept: Option<usize>,
     /// How many bytes the error output takes.
@@ -57,7 +57,7 @@ const STALLING: Row<'static> = Row {
     spec: TURNS,
     case: "",
     inv: "",
-    failing_load: 0,
+    failing: 0,
     kept: None,
     err_room: 200,
     status: 0,
@@ -90,7 +90,7 @@ fn shelf_of(alloc: Global, row: &Row) -> Result<Shelf, AllocError> {
     let case = file(alloc, "c", row.case)?;
     let inv = file(alloc, "i", row.inv)?;
     let held = vec![in alloc; pipe, spec, case, inv]?;
-    Shelf::new(alloc, held, vec![in alloc; row.failing_load]?)
+    Shelf::new(alloc, held, vec![in alloc; row.failing]?)
 }
 
 fn file(alloc: Global, name: &str, text: &str) -> Result<(String, Vec<u8>), AllocError> {
@@ -106,7 +106,7 @@ fn holds_over(
     words: &[String],
     files: &mut Shelf,
 ) -> Result<bool, AllocError> {
-    let mut out = page(alloc, 200, row.kept)?;
+    let mut out = page(alloc, 4000, row.kept)?;
     holds_on(alloc, row, words, files, &mut out)
 }
 
@@ -134,75 +134,43 @@ fn holds_on(
     )
 }
 
-/// `stalling_bit`, `empty_file`, and texts that are of the form or just not.
-static TEXTS: [Row<'static>; 12] = [
-    Row {
-        name: "stalling bit",
-        out: "correct\n",
-        ..STALLING
-    },
-    Row {
-        name: "a machine that keeps its bit",
-        spec: KEEPS,
-        status: 1,
-        out: "wrong commute\n",
-        ..STALLING
-    },
+/// `empty_file`, `nesting_limit`, `faults_across_files`, a check of what isn't text, and generated pipelines.
+static TEXTS: [Row<'static>; 14] = [
     Row {
         name: "no bytes",
         pipe: "",
         status: 3,
-        err: UNREAD_PIPE,
-        ..STALLING
-    },
-    Row {
-        name: "no bytes for the machine",
-        spec: " ",
-        status: 3,
-        err: UNREAD_SPEC,
-        ..STALLING
-    },
-    Row {
-        name: "neither is of the form",
-        pipe: KEEPS,
-        spec: STALLS,
-        status: 3,
-        err: UNREAD_PIPE,
-        ..STALLING
-    },
-    Row {
-        name: "a part after the last",
-        spec: "(specification (latch a bool) (next a a) x)",
-        status: 3,
-        err: UNREAD_SPEC,
-        ..STALLING
-    },
-    Row {
-        name: "an input of the machine",
-        spec: "(specification (latch a bool) (next a go))",
-        status: 3,
-        err: UNREAD_SPEC,
+        err: "pipe:0: E04 wrong or missing head\n",
         ..STALLING
     },
     Row {
         name: "a machine over another latch",
         spec: "(specification (latch b bool) (next b b))",
         status: 3,
-        err: UNREAD_SPEC,
+        err: "spec:22: E15 not in the pipeline\n",
         ..STALLING
     },
     Row {
-        name: "an input with the latch's name",
-        pipe: "(pipeline (latch a bool) (input a bool false) (next a a) (flush 0) (steps 1))",
+        name: "an unknown name before that",
+        pipe: "(pipeline (latch a bool) (next a q) (flush 0) (steps 0))",
+        spec: "(specification (latch b bool) (next b b))",
         status: 3,
-        err: UNREAD_PIPE,
+        err: "pipe:33: E08 unknown name\n",
         ..STALLING
     },
     Row {
-        name: "a latch with a word's name",
-        pipe: "(pipeline (latch not bool) (input b bool false) (next not b) (flush 0) (steps 1))",
+        name: "a name of 65 bytes",
+        pipe: "(pipeline (latch aaaaaaaaaaaaaaaaaaaaaaaaaaaaaaaaaaaaaaaaaaaaaaaaaaaaaaaaaaaaaaaaa bool) \
+(input go bool false) (next a (ite go (not a) a)) (flush 0) (steps 1))",
         status: 3,
-        err: UNREAD_PIPE,
+        err: "pipe:17: E06 not a name\n",
+        ..STALLING
+    },
+    Row {
+        name: "no constants",
+        pipe: "(pipeline (function f 1) (distinct f f) (flush 0) (steps 0))",
+        status: 3,
+        err: "pipe:35: E18 not a constant\n",
         ..STALLING
     },
     Row {
@@ -214,28 +182,74 @@ may stall\n(flush 0)(steps 1) );",
         ..STALLING
     },
     Row {
-        name: "a choice on the bit, wrong where it's true",
-        pipe: "(pipeline (latch a bool) (input go bool false) (next a (ite a (ite go a (not a)) a)) \
-(flush 0) (steps 1))",
-        spec: KEEPS,
+        name: "an unknown name in the invariant",
+        words: CHECK_WITHIN,
+        inv: "(invariant x)",
+        status: 3,
+        err: "inv:11: E08 unknown name\n",
+        ..STALLING
+    },
+    Row {
+        name: "no such invariant",
+        words: &["burch_dill", "check", "p", "s", "none"],
+        pipe: "",
+        status: 5,
+        err: "cannot read\n",
+        ..STALLING
+    },
+    Row {
+        name: "a generated pipeline",
+        words: &["burch_dill", "gen", "2", "0"],
+        out: "gen 2 0 latches 5 correct\n",
+        ..STALLING
+    },
+    Row {
+        name: "without its path",
+        words: &["burch_dill", "gen", "2", "1"],
         status: 1,
-        out: "wrong commute\n",
+        out: "gen 2 1 latches 5 wrong commute\n",
+        ..STALLING
+    },
+    Row {
+        name: "without a path that isn't there",
+        words: &["burch_dill", "gen", "2", "5"],
+        out: "gen 2 5 latches 5 correct\n",
+        ..STALLING
+    },
+    Row {
+        name: "without its second path",
+        words: &["burch_dill", "gen", "3", "2"],
+        status: 1,
+        out: "gen 3 2 latches 8 wrong commute\n",
+        ..STALLING
+    },
+    Row {
+        name: "six stages",
+        words: &["burch_dill", "gen", "6", "0"],
+        out: "gen 6 0 latches 17 correct\n",
+        ..STALLING
+    },
+    Row {
+        name: "twelve stages without the last path",
+        words: &["burch_dill", "gen", "12", "11"],
+        status: 1,
+        out: "gen 12 11 latches 35 wrong commute\n",
         ..STALLING
     },
 ];
 
-/// `failing_devices`, and a text that isn't read.
-static DEVICES: [Row<'static>; 6] = [
+/// `failing_devices`.
+static DEVICES: [Row<'static>; 7] = [
     Row {
         name: "the first load fails",
-        failing_load: 1,
+        failing: 1,
         status: 5,
         err: "cannot read\n",
         ..STALLING
     },
     Row {
         name: "the second load fails",
-        failing_load: 2,
+        failing: 2,
         status: 5,
         err: "cannot read\n",
         ..STALLING
@@ -250,7 +264,7 @@ static DEVICES: [Row<'static>; 6] = [
     Row {
         name: "the third load fails",
         words: REPLAY,
-        failing_load: 3,
+        failing: 3,
         status: 5,
         err: "cannot read\n",
         ..STALLING
@@ -258,16 +272,25 @@ static DEVICES: [Row<'static>; 6] = [
     Row {
         name: "the fourth load fails",
         words: WITHIN,
-        failing_load: 4,
+        failing: 4,
         status: 5,
         err: "cannot read\n",
         ..STALLING
     },
     Row {
-        name: "a text that isn't read",
-        pipe: "",
-        status: 3,
-        err: UNREAD_PIPE,
+        name: "a save of the formula fails",
+        words: SAVES,
+        failing: 3,
+        status: 5,
+        err: "cannot save\n",
+        ..STALLING
+    },
+    Row {
+        name: "a save of the proof fails",
+        words: SAVES,
+        failing: 4,
+        status: 5,
+        err: "cannot save\n",
         ..STALLING
     },
 ];
@@ -356,309 +379,208 @@ fn names_the_device_that_failed(rt: HostRuntime) -> Result<(), Fail> {
     Ok(())
 }
 
-/// A load that is expected, and what it gives.
-#[derive(Clone, Copy)]
-struct Load {
-    name: &'static str,
-    most: usize,
-    text: &'static str,
+/// What a run on the files of a row prints.
+fn printed(alloc: Global, row: &Row, words: &[String]) -> Result<Vec<u8>, AllocError> {
+    let mut files = shelf_of(alloc, row)?;
+    printed_over(alloc, words, &mut files)
 }
 
-/// Files that watch whether the loads come as they are expected, each once and in this order.
-#[derive(Drop)]
-struct WatchedFiles {
+fn printed_over(alloc: Global, words: &[String], files: &mut Shelf) -> Result<Vec<u8>, AllocError> {
+    let mut out = page(alloc, 4000, None)?;
+    printed_on(alloc, words, files, &mut out)
+}
+
+fn printed_on(
     alloc: Global,
-    expected: &'static [Load],
-    next: usize,
-    as_expected: bool,
+    words: &[String],
+    files: &mut Shelf,
+    out: &mut Page,
+) -> Result<Vec<u8>, AllocError> {
+    let mut err = page(alloc, 200, None)?;
+    let _ = run(alloc, words, files, out, &mut err);
+    out.written().to_vec(alloc)
 }
 
-impl Files for WatchedFiles {
-    ghost use Rattle.std.specs.Prelude.{None};
-
-    ghost held = { λ _. None };
-
-    ghost faults = { λ _. 0 };
-
-    ghost blame = { λ _. None };
-
-    fn load(&mut self, name: &str, most: usize) -> Result<Vec<u8>, LoadError> {
-        let Some(load) = self.expected.get(self.next) else {
-            self.as_expected = false;
-            return Err(LoadError::Memory);
-        };
-        self.next = self.next.saturating_add(1);
-        self.as_expected = self.as_expected && name == load.name && most == load.most;
-        let text = load.text.as_bytes();
-        Vec::from_slice(self.alloc, &text[..text.len().min(most)]).map_err(|_| LoadError::Memory)
-    }
-
-    fn save(&mut self, _name: &str, _bytes: &[u8]) -> Result<(), SaveError> {
-        self.as_expected = false;
-        Err(SaveError::Memory)
+/// The files of a check.
+fn row_of(check: &Check) -> Row<'static> {
+    Row {
+        name: check.name,
+        words: check.words,
+        pipe: check.pipe,
+        spec: check.spec,
+        inv: check.inv,
+        status: check.status,
+        out: check.line,
+        ..STALLING
     }
 }
 
-/// A sink that watches whether the puts come as they are expected, each once and in this order.
-#[derive(Drop)]
-struct WatchedSink {
-    expected: &'static [&'static str],
-    next: usize,
-    as_expected: bool,
-}
-
-impl Sink for WatchedSink {
-    ghost use Rattle.std.specs.Prelude.{None};
-
-    ghost written = { λ _. None };
-
-    ghost faults = { λ _. 0 };
-
-    fn put(&mut self, bytes: &[u8]) -> Result<(), PutError> {
-        let fits = match self.expected.get(self.next) {
-            Some(text) => bytes == text.as_bytes(),
-            None => false,
-        };
-        self.next = self.next.saturating_add(1);
-        self.as_expected = self.as_expected && fits;
-        Ok(())
-    }
-}
-
-fn sink(expected: &'static [&'static str]) -> WatchedSink {
-    WatchedSink {
-        expected,
-        next: 0,
-        as_expected: true,
-    }
-}
-
-/// Whether all came as expected.
-fn is_done(sink: &WatchedSink) -> bool {
-    sink.as_expected && sink.next == sink.expected.len()
-}
-
-/// What a run does to its files and sinks, call by call.
-#[derive(Clone, Copy)]
-struct Calls {
-    words: &'static [&'static str],
-    loads: &'static [Load],
-    out: &'static [&'static str],
-    err: &'static [&'static str],
-}
-
-const PIPE_Z: Load = Load {
-    name: "z",
-    most: 1_048_576,
-    text: STALLS,
-};
-
-const SPEC_A: Load = Load {
-    name: "a",
-    most: 1_048_576,
-    text: TURNS,
-};
-
-const CASE_C: Load = Load {
-    name: "c",
-    most: 1_048_576,
-    text: "(case 1 (latch a true) (input go true))",
-};
-
-const INV_I: Load = Load {
-    name: "i",
-    most: 1_048_576,
-    text: "(invariant true)",
-};
-
-/// Loads of two files, in the order of the words.
-const BOTH: &[Load] = &[PIPE_Z, SPEC_A];
-
-/// Loads of a pipeline alone, for both files.
-const TWICE: &[Load] = &[
-    Load {
-        name: "p",
-        most: 1_048_576,
-        text: STALLS,
-    },
-    Load {
-        name: "p",
-        most: 1_048_576,
-        text: STALLS,
-    },
-];
-
-/// Words that aren't taken: the usage line, and nothing else.
-const NOT_TAKEN: Calls = Calls {
-    words: &[],
-    loads: &[],
-    out: &[],
-    err: &[USAGE],
-};
-
-/// Words that ask for what isn't there yet.
-const NOT_YET: Calls = Calls {
-    words: &[],
-    loads: &[],
-    out: &[],
-    err: &["not there yet\n"],
-};
-
-/// `usage` and others: which calls are made.
-static CALLS: [Calls; 22] = [
-    Calls {
-        words: &["burch_dill", "check", "z", "a"],
-        loads: BOTH,
-        out: &["correct\n"],
-        err: &[],
-    },
-    Calls {
-        words: &["burch_dill", "check", "p", "p"],
-        loads: TWICE,
-        out: &[],
-        err: &["spec", ": not read yet\n"],
-    },
-    Calls {
-        words: &[],
-        ..NOT_TAKEN
-    },
-    Calls {
-        words: &["burch_dill"],
-        ..NOT_TAKEN
-    },
-    Calls {
-        words: &["burch_dill", "--help"],
-        ..NOT_TAKEN
-    },
-    Calls {
-        words: &["burch_dill", "check", "p"],
-        ..NOT_TAKEN
-    },
-    Calls {
-        words: &["burch_dill", "check", "p", "s", "i", "x"],
-        ..NOT_TAKEN
-    },
-    Calls {
-        words: &["burch_dill", "check", "p", "s", "--budget", "1000000001"],
-        ..NOT_TAKEN
-    },
-    Calls {
-        words: &["burch_dill", "run", "p", "s", "c", "1001"],
-        ..NOT_TAKEN
-    },
-    Calls {
-        words: &["burch_dill", "check", "--budget=200000", "--", "z", "a"],
-        loads: BOTH,
-        out: &["correct\n"],
-        err: &[],
-    },
-    Calls {
-        words: &["burch_dill", "check", "p", "s", "i"],
-        ..NOT_YET
-    },
-    Calls {
-        words: &["burch_dill", "check", "p", "s", "--budget", "1000000000"],
-        ..NOT_YET
-    },
-    Calls {
-        words: &["burch_dill", "check", "p", "s", "--cnf", "c"],
-        ..NOT_YET
-    },
-    Calls {
-        words: &["burch_dill", "check", "p", "s", "--lrat", "l"],
-        ..NOT_YET
-    },
-    Calls {
-        words: &["burch_dill", "replay", "z", "a", "c", "i"],
-        loads: &[PIPE_Z, SPEC_A, CASE_C, INV_I],
-        out: &["holds\n"],
-        err: &[],
-    },
-    Calls {
-        words: &["burch_dill", "run", "z", "a", "c", "0"],
-        loads: &[PIPE_Z, SPEC_A, CASE_C],
-        out: &["cycle 0\n (latch a true)\n"],
-        err: &[],
-    },
-    Calls {
-        words: &["burch_dill", "gen", "12", "11"],
-        ..NOT_YET
-    },
-    Calls {
-        words: &["burch_dill", "gen", "2", "12"],
-        ..NOT_TAKEN
-    },
-    Calls {
-        words: &["burch_dill", "check", "-p", "s"],
-        ..NOT_TAKEN
-    },
-    Calls {
-        words: &["burch_dill", "check", "p", "--help"],
-        ..NOT_TAKEN
-    },
-    Calls {
-        words: &["burch_dill", "Check", "p", "s"],
-        ..NOT_TAKEN
-    },
-    Calls {
-        words: &["burch_dill", "gen", "13", "0"],
-        ..NOT_TAKEN
-    },
-];
-
-/// Whether the words make just these calls.
-fn makes(alloc: Global, calls: &Calls) -> Result<bool, AllocError> {
-    let words = words_of(alloc, calls.words)?;
-    Ok(makes_of(alloc, calls, words.as_slice()))
-}
-
-fn makes_of(alloc: Global, calls: &Calls, words: &[String]) -> bool {
-    let mut files = WatchedFiles {
-        alloc,
-        expected: calls.loads,
-        next: 0,
-        as_expected: true,
+/// Whether what is printed is the first line, and a case behind it that is answered as the check says.
+fn shows(alloc: Global, check: &Check, printed: &[u8]) -> Result<bool, AllocError> {
+    let Some(case) = printed.strip_prefix(check.line.as_bytes()) else {
+        return Ok(false);
     };
-    let mut out = sink(calls.out);
-    let mut err = sink(calls.err);
-    let _ = run(alloc, words, &mut files, &mut out, &mut err);
-    files.as_expected && files.next == calls.loads.len() && is_done(&out) && is_done(&err)
+    if check.replayed.is_empty() {
+        return Ok(case.is_empty());
+    }
+    let Ok(case) = str::from_utf8(case) else {
+        return Ok(false);
+    };
+    let row = Row {
+        words: check.replay,
+        case,
+        status: if check.replayed == "holds\n" { 0 } else { 1 },
+        out: check.replayed,
+        ..row_of(check)
+    };
+    holds(alloc, &row)
+}
+
+fn answers(alloc: Global, check: &Check, words: &[String]) -> Result<bool, AllocError> {
+    let printed = printed(alloc, &row_of(check), words)?;
+    shows(alloc, check, printed.as_slice())
 }
 
 #[test]
-fn makes_no_other_calls(rt: HostRuntime) -> Result<(), Fail> {
-    for calls in &CALLS {
-        assert!(rt; makes(rt.alloc(), calls)?, "{:?}", calls.words);
+fn checks_designs(rt: HostRuntime) -> Result<(), Fail> {
+    for check in &CHECKS {
+        let words = words_of(rt.alloc(), check.words)?;
+        assert!(rt;
+            answers(rt.alloc(), check, words.as_slice())?,
+            "{}",
+            check.name
+        );
     }
     Ok(())
 }
 
 #[test]
-fn shows_a_case_that_goes(rt: HostRuntime) -> Result<(), Fail> {
+fn checks_within_a_small_budget(rt: HostRuntime) -> Result<(), Fail> {
+    for check in &CHECKS[..WITHIN_BUDGET] {
+        let mut words = words_of(rt.alloc(), check.words)?;
+        words.push(String::from_str(rt.alloc(), "--budget=10000")?)?;
+        assert!(rt;
+            answers(rt.alloc(), check, words.as_slice())?,
+            "{}",
+            check.name
+        );
+    }
+    Ok(())
+}
+
+/// Words that save both.
+const SAVES: &[&str] = &[
+    "burch_dill",
+    "check",
+    "p",
+    "s",
+    "--cnf",
+    "formula",
+    "--lrat",
+    "proof",
+];
+
+/// Whether a generated pipeline is read without a fault.
+fn generates(alloc: Global, depth: u32, drop: u32) -> Result<bool, AllocError> {
+    let (pipe, spec) = design_text(alloc, depth, drop)?;
+    if pipe.as_slice().len() > 1_048_576 || spec.as_slice().len() > 1_048_576 {
+        return Ok(false);
+    }
+    Ok(design_of(alloc, pipe.as_slice(), spec.as_slice(), None).is_ok())
+}
+
+#[test]
+fn reads_each_generated_pipeline(rt: HostRuntime) -> Result<(), Fail> {
+    for depth in 2..13 {
+        for drop in 0..12 {
+            assert!(rt; generates(rt.alloc(), depth, drop)?, "{depth} {drop}");
+        }
+    }
+    Ok(())
+}
+
+/// Whether a pipeline that ends after so many bytes is refused there.
+fn refuses_pipe_at(alloc: Global, length: usize) -> Result<bool, AllocError> {
+    let Some(pipe) = STALLS.get(..length) else {
+        return Ok(false);
+    };
+    let err = format!(in alloc; "pipe:{length}: E02 unbalanced parenthesis\n")?;
     let row = Row {
-        spec: KEEPS,
+        pipe,
+        status: 3,
+        err: err.as_str(),
         ..STALLING
     };
-    let words = words_of(rt.alloc(), CHECK)?;
-    assert!(rt; goes(rt.alloc(), &row, words.as_slice())?);
+    holds(alloc, &row)
+}
+
+#[test]
+fn refuses_a_pipeline_that_is_cut(rt: HostRuntime) -> Result<(), Fail> {
+    for length in 1..STALLS.len() {
+        assert!(rt; refuses_pipe_at(rt.alloc(), length)?, "{length}");
+    }
     Ok(())
 }
 
-/// Whether the case that is shown has its input true.
-fn goes(alloc: Global, row: &Row, words: &[String]) -> Result<bool, AllocError> {
-    let mut files = shelf_of(alloc, row)?;
-    Ok(goes_over(alloc, words, &mut files))
+/// Parentheses that nest so deep.
+fn nested(alloc: Global, depth: usize) -> Result<String, AllocError> {
+    let mut text = String::new(alloc);
+    for _ in 0..depth {
+        text.push('(')?;
+    }
+    for _ in 0..depth {
+        text.push(')')?;
+    }
+    Ok(text)
 }
 
-fn goes_over(alloc: Global, words: &[String], files: &mut Shelf) -> bool {
-    let mut out = sink(&["wrong commute\n"]);
-    let mut err = sink(&[]);
-    match run(alloc, words, files, &mut out, &mut err) {
-        Ended::Wrong(Condition::Commute, case) => {
-            case.inputs.as_slice() == [Scalar::Bool(true)].as_slice()
-        }
-        _ => false,
+#[test]
+fn refuses_what_nests_too_deep(rt: HostRuntime) -> Result<(), Fail> {
+    let deep = nested(rt.alloc(), 200)?;
+    let row = Row {
+        pipe: deep.as_str(),
+        status: 3,
+        err: "pipe:0: E04 wrong or missing head\n",
+        ..STALLING
+    };
+    assert!(rt; holds(rt.alloc(), &row)?);
+    let deeper = nested(rt.alloc(), 201)?;
+    let row = Row {
+        pipe: deeper.as_str(),
+        status: 3,
+        err: "pipe:200: E03 nested too deep\n",
+        ..STALLING
+    };
+    assert!(rt; holds(rt.alloc(), &row)?);
+    Ok(())
+}
+
+/// Lets that each take the one before it, so many.
+fn chain(alloc: Global, lets: usize) -> Result<String, AllocError> {
+    let mut text = String::from_str(
+        alloc,
+        "(pipeline (latch a bool) (latch b bool) (let l0 bool b)",
+    )?;
+    for i in 1..lets + 1 {
+        let before = i - 1;
+        write!(text, " (let l{i} bool (and l{before} a))")?;
     }
+    write!(text, " (next a l{lets}) (next b b) (flush 0) (steps 1))")?;
+    Ok(text)
+}
+
+#[test]
+fn checks_a_long_chain(rt: HostRuntime) -> Result<(), Fail> {
+    let pipe = chain(rt.alloc(), 20_000)?;
+    let row = Row {
+        pipe: pipe.as_str(),
+        spec: KEEPS,
+        status: 1,
+        out: "wrong commute\n(case 1\n (latch a true)\n (latch b false))\n",
+        ..STALLING
+    };
+    assert!(rt; holds(rt.alloc(), &row)?);
+    Ok(())
 }
 
 /// A text with spaces behind it up to that length.
@@ -698,33 +620,4 @@ fn reads_files_of_the_most_bytes(rt: HostRuntime) -> Result<(), Fail> {
     };
     assert!(rt; holds(rt.alloc(), &too_long)?);
     Ok(())
-}
-
-#[test]
-fn takes_names(rt: HostRuntime) {
-    let cases = [
-        ("a", true),
-        ("_", true),
-        ("Z9_.-", true),
-        (
-            "abcdefghijklmnopqrstuvwxyz_ABCDEFGHIJKLMNOPQRSTUVWXYZ.0123456789",
-            true,
-        ),
-        (
-            "abcdefghijklmnopqrstuvwxyz_ABCDEFGHIJKLMNOPQRSTUVWXYZ.0123456789-",
-            false,
-        ),
-        ("", false),
-        ("9a", false),
-        ("-a", false),
-        (".a", false),
-        ("a+", false),
-        ("not", false),
-        ("let", false),
-        ("nott", true),
-        ("latch", true),
-    ];
-    for (text, want) in &cases {
-        assert_eq!(rt; is_name(text.as_bytes()), *want, "{text}");
-    }
 }

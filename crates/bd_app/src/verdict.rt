@@ -1,69 +1,113 @@
-//! The verdict on two texts.
-//!
-//! The texts give two expressions over a latch and an input, and values of the two decide whether a
-//! cycle breaks the condition. Where none do, no case of the design breaks it, and the law that
-//! cycles compose makes of that a claim on every run. That law asks for a lawful design, whose
-//! expressions nest no deeper than the limit, which holds since the texts were read.
-ghost use Rattle.std.specs.Prelude.{◌≡◌, IfOk};
-ghost use Rattle.bd_app.specs.inner.Told.{IsAnswer};
-ghost use Rattle.bd_app.specs.inner.Shape.{bit_of};
-ghost use Rattle.bd_app.specs.inner.Decided.{IsDecided, case_at};
+//! The verdict on the design of sources.
+ghost use Rattle.std.specs.Prelude.{◌≡◌, IfSome, IfOk, IfErr};
+ghost use Rattle.std.specs.Option.{option_map};
+ghost use Rattle.bd_model.specs.DesignView.{design_view};
+ghost use Rattle.bd_model.specs.Fits.{Fits};
+ghost use Rattle.bd_model.specs.Lawful.{IsLawful};
+ghost use Rattle.bd_app.specs.Answer.{IsVerdict, MayGive, shown_case, work_of};
+ghost use Rattle.bd_app.specs.inner.Loaded.{AreShort, sources_view};
+ghost use Rattle.bd_app.specs.inner.Told.{IsFound, IsFoundOf, IsPart, IsTextFault, IsToldOf};
 
 use crate::answer::Ended;
-use crate::form::FormError;
-use crate::text::{read_pipeline, read_specification};
-use crate::truth::{Truth, Values, split};
-use bd_model::{Case, Condition, Inputs, Interp, Scalar, State, Value, cycles_compose};
-use bd_text::laws::{one_reading, reads_readable};
-use bd_typer::Text;
+use crate::design::design;
+use crate::load::Sources;
+use bd_case::case_text;
+use bd_cdcl::Cdcl;
+use bd_model::{Case, Design};
+use bd_verify::{Verdict, Work, verify};
 use std::alloc::{AllocError, Global};
 
-/// The case of these values.
-fn case_of(alloc: Global, at: Values) -> Result<Case, AllocError>
-    ensures { IfOk result (λ case. case ≡ case_at at.latch at.input) }
-{
-    let mut state = Vec::new(alloc);
-    state.push(Value::Scalar(Scalar::Bool(at.latch)))?;
-    let mut inputs = Vec::new(alloc);
-    inputs.push(Scalar::Bool(at.input))?;
-    Ok(Case {
-        interp: Interp::from_vec(Vec::new(alloc)),
-        state: State::from_vec(state),
-        inputs: Inputs::from_vec(inputs),
-    })
+/// What is asked of a design.
+#[derive(Clone, Copy, Debug)]
+pub struct Asked {
+    /// How many clauses the solver may add for each question.
+    pub budget: u32,
+    /// Whether an invariant is given.
+    pub given: bool,
+    /// Whether the case that the verdict carries is printed.
+    pub shows: bool,
 }
 
-/// Whether some values of the atoms make the negated condition true, by splitting on them.
-fn decide(alloc: Global, next: &Truth, spec_next: &Truth) -> Ended
-    ensures { IsDecided (bit_of next.now) (bit_of spec_next.now) result }
+/// A verdict, and the text of the case that is printed with it.
+#[derive(Debug, Drop)]
+pub struct Found {
+    pub verdict: Verdict,
+    pub case: Vec<u8>,
+}
+
+/// The formula and the log of a verdict.
+pub fn work(verdict: &Verdict) -> &Work
+    ensures { result.now ≡ work_of verdict.now }
 {
-    match split(next, spec_next, None, None) {
-        Some(at) => match case_of(alloc, at) {
-            Ok(case) => Ended::Wrong(Condition::Commute, case),
-            Err(_) => Ended::Memory,
-        },
-        None => Ended::Correct,
+    match verdict {
+        Verdict::Correct(_, work)
+        | Verdict::Wrong(_, _, work)
+        | Verdict::Void(work)
+        | Verdict::Undecided(_, work) => work,
     }
 }
 
-/// The verdict on the texts of a pipeline and of its specification.
-pub fn verdict(alloc: Global, pipe: &[u8], spec: &[u8]) -> Ended
-    ensures answer { IsAnswer pipe.now spec.now result }
-    ensures commute { (k : Condition) (c : Case) → result ≡ Ended.Wrong k c →
-        k ≡ Condition.Commute }
+/// The case that is printed with a verdict.
+fn shown(verdict: &Verdict, shows: bool) -> Option<&Case>
+    ensures { option_map (λ c. c.now) result ≡ shown_case shows verdict.now }
 {
-    cycles_compose();
-    one_reading();
-    reads_readable();
-    let pipeline = match read_pipeline(alloc, pipe) {
-        Ok(pipeline) => pipeline,
-        Err(FormError::Other) => return Ended::Unread(Text::Pipe),
-        Err(FormError::Memory) => return Ended::Memory,
-    };
-    let spec_next = match read_specification(alloc, spec, pipeline.latch.as_slice()) {
-        Ok(spec_next) => spec_next,
-        Err(FormError::Other) => return Ended::Unread(Text::Spec),
-        Err(FormError::Memory) => return Ended::Memory,
-    };
-    decide(alloc, &pipeline.next, &spec_next)
+    if !shows {
+        return None;
+    }
+    match verdict {
+        Verdict::Correct(case, _) => case.as_ref(),
+        Verdict::Wrong(_, case, _) => Some(case),
+        Verdict::Void(_) | Verdict::Undecided(_, _) => None,
+    }
+}
+
+/// Its text.
+fn part(alloc: Global, design: &Design, case: Option<&Case>) -> Result<Vec<u8>, AllocError>
+    requires lawful { IsLawful (design_view design.now) }
+    requires fits { IfSome (option_map (λ c. c.now) case) (Fits (design_view design.now)) }
+    ensures { IfOk result
+        (λ text. IsPart (design_view design.now) (option_map (λ c. c.now) case.entry) text.items) }
+{
+    match case {
+        Some(case) => case_text(alloc, design, case),
+        None => Ok(Vec::new(alloc)),
+    }
+}
+
+/// The verdict on a design.
+fn decide(alloc: Global, design: &Design, asked: Asked) -> Result<Verdict, Ended>
+    requires lawful { IsLawful (design_view design.now) }
+    ensures verdict { IfOk result (IsVerdict (design_view design.now) asked.given asked.budget) }
+    ensures given { IfOk result (MayGive asked.given) }
+    ensures fault { IfErr result (λ e. e ≡ Ended.Memory) }
+{
+    let mut solver = Cdcl::new(alloc);
+    match verify(alloc, &mut solver, design, asked.budget, asked.given) {
+        Ok(verdict) => Ok(verdict),
+        Err(_) => Err(Ended::Memory),
+    }
+}
+
+/// The verdict on a design, with the text of its case.
+fn found_of(alloc: Global, design: &Design, asked: Asked) -> Result<Found, Ended>
+    requires lawful { IsLawful (design_view design.now) }
+    ensures found { IfOk result (IsFound (design_view design.now) asked) }
+    ensures fault { IfErr result (λ e. e ≡ Ended.Memory) }
+{
+    let verdict = decide(alloc, design, asked)?;
+    match part(alloc, design, shown(&verdict, asked.shows)) {
+        Ok(case) => Ok(Found { verdict, case }),
+        Err(_) => Err(Ended::Memory),
+    }
+}
+
+/// The verdict on the design of sources, with the text of its case.
+pub fn found_on(alloc: Global, sources: &Sources, asked: Asked) -> Result<Found, Ended>
+    requires { AreShort (sources_view sources.now) }
+    ensures found { IfOk result (IsFoundOf (sources_view sources.now) asked) }
+    ensures told { IfErr result (IsToldOf (sources_view sources.now)) }
+    ensures fault { IfErr result IsTextFault }
+{
+    let design = design(alloc, sources)?;
+    found_of(alloc, &design, asked)
 }

@@ -15,16 +15,18 @@ use std::{env, fs, io, process};
 const STALLS: &str = "(pipeline (latch a bool) (input go bool false) (next a (ite go (not a) a)) \
 (flush 0) (steps 1))";
 
-/// A machine that turns its bit, and one that keeps it.
-const TURNS: &str = "(specification (latch a bool) (next a (not a)))";
+/// A bit that becomes true, where no step is allowed.
+const RISES: &str = "(pipeline (latch a bool) (next a true) (flush 0) (steps 0))";
 
-const KEEPS: &str = "(specification (latch a bool) (next a a))";
+/// A machine that turns its bit.
+const TURNS: &str = "(specification (latch a bool) (next a (not a)))";
 
 /// What a program is given, and what it ends with and prints.
 #[derive(Clone, Copy)]
 struct Row {
     /// The names of the two files, or none where there is no memory for the words.
     names: Option<(&'static str, &'static str)>,
+    pipe: &'static str,
     spec: &'static str,
     status: u8,
     out: &'static str,
@@ -34,6 +36,7 @@ struct Row {
 static ROWS: [Row; 5] = [
     Row {
         names: Some(("p", "s")),
+        pipe: STALLS,
         spec: TURNS,
         status: 0,
         out: "correct\n",
@@ -41,20 +44,23 @@ static ROWS: [Row; 5] = [
     },
     Row {
         names: Some(("p", "s")),
-        spec: KEEPS,
+        pipe: RISES,
+        spec: TURNS,
         status: 1,
-        out: "wrong commute\n",
+        out: "wrong commute\n(case 1\n (latch a false))\n",
         err: "",
     },
     Row {
         names: Some(("p", "s")),
+        pipe: STALLS,
         spec: "",
         status: 3,
         out: "",
-        err: "spec: not read yet\n",
+        err: "spec:0: E04 wrong or missing head\n",
     },
     Row {
         names: Some(("p", "none")),
+        pipe: STALLS,
         spec: TURNS,
         status: 5,
         out: "",
@@ -62,6 +68,7 @@ static ROWS: [Row; 5] = [
     },
     Row {
         names: None,
+        pipe: STALLS,
         spec: TURNS,
         status: 6,
         out: "",
@@ -90,20 +97,20 @@ fn file(alloc: Global, name: &str, text: &str) -> Result<(String, Vec<u8>), Allo
     ))
 }
 
-fn shelf(alloc: Global, spec: &str) -> Result<Shelf, AllocError> {
-    let pipe = file(alloc, "p", STALLS)?;
-    let spec = file(alloc, "s", spec)?;
+fn shelf(alloc: Global, row: &Row) -> Result<Shelf, AllocError> {
+    let pipe = file(alloc, "p", row.pipe)?;
+    let spec = file(alloc, "s", row.spec)?;
     Shelf::new(alloc, vec![in alloc; pipe, spec]?, Vec::new(alloc))
 }
 
 /// Whether the program ends and prints as the row says.
 fn holds(alloc: Global, row: &Row) -> Result<bool, AllocError> {
-    let mut files = shelf(alloc, row.spec)?;
+    let mut files = shelf(alloc, row)?;
     holds_over(alloc, row, &mut files)
 }
 
 fn holds_over(alloc: Global, row: &Row, files: &mut Shelf) -> Result<bool, AllocError> {
-    let mut out = Page::new(alloc, 50, Vec::new(alloc))?;
+    let mut out = Page::new(alloc, 80, Vec::new(alloc))?;
     holds_on(alloc, row, files, &mut out)
 }
 
@@ -113,7 +120,7 @@ fn holds_on(
     files: &mut Shelf,
     out: &mut Page,
 ) -> Result<bool, AllocError> {
-    let mut err = Page::new(alloc, 50, Vec::new(alloc))?;
+    let mut err = Page::new(alloc, 80, Vec::new(alloc))?;
     let words = words_of(alloc, row.names)?;
     let code = program(alloc, words, files, out, &mut err);
     Ok(

@@ -1,5 +1,5 @@
 -- The program's own commands as the definitions see them.
-use Rattle.std.specs.Prelude.{◌≡◌, ℕ, List, [], ◌∷◌, ◌++◌, Option}
+use Rattle.std.specs.Prelude.{◌≡◌, ◌≤◌, ℕ, List, [], ◌∷◌, ◌++◌, Option}
 use Rattle.std.specs.Option.{option_map}
 use Rattle.std.specs.Borrow.{Bor}
 use Rattle.clap.specs.Walk.{Rule}
@@ -20,6 +20,11 @@ asked (Check pipe spec inv budget cnf lrat) =
 asked (Replay pipe spec case inv) = replay pipe.now spec.now case.now (given inv)
 asked (Run pipe spec case cycles) = run pipe.now spec.now case.now cycles
 asked (Gen depth drop) = gen depth drop
+
+-- the depth of a generated pipeline is from 2 to 12
+abbrev pub HasDepth : Command → Type 0
+HasDepth (Gen depth drop) = (2 ≤ depth) × (depth ≤ 12)
+HasDepth _ = Unit {0}
 
 -- a command with one more argument
 abbrev pub and_rule : Shape → Rule → Shape

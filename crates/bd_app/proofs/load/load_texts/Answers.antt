@@ -1,6 +1,6 @@
 use Rattle.std.proofs.Common.{arith, refl}
 use Rattle.bd_typer.specs.declared.fault.Text.TheVariants as text
-use Rattle.bd_app.proofs.Loading.{all_held, blames_last, fault_before, fault_behind, passed_with, short_file}
+use Rattle.bd_app.proofs.Loading.{IfSome-both, all_held, blames_last, fault_before, fault_behind, passed_with, short_file}
 use Rattle.bd_app.proofs.Reading.{passed_on}
 use Rattle.bd_app.proofs.load.load_texts.Goals as goal
 
@@ -52,5 +52,6 @@ returns-in_err-inv-clause-blamed g c = λ is.
 pub returns-clause-loaded : goal.returns-clause-loaded
 returns-clause-loaded g c =
     let held = g.F.Files.held c.args.files.now in
-    all_held held _ _ _ _ _ c.in_ok-pipe.ensures.loaded (rw c.load.ensures.held at c.in_ok-spec.ensures.loaded) (rw (c.load-2.ensures.held, c.load.ensures.held) at c.in_ok-case.ensures.loaded)
-    (rw (c.load-3.ensures.held, c.load-2.ensures.held, c.load.ensures.held) at c.in_ok-inv.ensures.loaded)
+    let sources = all_held held _ _ _ _ c.in_ok-pipe.ensures.loaded (rw c.load.ensures.held at c.in_ok-spec.ensures.loaded)
+    (rw (c.load-3.ensures.held, c.load-2.ensures.held, c.load.ensures.held) at c.in_ok-inv.ensures.loaded) in
+    IfSome-both _ _ _ held (λ h a b. (a, b)) sources (rw (c.load-2.ensures.held, c.load.ensures.held) at c.in_ok-case.ensures.loaded)

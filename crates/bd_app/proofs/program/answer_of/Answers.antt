@@ -1,60 +1,65 @@
-use Rattle.std.proofs.Common.{◌≡◌, ◌∙◌, ap, sym, refl, arith, inl, inr}
-use Rattle.std.proofs.lemmas.Result.{IfOk-weaker}
-use Rattle.std.specs.Prelude.{Some}
-use Rattle.bd_app.specs.Answer.{MayHave, plain_check}
-use Rattle.bd_app.specs.Words.{replay, run, taken, texts_of}
-use Rattle.bd_app.specs.inner.Asked.{asked, given}
-use Rattle.bd_app.proofs.Printing.{answered, asks_plain, line_report, run_report, said_of}
+use Rattle.bd_app.specs.Words.{texts_of}
+use Rattle.bd_app.specs.inner.Asked.{asked}
+use Rattle.bd_app.specs.declared.answer.Which.TheVariants.{Load, Save}
+use Rattle.bd_app.proofs.Printing.{answered_no_out, device_error, error_device, memory_unsaved, others_of, others_same, report_of, said_of, saved_of, silent_fault, usage_unsaved}
 use Rattle.bd_app.proofs.program.answer_of.Goals as goal
 
-pub returns-else-is_some-3-clause-report : goal.returns-else-is_some-3-clause-report
-returns-else-is_some-3-clause-report g c =
-    let words = texts_of c.args.words.now in
-    let check = c.in-Check in
-    let asks : taken words ≡ Some (plain_check check.pipe.now check.spec.now) = c.in-Ok.ensures.asked ∙ ap (λ a. Some (asked a)) check.is
-    ∙ ap Some (asks_plain check.pipe check.spec check.inv check.budget check.cnf check.lrat (sym c.is_some.ensures ∙ c.if-is_some.false) c.if-budget-ne-BUDGET.false
-    (sym c.is_some-else-budget-ne-BUDGET.ensures ∙ c.if-is_some-2.false) (sym c.is_some-else-is_some-2.ensures ∙ c.if-is_some-3.false)) in
-    answered (MayHave (plain_check check.pipe.now check.spec.now)) _ _ c.check.result c.check.ensures.may_have
-    (λ a may report. (report.0, line_report (g.F.Files.held c.args.files.now) words _ a.ended a.report.items asks (λ run. run) may report.0 report.1)) c.check.ensures.report
+pub returns-in-Ok-clause-said : goal.returns-in-Ok-clause-said
+returns-in-Ok-clause-said g c =
+    let is = c.answered.ensures.answered in
+    said_of (g.F.Files.held c.args.files.now) (texts_of c.args.words.now) _ _ c.in-Ok.ensures.asked is.may_have is.told
 
-pub returns-else-is_some-3-clause-blamed : goal.returns-else-is_some-3-clause-blamed
-returns-else-is_some-3-clause-blamed g c = λ is.
-    let words = texts_of c.args.words.now in
-    let check = c.in-Check in
-    let asks : taken words ≡ Some (plain_check check.pipe.now check.spec.now) = c.in-Ok.ensures.asked ∙ ap (λ a. Some (asked a)) check.is
-    ∙ ap Some (asks_plain check.pipe check.spec check.inv check.budget check.cnf check.lrat (sym c.is_some.ensures ∙ c.if-is_some.false) c.if-budget-ne-BUDGET.false
-    (sym c.is_some-else-budget-ne-BUDGET.ensures ∙ c.if-is_some-2.false) (sym c.is_some-else-is_some-2.ensures ∙ c.if-is_some-3.false)) in
-    elim (c.check.ensures.blamed is) [
-      | inl blame ↦ (plain_check check.pipe.now check.spec.now, asks, (check.pipe.now, (0, omega arith, refl), blame))
-      | inr blame ↦ (plain_check check.pipe.now check.spec.now, asks, (check.spec.now, (1, omega arith, refl), blame))
-    ]
+pub returns-in-Ok-clause-report : goal.returns-in-Ok-clause-report
+returns-in-Ok-clause-report g c =
+    report_of (g.F.Files.held c.args.files.now) (texts_of c.args.words.now) _ c.answered.result c.in-Ok.ensures.asked c.answered.ensures.answered
 
-pub returns-in-Replay-clause-said : goal.returns-in-Replay-clause-said
-returns-in-Replay-clause-said g c =
-    let words = texts_of c.args.words.now in
-    let r = c.in-Replay in
-    let asks = c.in-Ok.ensures.asked ∙ ap (λ a. Some (asked a)) r.is in
-    said_of (g.F.Files.held c.args.files.now) words _ _ asks c.replay.ensures.may_have c.replay.ensures.told
+pub returns-in-Ok-clause-fault : goal.returns-in-Ok-clause-fault
+returns-in-Ok-clause-fault g c = silent_fault c.answered.result c.answered.ensures.answered.fault
 
-pub returns-in-Replay-clause-report : goal.returns-in-Replay-clause-report
-returns-in-Replay-clause-report g c =
-    let words = texts_of c.args.words.now in
-    let r = c.in-Replay in
-    let q = replay r.pipe.now r.spec.now r.case.now (given r.inv) in
-    let asks : taken words ≡ Some q = c.in-Ok.ensures.asked ∙ ap (λ a. Some (asked a)) r.is in
-    answered (MayHave q) _ _ c.replay.result c.replay.ensures.may_have
-    (λ a may report. (report.0, line_report (g.F.Files.held c.args.files.now) words q a.ended a.report.items asks (λ run. run) may report.0 report.1)) c.replay.ensures.report
+pub returns-in-Ok-clause-out : goal.returns-in-Ok-clause-out
+returns-in-Ok-clause-out g c = answered_no_out _ _ c.answered.result c.answered.ensures.answered
 
-pub returns-in-Run-clause-said : goal.returns-in-Run-clause-said
-returns-in-Run-clause-said g c =
-    let words = texts_of c.args.words.now in
-    let asks = c.in-Ok.ensures.asked ∙ ap (λ a. Some (asked a)) c.in-Run.is in
-    said_of (g.F.Files.held c.args.files.now) words _ _ asks c.run_case.ensures.may_have c.run_case.ensures.told
+pub returns-in-Ok-clause-load_rose : goal.returns-in-Ok-clause-load_rose
+returns-in-Ok-clause-load_rose g c = λ is.
+    c.answered.ensures.leaves.load_rose (device_error _ _ c.answered.result Load c.answered.ensures.answered is)
 
-pub returns-in-Run-clause-report : goal.returns-in-Run-clause-report
-returns-in-Run-clause-report g c =
-    let words = texts_of c.args.words.now in
-    let r = c.in-Run in
-    let q = run r.pipe.now r.spec.now r.case.now r.cycles in
-    let asks : taken words ≡ Some q = c.in-Ok.ensures.asked ∙ ap (λ a. Some (asked a)) r.is in
-    IfOk-weaker c.run_case.result _ _ (λ a report. run_report (g.F.Files.held c.args.files.now) words q a.ended a.report.items asks report.0 report.1) c.run_case.ensures.report
+pub returns-in-Ok-clause-load_blamed : goal.returns-in-Ok-clause-load_blamed
+returns-in-Ok-clause-load_blamed g c = λ is.
+    (asked c.in-Ok.command, c.in-Ok.ensures.asked, c.answered.ensures.leaves.load_blamed (device_error _ _ c.answered.result Load c.answered.ensures.answered is))
+
+pub returns-in-Ok-clause-save_rose : goal.returns-in-Ok-clause-save_rose
+returns-in-Ok-clause-save_rose g c = λ is.
+    c.answered.ensures.leaves.save_rose (device_error _ _ c.answered.result Save c.answered.ensures.answered is)
+
+pub returns-in-Ok-clause-save_blamed : goal.returns-in-Ok-clause-save_blamed
+returns-in-Ok-clause-save_blamed g c = λ is.
+    (asked c.in-Ok.command, c.in-Ok.ensures.asked, c.answered.ensures.leaves.save_blamed (device_error _ _ c.answered.result Save c.answered.ensures.answered is))
+
+pub returns-in-Ok-clause-else_keeps_blame : goal.returns-in-Ok-clause-else_keeps_blame
+returns-in-Ok-clause-else_keeps_blame g c = λ load save.
+    c.answered.ensures.leaves.else_keeps_blame (error_device c.answered.result _ load) (error_device c.answered.result _ save)
+
+pub returns-in-Ok-clause-saved : goal.returns-in-Ok-clause-saved
+returns-in-Ok-clause-saved g c =
+    saved_of _ _ (texts_of c.args.words.now) _ c.answered.result c.in-Ok.ensures.asked c.answered.ensures.answered.fault c.answered.ensures.leaves
+
+pub returns-in-Ok-clause-save_failed : goal.returns-in-Ok-clause-save_failed
+returns-in-Ok-clause-save_failed g c = λ is.
+    let up_to = c.answered.ensures.leaves.up_to (device_error _ _ c.answered.result Save c.answered.ensures.answered is) in
+    (up_to.0, (asked c.in-Ok.command, c.in-Ok.ensures.asked, (up_to.1, up_to.2)))
+
+pub returns-in-Ok-clause-others : goal.returns-in-Ok-clause-others
+returns-in-Ok-clause-others g c =
+    others_of _ _ (texts_of c.args.words.now) _ c.in-Ok.ensures.asked c.answered.ensures.leaves.others
+
+pub returns-in-Err-Usage-clause-saved : goal.returns-in-Err-Usage-clause-saved
+returns-in-Err-Usage-clause-saved g c = usage_unsaved _ _
+
+pub returns-in-Err-Usage-clause-others : goal.returns-in-Err-Usage-clause-others
+returns-in-Err-Usage-clause-others g c = others_same _ _
+
+pub returns-in-Err-Memory-clause-saved : goal.returns-in-Err-Memory-clause-saved
+returns-in-Err-Memory-clause-saved g c = memory_unsaved _ _
+
+pub returns-in-Err-Memory-clause-others : goal.returns-in-Err-Memory-clause-others
+returns-in-Err-Memory-clause-others g c = others_same _ _

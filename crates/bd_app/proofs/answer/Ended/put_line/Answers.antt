@@ -3,8 +3,5 @@ use Rattle.bd_app.proofs.answer.Ended.put_line.Goals as goal
 pub returns-in-Usage-clause-line : goal.returns-in-Usage-clause-line
 returns-in-Usage-clause-line g c = rw c.in-Usage.is c.put_text.ensures.text
 
-pub returns-in-NotYet-clause-line : goal.returns-in-NotYet-clause-line
-returns-in-NotYet-clause-line g c = rw c.in-NotYet.is c.put_text-in-NotYet.ensures.text
-
 pub returns-in-Memory-clause-line : goal.returns-in-Memory-clause-line
 returns-in-Memory-clause-line g c = rw c.in-Memory.is c.put_text-in-Memory.ensures.text

@@ -1,0 +1,121 @@
+//! Saving a verdict's formula and proof.
+ghost use Rattle.std.specs.Prelude.{◌≡◌, ◌≤◌, List, ℕ, Some, OnOk, IfErr, IsErrOf};
+ghost use Rattle.bd_cnf.specs.Problem.{dimacs};
+ghost use Rattle.bd_files.specs.Devices.{Holds, KeepsOthers, Rose};
+ghost use Rattle.bd_lrat.specs.Text.{lrat};
+ghost use Rattle.bd_app.specs.Files.{AreSaved, AreSavedUpTo, BlamesSaveOf, IsEither, KeepsAllBut};
+ghost use Rattle.bd_app.specs.inner.Asked.{given};
+ghost use Rattle.bd_app.specs.inner.Told.{IsSaveFault};
+
+use crate::answer::{Ended, Which};
+use bd_cnf::{Cnf, dimacs_text};
+use bd_files::{FileCall, Files, SaveError};
+use bd_lrat::{Log, lrat_text};
+use bd_verify::Work;
+use std::alloc::Global;
+
+/// Saves a text.
+fn save<F: Files>(files: &mut F, name: &str, text: &[u8]) -> Result<(), Ended>
+    ensures saved { OnOk result (Holds (F.held files.new) name.now text.now) }
+    ensures others { KeepsOthers (F.held files.old) (F.held files.new) name.now }
+    ensures fault { IfErr result IsSaveFault }
+    ensures rose { IsErrOf result (Ended.Device Which.Save) →
+        Rose (F.faults files.old) (F.faults files.new) }
+    ensures blamed { IsErrOf result (Ended.Device Which.Save) →
+        F.blame files.new ≡ Some (FileCall.Save, name.now) }
+    ensures else_keeps_blame { ¬ IsErrOf result (Ended.Device Which.Save) →
+        F.blame files.new ≡ F.blame files.old }
+    ensures never_falls { F.faults files.old ≤ F.faults files.new }
+{
+    match files.save(name, text) {
+        Ok(()) => Ok(()),
+        Err(SaveError::Failed) => Err(Ended::Device(Which::Save)),
+        Err(SaveError::Memory) => Err(Ended::Memory),
+    }
+}
+
+/// Saves the formula, if a name is given for it.
+fn save_formula<F: Files>(
+    alloc: Global,
+    files: &mut F,
+    name: Option<&str>,
+    cnf: &Cnf,
+) -> Result<(), Ended>
+    ensures saved { OnOk result ((n : List ℕ) → given name.entry ≡ Some n →
+        Holds (F.held files.new) n (dimacs cnf.now)) }
+    ensures others { KeepsAllBut (F.held files.old) (F.held files.new)
+        (λ n. given name.entry ≡ Some n) }
+    ensures fault { IfErr result IsSaveFault }
+    ensures rose { IsErrOf result (Ended.Device Which.Save) →
+        Rose (F.faults files.old) (F.faults files.new) }
+    ensures blamed { IsErrOf result (Ended.Device Which.Save) → (n : List ℕ)
+        × (given name.entry ≡ Some n) × (F.blame files.new ≡ Some (FileCall.Save, n)) }
+    ensures else_keeps_blame { ¬ IsErrOf result (Ended.Device Which.Save) →
+        F.blame files.new ≡ F.blame files.old }
+    ensures never_falls { F.faults files.old ≤ F.faults files.new }
+{
+    let Some(name) = name else {
+        return Ok(());
+    };
+    match dimacs_text(alloc, cnf) {
+        Ok(text) => save(files, name, text.as_slice()),
+        Err(_) => Err(Ended::Memory),
+    }
+}
+
+/// Saves the proof, if a name is given for it.
+fn save_proof<F: Files>(
+    alloc: Global,
+    files: &mut F,
+    name: Option<&str>,
+    log: &Log,
+) -> Result<(), Ended>
+    ensures saved { OnOk result ((n : List ℕ) → given name.entry ≡ Some n →
+        Holds (F.held files.new) n (lrat log.now)) }
+    ensures others { KeepsAllBut (F.held files.old) (F.held files.new)
+        (λ n. given name.entry ≡ Some n) }
+    ensures fault { IfErr result IsSaveFault }
+    ensures rose { IsErrOf result (Ended.Device Which.Save) →
+        Rose (F.faults files.old) (F.faults files.new) }
+    ensures blamed { IsErrOf result (Ended.Device Which.Save) → (n : List ℕ)
+        × (given name.entry ≡ Some n) × (F.blame files.new ≡ Some (FileCall.Save, n)) }
+    ensures else_keeps_blame { ¬ IsErrOf result (Ended.Device Which.Save) →
+        F.blame files.new ≡ F.blame files.old }
+    ensures never_falls { F.faults files.old ≤ F.faults files.new }
+{
+    let Some(name) = name else {
+        return Ok(());
+    };
+    match lrat_text(alloc, log) {
+        Ok(text) => save(files, name, text.as_slice()),
+        Err(_) => Err(Ended::Memory),
+    }
+}
+
+/// Saves a verdict's formula and then its proof, each if a name is given for it.
+pub fn save_work<F: Files>(
+    alloc: Global,
+    files: &mut F,
+    work: &Work,
+    cnf: Option<&str>,
+    lrat: Option<&str>,
+) -> Result<(), Ended>
+    ensures saved { OnOk result
+        (AreSaved (F.held files.new) (given cnf.entry) (given lrat.entry) work.now) }
+    ensures up_to { IsErrOf result (Ended.Device Which.Save) →
+        AreSavedUpTo (F.held files.old) (F.held files.new) (F.blame files.new)
+        (given cnf.entry) (given lrat.entry) work.now }
+    ensures others { KeepsAllBut (F.held files.old) (F.held files.new)
+        (IsEither (given cnf.entry) (given lrat.entry)) }
+    ensures fault { IfErr result IsSaveFault }
+    ensures rose { IsErrOf result (Ended.Device Which.Save) →
+        Rose (F.faults files.old) (F.faults files.new) }
+    ensures blamed { IsErrOf result (Ended.Device Which.Save) →
+        BlamesSaveOf (F.blame files.new) (given cnf.entry) (given lrat.entry) }
+    ensures else_keeps_blame { ¬ IsErrOf result (Ended.Device Which.Save) →
+        F.blame files.new ≡ F.blame files.old }
+    ensures never_falls { F.faults files.old ≤ F.faults files.new }
+{
+    save_formula(alloc, files, cnf, &work.cnf)?;
+    save_proof(alloc, files, lrat, &work.log)
+}
