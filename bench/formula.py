@@ -1,0 +1,92 @@
+#!/usr/bin/env python3
+"""A formula in conjunctive normal form as a design, to measure the solver by.
+
+It stands in a design of one cycle: latches of truth values, lets for the clauses, and a visible latch that becomes true
+where the formula is. The specification keeps that latch, so the design is right exactly where no assignment satisfies
+the formula.
+
+  pigeons N           N + 1 pigeons in N holes: right
+  random N SEED       random 3-SAT of N variables at 4.26 clauses a variable
+  parity N SEED       two chains over N variables whose parities differ: right
+
+usage: formula.py FAMILY NUMBER .. PIPE SPEC
+"""
+import random
+import sys
+
+
+def formula_design(variables, clauses):
+    def literal(l):
+        return f"x{l}" if l > 0 else f"(not x{-l})"
+
+    items = ["(latch wrong bool)", "(flush 0)", "(steps 0)"]
+    for v in range(1, variables + 1):
+        items += [f"(latch x{v} bool)", f"(next x{v} x{v})"]
+    for place, clause in enumerate(clauses):
+        parts = " ".join(map(literal, clause))
+        value = f"(or {parts})" if len(clause) > 1 else parts
+        items.append(f"(let c{place} bool {value})")
+    names = " ".join(f"c{place}" for place in range(len(clauses)))
+    items.append(f"(let formula bool (and true {names}))")
+    items.append("(next wrong (or wrong formula))")
+    pipe = "(pipeline\n " + "\n ".join(items) + ")\n"
+    return pipe, "(specification (latch wrong bool) (next wrong wrong))\n"
+
+
+def pigeons(holes):
+    def at(pigeon, hole):
+        return pigeon * holes + hole + 1
+
+    clauses = [[at(p, h) for h in range(holes)] for p in range(holes + 1)]
+    for h in range(holes):
+        for p in range(holes + 1):
+            clauses += [[-at(q, h), -at(p, h)] for q in range(p)]
+    return formula_design((holes + 1) * holes, clauses)
+
+
+def random_formula(variables, seed):
+    source = random.Random(seed)
+    clauses = []
+    for _ in range(round(4.26 * variables)):
+        chosen = source.sample(range(1, variables + 1), 3)
+        clauses.append([v if source.random() < 0.5 else -v for v in chosen])
+    return formula_design(variables, clauses)
+
+
+def parity(variables, seed):
+    source = random.Random(seed)
+    clauses = []
+    count = variables
+
+    def chain(order):
+        nonlocal count
+        sum_of = order[0]
+        for v in order[1:]:
+            count += 1
+            t = count
+            clauses.extend([[-t, sum_of, v], [-t, -sum_of, -v], [t, -sum_of, v], [t, sum_of, -v]])
+            sum_of = t
+        return sum_of
+
+    order = list(range(1, variables + 1))
+    one = chain(order)
+    source.shuffle(order)
+    other = chain(order)
+    clauses += [[one], [-other]]
+    return formula_design(count, clauses)
+
+
+FAMILIES = {"pigeons": pigeons, "random": random_formula, "parity": parity}
+
+
+def main():
+    if len(sys.argv) < 5 or sys.argv[1] not in FAMILIES:
+        sys.exit(__doc__)
+    family, *numbers, pipe, spec = sys.argv[1:]
+    for name, text in zip((pipe, spec), FAMILIES[family](*map(int, numbers))):
+        with open(name, "w", encoding="ascii") as file:
+            file.write(text)
+
+
+if __name__ == "__main__":
+    main()

@@ -1,0 +1,128 @@
+#!/usr/bin/env python3
+"""A superscalar pipeline and its instruction set machine, as texts for `burch_dill check`.
+
+Each cycle may fetch up to WIDTH instructions. An operand is read from the registers, behind the results of all
+instructions in flight: every stage and slot forwards to every operand, the youngest first. An instruction that reads
+what an earlier one of its group writes waits for the next cycle, with all after it. The specification runs one
+instruction a step. With --miss the youngest result of the last stage isn't forwarded, which is wrong.
+
+usage: superscalar.py WIDTH DEPTH [--operands N] [--miss] PIPE SPEC
+"""
+import argparse
+
+
+def functions(operands):
+    sources = " ".join(f"(function src{n} 1)" for n in range(operands))
+    return f" (function inc 1) (function dst 1) (function op 1) {sources} (function alu {operands + 1})"
+
+
+def specification(operands):
+    reads = " ".join(f"(read rf (src{n} pc))" for n in range(operands))
+    return "\n".join([
+        "(specification",
+        functions(operands),
+        " (latch pc word) (memory rf)",
+        " (next pc (inc pc))",
+        f" (next rf (write rf (dst pc) (alu (op pc) {reads}))))",
+    ]) + "\n"
+
+
+def latches(width, depth, operands):
+    for slot in range(width):
+        yield f" (latch o_{slot} word)"
+        yield from (f" (latch a{n}_{slot} word)" for n in range(operands))
+        for stage in range(2, depth + 1):
+            yield f" (latch v{stage}_{slot} bool) (latch d{stage}_{slot} word)"
+        for stage in range(3, depth + 1):
+            yield f" (latch x{stage}_{slot} word)"
+
+
+def results(width, depth, operands):
+    """The result of each instruction in flight: computed in stage 2, carried behind it."""
+    for slot in range(width):
+        parts = " ".join(f"a{n}_{slot}" for n in range(operands))
+        yield f" (let r2_{slot} word (alu o_{slot} {parts}))"
+        yield from (f" (let r{stage}_{slot} word x{stage}_{slot})" for stage in range(3, depth + 1))
+
+
+def fetched(width, operands):
+    """Where the instructions of the group stand, what they read and write, and which of them go."""
+    yield " (let pc_0 word pc)"
+    yield from (f" (let pc_{slot + 1} word (inc pc_{slot}))" for slot in range(width))
+    for slot in range(width):
+        yield f" (let t_{slot} word (dst pc_{slot}))"
+        yield from (f" (let s{n}_{slot} word (src{n} pc_{slot}))" for n in range(operands))
+    yield " (let go_0 bool (not stall))"
+    for slot in range(1, width):
+        clashes = " ".join(f"(= t_{old} s{n}_{slot})" for old in range(slot) for n in range(operands))
+        any_clash = f"(or {clashes})" if slot * operands > 1 else clashes
+        yield f" (let go_{slot} bool (and go_{slot - 1} (not {any_clash})))"
+
+
+def operand(slot, n, width, depth, miss):
+    """The youngest result in flight for a source, else what the registers hold."""
+    source = f"s{n}_{slot}"
+    older = f"q{n}_{slot}_r"
+    yield f" (let {older} word (read rf {source}))"
+    for stage in range(depth, 1, -1):
+        for giver in range(width):
+            if miss and stage == depth and giver == width - 1:
+                continue
+            name = f"q{n}_{slot}_{stage}_{giver}"
+            hit = f"(and v{stage}_{giver} (= d{stage}_{giver} {source}))"
+            yield f" (let {name} word (ite {hit} r{stage}_{giver} {older}))"
+            older = name
+    yield f" (let q{n}_{slot} word {older})"
+
+
+def nexts(width, depth, operands):
+    place = "pc"
+    for slot in range(width):
+        place = f"(ite go_{slot} pc_{slot + 1} {place})"
+    yield f" (next pc {place})"
+    yield " (let rf_0 memory rf)"
+    for slot in range(width):
+        write = f"(write rf_{slot} d{depth}_{slot} r{depth}_{slot})"
+        yield f" (let rf_{slot + 1} memory (ite v{depth}_{slot} {write} rf_{slot}))"
+    yield f" (next rf rf_{width})"
+    for slot in range(width):
+        yield f" (next o_{slot} (op pc_{slot}))"
+        yield from (f" (next a{n}_{slot} q{n}_{slot})" for n in range(operands))
+        yield f" (next v2_{slot} go_{slot}) (next d2_{slot} t_{slot})"
+        for stage in range(3, depth + 1):
+            before = stage - 1
+            yield f" (next v{stage}_{slot} v{before}_{slot}) (next d{stage}_{slot} d{before}_{slot})"
+            yield f" (next x{stage}_{slot} r{before}_{slot})"
+
+
+def pipeline(width, depth, operands, miss):
+    lines = ["(pipeline", functions(operands), " (latch pc word) (memory rf)"]
+    lines += latches(width, depth, operands)
+    lines += [" (input stall bool true)"]
+    lines += results(width, depth, operands)
+    lines += fetched(width, operands)
+    for slot in range(width):
+        for n in range(operands):
+            lines += operand(slot, n, width, depth, miss)
+    lines += nexts(width, depth, operands)
+    lines += [f" (flush {depth - 1}) (steps {width}))"]
+    return "\n".join(lines) + "\n"
+
+
+def main():
+    parser = argparse.ArgumentParser(description="A superscalar pipeline and its specification.")
+    parser.add_argument("width", type=int)
+    parser.add_argument("depth", type=int)
+    parser.add_argument("--operands", type=int, default=1)
+    parser.add_argument("--miss", action="store_true")
+    parser.add_argument("pipe")
+    parser.add_argument("spec")
+    words = parser.parse_args()
+    with open(words.pipe, "w") as file:
+        file.write(pipeline(words.width, words.depth, words.operands, words.miss))
+    with open(words.spec, "w") as file:
+        file.write(specification(words.operands))
+
+
+if __name__ == "__main__":
+    main()
