@@ -1,4 +1,5 @@
 //! Examples over files and sinks in memory.
+ghost use Rattle.std.specs.Prelude.{◌≤◌};
 
 mod calls;
 mod checks;
@@ -481,7 +482,10 @@ const SAVES: &[&str] = &[
 ];
 
 /// Whether a generated pipeline is read without a fault.
-fn generates(alloc: Global, depth: u32, drop: u32) -> Result<bool, AllocError> {
+fn generates(alloc: Global, depth: u32, drop: u32) -> Result<bool, AllocError>
+    requires deep { 2 ≤ depth }
+    requires bounded { depth ≤ 12 }
+{
     let (pipe, spec) = design_text(alloc, depth, drop)?;
     if pipe.as_slice().len() > 1_048_576 || spec.as_slice().len() > 1_048_576 {
         return Ok(false);
@@ -561,8 +565,8 @@ fn chain(alloc: Global, lets: usize) -> Result<String, AllocError> {
         alloc,
         "(pipeline (latch a bool) (latch b bool) (let l0 bool b)",
     )?;
-    for i in 1..lets + 1 {
-        let before = i - 1;
+    for before in 0..lets {
+        let i = before + 1;
         write!(text, " (let l{i} bool (and l{before} a))")?;
     }
     write!(text, " (next a l{lets}) (next b b) (flush 0) (steps 1))")?;
