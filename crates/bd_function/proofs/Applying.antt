@@ -1,5 +1,5 @@
 -- What holds of rows and of the first ones when an application is put behind the others.
-use Rattle.std.proofs.Common.{◌≡◌, ℕ, zero, suc, ◌<◌, ◌⊎◌, inl, inr, Bool, true, false, ◌&&◌, if◌then◌else◌, List, [], ◌∷◌, ◌++◌, length, map, slice_get, Some, Contains, nat_eq, refl, ap, sym, ◌∙◌, subst, arith, eq-eqb, length-append}
+use Rattle.std.proofs.Common.{◌≡◌, ℕ, zero, suc, ◌<◌, ◌≤◌, ◌⊎◌, inl, inr, Bool, true, false, ◌&&◌, if◌then◌else◌, List, [], ◌∷◌, ◌++◌, length, map, slice_get, Some, Contains, nat_eq, refl, ap, sym, ◌∙◌, subst, arith, eq-eqb, length-append}
 use Rattle.std.specs.List.{All}
 use Rattle.std.proofs.lemmas.Option.{none-some, same_Some}
 use Rattle.std.proofs.lemmas.List.{get_or_append_left, append-nil}
@@ -55,14 +55,26 @@ first_value-front v nodes (q ∷ rows) more r (suc k, h, e) =
     let rest = first_value-front v nodes rows more r (k, omega arith, e) in
     λ i. if pointwise nat_eq (arguments v nodes q) (arguments v nodes r) then v q.var else rest i
 
--- rows give the same where the graph grows
+-- the row's arguments and its variable have the same values
+pub record KeepsValues (v v' : ℕ → Scalar) (old new : List Node) (r : FlatRow) : Type 0 where
+  pub same : arguments v' new r ≡ arguments v old r
+  pub value : v' r.var ≡ v r.var
+
+-- rows of such give the same
+pub rows-same : (v v' : ℕ → Scalar) (old new : List Node) (rows : List FlatRow) → ((r : FlatRow) → Contains rows r → KeepsValues v v' old new r) → map (row_of v' new) rows ≡ map (row_of v old) rows
+rows-same v v' old new [] h = refl
+rows-same v v' old new (r ∷ rows) h =
+    let k = h r (0, omega arith, refl) in
+    let rest = rows-same v v' old new rows (λ q p. h q (Contains-later r rows q p)) in
+    λ i. record { args = k.same i; value = k.value i } ∷ rest i
+
+-- rows are such where the graph grows
+pub KeepsValues-Extends : (v : ℕ → Scalar) (old new : List Node) → Extends old new → (r : FlatRow) → All (λ a. HasSort old a sort.Word) r.args → KeepsValues v v old new r
+KeepsValues-Extends v old new e r h = record { same = words-Extends (under v) old new e r.args h; value = refl }
+
 pub rows_of-Extends : (v : ℕ → Scalar) (old new : List Node) → Extends old new → (rows : List FlatRow) → ((r : FlatRow) → Contains rows r → All (λ a. HasSort old a sort.Word) r.args)
     → map (row_of v new) rows ≡ map (row_of v old) rows
-rows_of-Extends v old new e [] h = refl
-rows_of-Extends v old new e (r ∷ rows) h =
-    let head = words-Extends (under v) old new e r.args (h r (0, omega arith, refl)) in
-    let tail = rows_of-Extends v old new e rows (λ q p. h q (Contains-later r rows q p)) in
-    λ i. record { args = head i; value = v r.var } ∷ tail i
+rows_of-Extends v old new e rows h = rows-same v v old new rows (λ r p. KeepsValues-Extends v old new e r (h r p))
 
 as_sort-if : (s : Sort) (t : Bool) (x y : Scalar) → as_sort s (if t then x else y) ≡ (if t then as_sort s x else as_sort s y)
 as_sort-if s true x y = refl
@@ -117,25 +129,33 @@ with_row-cases (s ∷ ss) (suc p) h new at x (zero, k, e) = inl (zero, omega ari
 with_row-cases (s ∷ ss) (suc p) h new at x (suc j, k, e) =
     elim (with_row-cases ss p h new at x (j, omega arith, e)) [ inl q ↦ inl (Contains-later s ss x q) | inr q ↦ inr q ]
 
--- a symbol with further rows
-pub record Later (ss : List FlatSym) (s : FlatSym) : Type 0 where
+-- a symbol with further rows, of variables from the number on
+pub record Later (ss : List FlatSym) (n : ℕ) (s : FlatSym) : Type 0 where
   pub later : FlatSym
   pub listed : Contains ss later
   pub same : later.sym ≡ s.sym
   pub more : List FlatRow
+  pub from : (r : FlatRow) → Contains more r → n ≤ r.var
   pub grows : later.rows ≡ s.rows ++ more
 
-pub with_row-later : (ss : List FlatSym) (p : ℕ) (new : FlatRow) (s : FlatSym) → Contains ss s → Later (with_row ss p new) s
+pub Later-same : (ss : List FlatSym) (n : ℕ) (s : FlatSym) → Contains ss s → Later ss n s
+Later-same ss n s p = record { later = s; listed = p; same = refl; more = []; from = λ r q. absurd (Contains-none r q); grows = sym (append-nil s.rows) }
+
+pub with_row-later : (ss : List FlatSym) (p : ℕ) (new : FlatRow) (s : FlatSym) → Contains ss s → Later (with_row ss p new) new.var s
 with_row-later [] p new s q = absurd (Contains-none s q)
-with_row-later (x ∷ ss) zero new s (zero, h, e) =
-    record { later = record { sym = x.sym; rows = x.rows ++ new ∷ [] }; listed = (0, omega arith, refl); same = ap (λ (z : FlatSym). z.sym) e; more = new ∷ []; grows = ap (λ (z : FlatSym). z.rows ++ new ∷ []) e }
-with_row-later (x ∷ ss) zero new s (suc k, h, e) =
-    record { later = s; listed = Contains-later (record { sym = x.sym; rows = x.rows ++ new ∷ [] }) ss s (k, omega arith, e); same = refl; more = []; grows = sym (append-nil s.rows) }
-with_row-later (x ∷ ss) (suc p) new s (zero, h, e) =
-    record { later = s; listed = (0, omega arith, e); same = refl; more = []; grows = sym (append-nil s.rows) }
+with_row-later (x ∷ ss) zero new s (zero, h, e) = record {
+  later = record { sym = x.sym; rows = x.rows ++ new ∷ [] };
+  listed = (0, omega arith, refl);
+  same = ap (λ (z : FlatSym). z.sym) e;
+  more = new ∷ [];
+  from = λ r q. subst (λ (z : FlatRow). new.var ≤ z.var) (Contains-one new r q) (omega arith);
+  grows = ap (λ (z : FlatSym). z.rows ++ new ∷ []) e;
+}
+with_row-later (x ∷ ss) zero new s (suc k, h, e) = Later-same _ new.var s (Contains-later (record { sym = x.sym; rows = x.rows ++ new ∷ [] }) ss s (k, omega arith, e))
+with_row-later (x ∷ ss) (suc p) new s (zero, h, e) = Later-same _ new.var s (0, omega arith, e)
 with_row-later (x ∷ ss) (suc p) new s (suc k, h, e) =
     let l = with_row-later ss p new s (k, omega arith, e) in
-    record { later = l.later; listed = Contains-later x (with_row ss p new) l.later l.listed; same = l.same; more = l.more; grows = l.grows }
+    record { later = l.later; listed = Contains-later x (with_row ss p new) l.later l.listed; same = l.same; more = l.more; from = l.from; grows = l.grows }
 
 -- the symbol at the place has the row
 pub with_row-there : (ss : List FlatSym) (p : ℕ) (h : FlatSym) (new : FlatRow) → slice_get ss p ≡ Some h → Contains (with_row ss p new) (record { sym = h.sym; rows = h.rows ++ new ∷ [] })

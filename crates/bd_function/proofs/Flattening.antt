@@ -14,7 +14,7 @@ use Rattle.bd_terms.specs.declared.node.Sym.TheVariants.{Var}
 use Rattle.bd_terms.specs.declared.node.Node.{Node}
 use Rattle.bd_terms.specs.declared.node.Node.TheVariants.{True, Not, And, Or, Ite, Eq, App, Pred, Read, Write, Init}
 use Rattle.bd_terms.specs.Graph.{FitsSorts, HasSort, IsGraph, Use, children, node_sort, node_uses, sort_at, sorts, uses}
-use Rattle.bd_terms.specs.Denotation.{World, Denoted, Truth, Word, applied, at_place, denoted, holds, node_value, truth_of, values, word_of}
+use Rattle.bd_terms.specs.Denotation.{World, Denoted, Truth, Word, applied, at_place, denoted, holds, node_value, truth_of, values, word_of, words}
 use Rattle.bd_terms.specs.Reaches.{Reaches, Root, Child, ReachesUse}
 use Rattle.bd_terms.proofs.Denotations.{denoted-get}
 use Rattle.bd_terms.proofs.Graphs.{FitsSorts-get, sort_at-get}
@@ -25,10 +25,10 @@ use Rattle.bd_terms.proofs.Symbols.{uses-get}
 use Rattle.bd_function.specs.declared.flat.FlatRow.{FlatRow}
 use Rattle.bd_function.specs.declared.flat.FlatSym.{FlatSym}
 use Rattle.bd_function.specs.declared.eliminate.Taken.{Taken}
-use Rattle.bd_function.specs.Flat.{AreApplications, Flattens, GivesSorts, HasAllApplications, HaveSorts, IsFlat, IsRealized, KeepsFirst, ReachesNoMemory, Realizes, is_variable, under}
+use Rattle.bd_function.specs.Flat.{AreApplications, Flattens, GivesSorts, HasAllApplications, HaveSorts, IsChosen, IsFlat, IsRealized, KeepsFirst, ReachesNoMemory, Realizes, is_variable, under}
 use Rattle.bd_function.specs.inner.Nested.{id_at, renamed}
-use Rattle.bd_function.specs.inner.Taken.{AreAlike, HasRow, HasUse, IsPlain, KeepsRow, IsTaken, row_sort, use_of}
-use Rattle.bd_function.proofs.Applying.{Contains-later, Contains-none}
+use Rattle.bd_function.specs.inner.Taken.{AreAlike, HasRow, HasUse, IsApplied, IsPlain, KeepsRow, IsTaken, row_sort, use_of}
+use Rattle.bd_function.proofs.Applying.{Contains-later, Contains-none, Contains-one}
 use Rattle.bd_function.proofs.Realizing.{Realizes-KeepsFirst}
 use Rattle.bd_function.proofs.Stepping.{All-of}
 use Rattle.bd_function.proofs.Taking.{StepsNode}
@@ -62,6 +62,7 @@ pub record IsFlattened (old : List Node) (root : ℕ) (ids : List ℕ) (t : Take
   pub known : (symbol : Sym) (r : FlatRow) → HasRow t.rows.items symbol r → IsKnown old root t symbol r
   pub all : (k : ℕ) → k < length ids → Reaches old root k → (node : Node) → slice_get old k ≡ Some node → (u : Use) → Contains (node_uses node) u → HasUse t u
   pub realized : (w : World) → Realizing old root t w
+  pub chosen : (w : World) (choice : ℕ → Scalar) → IsChosen old root t.graph t.rows.items w choice
   pub sorted : (k : ℕ) → k < length ids → Reaches old root k → HasSort t.graph (id_at ids k) (sort_at old k)
   pub means : (w : World) (v : ℕ → Scalar) → KeepsFirst w v t.graph t.rows.items → (k : ℕ) → k < length ids → Reaches old root k
       → denoted (under v) t.graph (id_at ids k) ≡ denoted w old k
@@ -173,9 +174,18 @@ below_last zero (suc n) h = inl (omega arith)
 below_last (suc k) zero h = absurd (omega arith)
 below_last (suc k) (suc n) h = elim (below_last k n (omega arith)) [ inl p ↦ inl (omega arith) | inr p ↦ inr (ap suc p) ]
 
+-- no nodes are a graph
+none-IsGraph : IsGraph []
+none-IsGraph = record {
+  fits = λ i node at. absurd (none-some node at);
+  different = λ i j node at there. absurd (none-some node at);
+  consistent = λ u p. absurd (Contains-none u p);
+}
+
 pub IsFlattened-start : (old : List Node) (root : ℕ) (t : Taken) → t.graph ≡ [] → t.rows.items ≡ [] → t.symbols.keys ≡ [] → IsFlattened old root [] t
 IsFlattened-start old root t g r s = record {
   taken = record {
+    graph = subst IsGraph (sym g) none-IsGraph;
     rows = λ x p. absurd (Contains-none x (subst (λ l. Contains l x) r p));
     applied = λ u p. absurd (Contains-none u (subst (λ l. Contains (uses l) u) g p));
     named = ap (map (λ (x : FlatSym). x.sym)) r ∙ sym s;
@@ -188,6 +198,11 @@ IsFlattened-start old root t g r s = record {
     values = λ x. scalar.Bool false;
     realizes = record { applied = λ x p. absurd (Contains-none x (subst (λ l. Contains l x) r p)) };
     sorted = λ gives. record { sorted = λ x k p. absurd (Contains-none (use_of (Var x) 0 k) (subst (λ l. Contains (uses l) (use_of (Var x) 0 k)) g p)) };
+  };
+  chosen = λ w choice. record {
+    values = choice;
+    keeps = record { first = λ x p. absurd (Contains-none x (subst (λ l. Contains l x) r p)) };
+    each = λ x. inl refl;
   };
   sorted = λ k h. absurd (omega (arith, h));
   means = λ w v keeps k h. absurd (omega (arith, h));
@@ -203,6 +218,7 @@ IsFlattened-pass old root ids t id f none = record {
     | inr e ↦ absurd (none (subst (Reaches old root) e r))
   ];
   realized = f.realized;
+  chosen = f.chosen;
   sorted = λ k h r. elim (below_last k (length ids) (omega (arith, h, length-append ids (id ∷ [])))) [
     | inl p ↦ subst (λ j. HasSort t.graph j (sort_at old k)) (sym (get_or_append_left ids (id ∷ []) 0 k p)) (f.sorted k p r)
     | inr e ↦ absurd (none (subst (Reaches old root) e r))
@@ -212,6 +228,26 @@ IsFlattened-pass old root ids t id f none = record {
     | inr e ↦ absurd (none (subst (Reaches old root) e r))
   ];
 }
+
+-- a node that is reached applies its symbol to terms with the values that their new ones have
+applied_node : (old : List Node) (root : ℕ) (new : List Node) (ids : List ℕ) (w : World) (v : ℕ → Scalar) (i : ℕ) (node : Node) → IsPlain node → Reaches old root i → slice_get old i ≡ Some node
+    → ((c : ℕ) → Contains (children node) c → denoted (under v) new (id_at ids c) ≡ denoted w old c)
+    → (u : Use) → Contains (node_uses node) u → IsApplied old root w u (words (under v) new (children (renamed ids node)))
+applied_node old root new ids w v i True p r at h u q = absurd (Contains-none u q)
+applied_node old root new ids w v i (Not a) p r at h u q = absurd (Contains-none u q)
+applied_node old root new ids w v i (And a b) p r at h u q = absurd (Contains-none u q)
+applied_node old root new ids w v i (Or a b) p r at h u q = absurd (Contains-none u q)
+applied_node old root new ids w v i (Ite c a b) p r at h u q = absurd (Contains-none u q)
+applied_node old root new ids w v i (Eq a b) p r at h u q = absurd (Contains-none u q)
+applied_node old root new ids w v i (App s args) p r at h u q =
+    subst (λ x. IsApplied old root w x (words (under v) new (map (id_at ids) args))) (Contains-one _ u q)
+    (record { id = i; terms = args; reached = r; there = at; same = args_renamed (values (under v) new) (values w old) ids args h })
+applied_node old root new ids w v i (Pred s args) p r at h u q =
+    subst (λ x. IsApplied old root w x (words (under v) new (map (id_at ids) args))) (Contains-one _ u q)
+    (record { id = i; terms = args; reached = r; there = at; same = args_renamed (values (under v) new) (values w old) ids args h })
+applied_node old root new ids w v i (Read m a) p r at h u q = absurd p
+applied_node old root new ids w v i (Write m a d) p r at h u q = absurd p
+applied_node old root new ids w v i (Init e) p r at h u q = absurd p
 
 -- a use keeps its row
 HasUse-kept : (t t' : Taken) (u : Use) → HasUse t u → ((r : FlatRow) → HasRow t.rows.items u.symbol r → KeepsRow t t' u.symbol r) → HasUse t' u
@@ -244,6 +280,11 @@ IsFlattened-take old g root none ids t t' id node f r at st =
                 (record { sorted = λ u p. gives.sorted u (record { id = n; node = node; reached = r; there = at; applies = p }) })
                 (before.sorted gives);
           };
+      chosen = λ w choice.
+          let c = f.chosen w choice in
+          st.chosen old root w choice c.values (record { keeps = c.keeps; each = c.each })
+          (applied_node old root t.graph ids w c.values n node (plain_reached old g root none n node r at) r at
+          (λ a p. let below = children-below old g n node at a p in f.means w c.values c.keeps a below (Child n node a r at p)));
       sorted = λ k h s. elim (below_last k n (omega (arith, h, length-append ids (id ∷ [])))) [
         | inl p ↦ subst (λ j. HasSort t'.graph j (sort_at old k)) (sym (get_or_append_left ids (id ∷ []) 0 k p)) (HasSort-Extends t.graph t'.graph st.extends (id_at ids k) (sort_at old k) (f.sorted k p s))
         | inr e ↦ subst (λ j. HasSort t'.graph (id_at (ids ++ id ∷ []) j) (sort_at old j)) (sym e)

@@ -3,6 +3,7 @@ pub mod Nesting
 pub mod Terms
 pub mod Applying
 pub mod Realizing
+pub mod Choosing
 pub mod Stepping
 pub mod Taking
 pub mod Flattening

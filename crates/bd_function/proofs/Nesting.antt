@@ -7,7 +7,7 @@ use lib.Pointwise.{pointwise}
 use Rattle.bd_model.specs.declared.design.Sort.{Sort}
 use Rattle.bd_model.specs.declared.design.Sort.TheVariants as sort
 use Rattle.bd_terms.specs.declared.node.Node.{Node}
-use Rattle.bd_terms.specs.Graph.{AddsUses, Extends, HasSort, sort_at}
+use Rattle.bd_terms.specs.Graph.{AddsUses, Extends, HasSort, IsGraph, sort_at}
 use Rattle.bd_terms.specs.Denotation.{World, Denotes, Truth, denoted, truth, truth_of, word, word_of, words}
 use Rattle.bd_terms.proofs.Growth.{AddsUses-self, AddsUses-trans, Extends-self, Extends-trans, denoted-Extends}
 use Rattle.bd_terms.proofs.Places.{Contains-get}
@@ -76,6 +76,7 @@ pub record IsNested (old new : List Node) (variables : List ℕ) (rows : List Fl
   pub uses : AddsUses old new []
   pub sorted : HasSort new id (sort_at old own)
   pub denotes : Denotes new id (λ w. chosen w old variables (drop index rows) args (denoted w old own))
+  pub graph : IsGraph old → IsGraph new
 
 pub IsNested-start : (old : List Node) (variables : List ℕ) (rows : List FlatRow) (args : List ℕ) (own : ℕ) → own < length old → IsNested old old variables rows args own (length rows) own
 IsNested-start old variables rows args own inside = record {
@@ -83,6 +84,7 @@ IsNested-start old variables rows args own inside = record {
   uses = AddsUses-self old [];
   sorted = record { inside = inside; sorted = refl };
   denotes = record { is = λ w. sym (λ i. chosen w old variables (drop-all rows i) args (denoted w old own)) };
+  graph = λ g. g;
 }
 
 pub IsNested-step : (old g g1 g2 : List Node) (variables : List ℕ) (rows : List FlatRow) (args : List ℕ) (own k id e id2 : ℕ) (r : FlatRow)
@@ -90,9 +92,9 @@ pub IsNested-step : (old g g1 g2 : List Node) (variables : List ℕ) (rows : Lis
     → IsNested old g variables rows args own (suc k) id
     → Extends g g1 → AddsUses g g1 [] → Denotes g1 e (λ w. Truth (pointwise nat_eq (words w g r.args) (words w g args)))
     → Extends g1 g2 → AddsUses g1 g2 [] → Denotes g2 id2 (λ w. if truth w g1 e then denoted w g1 (id_at variables r.var) else denoted w g1 id)
-    → HasSort g2 id2 (sort_at old own)
+    → HasSort g2 id2 (sort_at old own) → IsGraph g2
     → IsNested old g2 variables rows args own k id2
-IsNested-step old g g1 g2 variables rows args own k id e id2 r ha hr gr h e1 u1 d1 e2 u2 d2 s2 =
+IsNested-step old g g1 g2 variables rows args own k id e id2 r ha hr gr h e1 u1 d1 e2 u2 d2 s2 is =
     let row = All-contains (IsEarlier old variables (length args) (sort_at old own)) rows r hr (Contains-get rows k r gr) in
     record {
       extends = Extends-trans old g g2 h.extends (Extends-trans g g1 g2 e1 e2);
@@ -108,6 +110,7 @@ IsNested-step old g g1 g2 variables rows args own k id e id2 r ha hr gr h e1 u1 
             d2.is w ∙ (λ i. if test i then var i else rest i)
             ∙ sym (λ i. chosen w old variables (drop-get rows k r gr i) args (denoted w old own));
       };
+      graph = λ g. is;
     }
 
 pub row-get : (nodes : List Node) (variables : List ℕ) (arity : ℕ) (s : Sort) (rows : List FlatRow) (k : ℕ) (r : FlatRow)

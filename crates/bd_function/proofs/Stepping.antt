@@ -1,7 +1,6 @@
 -- An application that is put behind the others keeps what holds of those before it.
 use Rattle.std.proofs.Common.{◌≡◌, ℕ, suc, ◌<◌, ◌⊎◌, inl, inr, false, List, [], ◌∷◌, ◌++◌, length, map, slice_get, Some, Contains, get_or, refl, ap, sym, ◌∙◌, subst, arith, length-append}
 use Rattle.std.specs.List.{All}
-use Rattle.std.proofs.lemmas.Option.{get_or_from_slice_get, slice_get_within}
 use Rattle.std.proofs.lemmas.List.{get_or_default}
 use Rattle.std.proofs.lemmas.List.Elements.{Contains-append_cases, Contains-append_left, Contains-append_right}
 use Rattle.std.proofs.Math.Seq.{get_or-append_seam}
@@ -13,16 +12,18 @@ use Rattle.bd_model.specs.declared.table.Scalar.TheVariants as scalar
 use Rattle.bd_terms.specs.declared.node.Sym.{Sym}
 use Rattle.bd_terms.specs.declared.node.Sym.TheVariants.{Var}
 use Rattle.bd_terms.specs.declared.node.Node.{Node}
-use Rattle.bd_terms.specs.Graph.{AddsUses, Extends, HasSort, Use, sort_at, uses}
+use Rattle.bd_terms.specs.Graph.{AddsUses, Extends, HasSort, IsGraph, Use, sort_at, uses}
 use Rattle.bd_terms.specs.Denotation.{World, Denotes, denoted, words}
+use Rattle.bd_terms.proofs.Places.{Contains-get}
 use Rattle.bd_terms.proofs.Growth.{All-HasSort-Extends, Extends-trans, HasSort-Extends, denoted-Extends}
 use Rattle.bd_function.specs.declared.flat.FlatRow.{FlatRow}
 use Rattle.bd_function.specs.declared.flat.FlatSym.{FlatSym}
 use Rattle.bd_function.specs.declared.eliminate.Taken.{Taken}
-use Rattle.bd_function.specs.Flat.{KeepsFirst, Realizes, arguments, first_value, under}
+use Rattle.bd_function.specs.Flat.{IsChosen, KeepsFirst, Realizes, arguments, first_value, under}
 use Rattle.bd_function.specs.inner.Nested.{AreEarlier, IsEarlier, chosen, id_at}
-use Rattle.bd_function.specs.inner.Taken.{AddsSymbol, AddsVariable, AreAlike, Further, HasRow, HasUse, IsRow, IsTaken, IsVariableBelow, Steps, as_sort, row_sort, use_of, with_row}
+use Rattle.bd_function.specs.inner.Taken.{AddsSymbol, AddsVariable, AreAlike, Chooses, Further, HasRow, HasUse, IsApplied, IsRow, IsTaken, IsVariableBelow, Steps, as_sort, row_sort, use_of, with_row}
 use Rattle.bd_function.proofs.Nesting.{words-Extends}
+use Rattle.bd_function.proofs.Choosing.{AddsRow-IsChosen, Chooses-symbol}
 use Rattle.bd_function.proofs.Realizing.{HaveSorts-more, HaveSorts-none, with_value, with_value-agree, with_value-other, with_value-same, words-agree}
 use Rattle.bd_function.proofs.Applying.{Contains-none, Contains-one, IsRow-later, Later, chosen-first, first_value-front, row_sort-later, rows_of-Extends, uses-Extends, with_row-cases, with_row-later, with_row-named, with_row-there}
 
@@ -63,15 +64,12 @@ pub record IsAlike (t2 : Taken) (arity : ℕ) (s : Sort) (r : FlatRow) : Type 0 
   pub many : length r.args ≡ arity
   pub kind : row_sort t2.graph t2.variables.items r ≡ s
 
-at_place : {X : Type 0} → (xs : List X) (i : ℕ) (x : X) → slice_get xs i ≡ Some x → Contains xs x
-at_place xs i x h = (i, slice_get_within xs i x h, get_or_from_slice_get xs i x x h)
-
 pub alike_row : (t t1 t2 : Taken) (own arity : ℕ) (s : Sort) (k : Sym) (place : ℕ) → IsTaken t → AreAlike t (use_of k arity s ∷ []) → AddsVariable t t1 own s → (a : AddsSymbol t1 t2 k place)
     → (r : FlatRow) → Contains a.holder.rows r → IsAlike t2 arity s r
 alike_row t t1 t2 own arity s k place taken alike v a r p =
     let e = extends_two t t1 t2 own s k place v a in
     let vars : t2.variables.items ≡ t.variables.items ++ own ∷ [] = a.variables ∙ v.variables in
-    let h = HasRow-old t t1 t2 own s k place v a k r (record { holder = a.holder; listed = at_place t2.rows.items place a.holder a.there; same = a.same; has = p }) in
+    let h = HasRow-old t t1 t2 own s k place v a k r (record { holder = a.holder; listed = Contains-get t2.rows.items place a.holder a.there; same = a.same; has = p }) in
     let row = taken.rows h.holder h.listed r h.has in
     let fit = alike.alike (use_of k arity s) (0, omega arith, refl) h.holder h.listed h.same r h.has in
     record {
@@ -94,6 +92,7 @@ earlier_rows t t1 t2 own arity s k place taken alike v a = All-of (IsEarlier t2.
 
 -- what the application's step does to terms, variables and rows
 pub record Applies (t2 t4 : Taken) (own id place var : ℕ) (args : List ℕ) (holder : FlatSym) : Type 0 where
+  pub graph : IsGraph t2.graph → IsGraph t4.graph
   pub extends : Extends t2.graph t4.graph
   pub adds : AddsUses t2.graph t4.graph []
   pub sorted : HasSort t4.graph id (sort_at t2.graph own)
@@ -110,16 +109,16 @@ HasRow-cases t t1 t2 own s k place new v a symbol r h = elim (with_row-cases t2.
   | inr e ↦
       let is : symbol ≡ a.holder.sym = sym h.same ∙ ap (λ (x : FlatSym). x.sym) e in
       elim (Contains-append_cases a.holder.rows (new ∷ []) r (subst (λ (x : FlatSym). Contains x.rows r) e h.has)) [
-        | inl q ↦ inl (HasRow-old t t1 t2 own s k place v a symbol r (record { holder = a.holder; listed = at_place t2.rows.items place a.holder a.there; same = sym is; has = q }))
+        | inl q ↦ inl (HasRow-old t t1 t2 own s k place v a symbol r (record { holder = a.holder; listed = Contains-get t2.rows.items place a.holder a.there; same = sym is; has = q }))
         | inr q ↦ inr (is ∙ a.same, sym (Contains-one new r q))
       ]
 ]
 
 -- the first rows that are kept were kept before
-pub first_before : (w : World) (v : ℕ → Scalar) (old new : List Node) → Extends old new → (before after : List FlatSym)
+pub first_before : (w : World) (v : ℕ → Scalar) (old new : List Node) → Extends old new → (before after : List FlatSym) (n : ℕ)
     → ((x : FlatSym) → Contains before x → (r : FlatRow) → Contains x.rows r → All (λ a. HasSort old a sort.Word) r.args)
-    → ((x : FlatSym) → Contains before x → Later after x) → KeepsFirst w v new after → KeepsFirst w v old before
-first_before w v old new e before after h later keeps = record {
+    → ((x : FlatSym) → Contains before x → Later after n x) → KeepsFirst w v new after → KeepsFirst w v old before
+first_before w v old new e before after n h later keeps = record {
   first = λ x p r q.
       let l = later x p in
       let args : arguments v new r ≡ arguments v old r = words-Extends (under v) old new e r.args (h x p r q) in
@@ -173,6 +172,36 @@ Applies-Further t t1 t2 t4 own id place args s k taken inside v a ap4 w b h =
     length-words u nodes [] = refl
     length-words u nodes (y ∷ ys) = ap suc (length-words u nodes ys)
 
+-- values that are chosen are so with a symbol more
+Chooses-old : (t t1 t2 : Taken) (own : ℕ) (s : Sort) (k : Sym) (place : ℕ) → AddsVariable t t1 own s → AddsSymbol t1 t2 k place → (old : List Node) (root : ℕ) (w : World) (choice v : ℕ → Scalar)
+    → Chooses old root t.graph t.rows.items w choice v → Chooses old root t.graph t2.rows.items w choice v
+Chooses-old t t1 t2 own s k place var a old root w choice v c = elim a.adds [
+  | inl e ↦ subst (λ l. Chooses old root t.graph l w choice v) (sym (e ∙ var.rows)) c
+  | inr e ↦ subst (λ l. Chooses old root t.graph l w choice v) (sym (e ∙ ap (λ l. l ++ (record { sym = k; rows = [] }) ∷ []) var.rows)) (Chooses-symbol old root t.graph t.rows.items k w choice v c)
+]
+
+-- there are chosen values with a further variable
+Applies-chosen : (t t1 t2 t4 : Taken) (own id place : ℕ) (args : List ℕ) (s : Sort) (k : Sym) → IsTaken t → All (λ a. HasSort t.graph a sort.Word) args → AddsVariable t t1 own s
+    → (a : AddsSymbol t1 t2 k place) → Applies t2 t4 own id place (length t.variables.items) args a.holder
+    → (old : List Node) (root : ℕ) (w : World) (choice v : ℕ → Scalar) → Chooses old root t.graph t.rows.items w choice v
+    → ((u : Use) → Contains (use_of k (length args) s ∷ []) u → IsApplied old root w u (words (under v) t.graph args)) → IsChosen old root t4.graph t4.rows.items w choice
+Applies-chosen t t1 t2 t4 own id place args s k taken inside var a ap4 old root w choice v c terms =
+    let new : FlatRow = record { args = args; var = length t.variables.items } in
+    let e14 = subst (λ l. Extends l t4.graph) a.graph ap4.extends in
+    subst (λ l. IsChosen old root t4.graph l w choice) (sym ap4.rows)
+    (AddsRow-IsChosen t.graph t4.graph t2.rows.items place a.holder new s (record {
+      extends = Extends-trans t.graph t2.graph t4.graph (extends_two t t1 t2 own s k place var a) ap4.extends;
+      there = a.there;
+      rows = λ y p r q.
+          let h = HasRow-old t t1 t2 own s k place var a y.sym r (record { holder = y; listed = p; same = refl; has = q }) in
+          let row = taken.rows h.holder h.listed r h.has in
+          record { words = row.words; below = row.known };
+      below = taken.applied;
+      words = inside;
+      variable = uses-Extends t1.graph t4.graph e14 _ var.term.applied;
+    }) old root w choice v (Chooses-old t t1 t2 own s k place var a old root w choice v c)
+    (subst (λ x. IsApplied old root w (use_of x (length args) s) (words (under v) t.graph args)) (sym a.same) (terms (use_of k (length args) s) (0, omega arith, refl))))
+
 -- an earlier row has an earlier variable
 different_more : (t : Taken) → IsTaken t → (k : Sym) (new : FlatRow) → new.var ≡ length t.variables.items → (x y : Sym) (q r : FlatRow) → q.var ≡ r.var
     → HasRow t.rows.items x q ⊎ ((x ≡ k) × (q ≡ new)) → HasRow t.rows.items y r ⊎ ((y ≡ k) × (r ≡ new)) → (x ≡ y) × (q ≡ r)
@@ -189,7 +218,7 @@ different_more t taken k new n x y q r e (inr h) (inr l) = (h.0 ∙ sym l.0, h.1
 pub Applies-Steps : (t t1 t2 t4 : Taken) (own id place : ℕ) (args : List ℕ) (s : Sort) (k : Sym) → IsTaken t → AreAlike t (use_of k (length args) s ∷ [])
     → All (λ a. HasSort t.graph a sort.Word) args → AddsVariable t t1 own s → (a : AddsSymbol t1 t2 k place)
     → Applies t2 t4 own id place (length t.variables.items) args a.holder
-    → Steps t t4 (use_of k (length args) s ∷ []) id s (λ w v. as_sort s (at (w k) (words (under v) t.graph args)))
+    → Steps t t4 (use_of k (length args) s ∷ []) args id s (λ w v. as_sort s (at (w k) (words (under v) t.graph args)))
 Applies-Steps t t1 t2 t4 own id place args s k taken alike inside v a ap4 =
     let n : ℕ = length t.variables.items in
     let new : FlatRow = record { args = args; var = n } in
@@ -210,6 +239,7 @@ Applies-Steps t t1 t2 t4 own id place args s k taken alike inside v a ap4 =
     record {
       extends = e04;
       taken = record {
+        graph = ap4.graph (subst IsGraph (sym a.graph) v.term.graph);
         rows = λ x p r q. elim (HasRow-cases t t1 t2 own s k place new v a x.sym r (record { holder = x; listed = subst (λ l. Contains l x) ap4.rows p; same = refl; has = q })) [
           | inl h ↦ subst (λ l. IsRow t4.graph l r) (sym vars) (IsRow-later t.graph t4.graph e04 t.variables.items own r (taken.rows h.holder h.listed r h.has))
           | inr h ↦ subst (λ l. IsRow t4.graph l r) (sym vars) (subst (IsRow t4.graph (t.variables.items ++ own ∷ [])) (sym h.1) row)
@@ -252,7 +282,8 @@ Applies-Steps t t1 t2 t4 own id place args s k taken alike inside v a ap4 =
             sorted = ap (λ l. row_sort t4.graph l new) vars ∙ kind;
           });
       further = Applies-Further t t1 t2 t4 own id place args s k taken inside v a ap4;
-      first = λ w b keeps. first_before w b t.graph t4.graph e04 t.rows.items (with_row t2.rows.items place new)
+      chosen = Applies-chosen t t1 t2 t4 own id place args s k taken inside v a ap4;
+      first = λ w b keeps. first_before w b t.graph t4.graph e04 t.rows.items (with_row t2.rows.items place new) n
           (λ x p r q. (taken.rows x p r q).words)
           (λ x p. with_row-later t2.rows.items place new x (Contains-old t t1 t2 own s k place v a x p))
           (subst (KeepsFirst w b t4.graph) ap4.rows keeps);

@@ -10,7 +10,7 @@ use Rattle.bd_terms.specs.declared.node.Sym.{Sym}
 use Rattle.bd_terms.specs.declared.node.Sym.TheVariants.{Var}
 use Rattle.bd_terms.specs.declared.node.Node.{Node}
 use Rattle.bd_terms.specs.declared.node.Node.TheVariants.{True, Not, And, Or, Ite, Eq, App, Pred, Read, Write, Init}
-use Rattle.bd_terms.specs.Graph.{AddsUses, Extends, HasSort, Use, node_sort, node_uses, sorts, uses}
+use Rattle.bd_terms.specs.Graph.{AddsUses, Extends, HasSort, IsGraph, Use, children, node_sort, node_uses, sorts, uses}
 use Rattle.bd_terms.specs.Denotation.{World, Denoted, Denotes, denoted, node_value, values, words}
 use Rattle.bd_terms.proofs.Growth.{All-HasSort-Extends, denoted-Extends, inside-Extends, sort_at-Extends}
 use Rattle.bd_function.specs.declared.flat.FlatRow.{FlatRow}
@@ -18,12 +18,12 @@ use Rattle.bd_function.specs.declared.flat.FlatSym.{FlatSym}
 use Rattle.bd_function.specs.declared.eliminate.Taken.{Taken}
 use Rattle.bd_function.specs.Flat.{Realizes, under}
 use Rattle.bd_function.specs.inner.Nested.{id_at, renamed}
-use Rattle.bd_function.specs.inner.Taken.{AreAlike, Further, HasRow, IsPlain, IsRow, IsTaken, IsVariableBelow, Steps, as_sort, row_sort, use_of}
-use Rattle.bd_function.proofs.Applying.{Contains-none, uses-Extends}
+use Rattle.bd_function.specs.inner.Taken.{AreAlike, Chooses, Further, HasRow, IsPlain, IsRow, IsTaken, IsVariableBelow, Steps, as_sort, row_sort, use_of}
+use Rattle.bd_function.proofs.Applying.{Contains-none, Later-same, uses-Extends}
+use Rattle.bd_function.proofs.Choosing.{Chooses-Extends}
 use Rattle.bd_function.proofs.Nesting.{words-Extends}
 use Rattle.bd_function.proofs.Realizing.{HaveSorts-none}
 use Rattle.bd_function.proofs.Stepping.{first_before}
-use Rattle.std.proofs.lemmas.List.{append-nil}
 
 pub same-length : {X Y : Type 0} → (f : X → Y) (xs : List X) → length (map f xs) ≡ length xs
 same-length f [] = refl
@@ -85,12 +85,13 @@ Further-none t t' us taken e u rows w v h = record {
 }
 
 -- a term that applies no symbol is a step
-pub Steps-none : (t t' : Taken) (us : List Use) (id : ℕ) (s : Sort) (value : World → (ℕ → Scalar) → Denoted) → IsTaken t → us ≡ []
+pub Steps-none : (t t' : Taken) (us : List Use) (args : List ℕ) (id : ℕ) (s : Sort) (value : World → (ℕ → Scalar) → Denoted) → IsTaken t → us ≡ [] → IsGraph t'.graph
     → Extends t.graph t'.graph → AddsUses t.graph t'.graph [] → HasSort t'.graph id s → ((w : World) (v : ℕ → Scalar) → denoted (under v) t'.graph id ≡ value w v)
-    → t'.variables.items ≡ t.variables.items → t'.symbols.keys ≡ t.symbols.keys → t'.rows.items ≡ t.rows.items → Steps t t' us id s value
-Steps-none t t' us id s value taken none e u has means vars keys rows = record {
+    → t'.variables.items ≡ t.variables.items → t'.symbols.keys ≡ t.symbols.keys → t'.rows.items ≡ t.rows.items → Steps t t' us args id s value
+Steps-none t t' us args id s value taken none g e u has means vars keys rows = record {
   extends = e;
   taken = record {
+    graph = g;
     rows = λ x p r q. subst (λ l. IsRow t'.graph l r) (sym vars) (IsRow-Extends t.graph t'.graph e t.variables.items r (taken.rows x (subst (λ l. Contains l x) rows p) r q));
     applied = λ x p. subst (λ l. IsVariableBelow (length l) x) (sym vars) (elim (Contains-append_cases (uses t.graph) [] x (u.within x p)) [ inl q ↦ taken.applied x q | inr q ↦ absurd (Contains-none x q) ]);
     named = ap (map (λ (x : FlatSym). x.sym)) rows ∙ taken.named ∙ sym keys;
@@ -105,33 +106,38 @@ Steps-none t t' us id s value taken none e u has means vars keys rows = record {
   };
   all = λ x p. absurd (Contains-none x (subst (λ l. Contains l x) none p));
   further = Further-none t t' us taken e u rows;
-  first = λ w v keeps. first_before w v t.graph t'.graph e t.rows.items t'.rows.items (λ x p r q. (taken.rows x p r q).words)
-      (λ x p. record { later = x; listed = subst (λ l. Contains l x) (sym rows) p; same = refl; more = []; grows = sym (append-nil x.rows) }) keeps;
+  chosen = λ old root w choice v c terms. let k = later old root w choice v c in record { values = v; keeps = k.keeps; each = k.each };
+  first = λ w v keeps. first_before w v t.graph t'.graph e t.rows.items t'.rows.items 0 (λ x p r q. (taken.rows x p r q).words)
+      (λ x p. Later-same t'.rows.items 0 x (subst (λ l. Contains l x) (sym rows) p)) keeps;
   sorted = has;
   means = λ w v keeps. means w v;
 }
+  where
+    later : (old : List Node) (root : ℕ) (w : World) (choice v : ℕ → Scalar) → Chooses old root t.graph t.rows.items w choice v → Chooses old root t'.graph t'.rows.items w choice v
+    later old root w choice v c =
+        subst (λ l. Chooses old root t'.graph l w choice v) (sym rows) (Chooses-Extends old root t.graph t'.graph t.rows.items w choice v e (λ x p r q. (taken.rows x p r q).words) c)
 
 -- the step of an application, by the node
 abbrev pub StepsNode : Taken → Taken → List ℕ → Node → ℕ → Type 0
-StepsNode t t' ids node id = Steps t t' (node_uses node) id (node_sort (sorts t.graph) (renamed ids node)) (λ w v. node_value w (values (under v) t.graph) (renamed ids node))
+StepsNode t t' ids node id = Steps t t' (node_uses node) (children (renamed ids node)) id (node_sort (sorts t.graph) (renamed ids node)) (λ w v. node_value w (values (under v) t.graph) (renamed ids node))
 
 pub Steps-App : (t t' : Taken) (ids : List ℕ) (node : Node) (k : Sym) (args xs : List ℕ) (r : Result ℕ AllocError) → node ≡ App k args → xs ≡ map (id_at ids) args
-    → IfOk r (λ id. Steps t t' (use_of k (length xs) sort.Word ∷ []) id sort.Word (λ w v. as_sort sort.Word (at (w k) (words (under v) t.graph xs))))
+    → IfOk r (λ id. Steps t t' (use_of k (length xs) sort.Word ∷ []) xs id sort.Word (λ w v. as_sort sort.Word (at (w k) (words (under v) t.graph xs))))
     → IfOk r (λ id. StepsNode t t' ids node id)
 Steps-App t t' ids node k args xs (Err x) e f h = tt
 Steps-App t t' ids node k args xs (Ok id) e f h =
     subst (λ n. StepsNode t t' ids n id) (sym e)
-    (subst (λ n. Steps t t' (use_of k n sort.Word ∷ []) id sort.Word (λ w v. as_sort sort.Word (at (w k) (words (under v) t.graph (map (id_at ids) args))))) (same-length (id_at ids) args)
-    (subst (λ l. Steps t t' (use_of k (length l) sort.Word ∷ []) id sort.Word (λ w v. as_sort sort.Word (at (w k) (words (under v) t.graph l)))) f h))
+    (subst (λ n. Steps t t' (use_of k n sort.Word ∷ []) (map (id_at ids) args) id sort.Word (λ w v. as_sort sort.Word (at (w k) (words (under v) t.graph (map (id_at ids) args))))) (same-length (id_at ids) args)
+    (subst (λ l. Steps t t' (use_of k (length l) sort.Word ∷ []) l id sort.Word (λ w v. as_sort sort.Word (at (w k) (words (under v) t.graph l)))) f h))
 
 pub Steps-Pred : (t t' : Taken) (ids : List ℕ) (node : Node) (k : Sym) (args xs : List ℕ) (r : Result ℕ AllocError) → node ≡ Pred k args → xs ≡ map (id_at ids) args
-    → IfOk r (λ id. Steps t t' (use_of k (length xs) sort.Bool ∷ []) id sort.Bool (λ w v. as_sort sort.Bool (at (w k) (words (under v) t.graph xs))))
+    → IfOk r (λ id. Steps t t' (use_of k (length xs) sort.Bool ∷ []) xs id sort.Bool (λ w v. as_sort sort.Bool (at (w k) (words (under v) t.graph xs))))
     → IfOk r (λ id. StepsNode t t' ids node id)
 Steps-Pred t t' ids node k args xs (Err x) e f h = tt
 Steps-Pred t t' ids node k args xs (Ok id) e f h =
     subst (λ n. StepsNode t t' ids n id) (sym e)
-    (subst (λ n. Steps t t' (use_of k n sort.Bool ∷ []) id sort.Bool (λ w v. as_sort sort.Bool (at (w k) (words (under v) t.graph (map (id_at ids) args))))) (same-length (id_at ids) args)
-    (subst (λ l. Steps t t' (use_of k (length l) sort.Bool ∷ []) id sort.Bool (λ w v. as_sort sort.Bool (at (w k) (words (under v) t.graph l)))) f h))
+    (subst (λ n. Steps t t' (use_of k n sort.Bool ∷ []) (map (id_at ids) args) id sort.Bool (λ w v. as_sort sort.Bool (at (w k) (words (under v) t.graph (map (id_at ids) args))))) (same-length (id_at ids) args)
+    (subst (λ l. Steps t t' (use_of k (length l) sort.Bool ∷ []) l id sort.Bool (λ w v. as_sort sort.Bool (at (w k) (words (under v) t.graph l)))) f h))
 
 -- the rows are alike for the arguments in the new graph
 pub alike_renamed : (t : Taken) (ids : List ℕ) (k : Sym) (args xs : List ℕ) (s : Sort) → xs ≡ map (id_at ids) args → AreAlike t (use_of k (length args) s ∷ []) → AreAlike t (use_of k (length xs) s ∷ [])
@@ -141,10 +147,10 @@ alike_renamed t ids k args xs s e h = subst (λ n. AreAlike t (use_of k n s ∷ 
 pub Steps-copy : (t t' : Taken) (ids : List ℕ) (node : Node) (r : Result ℕ AllocError) → IsTaken t → IsPlain node → node_uses node ≡ []
     → IfOk r (λ id. Denotes t'.graph id (λ w. node_value w (values w t.graph) (renamed ids node)))
     → IfOk r (λ id. HasSort t'.graph id (node_sort (sorts t.graph) (renamed ids node)))
-    → IfOk r (λ id. Extends t.graph t'.graph) → IfOk r (λ id. AddsUses t.graph t'.graph [])
+    → IfOk r (λ id. IsGraph t'.graph) → IfOk r (λ id. Extends t.graph t'.graph) → IfOk r (λ id. AddsUses t.graph t'.graph [])
     → t'.variables.items ≡ t.variables.items → t'.symbols.keys ≡ t.symbols.keys → t'.rows.items ≡ t.rows.items
     → IfOk r (λ id. StepsNode t t' ids node id)
-Steps-copy t t' ids node (Err x) taken plain none d s e u vars keys rows = tt
-Steps-copy t t' ids node (Ok id) taken plain none d s e u vars keys rows =
-    Steps-none t t' (node_uses node) id (node_sort (sorts t.graph) (renamed ids node)) (λ w v. node_value w (values (under v) t.graph) (renamed ids node)) taken none e u s
+Steps-copy t t' ids node (Err x) taken plain none d s g e u vars keys rows = tt
+Steps-copy t t' ids node (Ok id) taken plain none d s g e u vars keys rows =
+    Steps-none t t' (node_uses node) (children (renamed ids node)) id (node_sort (sorts t.graph) (renamed ids node)) (λ w v. node_value w (values (under v) t.graph) (renamed ids node)) taken none g e u s
     (λ w v. d.is (under v) ∙ node_value-none (under v) w (values (under v) t.graph) ids node plain none) vars keys rows

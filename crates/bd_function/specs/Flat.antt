@@ -1,7 +1,7 @@
 -- Elimination of function and predicate symbols by nested ite, one variable for each application (Bryant, German
 -- and Velev 2001). Of applications with equal arguments the first one's variable is the value of all, so the
 -- variables of the others are free, as positive equality needs.
-use Rattle.std.specs.Prelude.{◌≡◌, ℕ, Bool, true, false, List, [], Contains, length, map, slice_get, Some}
+use Rattle.std.specs.Prelude.{◌≡◌, ◌≤◌, ◌⊎◌, ℕ, Bool, true, false, List, [], Contains, length, map, slice_get, Some}
 use Rattle.std.specs.List.{All}
 use Rattle.bd_model.specs.declared.design.Sort.TheVariants as sort
 use Rattle.bd_model.specs.declared.table.Scalar.{Scalar}
@@ -14,6 +14,7 @@ use Rattle.bd_model.specs.declared.design.Sort.{Sort}
 use Rattle.bd_terms.specs.declared.node.Sym.{Sym}
 use Rattle.bd_terms.specs.declared.node.Sym.TheVariants.{Var}
 use Rattle.bd_terms.specs.declared.node.Node.{Node}
+use Rattle.bd_terms.specs.declared.node.Node.TheVariants.{App, Pred}
 use Rattle.bd_terms.specs.Graph.{HasSort, Use, sort_at, uses}
 use Rattle.bd_terms.specs.Denotation.{World, denoted, words}
 use Rattle.bd_terms.specs.Reaches.{Reaches, ReachesUse}
@@ -100,6 +101,39 @@ pub record IsRealized (old : List Node) (old_root : ℕ) (nodes : List Node) (sy
   pub realizes : Realizes w values nodes syms
   pub first : KeepsFirst w values nodes syms
   pub sorted : GivesSorts old old_root w → HaveSorts values nodes
+
+-- a term that applies the symbol, as a word or as a truth value
+abbrev pub application : Sort → Sym → List ℕ → Node
+application sort.Word s args = App s args
+application _ s args = Pred s args
+
+-- the row is that of an application that the old root reaches, of terms with the values of the row's arguments; it is the
+-- first of its symbol's rows with these values, and its variable has the value of the application in the world
+pub record IsFirst (w : World) (v : ℕ → Scalar) (old : List Node) (old_root : ℕ) (nodes : List Node) (s : FlatSym) (r : FlatRow) : Type 0 where
+  pub id : ℕ
+  pub kind : Sort
+  pub args : List ℕ
+  pub reached : Reaches old old_root id
+  pub there : slice_get old id ≡ Some (application kind s.sym args)
+  pub variable : Contains (uses nodes) (record { symbol = Var r.var; arity = 0; sort = kind })
+  pub same : arguments v nodes r ≡ words w old args
+  pub value : v r.var ≡ at (w s.sym) (arguments v nodes r)
+  pub first : (q : FlatRow) → Contains s.rows q → arguments v nodes q ≡ arguments v nodes r → r.var ≤ q.var
+
+-- the variable is that of such a row
+pub record IsFirstVariable (w : World) (v : ℕ → Scalar) (old : List Node) (old_root : ℕ) (nodes : List Node) (syms : List FlatSym) (x : ℕ) : Type 0 where
+  pub holder : FlatSym
+  pub listed : Contains syms holder
+  pub row : FlatRow
+  pub has : Contains holder.rows row
+  pub same : row.var ≡ x
+  pub is : IsFirst w v old old_root nodes holder row
+
+-- values that keep the first ones, where each other variable has a value that was chosen for it
+pub record IsChosen (old : List Node) (old_root : ℕ) (nodes : List Node) (syms : List FlatSym) (w : World) (choice : ℕ → Scalar) : Type 0 where
+  pub values : ℕ → Scalar
+  pub keeps : KeepsFirst w values nodes syms
+  pub each : (x : ℕ) → (values x ≡ choice x) ⊎ IsFirstVariable w values old old_root nodes syms x
 
 -- the graph applies variables alone, no symbol has two entries, no variable two rows, and the arguments of rows are words of it
 pub record IsFlat (nodes : List Node) (root : ℕ) (syms : List FlatSym) : Type 0 where

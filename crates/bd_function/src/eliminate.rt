@@ -1,14 +1,15 @@
 //! Each application becomes a variable where no earlier one of its symbol has equal arguments, and else the earlier
 //! one's variable. One pass in rising order takes arguments before the applications of them, so it needs no
 //! recursion.
-ghost use Rattle.std.specs.Prelude.{◌≡◌, ◌<◌, ◌∷◌, [], true, length, map, IfOk, OnOk};
+ghost use Rattle.std.specs.Prelude.{◌≡◌, ◌<◌, ◌∷◌, ℕ, [], true, length, map, IfOk, OnOk};
 ghost use Rattle.std.specs.List.{All};
 ghost use Rattle.bd_model.specs.Table.{at};
+ghost use Rattle.bd_model.specs.declared.table.Scalar.{Scalar};
 ghost use Rattle.bd_model.specs.declared.design.Sort.TheVariants as kind;
 ghost use Rattle.bd_terms.specs.declared.node.Sym.TheVariants as symbol;
-ghost use Rattle.bd_terms.specs.Graph.{AddsUses, Extends, FitsSorts, HasSort, KeepsSymbol, children, node_sort, node_uses, sorts};
+ghost use Rattle.bd_terms.specs.Graph.{AddsUses, Extends, FitsSorts, HasSort, IsGraph, KeepsSymbol, children, node_sort, node_uses, sorts};
 ghost use Rattle.bd_terms.specs.Denotation.{Denotes, World, node_value, values, words};
-ghost use Rattle.bd_function.specs.Flat.{AreApplications, Flattens, HasAllApplications, IsRealized, ReachesNoMemory, under};
+ghost use Rattle.bd_function.specs.Flat.{AreApplications, Flattens, HasAllApplications, IsChosen, IsRealized, ReachesNoMemory, under};
 ghost use Rattle.bd_function.specs.inner.Nested.{id_at, renamed};
 ghost use Rattle.bd_function.specs.inner.Taken.{AddsSymbol, AddsTerm, AddsVariable, AreAlike, IsPlain, IsTaken, Steps, as_sort, is_scalar, use_of, with_row};
 
@@ -39,6 +40,9 @@ pub fn flatten(alloc: Global, graph: &Graph, root: Id) -> Result<Flat, AllocErro
     ensures all_rows { IfOk result (λ f. HasAllApplications graph.now root f.graph f.syms) }
     ensures realized { IfOk result (λ f. (w : World) →
         IsRealized graph.now root f.graph f.syms w) }
+    ensures chosen { IfOk result (λ f. (w : World) (choice : ℕ → Scalar) →
+        IsChosen graph.now root f.graph f.syms w choice) }
+    ensures graph { IfOk result (λ f. IsGraph f.graph) }
 {
     let marks = reached(graph, root)?;
     let mut ids = Vec::with_capacity(alloc, graph.len())?;
@@ -71,7 +75,8 @@ fn take(alloc: Global, taken: &mut Taken, ids: &[Id], node: &Node) -> Result<Id,
     requires plain { IsPlain node.now }
     requires taken { IsTaken taken.old }
     requires rows { AreAlike taken.old (node_uses node.now) }
-    ensures { IfOk result (λ id. Steps taken.old taken.new (node_uses node.now) id
+    ensures { IfOk result (λ id. Steps taken.old taken.new (node_uses node.now)
+        (children (renamed ids.now node.now)) id
         (node_sort (sorts taken.old.graph) (renamed ids.now node.now))
         (λ w v. node_value w (values (under v) taken.old.graph) (renamed ids.now node.now))) }
 {
@@ -118,6 +123,7 @@ fn copy(graph: &mut Graph, ids: &[Id], node: &Node) -> Result<Id, AllocError>
         (λ w. node_value w (values w graph.old) (renamed ids.now node.now))) }
     ensures sorted { IfOk result (λ id.
         HasSort graph.new id (node_sort (sorts graph.old) (renamed ids.now node.now))) }
+    ensures graph { OnOk result (IsGraph graph.new) }
     ensures extends { OnOk result (Extends graph.old graph.new) }
     ensures uses { OnOk result (AddsUses graph.old graph.new []) }
 {
@@ -191,7 +197,7 @@ fn apply(
     requires taken { IsTaken taken.old }
     requires rows { AreAlike taken.old (use_of sym (length args.now) sort ∷ []) }
     ensures { IfOk result (λ id.
-        Steps taken.old taken.new (use_of sym (length args.now) sort ∷ []) id sort
+        Steps taken.old taken.new (use_of sym (length args.now) sort ∷ []) args.now id sort
         (λ w v. as_sort sort (at (w sym) (words (under v) taken.old.graph args.now)))) }
 {
     let var = taken.variables.len() as u64;

@@ -3,7 +3,7 @@ ghost use Rattle.std.specs.Prelude.{◌≡◌, ◌<◌, [], length, nat_eq, IfOk
 ghost use Rattle.std.specs.List.{All};
 ghost use lib.Pointwise.{pointwise};
 ghost use Rattle.bd_model.specs.declared.design.Sort.TheVariants as sort;
-ghost use Rattle.bd_terms.specs.Graph.{AddsUses, Extends, HasSort, sort_at};
+ghost use Rattle.bd_terms.specs.Graph.{AddsUses, Extends, HasSort, IsGraph, sort_at};
 ghost use Rattle.bd_terms.specs.Denotation.{Denotes, Truth, denoted, words};
 ghost use Rattle.bd_function.specs.inner.Nested.{AreEarlier, chosen};
 
@@ -45,6 +45,7 @@ pub(crate) fn nested(
     ensures denotes { IfOk result (λ id. Denotes graph.new id (λ w.
         chosen w graph.old variables.now rows.now args.now (denoted w graph.old own))) }
     ensures sorted { IfOk result (λ id. HasSort graph.new id (sort_at graph.old own)) }
+    ensures graph { OnOk result (IsGraph graph.old → IsGraph graph.new) }
     ensures extends { OnOk result (Extends graph.old graph.new) }
     ensures uses { OnOk result (AddsUses graph.old graph.new []) }
 {

@@ -11,12 +11,13 @@ use Rattle.bd_terms.specs.declared.node.Sym.{Sym}
 use Rattle.bd_terms.specs.declared.node.Sym.TheVariants.{Var}
 use Rattle.bd_terms.specs.declared.node.Node.{Node}
 use Rattle.bd_terms.specs.declared.node.Node.TheVariants.{Read, Write, Init}
-use Rattle.bd_terms.specs.Graph.{AddsUses, Extends, HasSort, Use, sort_at, uses}
-use Rattle.bd_terms.specs.Denotation.{World, Denoted, Denotes, Truth, Word, denoted}
+use Rattle.bd_terms.specs.Graph.{AddsUses, Extends, HasSort, IsGraph, Use, sort_at, uses}
+use Rattle.bd_terms.specs.Denotation.{World, Denoted, Denotes, Truth, Word, denoted, words}
+use Rattle.bd_terms.specs.Reaches.{Reaches}
 use Rattle.bd_function.specs.declared.flat.FlatRow.{FlatRow}
 use Rattle.bd_function.specs.declared.flat.FlatSym.{FlatSym}
 use Rattle.bd_function.specs.declared.eliminate.Taken.{Taken}
-use Rattle.bd_function.specs.Flat.{HaveSorts, KeepsFirst, Realizes, under}
+use Rattle.bd_function.specs.Flat.{HaveSorts, IsChosen, IsFirstVariable, KeepsFirst, Realizes, application, under}
 use Rattle.bd_function.specs.inner.Nested.{id_at}
 
 -- the node is of no memory
@@ -68,6 +69,7 @@ pub record HasRow (syms : List FlatSym) (symbol : Sym) (r : FlatRow) : Type 0 wh
   pub has : Contains holder.rows r
 
 pub record IsTaken (t : Taken) : Type 0 where
+  pub graph : IsGraph t.graph
   pub rows : (s : FlatSym) → Contains t.rows.items s → (r : FlatRow) → Contains s.rows r → IsRow t.graph t.variables.items r
   pub applied : (u : Use) → Contains (uses t.graph) u → IsVariableBelow (length t.variables.items) u
   pub named : map (λ s. s.sym) t.rows.items ≡ t.symbols.keys
@@ -113,14 +115,29 @@ pub record Further (t t' : Taken) (us : List Use) (w : World) (v : ℕ → Scala
   pub realizes : Realizes w values t'.graph t'.rows.items
   pub sorted : GivesUses w us → HaveSorts v t.graph → HaveSorts values t'.graph
 
--- a term more: it has this sort, and denotes this wherever the first rows are kept
-pub record Steps (t t' : Taken) (us : List Use) (id : ℕ) (s : Sort) (value : World → (ℕ → Scalar) → Denoted) : Type 0 where
+-- these values are chosen
+pub record Chooses (old : List Node) (old_root : ℕ) (nodes : List Node) (syms : List FlatSym) (w : World) (choice v : ℕ → Scalar) : Type 0 where
+  pub keeps : KeepsFirst w v nodes syms
+  pub each : (x : ℕ) → (v x ≡ choice x) ⊎ IsFirstVariable w v old old_root nodes syms x
+
+-- the old root reaches an application of the symbol to terms with these values
+pub record IsApplied (old : List Node) (old_root : ℕ) (w : World) (u : Use) (args : List ℕ) : Type 0 where
+  pub id : ℕ
+  pub terms : List ℕ
+  pub reached : Reaches old old_root id
+  pub there : slice_get old id ≡ Some (application u.sort u.symbol terms)
+  pub same : args ≡ words w old terms
+
+-- a term more, these uses at these arguments: it has this sort, and denotes this wherever the first rows are kept
+pub record Steps (t t' : Taken) (us : List Use) (args : List ℕ) (id : ℕ) (s : Sort) (value : World → (ℕ → Scalar) → Denoted) : Type 0 where
   pub extends : Extends t.graph t'.graph
   pub taken : IsTaken t'
   pub rows : (symbol : Sym) (r : FlatRow) → HasRow t'.rows.items symbol r → StepsRow t t' us symbol r
   pub kept : (symbol : Sym) (r : FlatRow) → HasRow t.rows.items symbol r → KeepsRow t t' symbol r
   pub all : (u : Use) → Contains us u → HasUse t' u
   pub further : (w : World) (v : ℕ → Scalar) → Realizes w v t.graph t.rows.items → Further t t' us w v
+  pub chosen : (old : List Node) (root : ℕ) (w : World) (choice v : ℕ → Scalar) → Chooses old root t.graph t.rows.items w choice v
+      → ((u : Use) → Contains us u → IsApplied old root w u (words (under v) t.graph args)) → IsChosen old root t'.graph t'.rows.items w choice
   pub first : (w : World) (v : ℕ → Scalar) → KeepsFirst w v t'.graph t'.rows.items → KeepsFirst w v t.graph t.rows.items
   pub sorted : HasSort t'.graph id s
   pub means : (w : World) (v : ℕ → Scalar) → KeepsFirst w v t'.graph t'.rows.items → denoted (under v) t'.graph id ≡ value w v
@@ -132,6 +149,7 @@ pub record AddsTerm (old new : List Node) (var id : ℕ) (s : Sort) : Type 0 whe
   pub applied : Contains (uses new) (use_of (Var var) 0 s)
   pub sorted : HasSort new id s
   pub denotes : Denotes new id (λ w. as_sort s (at (w (Var var)) []))
+  pub graph : IsGraph new
 
 -- a variable more
 pub record AddsVariable (t t' : Taken) (id : ℕ) (s : Sort) : Type 0 where

@@ -38,6 +38,7 @@ returns c =
     let size : c.len-var.result ≡ length c.args.taken.now.variables.items = grind (arith, common_steps) in
     Applies-Steps c.args.taken.now c.add_variable.new.taken c.place.new.taken _ c.in_ok-own.own c.in_ok-id.id c.in_ok-place.place c.args.args.now c.args.sort c.args.sym
     c.requires.taken c.requires.rows c.requires.arguments c.in_ok-own.ensures a (record {
+      graph = c.in_ok-id.ensures.graph;
       extends = c.in_ok-id.ensures.extends;
       adds = c.in_ok-id.ensures.uses;
       sorted = c.in_ok-id.ensures.sorted;

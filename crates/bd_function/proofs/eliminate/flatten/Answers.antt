@@ -5,7 +5,7 @@ use Rattle.std.specs.List.{All}
 use Rattle.bd_terms.specs.Graph.{FitsSorts, children}
 use Rattle.bd_terms.specs.Reaches.{Reaches}
 use Rattle.bd_terms.proofs.Graphs.{FitsSorts-get}
-use Rattle.bd_function.specs.Flat.{AreApplications, Flattens, HasAllApplications, IsFlat, IsRealized}
+use Rattle.bd_function.specs.Flat.{AreApplications, Flattens, HasAllApplications, IsChosen, IsFlat, IsRealized}
 use Rattle.bd_function.specs.inner.Nested.{id_at, renamed}
 use Rattle.bd_function.proofs.Flattening.{IsFlattened, IsFlattened-Flattens, IsFlattened-IsFlat, IsFlattened-pass, IsFlattened-rows, IsFlattened-all, IsFlattened-realized, IsFlattened-start, IsFlattened-take, alike_node, children_inside, children_taken, fits_renamed, plain_reached}
 use Rattle.bd_function.proofs.Taking.{StepsNode}
@@ -88,6 +88,14 @@ pub returns-clause-realized : goal.returns-clause-realized
 returns-clause-realized c = λ w.
     subst (λ l. IsRealized c.args.graph.now c.args.root c.loop-index.taken.graph l w) (sym c.from_vec.ensures)
     (IsFlattened-realized c.args.graph.now c.args.root c.loop-index.ids.items c.loop-index.taken c.loop-index.invariant.1 w)
+
+pub returns-clause-chosen : goal.returns-clause-chosen
+returns-clause-chosen c = λ w choice.
+    subst (λ l. IsChosen c.args.graph.now c.args.root c.loop-index.taken.graph l w choice) (sym c.from_vec.ensures)
+    (c.loop-index.invariant.1.chosen w choice)
+
+pub returns-clause-graph : goal.returns-clause-graph
+returns-clause-graph c = c.loop-index.invariant.1.taken.graph
 
 pub invariant_of-result : goal.invariant_of-result
 invariant_of-result c =

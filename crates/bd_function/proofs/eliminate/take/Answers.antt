@@ -7,7 +7,7 @@ pub returns-in_default : goal.returns-in_default
 returns-in_default c =
     Steps-copy c.args.taken.now _ c.args.ids.now c.args.node.now c.copy.result c.requires.taken c.requires.plain
     (node_uses-none c.args.node.now c.requires.plain c.in_default.not-App c.in_default.not-Pred)
-    c.copy.ensures.denotes c.copy.ensures.sorted c.copy.ensures.extends c.copy.ensures.uses refl refl refl
+    c.copy.ensures.denotes c.copy.ensures.sorted c.copy.ensures.graph c.copy.ensures.extends c.copy.ensures.uses refl refl refl
 
 pub copy-requires-clause-uses : goal.copy-requires-clause-uses
 copy-requires-clause-uses c = node_uses-none c.args.node.now c.requires.plain c.in_default.not-App c.in_default.not-Pred

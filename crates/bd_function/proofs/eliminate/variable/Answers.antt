@@ -15,9 +15,9 @@ returns c = elim c.match-sort.branch [
   | in-Word+in_ok-id-in-Word w ↦
       along c.args.graph.now _ _ c.args.var _ _ c.args.sort _ w.graph-is w.id-is (sym w.in-Word.is)
       (AddsTerm-word c.args.graph.now w.mk_app.new.self c.args.var w.in_ok-id-in-Word.id
-      w.in_ok-id-in-Word.ensures.extends w.in_ok-id-in-Word.ensures.uses w.in_ok-id-in-Word.ensures.sorted w.in_ok-id-in-Word.ensures.denotes w.in_ok-id-in-Word.ensures.simplified)
+      w.in_ok-id-in-Word.ensures.extends w.in_ok-id-in-Word.ensures.uses w.in_ok-id-in-Word.ensures.sorted w.in_ok-id-in-Word.ensures.denotes w.in_ok-id-in-Word.ensures.simplified w.in_ok-id-in-Word.ensures.graph)
   | in_default+in_ok-id-in_default w ↦
       along c.args.graph.now _ _ c.args.var _ _ c.args.sort _ w.graph-is w.id-is (scalar-other c.args.sort c.requires.sort w.in_default.not-Word)
       (AddsTerm-truth c.args.graph.now w.mk_pred.new.self c.args.var w.in_ok-id-in_default.id
-      w.in_ok-id-in_default.ensures.extends w.in_ok-id-in_default.ensures.uses w.in_ok-id-in_default.ensures.sorted w.in_ok-id-in_default.ensures.denotes w.in_ok-id-in_default.ensures.simplified)
+      w.in_ok-id-in_default.ensures.extends w.in_ok-id-in_default.ensures.uses w.in_ok-id-in_default.ensures.sorted w.in_ok-id-in_default.ensures.denotes w.in_ok-id-in_default.ensures.simplified w.in_ok-id-in_default.ensures.graph)
 ]

@@ -63,7 +63,7 @@ loop-index-preserved c =
     (subst (λ l. Denotes c.equal.new.graph c.in_ok-same.same (λ w. Truth (pointwise nat_eq (words w c.loop-index.graph l) (words w c.loop-index.graph c.args.args.now)))) c.as_slice.ensures c.in_ok-same.ensures.denotes)
     c.in_ok-term.ensures.extends c.in_ok-term.ensures.uses
     (subst (λ j. Denotes c.mk_ite.new.self c.in_ok-term.term (λ w. if truth w c.equal.new.graph c.in_ok-same.same then denoted w c.equal.new.graph j else denoted w c.equal.new.graph c.loop-index.term)) var c.in_ok-term.ensures.denotes)
-    (subst (HasSort c.mk_ite.new.self c.in_ok-term.term) (ap (sort_at c.equal.new.graph) var ∙ yes.sorted) c.in_ok-term.ensures.sorted)
+    (subst (HasSort c.mk_ite.new.self c.in_ok-term.term) (ap (sort_at c.equal.new.graph) var ∙ yes.sorted) c.in_ok-term.ensures.sorted) c.in_ok-term.ensures.graph
 
 pub returns-clause-denotes : goal.returns-clause-denotes
 returns-clause-denotes c =

@@ -1,4 +1,4 @@
-use Rattle.std.proofs.Common.{ℕ, ◌<◌, ◌≤◌, arith}
+use Rattle.std.proofs.Common.{◌<◌, ◌≤◌, arith}
 use Rattle.bd_terms.proofs.Older.{Reaches-below}
 use Rattle.bd_function.proofs.tests.has_no_memory.Goals as goal
 
