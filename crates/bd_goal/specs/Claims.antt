@@ -1,4 +1,5 @@
--- What a root says of cases, and what it means that it is valid.
+-- What a root says of cases, and what it means that it is valid: true under every interpretation (Burch and Dill 1994),
+-- here one that keeps the design's constants apart.
 use Rattle.std.specs.Prelude.{◌≢◌, ◌↔◌, ℕ, List, [], IsTrue}
 use Rattle.std.specs.List.{AllByRecursion, AllPairs}
 use Rattle.bd_model.specs.DesignView.{DesignView}

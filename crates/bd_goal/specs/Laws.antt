@@ -1,4 +1,4 @@
--- What the roots decide.
+-- What the roots decide: validity of the formula stands for correspondence of every case (Burch and Dill 1994).
 use Rattle.std.specs.Prelude.{ℕ, List}
 use Rattle.bd_model.specs.DesignView.{DesignView}
 use Rattle.bd_model.specs.Lawful.{IsLawful}

@@ -1,4 +1,5 @@
--- The symbols of a question: those of the design, and fresh addresses, which are words without arguments.
+-- The symbols of a question (the correspondence formula of Burch and Dill 1994): those of the design, and fresh
+-- addresses, which are words without arguments.
 use Rattle.std.specs.Prelude.{◌≡◌, ◌<◌, ◌⊎◌, ℕ, List, Contains}
 use Rattle.bd_model.specs.DesignView.{DesignView}
 use Rattle.bd_model.specs.declared.design.Sort.TheVariants as sort

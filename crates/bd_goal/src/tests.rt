@@ -1,83 +1,111 @@
-//! The questions about one design, with values worked by hand.
+//! The questions about two designs, with values worked by hand.
 //!
-//! A cycle puts the hidden entries k, l, c, y in the place of the visible m, n, b, x, and a step of the specification
-//! swaps the memories m and n. Each memory holds a word at the address 5, and 0 elsewhere.
+//! In the first a cycle puts the hidden entries k, l, c, y in the place of the visible m, n, b, x, and a step of the
+//! specification swaps the memories m and n. The second is a pipeline of two stages. Each memory holds a word at the
+//! address 5, where all writes are, and 0 elsewhere.
 ghost use Rattle.std.specs.Prelude.{◌≡◌, []};
 ghost use Rattle.bd_model.specs.DesignView.{design_view};
 ghost use Rattle.bd_goal.specs.inner.Example.{example};
 
 use crate::{Goal as Root, agree_goal, goal, goal_by, meets};
 use bd_model::Design;
-use bd_terms::{Graph, Id, Node, Sym};
+use bd_terms::{Graph, Id, Ids as Args, Node, Sym};
 use std::alloc::{AllocError, Global};
 use std::process::Abort;
 use std::test::Fail;
 
 mod build;
+mod stages;
 
 use build::{design, given};
+use stages::two_stages;
 
-// What is asked; of an abstraction, which entries stand for m and n.
+// What is asked; of an abstraction, which entries stand for m and n; of the two stages, whether the operand is stale.
 #[derive(Clone, Copy)]
 enum Question {
     Goal,
     GoalBy(u32, u32),
     Meets,
     Agree(u32, u32),
+    Stages(bool),
 }
 
-use Question::{Agree, Goal, GoalBy, Meets};
+use Question::{Agree, Goal, GoalBy, Meets, Stages};
 
-// What m, n, b, x, k, l, c, y, v and u hold, a memory its word at 5, and whether one step is forced.
+// What the entries hold, a memory its word at 5, and the input.
 #[derive(Clone, Copy)]
 struct Held {
     entries: [u64; 10],
-    strict: u64,
+    input: u64,
 }
 
+// In the first design these are m, n, b, x, k, l, c, y, v and u, and the input forces one step.
+//
 // Behind the cycle m and n are as they were, and the latches too.
 const STAYS: Held = Held {
     entries: [1, 2, 1, 3, 1, 2, 1, 3, 1, 1],
-    strict: 0,
+    input: 0,
 };
 
-const STAYS_FORCED: Held = Held { strict: 1, ..STAYS };
+const STAYS_FORCED: Held = Held { input: 1, ..STAYS };
 
 // They are swapped.
 const SWAPS: Held = Held {
     entries: [1, 2, 1, 3, 2, 1, 1, 3, 1, 1],
-    strict: 1,
+    input: 1,
 };
 
 // m stays and n becomes another.
 const NEITHER: Held = Held {
     entries: [1, 2, 1, 3, 1, 3, 1, 3, 1, 1],
-    strict: 0,
+    input: 0,
 };
 
 // The latch b turns; the latch x becomes another; the invariant is false, and becomes so.
 const TURNS: Held = Held {
     entries: [1, 2, 1, 3, 1, 2, 0, 3, 1, 1],
-    strict: 0,
+    input: 0,
 };
 
 const COUNTS: Held = Held {
     entries: [1, 2, 1, 3, 1, 2, 1, 4, 1, 1],
-    strict: 0,
+    input: 0,
 };
 
 const OUTSIDE: Held = Held {
     entries: [1, 2, 1, 3, 1, 3, 1, 3, 0, 0],
-    strict: 0,
+    input: 0,
 };
 
 const LEAVES: Held = Held {
     entries: [1, 2, 1, 3, 1, 2, 1, 3, 1, 0],
-    strict: 0,
+    input: 0,
+};
+
+// In the pipeline these are p, r, v, d, o and a, and the input stalls it. The functions add one to the program counter,
+// read and write register 5, and have the program counter for the operation; the ALU adds.
+//
+// 20 + 30 is on its way to the register: the state stands for 1 and 50, and a step leads from there to 2 and 1 + 50.
+// Where the operand is read before the write, the cycle leads to 2 and 1 + 10.
+const PENDING: Held = Held {
+    entries: [1, 10, 1, 5, 20, 30, 0, 0, 0, 0],
+    input: 0,
+};
+
+// The cycle leads to 1 and 50.
+const STALLED: Held = Held {
+    input: 1,
+    ..PENDING
+};
+
+// Nothing is on its way: a step leads from 1 and 10 to 2 and 1 + 10, and so does the cycle.
+const EMPTY: Held = Held {
+    entries: [1, 10, 0, 5, 20, 30, 0, 0, 0, 0],
+    input: 0,
 };
 
 // What is asked of which case, the words of the addresses, and whether the root is true. The addresses are those of
-// m for no and for one step, then those of n.
+// m for no and for one step, then those of n; those of r for no and for one step.
 static ROWS: &[(Question, &Held, &[u64], bool)] = &[
     (Goal, &STAYS, &[5, 5, 5, 5], true),
     (Goal, &STAYS_FORCED, &[0, 5, 0, 0], false),
@@ -103,19 +131,37 @@ static ROWS: &[(Question, &Held, &[u64], bool)] = &[
     (Agree(0, 0), &STAYS, &[0, 5], false),
     (Agree(0, 0), &STAYS, &[5, 0], true),
     (Agree(0, 0), &OUTSIDE, &[0, 5], true),
+    (Stages(false), &PENDING, &[5, 5], true),
+    (Stages(true), &PENDING, &[5, 5], false),
+    (Stages(true), &PENDING, &[5, 0], true),
+    (Stages(true), &STALLED, &[5, 5], true),
+    (Stages(true), &EMPTY, &[5, 5], true),
 ];
 
 // How many addresses the question has.
 fn address_count(question: Question) -> u32 {
     match question {
         Goal | GoalBy(..) => 4,
-        Agree(..) => 2,
+        Agree(..) | Stages(_) => 2,
         Meets => 0,
     }
 }
 
 fn word(words: &[u64], place: usize) -> u64 {
     words.get(place).copied().unwrap_or(0)
+}
+
+// The value of a function of the two stages.
+fn applied(function: u32, values: &[u64], args: &Args) -> u64 {
+    let mut sum = 0_u64;
+    for arg in args.as_slice() {
+        sum = sum.wrapping_add(word(values, arg.index()));
+    }
+    match function {
+        0 => sum.wrapping_add(1),
+        1 | 2 => 5,
+        _ => sum,
+    }
 }
 
 // The value of a term, from those before it; of a memory its word at 5.
@@ -134,7 +180,9 @@ fn value(held: &Held, words: &[u64], values: &[u64], node: &Node) -> u64 {
             word(&held.entries, *i as usize)
         }
         Node::App(Sym::Address(i), _) => word(words, *i as usize),
-        Node::Pred(Sym::Input(_), _) => held.strict,
+        Node::App(Sym::Function(f), args) => applied(*f, values, args),
+        Node::Pred(Sym::Input(_), _) => held.input,
+        Node::Write(_, a, d) if word(values, a.index()) == 5 => word(values, d.index()),
         Node::Read(m, a) if word(values, a.index()) == 5 => word(values, m.index()),
         _ => 0,
     }
@@ -152,6 +200,13 @@ fn is_true(
         values.push(value(held, words, &values, graph.node(graph.id(index))))?;
     }
     Ok(word(&values, root.index()) != 0)
+}
+
+// The root of the correspondence formula of the two stages.
+fn pipeline_root(alloc: Global, graph: &mut Graph, stale: bool) -> Result<Root, AllocError>
+    requires { graph.old ≡ [] }
+{
+    goal(alloc, graph, &two_stages(alloc, stale)?)
 }
 
 // The root of a question, and how many addresses it has.
@@ -179,6 +234,7 @@ fn root(
             let root = meets(alloc, graph, design)?;
             Ok(Root { root, addresses: 0 })
         }
+        Stages(stale) => pipeline_root(alloc, graph, stale),
     }
 }
 

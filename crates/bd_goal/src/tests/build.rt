@@ -35,13 +35,13 @@ const ENTRIES: [(u8, Sort); 10] = [
     (b'u', Sort::Bool),
 ];
 
-fn name(alloc: Global, letter: u8) -> Result<Name, AllocError>
+pub fn name(alloc: Global, letter: u8) -> Result<Name, AllocError>
     ensures { IfOk result (λ name. name ≡ letter ∷ []) }
 {
     Ok(Sequence::from_vec(vec![in alloc; letter]?))
 }
 
-fn entries(alloc: Global, letters: &[(u8, Sort)]) -> Result<Entries, AllocError>
+pub fn entries(alloc: Global, letters: &[(u8, Sort)]) -> Result<Entries, AllocError>
     ensures { IfOk result (λ entries. entries ≡ map entry_of letters.now) }
 {
     let mut entries = Vec::new(alloc);
