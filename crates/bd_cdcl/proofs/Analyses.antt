@@ -1,9 +1,11 @@
 -- An analysis as it is kept, place by place.
 use Rattle.std.proofs.Common.{◌≡◌, ℕ, ◌+◌, ◌-◌, ◌<◌, ◌≤◌, Bool, true, false, List, [], ◌∷◌, ◌++◌, Option, None, Some, length, get_or, set, map, reverse, refl, sym, ap, ◌∙◌, subst, inl, inr, arith, length-set}
 use Rattle.std.specs.Prelude.{IsSomeAnd, IsSome, IfSome, is_some}
+use Rattle.std.specs.List.{Contains}
 use Rattle.std.specs.FinMap.{get}
 use Rattle.std.proofs.lemmas.Bool.{false≢true, cases_Bool}
 use Rattle.std.proofs.lemmas.List.{reverse-append, get_or_read}
+use Rattle.std.proofs.lemmas.List.Elements.{All-nil, All-cons, Contains-get_or}
 use Rattle.bd_cnf.specs.Literal.{Literal, negate, has_literal, has_variable}
 use Rattle.bd_cnf.specs.Clause.{IsRising}
 use Rattle.bd_cnf.specs.Standing.{Standing}
@@ -49,12 +51,13 @@ reason_assigned standing trail place d clause low unit on l here = elim (cases_B
 
 module _ (watch : Watch) (start : ℕ) (conflict : List Literal) (place : ℕ) where
   pub passes_on : (a : Analysis) → Analyzes watch start conflict (place + 1) a → marked a.marks.items place ≡ false → Analyzes watch start conflict place a
-  passes_on a is off = record { room = is.room; resolved = is.resolved; ids = is.ids; analyzing = analysis_passes (numbered watch.clauses) watch.trail.entries start conflict a.marks.items place a.kept.items is.resolved is.analyzing off }
+  passes_on a is off = record { room = is.room; resolved = is.resolved; there = is.there; ids = is.ids; analyzing = analysis_passes (numbered watch.clauses) watch.trail.entries start conflict a.marks.items place a.kept.items is.resolved is.analyzing off }
 
   pub keeps_on : (old new : Analysis) (d : Assigned) (l : Literal) → IsWatching watch → Analyzes watch start conflict (place + 1) old → marked old.marks.items place ≡ true → l ≡ negate (get_or watch.trail.entries place d).literal → Keeps old new place l → (start ≤ place → AreUnmarked old.marks.items start place) → place < length watch.trail.entries → Analyzes watch start conflict place new
   keeps_on old new d l watching is on same keeps lone low = record {
     room = omega (arith, is.room, ap length keeps.marks, length-set old.marks.items place false);
     resolved = is.resolved;
+    there = is.there;
     ids = is.ids ∙ ap (λ xs. map hint.Unit (reverse xs)) (sym keeps.ids);
     analyzing =
         subst (λ ms. IsAnalyzing (numbered watch.clauses) watch.trail.entries start conflict ms place new.kept.items is.resolved) (sym keeps.marks)
@@ -66,6 +69,7 @@ module _ (watch : Watch) (start : ℕ) (conflict : List Literal) (place : ℕ) w
   resolves_on old new d id watching is on reason resolves more low = record {
     room = omega (arith, is.room, ap length resolves.marks, length-set resolves.mid place false, resolves.sets.size);
     resolved = get_or watch.trail.entries place d ∷ is.resolved;
+    there = All-cons (Contains watch.trail.entries) (get_or watch.trail.entries place d) is.resolved (Contains-get_or watch.trail.entries place d low) is.there;
     ids = one (get_or watch.trail.entries place d).reason reason;
     analyzing =
         subst (λ ms. IsAnalyzing (numbered watch.clauses) watch.trail.entries start conflict ms place new.kept.items (get_or watch.trail.entries place d ∷ is.resolved)) (sym resolves.marks)
@@ -109,6 +113,7 @@ pub analyzes_from : (watch : Watch) (start id : ℕ) (conflict : List Literal) (
 analyzes_from watch start id conflict old new watching last stands bad clear sets no_kept no_ids = record {
   room = omega (arith, clear.room, sets.size);
   resolved = [];
+  there = All-nil (Contains watch.trail.entries);
   ids = ap (λ xs. map hint.Unit (reverse xs)) (sym no_ids);
   analyzing = subst (λ ks. IsAnalyzing (numbered watch.clauses) watch.trail.entries start conflict new.marks.items (length watch.trail.entries) ks []) (sym no_kept)
       (analysis_begins (numbered watch.clauses) watch.trail.entries start conflict old.marks.items new.marks.items watching.complete clear.clear sets bad (start_closed watch start id conflict watching last stands));

@@ -5,6 +5,7 @@ pub mod Analyzing
 pub mod Marking
 pub mod Lessons
 pub mod Analyses
+pub mod Deleting
 pub mod Taught
 pub mod Passing
 pub mod Searching

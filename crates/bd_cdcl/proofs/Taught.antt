@@ -4,6 +4,7 @@ use Rattle.std.specs.Prelude.{IfSome, IfNone, unwrap_or}
 use Rattle.std.proofs.lemmas.List.{map-append}
 use Rattle.bd_cnf.specs.Literal.{Literal, negate, has_literal, has_variable}
 use Rattle.bd_cnf.specs.Clause.{IsRising, SameLiterals, IsTautology}
+use Rattle.bd_cnf.specs.Standing.{Standing}
 use Rattle.bd_cnf.specs.Trail.{is_false}
 use Rattle.bd_cnf.proofs.Literals.{has_at}
 use Rattle.bd_lrat.specs.declared.line.Hint.{Hint}
@@ -13,15 +14,17 @@ use Rattle.bd_lrat.specs.Propagation.{Conflict, propagate}
 use Rattle.bd_watch.specs.declared.watch.Watch.{Watch}
 use Rattle.bd_watch.specs.Levels.{literals}
 use Rattle.bd_watch.specs.Trails.{IsDecisionAt, IsLastStart, IsStartFrom}
-use Rattle.bd_watch.specs.Watching.{front, IsAsserting}
+use Rattle.bd_watch.specs.Watching.{front, IsAsserting, IsConflict}
 use Rattle.bd_watch.specs.Watch.{IsWatching}
 use Rattle.bd_watch.proofs.Parts.{has_behind, all_has, has_negated, negated_has}
 use Rattle.bd_cdcl.specs.declared.analysis.Analysis.{Analysis}
 use Rattle.bd_cdcl.specs.declared.lesson.Lesson.{Lesson}
 use Rattle.bd_cdcl.specs.declared.lesson.Second.{Second}
 use Rattle.bd_cdcl.specs.inner.Analysis.{IsUnique}
+use Rattle.bd_cdcl.specs.inner.Deletions.{IsReduced}
 use Rattle.bd_cdcl.specs.inner.Analyses.{IsClear, Analyzed, IsSecond, IsLesson}
 use Rattle.bd_cdcl.proofs.Analyzing.{analysis_follows, analysis_asserts, analysis_no_tautology}
+use Rattle.bd_cdcl.proofs.Deleting.{propagate_in}
 use Rattle.bd_cdcl.proofs.Lessons.{asserting_at, floor_low, pair_there, two_there, rest_some, IsCut, is_cut}
 
 module _ (watch : Watch) (start id : ℕ) (a : Analysis) (is : Analyzed watch start id a) where
@@ -44,18 +47,19 @@ module _ (watch : Watch) (start id : ℕ) (a : Analysis) (is : Analyzed watch st
   pub clear_again : (limit : ℕ) → limit ≡ watch.trail.limit → IsClear limit a
   clear_again limit e = record { room = omega (arith, is.analyzes.room); clear = λ p. is.analyzes.analyzing.cleared p (omega arith) }
 
-  pub lesson_is : (lesson : Lesson) (s : Second) (rest : List Literal) (o : Option ℕ) → IsWatching watch → IsLastStart watch.trail.entries start → rest ≡ drop 1 a.kept.items → lesson.first ≡ get_or a.kept.items 0 lesson.first → lesson.second ≡ s.code → lesson.cut ≡ unwrap_or o start → SameLiterals lesson.clause a.kept.items → IsRising lesson.clause → IsSecond watch.trail.entries rest s → IfSome o (IsStartFrom watch.trail.entries s.floor) → IfNone o ((p : ℕ) → IsDecisionAt watch.trail.entries p → p < s.floor) → lesson.hints ≡ map hint.Unit (reverse a.ids.items ++ id ∷ []) → IsLesson watch start lesson
-  lesson_is lesson s rest o watching last rest_is first_is second_is cut_is same rising second found none hints =
+  pub lesson_is : (lesson : Lesson) (s : Second) (rest : List Literal) (o : Option ℕ) → IsWatching watch → IsLastStart watch.trail.entries start → IsConflict (numbered watch.clauses) watch.trail.entries id → rest ≡ drop 1 a.kept.items → lesson.first ≡ get_or a.kept.items 0 lesson.first → lesson.second ≡ s.code → lesson.cut ≡ unwrap_or o start → SameLiterals lesson.clause a.kept.items → IsRising lesson.clause → IsSecond watch.trail.entries rest s → IfSome o (IsStartFrom watch.trail.entries s.floor) → IfNone o ((p : ℕ) → IsDecisionAt watch.trail.entries p → p < s.floor) → lesson.hints ≡ map hint.Unit (reverse a.ids.items ++ id ∷ []) → IsLesson watch start lesson
+  lesson_is lesson s rest o watching last at_end rest_is first_is second_is cut_is same rising second found none hints =
       let (u, ks, e, unique) = analysis_asserts (numbered watch.clauses) watch.trail.entries start is.conflict a.marks.items a.kept.items is.analyzes.resolved is.analyzes.analyzing in
       build u ks e unique
     where
       low : (l : Literal) → has_literal lesson.clause l ≡ true → l.var < watch.trail.limit
       low l h = all_has (λ (m : Literal). m.var < watch.trail.limit) (literals watch.trail.entries) (negate l) watching.below (is.analyzes.analyzing.kept_false l (sym (same l) ∙ h))
 
-      follows : propagate (numbered watch.clauses) (map negate lesson.clause) lesson.hints ≡ Conflict
-      follows =
-          subst (λ hs. propagate (numbered watch.clauses) (map negate lesson.clause) hs ≡ Conflict) (sym (hints ∙ map-append hint.Unit (reverse a.ids.items) (id ∷ []) ∙ ap (λ (hs : List Hint). hs ++ hint.Unit id ∷ []) (sym is.analyzes.ids)))
-          (analysis_follows (numbered watch.clauses) watch.trail.entries start is.conflict a.marks.items a.kept.items (map negate lesson.clause) is.analyzes.resolved id watching.complete is.analyzes.analyzing is.stands
+      follows : (standing : Standing) → IsReduced watch.clauses watch.trail.entries standing → propagate standing (map negate lesson.clause) lesson.hints ≡ Conflict
+      follows standing reduced =
+          subst (λ hs. propagate standing (map negate lesson.clause) hs ≡ Conflict) (sym (hints ∙ map-append hint.Unit (reverse a.ids.items) (id ∷ []) ∙ ap (λ (hs : List Hint). hs ++ hint.Unit id ∷ []) (sym is.analyzes.ids)))
+          (propagate_in watch.clauses watch.trail.entries standing watching.complete reduced is.analyzes.resolved (map negate lesson.clause) id is.analyzes.there at_end
+          ∙ analysis_follows (numbered watch.clauses) watch.trail.entries start is.conflict a.marks.items a.kept.items (map negate lesson.clause) is.analyzes.resolved id watching.complete is.analyzes.analyzing is.stands
           (λ l h. sym (same (negate l)) ∙ has_negated lesson.clause l h)
           (λ l h. negated_has lesson.clause l (same l ∙ h)))
 

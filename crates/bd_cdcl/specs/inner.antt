@@ -1,4 +1,5 @@
 pub mod Passes
+pub mod Deletions
 pub mod Search
 pub mod Analysis
 pub mod Analyses

@@ -144,7 +144,7 @@ impl Analysis {
         }
         let entry = watch.trail().as_slice()[place];
         let negated = entry.code().negated();
-        guide.order.bump(negated);
+        guide.order.see(negated)?;
         let Some(id) = entry.reason() else {
             return self.keep(place, negated);
         };

@@ -2,7 +2,7 @@
 //! literal at the end of the level before, where no clause was false or unit: so nothing known said
 //! it before, and it is fresh. The trail is taken back to the end of the level of the clause's
 //! second highest literal, where it is unit.
-ghost use Rattle.std.specs.Prelude.{◌≡◌, ◌<◌, ◌≤◌, ◌+◌, ◌^◌, [], IfOk, IfSome, IfNone, OnOk, OnErr};
+ghost use Rattle.std.specs.Prelude.{◌≡◌, ◌<◌, ◌≤◌, ◌+◌, ◌^◌, [], IfOk, IfSome, IfNone, OnOk, OnErr, true};
 ghost use Rattle.std.specs.Bool.{OnTrue, OnFalse};
 ghost use Rattle.bd_lrat.specs.Database.{numbered, database_of};
 ghost use Rattle.bd_lrat.specs.Log.{IsAcceptedLog};
@@ -11,9 +11,11 @@ ghost use Rattle.bd_watch.specs.Watching.{IsConflict};
 ghost use Rattle.bd_watch.specs.Watch.{IsWatching, IsPropagated};
 ghost use Rattle.bd_cdcl.specs.Law.{IsLaw};
 ghost use Rattle.bd_cdcl.specs.inner.Analyses.{IsClear};
+ghost use Rattle.bd_cdcl.specs.inner.Deletions.{Deletes};
 ghost use Rattle.bd_cdcl.specs.inner.Descents.{IsBegun, GoesOn, Refutes, IsChoice, Advances, Follows};
 
 use crate::analysis::Analysis;
+use crate::deletion::Deletion;
 use crate::guide::Guide;
 use crate::lesson::{Lesson, learned_from};
 use crate::search::hints;
@@ -29,6 +31,7 @@ pub(crate) struct Descent {
     watch: Watch,
     analysis: Analysis,
     guide: Guide,
+    deletion: Deletion,
     learned: u32,
     /// Whether the trail is to be taken back to level 0.
     restarts: bool,
@@ -46,6 +49,7 @@ impl Descent {
             watch,
             analysis,
             guide,
+            deletion: Deletion::new(alloc),
             learned: 0,
             restarts: false,
         })
@@ -87,7 +91,7 @@ impl Descent {
             start,
             conflict,
         )?;
-        self.guide.order.decay();
+        self.guide.order.requeue();
         self.guide
             .order
             .release(&self.watch.trail().as_slice()[lesson.cut..]);
@@ -98,12 +102,13 @@ impl Descent {
             hints,
             first,
             second,
+            levels,
             ..
         } = lesson;
         self.watch.learn(clause.lits(), first, second)?;
         log.push(Line::Add { id, clause, hints })?;
         self.learned += 1;
-        self.restarts = self.guide.restarts.count();
+        self.restarts = self.guide.restarts.count(levels);
         Ok(())
     }
 
@@ -126,9 +131,25 @@ impl Descent {
         Some(Lit::new(var, false))
     }
 
-    /// Goes on where all is propagated: back to level 0, or by a decision. Answers whether it
-    /// could.
-    fn advance(&mut self) -> bool
+    /// Goes back to level 0.
+    fn restart(&mut self)
+        requires watching { IsWatching self.old.watch }
+        requires due { self.old.restarts ≡ true }
+        ensures learned { self.new.learned ≡ self.old.learned }
+        ensures analysis { self.new.analysis ≡ self.old.analysis }
+        ensures advanced { Advances self.old self.new }
+    {
+        self.restarts = false;
+        if let Some(start) = self.watch.trail().start_from(0) {
+            self.guide
+                .order
+                .release(&self.watch.trail().as_slice()[start..]);
+            self.watch.go_back_to(start);
+        }
+    }
+
+    /// Decides a literal. Answers whether it could.
+    fn decide(&mut self) -> bool
         requires watching { IsWatching self.old.watch }
         requires propagated { IsPropagated self.old.watch }
         ensures learned { self.new.learned ≡ self.old.learned }
@@ -137,16 +158,6 @@ impl Descent {
         ensures ended { OnFalse result (AllAssigned self.old.watch.trail) }
         ensures unchanged { OnFalse result (self.new.watch ≡ self.old.watch) }
     {
-        if self.restarts {
-            self.restarts = false;
-            if let Some(start) = self.watch.trail().start_from(0) {
-                self.guide
-                    .order
-                    .release(&self.watch.trail().as_slice()[start..]);
-                self.watch.go_back_to(start);
-            }
-            return true;
-        }
         match self.choice() {
             Some(lit) => {
                 self.watch.decide(lit);
@@ -154,6 +165,27 @@ impl Descent {
             }
             None => false,
         }
+    }
+
+    /// Goes on where all is propagated: back to level 0, where clauses are deleted, or by a
+    /// decision. Answers whether it could.
+    fn advance(&mut self, alloc: Global, log: &mut Log) -> Result<bool, AllocError>
+        requires watching { IsWatching self.old.watch }
+        requires propagated { IsPropagated self.old.watch }
+        ensures learned { self.new.learned ≡ self.old.learned }
+        ensures analysis { self.new.analysis ≡ self.old.analysis }
+        ensures advanced { IfOk result (λ more. OnTrue more (Advances self.old self.new)) }
+        ensures deletes { OnOk result (Deletes self.new.watch log.old log.new) }
+        ensures ended { IfOk result (λ more. OnFalse more (AllAssigned self.old.watch.trail)) }
+        ensures unchanged { IfOk result (λ more. OnFalse more (self.new.watch ≡ self.old.watch)) }
+        ensures err { OnErr result (log.new ≡ log.old) }
+    {
+        if !self.restarts {
+            return Ok(self.decide());
+        }
+        self.restart();
+        self.deletion.reduce(alloc, &self.watch, log)?;
+        Ok(true)
     }
 
     /// Follows a conflict: learns from it, or ends the search.
@@ -208,7 +240,8 @@ impl Descent {
                     }
                 }
                 None => {
-                    if !self.advance() {
+                    let advanced = self.advance(alloc, log)?;
+                    if !advanced {
                         return Ok(Found::Model(self.watch.trail().assignment(alloc)?));
                     }
                 }

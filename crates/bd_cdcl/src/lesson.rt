@@ -25,7 +25,7 @@ pub(crate) struct Second {
 }
 
 /// A clause, the hints by which it follows, its literals of the highest and the second highest
-/// level, and the place that the trail is taken back to.
+/// level, the place that the trail is taken back to, and how many levels its literals have.
 #[derive(Drop)]
 pub(crate) struct Lesson {
     pub(crate) clause: Clause,
@@ -33,6 +33,7 @@ pub(crate) struct Lesson {
     pub(crate) first: Code,
     pub(crate) second: Code,
     pub(crate) cut: usize,
+    pub(crate) levels: u64,
 }
 
 /// Of some literals the one that became false last, or the first where there is none.
@@ -53,6 +54,25 @@ fn last_falsified(watch: &Watch, first: Code, rest: &[Code]) -> Second
         }
     }
     Second { code, floor }
+}
+
+/// How many levels some literals have that stand from the end of the trail to its front.
+fn levels(watch: &Watch, codes: &[Code]) -> u64
+    requires watching { IsWatching watch.now }
+    requires falsified { (l : Literal) → has_literal codes.now l ≡ true →
+        is_false (literals watch.now.trail.entries) l ≡ true }
+{
+    let trail = watch.trail();
+    let mut count: u64 = 0;
+    let mut above = None;
+    for &code in codes {
+        let next = trail.start_from(trail.place(code) + 1);
+        if count == 0 || next != above {
+            count = count.saturating_add(1);
+            above = next;
+        }
+    }
+    count
 }
 
 /// The clause of some literals.
@@ -94,6 +114,7 @@ pub(crate) fn learned_from(
     let clause = clause_of(alloc, kept)?;
     let first = kept[0];
     let Second { code, floor } = last_falsified(watch, first, &kept[1..]);
+    let levels = levels(watch, &kept[1..]).saturating_add(1);
     let cut = watch.trail().start_from(floor).unwrap_or(start);
     let hints = analysis.hints(alloc, conflict)?;
     Ok(Lesson {
@@ -102,5 +123,6 @@ pub(crate) fn learned_from(
         first,
         second: code,
         cut,
+        levels,
     })
 }

@@ -3,6 +3,7 @@
 
 mod analysis;
 mod cdcl;
+mod deletion;
 mod descent;
 mod guide;
 mod lesson;

@@ -1,197 +1,165 @@
-//! Which variable is decided next, and with which sign: of the variables that may have no value, the
-//! one that was seen most in late conflicts (activities that decay, in a heap: Eén and Sörensson,
-//! 2003), with the sign that it had last (Pipatsrisawat and Darwiche, 2007). It only proposes:
-//! whether a variable is one, and has no value, is tested by whoever asks.
+//! Which variable is decided next, and with which sign: of the variables without a value the one that
+//! was seen in a conflict last (variable move to front: Ryan, 2004; Biere and Fröhlich, 2015), with the
+//! sign that it had last (Pipatsrisawat and Darwiche, 2007). It only proposes: whether a variable is
+//! one, and has no value, is tested by whoever asks.
 use bd_watch::{Assigned, Code, Trail};
 use std::alloc::{AllocError, Global};
 
-/// By how much more the next conflict counts than the one before.
-const GROWTH: f64 = 1.0 / 0.95;
-
-/// Above this all activities are made smaller.
-const HIGH: f64 = 1e100;
-
-/// What is known of a variable.
+/// What is known of a variable. The variables stand in a queue; 0 is none.
 #[derive(Clone, Copy)]
 struct Candidate {
-    activity: f64,
-    /// Where it stands in the heap, or behind it.
-    place: usize,
+    /// The one in front of it.
+    before: usize,
+    /// The one behind it.
+    behind: usize,
+    /// When it was put at the end of the queue.
+    moved: u64,
     /// The sign that it had last.
     positive: bool,
 }
 
-/// All variables, by their activities.
+/// A variable that was seen in the conflict at hand.
+#[derive(Clone, Copy)]
+struct Seen {
+    var: usize,
+    moved: u64,
+}
+
+/// All variables, in a queue by when they were seen last.
 #[derive(Drop)]
 pub(crate) struct Order {
     candidates: Vec<Candidate>,
-    /// The variables that may have no value, as a heap with the highest activity in front, and
-    /// behind them the others.
-    heap: Vec<usize>,
-    /// How many stand in the heap.
-    size: usize,
-    /// What is added where a variable is seen.
-    step: f64,
+    /// The one at the end of the queue.
+    last: usize,
+    /// Those behind it have values.
+    next: usize,
+    /// How often a variable was put at the end.
+    moves: u64,
+    /// Those of the conflict at hand.
+    seen: Vec<Seen>,
 }
 
 impl Order {
-    /// All variables up to `vars`, the least in front.
+    /// All variables up to `vars`, the greatest at the end.
     pub(crate) fn new(alloc: Global, vars: u64) -> Result<Order, AllocError> {
         let count = vars.checked_add(1).ok_or(AllocError)? as usize;
-        let unseen = Candidate {
-            activity: 0.0,
-            place: 0,
+        let alone = Candidate {
+            before: 0,
+            behind: 0,
+            moved: 0,
             positive: false,
         };
         let mut order = Order {
-            candidates: vec![in alloc; unseen; count]?,
-            heap: Vec::with_capacity(alloc, count)?,
-            size: 0,
-            step: 1.0,
+            candidates: vec![in alloc; alone; count]?,
+            last: 0,
+            next: 0,
+            moves: 0,
+            seen: Vec::new(alloc),
         };
         for var in 1..count {
-            order.heap.push(var)?;
-            order.settle(var - 1);
+            order.append(var);
         }
-        order.size = order.heap.len();
+        order.next = order.last;
         Ok(order)
     }
 
-    /// Takes note of where the variable at that place stands.
-    fn settle(&mut self, place: usize) {
-        if let Some(&var) = self.heap.get(place) {
-            if let Some(candidate) = self.candidates.get_mut(var) {
-                candidate.place = place;
-            }
+    fn candidate(&self, var: usize) -> Option<Candidate> {
+        self.candidates.get(var).copied()
+    }
+
+    /// Puts a variable that isn't in the queue at its end.
+    fn append(&mut self, var: usize) {
+        let last = self.last;
+        if let Some(candidate) = self.candidates.get_mut(last) {
+            candidate.behind = var;
+        }
+        self.moves = self.moves.wrapping_add(1);
+        if let Some(candidate) = self.candidates.get_mut(var) {
+            candidate.before = last;
+            candidate.behind = 0;
+            candidate.moved = self.moves;
+        }
+        self.last = var;
+    }
+
+    /// Takes a variable out of the queue that isn't at its end.
+    fn unlink(&mut self, candidate: Candidate) {
+        let Candidate { before, behind, .. } = candidate;
+        if let Some(neighbour) = self.candidates.get_mut(before) {
+            neighbour.behind = behind;
+        }
+        if let Some(neighbour) = self.candidates.get_mut(behind) {
+            neighbour.before = before;
         }
     }
 
-    fn activity(&self, var: usize) -> f64 {
-        self.candidates.get(var).map_or(0.0, |c| c.activity)
-    }
-
-    /// Whether the variable at the one place is to stand before that at the other: it was seen more,
-    /// or as much and is the lesser.
-    fn leads(&self, one: usize, other: usize) -> bool {
-        let (Some(&a), Some(&b)) = (self.heap.get(one), self.heap.get(other)) else {
-            return false;
+    /// Moves a variable with a value to the end of the queue.
+    fn move_to_end(&mut self, var: usize) {
+        if var == self.last {
+            return;
+        }
+        let Some(candidate) = self.candidate(var) else {
+            return;
         };
-        let (high, low) = (self.activity(a), self.activity(b));
-        high > low || (high == low && a < b)
-    }
-
-    /// Swaps two places.
-    fn swap(&mut self, one: usize, other: usize) {
-        if one < self.heap.len() && other < self.heap.len() {
-            self.heap.swap(one, other);
-            self.settle(one);
-            self.settle(other);
+        if self.next == var {
+            self.next = if candidate.before > 0 {
+                candidate.before
+            } else {
+                candidate.behind
+            };
         }
-    }
-
-    /// Moves a variable towards the front, as far as its activity takes it.
-    fn rise(&mut self, from: usize) {
-        let mut place = from;
-        while place > 0 {
-            let parent = (place - 1) / 2;
-            if !self.leads(place, parent) {
-                return;
-            }
-            self.swap(place, parent);
-            place = parent;
-        }
-    }
-
-    /// Moves the variable in front towards the end of the heap, as far as its activity takes it.
-    fn sink(&mut self) {
-        let mut place: usize = 0;
-        for _ in 0..usize::BITS {
-            let first = place.saturating_mul(2).saturating_add(1);
-            let second = first.saturating_add(1);
-            if first >= self.size {
-                return;
-            }
-            let mut child = first;
-            if second < self.size && self.leads(second, first) {
-                child = second;
-            }
-            if !self.leads(child, place) {
-                return;
-            }
-            self.swap(place, child);
-            place = child;
-        }
-    }
-
-    /// Takes the variable in front out of the heap.
-    fn pop(&mut self) -> Option<usize> {
-        self.size = self.size.checked_sub(1)?;
-        let var = *self.heap.first()?;
-        self.swap(0, self.size);
-        self.sink();
-        Some(var)
-    }
-
-    /// Puts a variable into the heap that stands behind it.
-    fn put_back(&mut self, place: usize) {
-        if place >= self.size && self.size < self.heap.len() {
-            let end = self.size;
-            self.size = end + 1;
-            self.swap(place, end);
-            self.rise(end);
-        }
+        self.unlink(candidate);
+        self.append(var);
     }
 
     /// Takes note that a variable was seen in a conflict.
-    pub(crate) fn bump(&mut self, code: Code) {
-        let step = self.step;
-        let Some(candidate) = self.candidates.get_mut(code.variable()) else {
-            return;
-        };
-        candidate.activity += step;
-        let place = candidate.place;
-        if candidate.activity > HIGH {
-            self.rescale();
+    pub(crate) fn see(&mut self, code: Code) -> Result<(), AllocError> {
+        let var = code.variable();
+        if let Some(candidate) = self.candidate(var) {
+            let moved = candidate.moved;
+            self.seen.push(Seen { var, moved })?;
         }
-        if place < self.size {
-            self.rise(place);
-        }
+        Ok(())
     }
 
-    /// Lets what is seen from now on count more.
-    pub(crate) fn decay(&mut self) {
-        self.step *= GROWTH;
-    }
-
-    /// Makes all activities smaller.
-    fn rescale(&mut self) {
-        for candidate in self.candidates.iter_mut() {
-            candidate.activity /= HIGH;
+    /// Moves the variables that were seen to the end of the queue, in the order in which they stand.
+    pub(crate) fn requeue(&mut self) {
+        self.seen.sort_unstable_by_key(|seen| seen.moved);
+        for index in 0..self.seen.len() {
+            if let Some(&Seen { var, .. }) = self.seen.get(index) {
+                self.move_to_end(var);
+            }
         }
-        self.step /= HIGH;
+        self.seen.clear();
     }
 
     /// Takes note of literals that are taken back.
     pub(crate) fn release(&mut self, entries: &[Assigned]) {
         for entry in entries {
             let code = entry.code();
-            if let Some(candidate) = self.candidates.get_mut(code.variable()) {
+            let var = code.variable();
+            let latest = self.candidate(self.next).map_or(0, |c| c.moved);
+            if let Some(candidate) = self.candidates.get_mut(var) {
                 candidate.positive = code.lit().is_positive();
-                let place = candidate.place;
-                self.put_back(place);
+                if candidate.moved > latest {
+                    self.next = var;
+                }
             }
         }
     }
 
     /// A variable that may have no value, and a sign for it.
     pub(crate) fn propose(&mut self, trail: &Trail) -> Option<(u64, bool)> {
-        for _ in 0..self.heap.len() {
-            let place = self.pop()?;
-            let var = place as u64;
+        for _ in 0..self.candidates.len() {
+            let candidate = self.candidate(self.next)?;
+            let var = self.next as u64;
             if var > 0 && var < trail.limit() && trail.is_free(var) {
-                let candidate = self.candidates.get(place)?;
                 return Some((var, candidate.positive));
             }
+            if candidate.before == 0 {
+                return None;
+            }
+            self.next = candidate.before;
         }
         None
     }

@@ -1,49 +1,60 @@
-//! When the trail is taken back to level 0: after so many learned clauses as the sequence
-//! 1, 1, 2, 1, 1, 2, 4, 1, .. says, times a unit (Luby, Sinclair and Zuckerman, 1993).
+//! When the trail is taken back to level 0: where the clauses that were learned of late have literals
+//! of more levels than all had on average (Audemard and Simon, 2012; the late average as of Biere and
+//! Fröhlich, 2015).
 
-/// How many learned clauses the sequence counts as one.
-const UNIT: u64 = 32;
+/// With each clause the late average forgets one part in so many.
+const LATE: u64 = 32;
 
-/// The way to the next return.
+/// In how many parts a level is counted.
+const PARTS: u64 = 1 << 10;
+
+/// How many clauses at least are learned between two returns.
+const LEAST: u64 = 2;
+
+/// The levels of the clauses that were learned.
 #[derive(Drop)]
 pub(crate) struct Restarts {
-    /// How often the sequence has begun anew from 1, from 1 on.
-    round: u64,
-    /// The number of the sequence at hand: a power of two.
-    length: u64,
-    /// How many learned clauses are left to the next return.
-    left: u64,
+    /// The late average, in parts of a level, times `LATE`.
+    late: u64,
+    /// How many levels all had together.
+    total: u64,
+    learned: u64,
+    /// How many were learned since the last return.
+    since: u64,
 }
 
 impl Restarts {
     pub(crate) fn new() -> Restarts {
         Restarts {
-            round: 1,
-            length: 1,
-            left: UNIT,
+            late: 0,
+            total: 0,
+            learned: 0,
+            since: 0,
         }
     }
 
-    /// Counts a learned clause. Answers whether a return is due.
-    pub(crate) fn count(&mut self) -> bool {
-        self.left = self.left.saturating_sub(1);
-        if self.left > 0 {
-            return false;
-        }
-        self.advance();
-        true
-    }
-
-    /// Goes on to the next number: twice the last, until it is the greatest power of two that
-    /// divides the round.
-    fn advance(&mut self) {
-        let greatest = self.round & self.round.wrapping_neg();
-        if self.length == greatest {
-            self.round = self.round.wrapping_add(1);
-            self.length = 1;
+    /// Counts a learned clause with literals of so many levels. Answers whether a return is due.
+    pub(crate) fn count(&mut self, levels: u64) -> bool {
+        let parts = levels.saturating_mul(PARTS);
+        self.late = if self.learned == 0 {
+            parts.saturating_mul(LATE)
         } else {
-            self.length = self.length.wrapping_mul(2);
+            (self.late - self.late / LATE).saturating_add(parts)
+        };
+        self.total = self.total.saturating_add(levels);
+        self.learned = self.learned.saturating_add(1);
+        self.since = self.since.saturating_add(1);
+        let due = self.since > LEAST && self.is_high();
+        if due {
+            self.since = 0;
         }
-        self.left = self.length.saturating_mul(UNIT);
+        due
+    }
+
+    /// Whether the late average is above that of all by a tenth.
+    fn is_high(&self) -> bool {
+        let late = self.late.saturating_mul(self.learned);
+        let all = self.total.saturating_mul(LATE * PARTS);
+        late / 11 > all / 10
     }
 }

@@ -3,7 +3,7 @@ ghost use Rattle.bd_cdcl.specs.Law.{IsLaw};
 
 use crate::{Cdcl, Found, HonestSolver, Plain, Scripted, Solver};
 use bd_cnf::{Assignment, Clause, Clauses, Cnf, Lit};
-use bd_lrat::{Checker, Log, lrat_text, refutes};
+use bd_lrat::{Checker, Line, Log, lrat_text, refutes};
 use std::alloc::{AllocError, Global};
 use std::process::Abort;
 use std::test::Fail;
@@ -46,21 +46,34 @@ const CHAIN: &[Parts] = &[&[(1, true)], &[(1, false), (2, true)]];
 
 const BROKEN_CHAIN: &[Parts] = &[&[(1, true)], &[(1, false), (2, true)], &[(2, false)]];
 
-const HALF_SQUARE: &[Parts] = &[&[(1, true), (2, true)], &[(1, true), (2, false)]];
+/// Half a square teaches the first variable, and another the last one.
+const HALF_SQUARES: &[Parts] = &[
+    &[(1, true), (2, true)],
+    &[(1, true), (2, false)],
+    &[(2, true), (3, true)],
+    &[(2, false), (3, true)],
+];
+
+const LAST_HALF: &[Parts] = &[&[(57, true), (58, true)], &[(57, false), (58, true)]];
 
 const SQUARE_LOG: &str = "5 1 0 1 2 0\n6 0 5 3 4 0\n";
+
+/// The greatest variable is decided first.
+const SQUARE_TURNED: &str = "5 2 0 1 3 0\n6 0 5 2 4 0\n";
 
 const CUBE_START: &str = "9 1 2 0 1 2 0\n10 1 0 9 3 4 0\n";
 
 const CUBE_LOG: &str = "9 1 2 0 1 2 0\n10 1 0 9 3 4 0\n11 2 0 10 5 6 0\n12 0 10 11 7 8 0\n";
 
+const CUBE_TURNED_START: &str = "9 2 3 0 1 5 0\n10 3 0 9 3 7 0\n";
+
 /// The second variable was true last, so it is decided to be true.
-const CUBE_SAVED: &str = "9 1 2 0 1 2 0\n10 1 0 9 3 4 0\n11 -2 0 10 7 8 0\n12 0 10 11 5 6 0\n";
+const CUBE_TURNED: &str = "9 2 3 0 1 5 0\n10 3 0 9 3 7 0\n11 -2 0 10 8 4 0\n12 0 10 11 2 6 0\n";
 
 static ROWS: [Row; 14] = [
     (2, SQUARE, 0, Said::Spent, "", ""),
-    (2, SQUARE, 1, Said::Refuted, SQUARE_LOG, SQUARE_LOG),
-    (2, SQUARE, 2, Said::Refuted, SQUARE_LOG, SQUARE_LOG),
+    (2, SQUARE, 1, Said::Refuted, SQUARE_LOG, SQUARE_TURNED),
+    (2, SQUARE, 2, Said::Refuted, SQUARE_LOG, SQUARE_TURNED),
     (0, &[], 0, Said::Model, "", ""),
     (1, &[&[]], 0, Said::Refuted, "2 0 1 0\n", "2 0 1 0\n"),
     (
@@ -80,19 +93,19 @@ static ROWS: [Row; 14] = [
         "4 0 1 3 2 0\n",
     ),
     (2, CHAIN, 0, Said::Model, "", ""),
-    (2, HALF_SQUARE, 0, Said::Spent, "", ""),
+    (3, HALF_SQUARES, 0, Said::Spent, "", ""),
     (
-        2,
-        HALF_SQUARE,
+        3,
+        HALF_SQUARES,
         1,
         Said::Model,
-        "3 1 0 1 2 0\n",
-        "3 1 0 1 2 0\n",
+        "5 1 0 1 2 0\n",
+        "5 3 0 3 4 0\n",
     ),
     (5, &[&[(3, true)]], 7, Said::Model, "", ""),
-    (3, CUBE, 2, Said::Spent, CUBE_START, CUBE_START),
-    (3, CUBE, 3, Said::Refuted, CUBE_LOG, CUBE_SAVED),
-    (3, CUBE, 4, Said::Refuted, CUBE_LOG, CUBE_SAVED),
+    (3, CUBE, 2, Said::Spent, CUBE_START, CUBE_TURNED_START),
+    (3, CUBE, 3, Said::Refuted, CUBE_LOG, CUBE_TURNED),
+    (3, CUBE, 4, Said::Refuted, CUBE_LOG, CUBE_TURNED),
 ];
 
 fn clause(rt: &(impl Abort + AllocGlobal), parts: &[(u64, bool)]) -> Result<Clause, AllocError> {
@@ -110,9 +123,42 @@ fn formula(
 ) -> Result<Cnf, AllocError> {
     let mut cnf = Cnf::new(vars, Clauses::new(rt.alloc()));
     for parts in clauses {
-        let clause = clause(rt, parts)?;
-        assert!(rt; clause.is_within(cnf.vars()));
-        cnf.push(clause)?;
+        push(rt, &mut cnf, parts)?;
+    }
+    Ok(cnf)
+}
+
+fn push(
+    rt: &(impl Abort + AllocGlobal),
+    cnf: &mut Cnf,
+    parts: &[(u64, bool)],
+) -> Result<(), AllocError> {
+    let clause = clause(rt, parts)?;
+    assert!(rt; clause.is_within(cnf.vars()));
+    cnf.push(clause)
+}
+
+/// Two clauses that teach the last variable, and eight pigeons that are each in one of seven holes,
+/// and no two in one.
+fn pigeons(rt: &(impl Abort + AllocGlobal)) -> Result<Cnf, AllocError> {
+    let mut cnf = formula(rt, 58, LAST_HALF)?;
+    for pigeon in 0..8u64 {
+        let mut parts = Vec::new(rt.alloc());
+        for hole in 0..7u64 {
+            parts.push((1 + 7 * pigeon + hole, true))?;
+        }
+        push(rt, &mut cnf, &parts)?;
+    }
+    for hole in 0..7u64 {
+        for second in 0..8u64 {
+            for first in 0..second {
+                let pair = [
+                    (1 + 7 * first + hole, false),
+                    (1 + 7 * second + hole, false),
+                ];
+                push(rt, &mut cnf, &pair)?;
+            }
+        }
     }
     Ok(cnf)
 }
@@ -201,6 +247,45 @@ fn unique_implication_points_settle_formulas_within_the_budget(
         solves(&rt, &mut solver, row, lines)?;
         solves(&rt, &mut solver, row, lines)?;
     }
+    Ok(())
+}
+
+/// How many lines add clauses.
+fn additions(log: &Log) -> usize {
+    log.as_slice()
+        .iter()
+        .filter(|line| is_addition(line))
+        .count()
+}
+
+fn is_addition(line: &Line) -> bool {
+    match line {
+        Line::Add { .. } => true,
+        Line::Delete { .. } => false,
+    }
+}
+
+/// The ids of the first line that deletes clauses.
+fn first_deletion(log: &Log) -> Option<&[u64]> {
+    for line in log.as_slice() {
+        if let Line::Delete { ids, .. } = line {
+            return Some(ids.as_slice());
+        }
+    }
+    None
+}
+
+/// The first two clauses are true at level 0 once the last variable is learned. The clause which says
+/// that it is true is its reason.
+#[test]
+fn clauses_that_level_zero_makes_true_are_deleted(rt: HostRuntime) -> Result<(), Fail> {
+    let cnf = pigeons(&rt)?;
+    let mut log = Log::new(rt.alloc());
+    let found = Cdcl::new(rt.alloc()).solve(&cnf, 300, &mut log)?;
+    assert!(rt; told(&found, &cnf) == Some(Said::Spent));
+    assert!(rt; accepted(rt.alloc(), &cnf, &log)?);
+    assert!(rt; additions(&log) == 300);
+    assert!(rt; first_deletion(&log) == Some(&[1, 2]));
     Ok(())
 }
 

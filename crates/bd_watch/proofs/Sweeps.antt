@@ -1,8 +1,8 @@
 -- Going along the watchers of a literal, one after another, and along the literals of a trail.
-use Rattle.std.proofs.Common.{◌≡◌, ℕ, ◌+◌, ◌<◌, ◌≤◌, true, [], ◌++◌, Option, None, Some, length, get_or, sym, ap, ◌∙◌, subst, inr, arith, length-append, append_assoc}
+use Rattle.std.proofs.Common.{◌≡◌, ℕ, ◌+◌, ◌<◌, ◌≤◌, true, [], ◌++◌, Option, None, Some, length, get_or, take, sym, ap, ◌∙◌, subst, inr, arith, length-append, append_assoc}
 use Rattle.std.specs.Prelude.{IsSomeAnd}
 use Rattle.std.specs.List.{list_any}
-use Rattle.std.proofs.lemmas.List.{get_or_append_left, length-map}
+use Rattle.std.proofs.lemmas.List.{get_or_append_left, length-map, take-append-le}
 use Rattle.bd_cnf.specs.Literal.{Literal, negate, has_literal}
 use Rattle.bd_cnf.specs.Trail.{is_false, open_literals}
 use Rattle.bd_lrat.specs.Database.{numbered}
@@ -121,15 +121,20 @@ next_false w l next =
 pub sweep_longer : (w new : Watch) (l : Literal) (r : Option ℕ) → Sweeps w new l r → length w.trail.entries ≤ length new.trail.entries
 sweep_longer w new l r sweeps = omega (arith, ap length sweeps.extends.grown, length-append w.trail.entries sweeps.extends.more)
 
--- propagation has come to an end
-pub propagates_all : (w new : Watch) → IsWatching new → new.clauses ≡ w.clauses → new.trail.limit ≡ w.trail.limit → length w.trail.entries ≤ length new.trail.entries → IsPropagated new → Propagates w new None
-propagates_all w new is clauses limit longer end = record { watching = is; clauses = clauses; limit = limit; longer = longer; end = (end, all_closed new.clauses new.pairs.items new.lists.items new.trail new.head is end) }
+-- and leaves what was on it
+pub sweep_keeps : (w new : Watch) (l : Literal) (r : Option ℕ) (n : ℕ) → n ≤ length w.trail.entries → Sweeps w new l r → take n new.trail.entries ≡ take n w.trail.entries
+sweep_keeps w new l r n low sweeps = ap (take n) sweeps.extends.grown ∙ take-append-le n w.trail.entries sweeps.extends.more low
 
-pub propagates_conflict : (w now new : Watch) (l : Literal) (id : ℕ) → now.clauses ≡ w.clauses → now.trail.limit ≡ w.trail.limit → length w.trail.entries ≤ length now.trail.entries → Sweeps now new l (Some id) → Propagates w new (Some id)
-propagates_conflict w now new l id clauses limit longer sweeps = record {
+-- propagation has come to an end
+pub propagates_all : (w new : Watch) → IsWatching new → new.clauses ≡ w.clauses → new.trail.limit ≡ w.trail.limit → length w.trail.entries ≤ length new.trail.entries → take (length w.trail.entries) new.trail.entries ≡ w.trail.entries → IsPropagated new → Propagates w new None
+propagates_all w new is clauses limit longer kept end = record { watching = is; clauses = clauses; limit = limit; longer = longer; kept = kept; end = (end, all_closed new.clauses new.pairs.items new.lists.items new.trail new.head is end) }
+
+pub propagates_conflict : (w now new : Watch) (l : Literal) (id : ℕ) → now.clauses ≡ w.clauses → now.trail.limit ≡ w.trail.limit → length w.trail.entries ≤ length now.trail.entries → take (length w.trail.entries) now.trail.entries ≡ w.trail.entries → Sweeps now new l (Some id) → Propagates w new (Some id)
+propagates_conflict w now new l id clauses limit longer kept sweeps = record {
   watching = sweeps.watching;
   clauses = sweeps.extends.clauses ∙ clauses;
   limit = sweeps.extends.limit ∙ limit;
   longer = omega (arith, sweep_longer now new l (Some id) sweeps);
+  kept = sweep_keeps now new l (Some id) (length w.trail.entries) longer sweeps ∙ kept;
   end = sweeps.swept;
 }

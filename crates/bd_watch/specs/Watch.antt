@@ -37,6 +37,7 @@ pub record Propagates (old new : Watch) (conflict : Option ℕ) : Type 0 where
   pub clauses : new.clauses ≡ old.clauses
   pub limit : new.trail.limit ≡ old.trail.limit
   pub longer : length old.trail.entries ≤ length new.trail.entries
+  pub kept : take (length old.trail.entries) new.trail.entries ≡ old.trail.entries
   pub end : IsEnd new conflict
 
 -- those clauses, and no literal yet

@@ -1,9 +1,10 @@
 -- An analysis as it is kept.
 use Rattle.std.specs.Prelude.{◌≡◌, ◌≢◌, ◌<◌, ◌≤◌, ℕ, Bool, true, false, List, [], ◌∷◌, ◌++◌, Some, length, map, reverse, slice_set}
+use Rattle.std.specs.List.{All, Contains}
 use Rattle.std.specs.FinMap.{get}
 use Rattle.bd_cnf.specs.Literal.{Literal, negate, has_literal, has_variable}
 use Rattle.bd_cnf.specs.Clause.{IsRising}
-use Rattle.bd_cnf.specs.Standing.{IsBelow}
+use Rattle.bd_cnf.specs.Standing.{Standing, IsBelow}
 use Rattle.bd_cnf.specs.Trail.{is_false}
 use Rattle.bd_lrat.specs.Propagation.{Conflict, propagate}
 use Rattle.bd_lrat.specs.declared.line.Hint.TheVariants as hint
@@ -16,6 +17,7 @@ use Rattle.bd_cdcl.specs.declared.lesson.Lesson.{Lesson}
 use Rattle.bd_cdcl.specs.declared.lesson.Second.{Second}
 use Rattle.bd_cdcl.specs.declared.analysis.Analysis.{Analysis}
 use Rattle.bd_cdcl.specs.inner.Analysis.{marked, IsAnalyzing, Marks}
+use Rattle.bd_cdcl.specs.inner.Deletions.{IsReduced}
 
 -- no place is marked, and there is room for a literal of each variable
 pub record IsClear (limit : ℕ) (a : Analysis) : Type 0 where
@@ -26,6 +28,7 @@ pub record IsClear (limit : ℕ) (a : Analysis) : Type 0 where
 pub record Analyzes (watch : Watch) (start : ℕ) (conflict : List Literal) (end : ℕ) (a : Analysis) : Type 0 where
   pub room : watch.trail.limit ≤ length a.marks.items
   pub resolved : List Assigned
+  pub there : All (Contains watch.trail.entries) resolved
   pub ids : reasons resolved ≡ map hint.Unit (reverse a.ids.items)
   pub analyzing : IsAnalyzing (numbered watch.clauses) watch.trail.entries start conflict a.marks.items end a.kept.items resolved
 
@@ -58,11 +61,11 @@ pub record IsSecond (trail : List Assigned) (rest : List Literal) (s : Second) :
   pub others : (l : Literal) → has_literal rest l ≡ true → is_false (front trail s.floor) l ≡ true
   pub free : (place : ℕ) → place < s.floor → has_variable (front trail place) s.code.var ≡ false
 
--- a clause that follows, is unit at the end of the level before the last, and at the place that is gone back to, and neither unit nor false at any decision in front of it
+-- a clause that follows from what stands, is unit at the end of the level before the last, and at the place that is gone back to, and neither unit nor false at any decision in front of it
 pub record IsLesson (watch : Watch) (start : ℕ) (lesson : Lesson) : Type 0 where
   pub rising : IsRising lesson.clause
   pub below : IsBelow watch.trail.limit lesson.clause
-  pub follows : propagate (numbered watch.clauses) (map negate lesson.clause) lesson.hints ≡ Conflict
+  pub follows : (standing : Standing) → IsReduced watch.clauses watch.trail.entries standing → propagate standing (map negate lesson.clause) lesson.hints ≡ Conflict
   pub fresh : IsAsserting (front watch.trail.entries start) lesson.clause lesson.first
   pub decision : IsDecisionAt watch.trail.entries lesson.cut
   pub asserting : IsAsserting (front watch.trail.entries lesson.cut) lesson.clause lesson.first

@@ -2,6 +2,7 @@
 use Rattle.std.specs.Prelude.{◌≡◌, ◌<◌, ◌+◌, ◌-◌, ℕ, false, List, [], ◌∷◌, ◌++◌, Option, None, Some, length, if◌then◌else◌}
 use Rattle.bd_cnf.specs.Literal.{Literal, has_variable}
 use Rattle.bd_cnf.specs.Problem.{Problem}
+use Rattle.bd_cnf.specs.Standing.{Standing}
 use Rattle.bd_lrat.specs.declared.line.Line.{Line}
 use Rattle.bd_watch.specs.declared.watch.Watch.{Watch}
 use Rattle.bd_watch.specs.Levels.{literals, decisions}
@@ -11,7 +12,8 @@ use Rattle.bd_cdcl.specs.declared.solver.Found.{Found}
 use Rattle.bd_cdcl.specs.declared.solver.Found.TheVariants.{Model, Refuted, Spent}
 use Rattle.bd_cdcl.specs.declared.descent.Descent.{Descent}
 use Rattle.bd_cdcl.specs.inner.Analyses.{IsClear}
-use Rattle.bd_cdcl.specs.inner.Search.{addition, conflict_hints, IsSearching}
+use Rattle.bd_cdcl.specs.inner.Deletions.{KeepsFixed, IsReduced}
+use Rattle.bd_cdcl.specs.inner.Search.{addition, conflict_hints, IsSearchingIn}
 
 -- the clauses of a formula, before anything is assigned
 pub record IsBegun (p : Problem) (d : Descent) : Type 0 where
@@ -22,7 +24,9 @@ pub record IsBegun (p : Problem) (d : Descent) : Type 0 where
 -- a search over a formula, as far as it has come
 pub record IsDescending (p : Problem) (d : Descent) (log : List Line) : Type 0 where
   pub watching : IsWatching d.watch
-  pub searching : IsSearching p d.watch.clauses d.watch.trail d.learned log
+  pub standing : Standing
+  pub reduced : IsReduced d.watch.clauses d.watch.trail.entries standing
+  pub searching : IsSearchingIn standing p d.watch.clauses d.watch.trail d.learned log
   pub clear : IsClear d.watch.trail.limit d.analysis
 
 -- a clause was learned and logged
@@ -49,6 +53,7 @@ pub record Advances (old new : Descent) : Type 0 where
   pub watching : IsWatching new.watch
   pub clauses : new.watch.clauses ≡ old.watch.clauses
   pub limit : new.watch.trail.limit ≡ old.watch.trail.limit
+  pub fixed : KeepsFixed old.watch.trail.entries new.watch.trail.entries
   pub nearer : distance new < distance old
 
 -- what a conflict led to: a learned clause, the empty clause at level 0, or an end where the budget was spent

@@ -4,7 +4,7 @@ use Rattle.std.specs.List.{All, Contains}
 use Rattle.bd_cnf.specs.Literal.{Literal, negate}
 use Rattle.bd_cnf.specs.Clause.{IsRising, SameLiterals}
 use Rattle.bd_cnf.specs.Problem.{Problem, AreWithin}
-use Rattle.bd_cnf.specs.Standing.{IsBelow}
+use Rattle.bd_cnf.specs.Standing.{Standing, IsBelow}
 use Rattle.bd_lrat.specs.declared.line.Hint.{Hint}
 use Rattle.bd_lrat.specs.declared.line.Hint.TheVariants as hint
 use Rattle.bd_lrat.specs.declared.line.Line.{Line}
@@ -50,14 +50,18 @@ IsResolved clauses new trail after log lines conflict added count budget (Some S
 abbrev pub Resolves : Search → Search → List Line → List Line → ℕ → ℕ → Option Found → Type 0
 Resolves old new log lines conflict budget found = IsResolved old.clauses.items new.clauses.items old.trail new.trail log lines conflict old.learned new.learned budget found
 
--- a search over a formula, as far as it has come
-pub record IsSearching (problem : Problem) (clauses : List (List Literal)) (trail : LeveledTrail) (count : ℕ) (log : List Line) : Type 0 where
+-- a search over a formula, as far as it has come: of its clauses those stand that weren't deleted
+pub record IsSearchingIn (standing : Standing) (problem : Problem) (clauses : List (List Literal)) (trail : LeveledTrail) (count : ℕ) (log : List Line) : Type 0 where
   pub limit : trail.limit ≡ problem.vars + 1
-  pub complete : IsComplete (numbered clauses) trail.entries
+  pub complete : IsComplete standing trail.entries
   pub rising : All IsRising clauses
   pub within : AreWithin problem.vars clauses
   pub known : (clause : List Literal) → Contains (with_added problem.clauses log) clause → Contains clauses clause
   pub accepted : IsAcceptedLog (database_of problem) log
   pub fresh : IsFresh problem log
-  pub stands : after_all (database_of problem) log ≡ database problem.vars (length clauses) (numbered clauses)
+  pub stands : after_all (database_of problem) log ≡ database problem.vars (length clauses) standing
   pub counted : additions log ≡ count
+
+-- a search that deletes none
+abbrev pub IsSearching : Problem → List (List Literal) → LeveledTrail → ℕ → List Line → Type 0
+IsSearching problem clauses trail count log = IsSearchingIn (numbered clauses) problem clauses trail count log

@@ -18,7 +18,7 @@ returns-clause-lesson c =
     let s = c.last_falsified-code.result in
     let value = c.as_slice-kept.ensures.value in
     let o = c.start_from.result in
-    lesson_is w c.args.start c.args.conflict a c.in_ok-analyze.ensures _ s _ o c.requires.watching c.requires.start
+    lesson_is w c.args.start c.args.conflict a c.in_ok-analyze.ensures _ s _ o c.requires.watching c.requires.start c.requires.conflict
     (take_rest c.as_slice-kept.result.now 1 ∙ ap (λ (ks : List Literal). drop 1 ks) value)
     (c.index-kept-0.is ∙ ap (λ (ks : List Literal). get_or ks 0 c.index-kept-0.result) value)
     refl

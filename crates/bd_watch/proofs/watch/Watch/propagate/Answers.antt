@@ -1,7 +1,7 @@
 use Rattle.std.proofs.Common.{◌≤◌, ◌∙◌, length, None, subst, arith}
 use Rattle.bd_watch.specs.Levels.{Assigned, assigned}
 use Rattle.bd_watch.specs.inner.Visits.{Sweeps}
-use Rattle.bd_watch.proofs.Sweeps.{next_below, next_false, propagated_more, sweep_longer, propagates_all}
+use Rattle.bd_watch.proofs.Sweeps.{next_below, next_false, propagated_more, sweep_longer, sweep_keeps, propagates_all}
 use Rattle.bd_watch.proofs.watch.Watch.propagate.Goals as goal
 
 pub sweep-requires-clause-below : goal.sweep-requires-clause-below
@@ -23,9 +23,10 @@ loop-lit-preserved c =
       clauses = sweeps.extends.clauses ∙ has.clauses;
       limit = sweeps.extends.limit ∙ has.limit;
       longer = omega (arith, has.longer);
+      kept = sweep_keeps w new c.in-Some.lit None (length c.args.self.now.trail.entries) has.longer sweeps ∙ has.kept;
     }
 
 pub returns : goal.returns
 returns c =
     let has = c.loop-lit.invariant in
-    propagates_all c.args.self.now c.loop-lit.self has.watching has.clauses has.limit has.longer c.in_default.ensures.none
+    propagates_all c.args.self.now c.loop-lit.self has.watching has.clauses has.limit has.longer has.kept c.in_default.ensures.none

@@ -1,0 +1,11 @@
+use Rattle.std.proofs.Common.{false, refl, subst}
+use Rattle.bd_watch.specs.Trails.{LeveledTrail, IsStartFrom}
+use Rattle.bd_cdcl.specs.declared.descent.Descent.{Descent}
+use Rattle.bd_cdcl.proofs.Descending.{restart_advances}
+use Rattle.bd_cdcl.proofs.descent.Descent.restart.Goals as goal
+
+pub returns-in-Some-clause-advanced : goal.returns-in-Some-clause-advanced
+returns-in-Some-clause-advanced c =
+    let d = c.args.self.now in
+    let new : Descent = record { watch = c.go_back_to.new.self; analysis = d.analysis; guide = record { order = c.release.new.self; reach = d.guide.reach; restarts = d.guide.restarts }; deletion = d.deletion; learned = d.learned; restarts = false } in
+    restart_advances d new c.in-Some.start c.requires.due refl (subst (λ (t : LeveledTrail). IsStartFrom t.entries 0 c.in-Some.start) c.trail.ensures c.in-Some.ensures.some) c.go_back_to.ensures
