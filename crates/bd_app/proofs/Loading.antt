@@ -1,17 +1,15 @@
 -- What a fault at one of several loads says of all the files.
-use Rattle.std.proofs.Common.{◌≡◌, ◌≢◌, suc, ◌+◌, ◌<◌, ◌≤◌, ℕ, false, List, [], ◌∷◌, ◌++◌, length, take, refl, ap, append_assoc, ◌∙◌, sym, subst, inl, inr, ap₂, drop, drop-cons, get_or, add-one, arith, length-take, take_all}
+use Rattle.std.proofs.Common.{◌≡◌, suc, ◌+◌, ◌<◌, ◌≤◌, ℕ, List, [], ◌∷◌, ◌++◌, length, take, refl, ap, append_assoc, ◌∙◌, sym, subst, inr, ap₂, drop, drop-cons, get_or, add-one, arith, length-take, take_all}
 use Rattle.std.specs.Option.{option_map}
 use Rattle.std.specs.Prelude.{Option, Some, None, Result, Ok, Err, IfSome, IfErr, IsErrAnd}
 use Rattle.bd_files.specs.Devices.{Blame, Held, IsLoaded}
-use Rattle.bd_app.specs.Answer.{IsTold}
-use Rattle.bd_app.specs.Files.{BlamesOneOf, File, HoldSources, HoldsShort, HoldsShortIf, IsShort, IsFirstLong, Sources, case_files, design_files, files_of, one_if}
+use Rattle.bd_app.specs.Files.{BlamesOneOf, File, HoldSources, HoldsShort, HoldsShortIf, IsShort, IsFirstLong, Sources, case_files, design_files, one_if}
 use Rattle.bd_app.specs.Run.{cycle_text, cycles_text}
-use Rattle.bd_app.specs.Words.{Question}
 use Rattle.bd_model.specs.DesignView.{DesignView}
 use Rattle.bd_model.specs.declared.table.Value.{Value}
 use Rattle.bd_typer.specs.Denotes.{Denotes}
 use Rattle.bd_typer.specs.Faults.{FileFault}
-use Rattle.bd_app.specs.inner.Told.{AreDesign, IsCaseRefused, IsJudgedTold, IsLoadFault, IsReadFault, IsToldOf, IsToldOfCase}
+use Rattle.bd_app.specs.inner.Told.{AreDesign, IsCaseRefused, IsJudgedTold, IsLoadFault, IsToldOfCase}
 use Rattle.bd_typer.specs.declared.fault.Text.{Text}
 use Rattle.bd_typer.specs.declared.fault.Text.TheVariants as text
 use Rattle.bd_app.specs.declared.answer.Ended.{Ended}

@@ -1,16 +1,13 @@
 -- What the answer was before it was printed, and what its report is.
-use Rattle.std.proofs.Common.{◌≡◌, ◌≢◌, ◌∙◌, ◌≤◌, ℕ, true, false, Bool, List, [], ◌∷◌, ◌++◌, append-nil, refl, sym, subst, ap, inl, inr}
-use Rattle.std.specs.Prelude.{◌⊎◌, Option, Some, None, Result, Ok, Err, IfOk, IfErr, IfSome, IsErrAnd, IsErrOf}
-use Rattle.bd_files.specs.Devices.{Held, Appends, AppendsPrefix, Rose}
-use Rattle.bd_model.specs.DesignView.{DesignView}
-use Rattle.bd_model.specs.declared.case.Case.{Case}
+use Rattle.std.proofs.Common.{◌≡◌, ◌≢◌, ◌∙◌, ℕ, List, ◌++◌, refl, sym, subst, ap, inl, inr}
+use Rattle.std.specs.Prelude.{◌⊎◌, Option, Some, None, Result, Ok, Err, IfOk, IfErr, IfSome, IsErrOf}
+use Rattle.bd_files.specs.Devices.{Held, Appends, AppendsPrefix}
 use Rattle.bd_verify.specs.declared.verdict.Verdict.{Verdict}
 use Rattle.bd_verify.specs.declared.verdict.Verdict.TheVariants as verdict
-use Rattle.bd_app.specs.Answer.{AsksVerdict, ForQuestion, HasReport, IsDecided, IsReport, IsReplay, IsRest, IsRun, IsSaved, IsSavedUpTo, IsTold, KeepsOtherFiles, MayHave, Reads, SavesNothing, cycles_of, ended_by, first_line_of, work_of}
-use Rattle.bd_app.specs.Files.{AreSaved, BlamesOneOf, KeepsAllBut, SavesTo, cnf_of, files_of, lrat_of}
-use Rattle.bd_app.specs.Run.{run_text}
+use Rattle.bd_app.specs.Answer.{AsksVerdict, ForQuestion, HasReport, IsDecided, IsReport, IsRest, IsRun, IsSaved, IsTold, KeepsOtherFiles, MayHave, SavesNothing, ended_by, first_line_of}
+use Rattle.bd_app.specs.Files.{KeepsAllBut, SavesTo}
 use Rattle.bd_app.specs.Words.{Question, taken}
-use Rattle.bd_app.specs.inner.Told.{FilesSeen, IsAnswered, IsCheckFault, IsJudgedReport, IsReadFault, IsSaid, IsTextFault, IsVerdictAnswer, Leaves, ended_of}
+use Rattle.bd_app.specs.inner.Told.{FilesSeen, IsAnswered, IsCheckFault, IsReadFault, IsSaid, IsTextFault, IsVerdictAnswer, Leaves, ended_of}
 use Rattle.bd_app.specs.declared.answer.Which.TheVariants as which
 use Rattle.bd_app.specs.declared.answer.Which.{Which}
 use Rattle.bd_app.specs.declared.answer.Ended.{Ended}

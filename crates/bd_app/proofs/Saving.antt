@@ -1,12 +1,12 @@
 -- What stands of files after saves.
-use Rattle.std.proofs.Common.{◌≡◌, ◌≢◌, ◌∙◌, ◌≤◌, ℕ, List, refl, sym, subst, ap, inl, inr}
-use Rattle.std.specs.Prelude.{◌⊎◌, Option, Some, None, Result, Ok, Err, OnOk, IfErr, IsErrOf}
+use Rattle.std.proofs.Common.{◌≡◌, ◌∙◌, ℕ, List, sym, subst, ap}
+use Rattle.std.specs.Prelude.{Option, Some, None, Result, Ok, Err, OnOk}
 use Rattle.bd_cnf.specs.Problem.{dimacs}
-use Rattle.bd_files.specs.Devices.{Blame, Held, Holds, KeepsOthers}
+use Rattle.bd_files.specs.Devices.{Blame, Held, Holds}
 use Rattle.bd_files.specs.declared.devices.FileCall.TheVariants as call
 use Rattle.bd_lrat.specs.Text.{lrat as lrat_text}
 use Rattle.bd_verify.specs.declared.verdict.Work.{Work}
-use Rattle.bd_app.specs.Files.{AreSaved, AreSavedUpTo, IsEither, KeepsAllBut}
+use Rattle.bd_app.specs.Files.{AreSaved, AreSavedUpTo, KeepsAllBut}
 use Rattle.bd_app.specs.Words.{Name}
 
 -- where nothing changes

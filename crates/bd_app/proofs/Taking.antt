@@ -1,12 +1,15 @@
 -- What clap's answer says of the words.
 use Rattle.std.proofs.Common.{◌≡◌, ℕ, ◌<◌, ◌^◌, ◌&&◌, Bool, true, false, List, [], ◌∷◌, length, Option, Some, None, refl, sym, ap, ◌∙◌}
 use Rattle.std.proofs.lemmas.Bool.{lt-ltb, ltb-true}
-use Rattle.std.specs.Prelude.{nat_lt, if◌then◌else◌, option_map, Result, Ok, Err, Box}
+use Rattle.std.specs.Prelude.{nat_lt, if◌then◌else◌, codes, option_map, unwrap_or, Result, Ok, Err, Box}
 use Rattle.std.specs.Borrow.{Bor}
 use Rattle.std.specs.Box.{box_value}
 use Rattle.std.specs.List.{list_all}
+use Rattle.std.specs.Option.{option_map_or}
+use Rattle.std.specs.Str.{bytes_eq}
+use Rattle.std.proofs.lemmas.Slice.Eq.{bytes_eq-Decides}
 use Rattle.std.specs.Char.{digit_value}
-use Rattle.std.specs.Str.Parse.{AllDigits, IsNumeral, ParsesUnsigned, digits_value, without_leading_plus}
+use Rattle.std.specs.Str.Parse.{AllDigits, IsNumeral, ParsesBool, ParsesUnsigned, digits_value, without_leading_plus}
 use Rattle.clap.specs.Walk.{Row, Text, rows_of}
 use Rattle.clap.specs.Matches.{ReadsOne, found_of}
 use Rattle.clap.specs.Simple.{is_simple, subcommand_of, subcommand_rows}
@@ -63,6 +66,25 @@ pub number_found : (o : Option (List ℕ)) (r : Option ℕ) → (o ≡ None → 
     → r ≡ (o >>= λ t. digits_number (without_leading_plus t))
 number_found None r none some = none refl
 number_found (Some t) r none some = some t refl
+
+-- ---- flags
+
+abbrev pub names_true : List ℕ → Bool
+names_true text = bytes_eq text (codes "true")
+
+-- a truth value that was read of a text is whether the text is `true`
+flag_read : (E : Type 0) (t : List ℕ) (r : Option Bool) → ReadsOne (ParsesBool {E = E}) t r → unwrap_or r false ≡ names_true t
+flag_read E t (Some true) h = sym (ap names_true h)
+flag_read E t (Some false) h = sym (ap names_true h)
+flag_read E t None h = by_test (names_true t) refl where
+  by_test : (b : Bool) → names_true t ≡ b → false ≡ names_true t
+  by_test true e = absurd (h.1.0 ((bytes_eq-Decides t (codes "true")).0 e))
+  by_test false e = sym e
+
+pub flag_found : (E : Type 0) (o : Option (List ℕ)) (r : Option Bool) → (o ≡ None → r ≡ None) → ((t : List ℕ) → o ≡ Some t → ReadsOne (ParsesBool {E = E}) t r)
+    → unwrap_or r false ≡ option_map_or names_true o false
+flag_found E None r none some = ap (λ (x : Option Bool). unwrap_or x false) (none refl)
+flag_found E (Some t) r none some = flag_read E t r (some t refl)
 
 -- ---- words
 

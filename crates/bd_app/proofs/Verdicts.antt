@@ -1,6 +1,6 @@
 -- What verdicts are as answers.
-use Rattle.std.proofs.Common.{◌≡◌, ◌≢◌, ◌∙◌, ℕ, true, false, Bool, List, [], ◌∷◌, ◌++◌, append_assoc, refl, sym, subst, ap}
-use Rattle.std.specs.Prelude.{Option, Some, None, Result, Ok, Err, IfOk, IfErr, IfSome, IsErrAnd, is_some}
+use Rattle.std.proofs.Common.{◌≡◌, ◌≢◌, ◌∙◌, ℕ, true, false, Bool, List, [], ◌∷◌, ◌++◌, refl, sym, subst}
+use Rattle.std.specs.Prelude.{Option, Some, None, Result, Ok, Err, IfOk, IfSome, is_some}
 use Rattle.std.specs.Borrow.{Bor}
 use Rattle.bd_model.specs.DesignView.{DesignView}
 use Rattle.bd_model.specs.Fits.{Fits}
@@ -16,17 +16,17 @@ use Rattle.bd_verify.specs.declared.verdict.Question.TheVariants.{Breaks, Meets}
 use Rattle.bd_verify.specs.declared.verdict.Verdict.{Verdict}
 use Rattle.bd_verify.specs.declared.verdict.Verdict.TheVariants as verdict
 use Rattle.bd_app.specs.Files.{AreSources, Sources}
-use Rattle.bd_app.specs.Answer.{Asks, AsksVerdict, ForDesign, ForQuestion, HasReport, IsDecided, IsRest, IsShown, IsTold, IsVerdict, MayGive, MayHave, budget_of, ended_by, first_line_of, is_given, is_shown, lead_of, shown_case, verdict_line, verdict_words}
+use Rattle.bd_app.specs.Answer.{AsksVerdict, ForDesign, ForQuestion, HasReport, IsDecided, IsRest, IsShown, IsTold, IsVerdict, MayGive, MayHave, budget_of, ended_by, first_line_of, is_given, is_shown, lead_of, shown_case, verdict_line, verdict_words}
 use Rattle.bd_app.specs.Words.{Question}
 use Rattle.bd_app.specs.declared.answer.Which.TheVariants as which
 use Rattle.bd_app.specs.declared.answer.Ended.{Ended}
-use Rattle.bd_app.specs.declared.answer.Ended.TheVariants.{Replayed, Ran, Usage, Refused, Device, Memory}
+use Rattle.bd_app.specs.declared.answer.Ended.TheVariants.{Device}
 use Rattle.bd_app.specs.declared.report.Answer.{Answer}
 use Rattle.bd_app.specs.declared.verdict.Asked.{Asked}
 use Rattle.bd_app.specs.declared.verdict.Found.{Found}
 use Rattle.bd_app.specs.inner.Asked.{given}
-use Rattle.bd_app.specs.inner.Told.{AreDesign, IsCheckFault, IsFound, IsFoundFor, IsFoundOf, IsPart, IsSaid, IsVerdictAnswer}
-use Rattle.bd_app.proofs.Loading.{IfSome-all, IfSome-weaker}
+use Rattle.bd_app.specs.inner.Told.{AreDesign, IsFoundFor, IsFoundOf, IsPart, IsSaid, IsVerdictAnswer}
+use Rattle.bd_app.proofs.Loading.{IfSome-weaker}
 
 -- a verdict has a report
 pub verdict_reports : (v : Verdict) → HasReport (ended_by v)

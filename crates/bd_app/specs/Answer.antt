@@ -1,5 +1,5 @@
 -- What a run answers, prints and ends with.
-use Rattle.std.specs.Prelude.{◌≡◌, ◌≢◌, ◌⊎◌, ◌*◌, ◌-◌, true, false, Bool, ℕ, List, [], ◌∷◌, ◌++◌, codes, Option, Some, None, Result, Ok, Err, IfSome, is_some}
+use Rattle.std.specs.Prelude.{◌≡◌, ◌⊎◌, ◌*◌, ◌-◌, true, false, Bool, ℕ, List, [], ◌∷◌, ◌++◌, codes, Option, Some, None, Result, Ok, Err, IfSome, is_some}
 use Rattle.std.specs.Fmt.{decimal}
 use Rattle.bd_model.specs.DesignView.{DesignView}
 use Rattle.bd_model.specs.Fits.{Fits}
@@ -24,7 +24,7 @@ use Rattle.bd_verify.specs.declared.verdict.Verdict.TheVariants as verdict
 use Rattle.bd_verify.specs.declared.verdict.Work.{Work}
 use Rattle.bd_app.specs.Files.{BlamesOneOf, BlamesSaveOf, KeepsAllBut, SavesTo, Sources, IsFirstLong, AreSources, IsCaseSource, AreSaved, AreSavedUpTo, cnf_of, files_of, lrat_of}
 use Rattle.bd_app.specs.Run.{run_text}
-use Rattle.bd_app.specs.Words.{Name, Question, check, replay, run, gen, taken}
+use Rattle.bd_app.specs.Words.{Question, check, replay, run, gen, taken}
 use Rattle.bd_typer.specs.declared.fault.Text.{Text}
 use Rattle.bd_typer.specs.declared.fault.Text.TheVariants as text
 use Rattle.bd_app.specs.declared.answer.Which.{Which}
@@ -94,12 +94,12 @@ lead_of _ = []
 
 -- the budget of a verdict
 abbrev pub budget_of : Question → ℕ
-budget_of (check pipe spec inv budget cnf lrat) = budget
+budget_of (check pipe spec inv budget cnf lrat diverse) = budget
 budget_of _ = 200000
 
 -- whether an invariant is given for a verdict
 abbrev pub is_given : Question → Bool
-is_given (check pipe spec inv budget cnf lrat) = is_some inv
+is_given (check pipe spec inv budget cnf lrat diverse) = is_some inv
 is_given _ = false
 
 abbrev pub verdict_line : Question → Verdict → List ℕ
@@ -117,7 +117,8 @@ first_line_of q _ = []
 abbrev pub usage : List ℕ
 usage =
     codes "usage: burch_dill check PIPE SPEC [INV] [--budget N] [--cnf FILE] [--lrat FILE] "
-    ++ codes "| replay PIPE SPEC CASE [INV] | run PIPE SPEC CASE CYCLES | gen DEPTH DROP"
+    ++ codes "[--diverse] | replay PIPE SPEC CASE [INV] | run PIPE SPEC CASE CYCLES "
+    ++ codes "| gen DEPTH DROP"
 
 abbrev pub file_word : Text → List ℕ
 file_word text.Pipe = codes "pipe"
@@ -240,7 +241,7 @@ ForDesign held words P =
 
 -- a check, or a generated pipeline
 abbrev pub AsksVerdict : Question → Type 0
-AsksVerdict (check pipe spec inv budget cnf lrat) = Unit {0}
+AsksVerdict (check pipe spec inv budget cnf lrat diverse) = Unit {0}
 AsksVerdict (gen depth drop) = Unit {0}
 AsksVerdict _ = ⊥
 
@@ -279,7 +280,7 @@ cycles_of _ = 0
 
 -- whether a verdict's case is printed
 abbrev pub is_shown : Question → Bool
-is_shown (check pipe spec inv budget cnf lrat) = true
+is_shown (check pipe spec inv budget cnf lrat diverse) = true
 is_shown _ = false
 
 -- the case that is printed with a verdict

@@ -32,7 +32,7 @@ case_files pipe spec case inv =
 
 -- in the order of the words
 abbrev pub files_of : Question → List File
-files_of (check pipe spec inv budget cnf lrat) = design_files pipe spec inv
+files_of (check pipe spec inv budget cnf lrat diverse) = design_files pipe spec inv
 files_of (replay pipe spec case inv) = case_files pipe spec case inv
 files_of (run pipe spec case cycles) = case_files pipe spec case None
 files_of (gen depth drop) = []
@@ -86,7 +86,7 @@ generated depth drop =
 
 -- the bytes that a question's design is read from: those held of its files, or those generated
 abbrev pub AreSources : Held → Question → Sources → Type 0
-AreSources held (check pipe spec inv budget cnf lrat) sources =
+AreSources held (check pipe spec inv budget cnf lrat diverse) sources =
     HoldSources held pipe spec inv sources
 AreSources held (replay pipe spec case inv) sources = HoldSources held pipe spec inv sources
 AreSources held (run pipe spec case cycles) sources = HoldSources held pipe spec None sources
@@ -102,12 +102,12 @@ IsCaseSource held _ bytes = ⊥
 
 -- where the formula is saved
 abbrev pub cnf_of : Question → Option Name
-cnf_of (check pipe spec inv budget cnf lrat) = cnf
+cnf_of (check pipe spec inv budget cnf lrat diverse) = cnf
 cnf_of _ = None
 
 -- where the proof is saved
 abbrev pub lrat_of : Question → Option Name
-lrat_of (check pipe spec inv budget cnf lrat) = lrat
+lrat_of (check pipe spec inv budget cnf lrat diverse) = lrat
 lrat_of _ = None
 
 -- one of two names, of which either may not be given

@@ -1,7 +1,8 @@
 -- The command line: which words are taken, and what they ask for.
 -- Source: what `clap` makes of the words of a simple command, as the crate states it.
-use Rattle.std.specs.Prelude.{ℕ, ◌^◌, ◌&&◌, true, false, List, [], ◌∷◌, map, codes, pos, Option, Some, None, nat_le, nat_lt, if◌then◌else◌, String, string_bytes}
+use Rattle.std.specs.Prelude.{ℕ, ◌^◌, ◌&&◌, Bool, true, false, List, [], ◌∷◌, map, codes, pos, Option, Some, None, nat_le, nat_lt, if◌then◌else◌, String, string_bytes}
 use Rattle.std.specs.declared.alloc.Global.{Global}
+use Rattle.std.specs.Option.{option_map_or}
 use Rattle.std.specs.Str.{bytes_eq}
 use Rattle.std.specs.Str.Parse.{digits_value, without_leading_plus}
 use Rattle.clap.specs.Walk.{Row, Rule, first_of, one_of}
@@ -9,6 +10,7 @@ use Rattle.clap.specs.Simple.{App, Shape, new_rule, new_shape, subcommand_of}
 use Rattle.clap.specs.Faults.{fault_of}
 use Rattle.clap.specs.Kinds.{Kinds}
 use Rattle.clap.specs.ValueTests.{is_numeral}
+use Rattle.clap.specs.declared.builder.action.ArgAction.TheVariants.{SetTrue}
 use Rattle.clap.specs.declared.builder.value_parser.ValueParser.TheVariants.{Signed}
 
 -- the words as bytes
@@ -21,9 +23,9 @@ Name = List ℕ
 
 -- what the words ask for
 pub data Question : Type 0 where
-  -- the pipeline, the specification and maybe the invariant, the budget, and where to save the
-  -- formula and the proof
-  check : Name → Name → Option Name → ℕ → Option Name → Option Name → Question
+  -- the pipeline, the specification and maybe the invariant, the budget, where to save the formula
+  -- and the proof, and whether positive equality is used
+  check : Name → Name → Option Name → ℕ → Option Name → Option Name → Bool → Question
   -- the pipeline, the specification, the case, and maybe the invariant
   replay : Name → Name → Name → Option Name → Question
   -- the pipeline, the specification, the case, and the number of cycles
@@ -40,6 +42,10 @@ required id = record (new_rule id) { required = true }
 -- `--ID VALUE`
 abbrev pub option : List ℕ → Rule
 option id = record (new_rule id) { long = Some id }
+
+-- `--ID`
+abbrev pub flag : List ℕ → Rule
+flag id = record (option id) { action = Some SetTrue }
 
 -- whose value is a whole number from `least` to `most`
 abbrev pub in_range : ℕ → ℕ → Rule → Rule
@@ -60,13 +66,14 @@ abbrev pub machines_command : List ℕ → List Rule → Shape
 machines_command name rules =
     command name (required (codes "PIPE") ∷ required (codes "SPEC") ∷ rules)
 
--- check PIPE SPEC [INV] [--budget N] [--cnf FILE] [--lrat FILE]
+-- check PIPE SPEC [INV] [--budget N] [--cnf FILE] [--lrat FILE] [--diverse]
 abbrev pub check_command : Shape
 check_command = machines_command (codes "check") (
     new_rule (codes "INV")
     ∷ budget_option
     ∷ option (codes "cnf")
     ∷ option (codes "lrat")
+    ∷ flag (codes "diverse")
     ∷ [])
 
 -- replay PIPE SPEC CASE [INV]
@@ -113,13 +120,17 @@ number_at id rows = do
   text ← one_of id rows
   digits_number (without_leading_plus text)
 
+-- whether the text of a flag is `true`, as it is where the flag is given
+abbrev pub flag_at : List ℕ → List Row → Bool
+flag_at id rows = option_map_or (λ text. bytes_eq text (codes "true")) (one_of id rows) false
+
 unfoldable pub check_question : List Row → Option Question
 check_question rows = do
   pipe ← first_of (codes "PIPE") rows
   spec ← first_of (codes "SPEC") rows
   budget ← number_at (codes "budget") rows
   Some (check pipe spec (first_of (codes "INV") rows) budget
-      (first_of (codes "cnf") rows) (first_of (codes "lrat") rows))
+      (first_of (codes "cnf") rows) (first_of (codes "lrat") rows) (flag_at (codes "diverse") rows))
 
 unfoldable pub replay_question : List Row → Option Question
 replay_question rows = do

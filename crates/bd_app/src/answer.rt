@@ -174,5 +174,5 @@ fn put_parts<E: Sink>(err: &mut E, file: &[u8], offset: &[u8], code: &[u8], text
 
 /// The usage line.
 const USAGE: &[u8] =
-    b"usage: burch_dill check PIPE SPEC [INV] [--budget N] [--cnf FILE] [--lrat FILE] \
+    b"usage: burch_dill check PIPE SPEC [INV] [--budget N] [--cnf FILE] [--lrat FILE] [--diverse] \
 | replay PIPE SPEC CASE [INV] | run PIPE SPEC CASE CYCLES | gen DEPTH DROP\n";

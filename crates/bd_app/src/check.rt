@@ -8,29 +8,23 @@ ghost use Rattle.bd_verify.specs.declared.verdict.Verdict.{Verdict as TheVerdict
 ghost use Rattle.bd_app.specs.Answer.{IsDecided, IsTold, SavesNothing, ended_by, lead_of, work_of};
 ghost use Rattle.bd_app.specs.Files.{AreSaved, AreSavedUpTo, BlamesOneOf, BlamesSaveOf, IsEither, KeepsAllBut, design_files, generated};
 ghost use Rattle.bd_app.specs.Words.{gen};
-ghost use Rattle.bd_app.specs.inner.Asked.{given};
-ghost use Rattle.bd_app.specs.inner.Loaded.{AreShort, check_of, sources_view};
+ghost use Rattle.bd_app.specs.inner.Asked.{check_of, given};
+ghost use Rattle.bd_app.specs.inner.Loaded.{AreShort, sources_view};
 ghost use Rattle.bd_app.specs.inner.Told.{IsCheckFault, IsFoundFor, IsReadFault, IsTextFault, IsVerdictAnswer, ended_of};
 
 use crate::answer::{Ended, Which};
+use crate::command::CheckWords;
 use crate::load::{MAX_FILE, Sources, load_sources};
 use crate::report::{Answer, verdict_answer};
 use crate::save::save_work;
 use crate::verdict::{Asked, Found, found_on, work};
 use bd_files::Files;
 use bd_gen::design_text;
+use bd_verify::Mode;
 use std::alloc::{AllocError, Global};
 
-/// The words of a check.
-#[derive(Clone, Copy, Debug)]
-pub struct CheckWords<'a> {
-    pub pipe: &'a str,
-    pub spec: &'a str,
-    pub inv: Option<&'a str>,
-    pub budget: u32,
-    pub cnf: Option<&'a str>,
-    pub lrat: Option<&'a str>,
-}
+/// The budget of a generated pipeline.
+const GENERATED_BUDGET: u32 = 200_000;
 
 /// The verdict on what is loaded.
 fn found_in<F: Files>(alloc: Global, files: &mut F, words: CheckWords<'_>) -> Result<Found, Ended>
@@ -51,6 +45,7 @@ fn found_in<F: Files>(alloc: Global, files: &mut F, words: CheckWords<'_>) -> Re
     let sources = load_sources(files, words.pipe, words.spec, words.inv)?;
     let asked = Asked {
         budget: words.budget,
+        mode: words.mode,
         given: words.inv.is_some(),
         shows: true,
     };
@@ -132,6 +127,7 @@ fn found_generated(alloc: Global, depth: u32, drop: u32) -> Result<Found, Ended>
 {
     let asked = Asked {
         budget: GENERATED_BUDGET,
+        mode: Mode::Plain,
         given: false,
         shows: false,
     };
@@ -163,6 +159,3 @@ pub fn generate(alloc: Global, depth: u32, drop: u32) -> Result<Answer, Ended>
         case.as_slice(),
     )
 }
-
-/// The budget of a generated pipeline.
-const GENERATED_BUDGET: u32 = 200_000;

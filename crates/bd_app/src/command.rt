@@ -7,25 +7,31 @@ ghost use Rattle.std.specs.Prelude.{◌≡◌, false, [], None, Some, IfSome, If
 ghost use Rattle.std.specs.Option.{option_map};
 ghost use Rattle.clap.specs.declared.builder.command.Command.TheViews.{out-Command as fields_of};
 ghost use Rattle.clap.specs.Words.{app_of, first_of, found_of, rows_of, rule_of, shape_of};
-ghost use Rattle.bd_app.specs.Words.{taken, texts_of, required, option, in_range, budget_option, machines_command, check_command, replay_command, run_command, gen_command, command_line, check_question, replay_question, run_question, gen_question, question_of, number_at};
-ghost use Rattle.bd_app.specs.inner.Asked.{asked, and_rule, HasDepth, IsParsed};
+ghost use Rattle.bd_app.specs.Words.{taken, texts_of, required, option, in_range, budget_option, machines_command, check_command, replay_command, run_command, gen_command, command_line, check_question, replay_question, run_question, gen_question, question_of, number_at, flag, flag_at};
+ghost use Rattle.bd_app.specs.inner.Asked.{asked, and_rule, is_diverse, HasDepth, IsParsed};
 
+use bd_verify::Mode;
 use clap::error::ErrorKind;
-use clap::{Arg, ArgMatches, value_parser};
+use clap::{Arg, ArgAction, ArgMatches, value_parser};
 use std::alloc::{AllocError, Global};
+
+/// The words of a check.
+#[derive(Clone, Copy, Debug)]
+pub struct CheckWords<'a> {
+    pub pipe: &'a str,
+    pub spec: &'a str,
+    pub inv: Option<&'a str>,
+    pub budget: u32,
+    pub cnf: Option<&'a str>,
+    pub lrat: Option<&'a str>,
+    pub mode: Mode,
+}
 
 /// What the words ask for. The name of a file is its word.
 #[derive(Clone, Copy, Debug)]
 pub enum Command<'a> {
     /// The verdict on a pipeline.
-    Check {
-        pipe: &'a str,
-        spec: &'a str,
-        inv: Option<&'a str>,
-        budget: u32,
-        cnf: Option<&'a str>,
-        lrat: Option<&'a str>,
-    },
+    Check(CheckWords<'a>),
     /// What a case shows.
     Replay {
         pipe: &'a str,
@@ -82,6 +88,14 @@ fn option<'a>(alloc: Global, id: &'a str) -> Arg<'a>
     Arg::new(alloc, id).long(id)
 }
 
+/// `--ID`.
+fn flag<'a>(alloc: Global, id: &'a str) -> Arg<'a>
+    ensures rule { rule_of result ≡ flag id.entry.now }
+    ensures local { result.global ≡ false }
+{
+    Arg::new(alloc, id).long(id).action(ArgAction::SetTrue)
+}
+
 /// The budget of a check.
 fn budget<'a>(alloc: Global) -> Arg<'a>
     ensures rule { rule_of result ≡ budget_option }
@@ -131,7 +145,8 @@ fn check_command<'a>(alloc: Global) -> Result<clap::Command<'a>, AllocError>
     let command = with(command, Arg::new(alloc, "INV"))?;
     let command = with(command, budget(alloc))?;
     let command = with(command, option(alloc, "cnf"))?;
-    with(command, option(alloc, "lrat"))
+    let command = with(command, option(alloc, "lrat"))?;
+    with(command, flag(alloc, "diverse"))
 }
 
 fn replay_command<'a>(alloc: Global) -> Result<clap::Command<'a>, AllocError>
@@ -190,19 +205,38 @@ fn number_at(matches: &ArgMatches<'_>, id: &str) -> Option<u32>
     matches.get_one::<u32>(id)
 }
 
+/// Whether a flag is given.
+fn flag_at(matches: &ArgMatches<'_>, id: &str) -> bool
+    ensures { result ≡ flag_at id.now (rows_of (found_of matches.now)) }
+{
+    matches.get_one::<bool>(id).unwrap_or(false)
+}
+
+/// The mode of a check.
+fn mode_of(matches: &ArgMatches<'_>) -> Mode
+    ensures { is_diverse result ≡ flag_at (codes "diverse") (rows_of (found_of matches.now)) }
+{
+    if flag_at(matches, "diverse") {
+        Mode::Diverse
+    } else {
+        Mode::Plain
+    }
+}
+
 #[tactic(auto, unfolding(crate::specs::Words::check_question))]
 fn check_of<'a>(matches: &ArgMatches<'a>) -> Option<Command<'a>>
     ensures asked { option_map asked result ≡ check_question (rows_of (found_of matches.now)) }
     ensures bounded { IfSome result HasDepth }
 {
-    Some(Command::Check {
+    Some(Command::Check(CheckWords {
         pipe: word_at(matches, "PIPE")?,
         spec: word_at(matches, "SPEC")?,
         budget: number_at(matches, "budget")?,
         inv: word_at(matches, "INV"),
         cnf: word_at(matches, "cnf"),
         lrat: word_at(matches, "lrat"),
-    })
+        mode: mode_of(matches),
+    }))
 }
 
 #[tactic(auto, unfolding(crate::specs::Words::replay_question))]

@@ -21,7 +21,7 @@ ghost use Rattle.bd_app.specs.inner.Told.{ended_of, files_seen, IsAnswered, IsSa
 ghost use Rattle.bd_app.specs.Words.{taken, texts_of};
 
 use crate::answer::{Ended, Which};
-use crate::check::{CheckWords, check, generate};
+use crate::check::{check, generate};
 use crate::command::{Command, WordsFault, command_of};
 use crate::load::Names;
 use crate::replay::{replay, run_case};
@@ -40,24 +40,7 @@ fn answered<F: Files>(alloc: Global, files: &mut F, command: Command<'_>) -> Res
         (files_seen F.held F.faults F.blame files.new) (asked command.entry) result }
 {
     match command {
-        Command::Check {
-            pipe,
-            spec,
-            inv,
-            budget,
-            cnf,
-            lrat,
-        } => {
-            let words = CheckWords {
-                pipe,
-                spec,
-                inv,
-                budget,
-                cnf,
-                lrat,
-            };
-            check(alloc, files, words)
-        }
+        Command::Check(words) => check(alloc, files, words),
         Command::Replay {
             pipe,
             spec,

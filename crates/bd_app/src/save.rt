@@ -1,10 +1,9 @@
 //! Saving a verdict's formula and proof.
-ghost use Rattle.std.specs.Prelude.{◌≡◌, ◌≤◌, List, ℕ, Some, OnOk, IfErr, IsErrOf};
-ghost use Rattle.bd_cnf.specs.Problem.{dimacs};
+ghost use Rattle.std.specs.Prelude.{◌≡◌, ◌≤◌, List, ℕ, Some, OnOk, IfOk, IfErr, IsErrOf};
 ghost use Rattle.bd_files.specs.Devices.{Holds, KeepsOthers, Rose};
-ghost use Rattle.bd_lrat.specs.Text.{lrat};
 ghost use Rattle.bd_app.specs.Files.{AreSaved, AreSavedUpTo, BlamesSaveOf, IsEither, KeepsAllBut};
 ghost use Rattle.bd_app.specs.inner.Asked.{given};
+ghost use Rattle.bd_app.specs.inner.Saved.{part_text};
 ghost use Rattle.bd_app.specs.inner.Told.{IsSaveFault};
 
 use crate::answer::{Ended, Which};
@@ -12,7 +11,7 @@ use bd_cnf::{Cnf, dimacs_text};
 use bd_files::{FileCall, Files, SaveError};
 use bd_lrat::{Log, lrat_text};
 use bd_verify::Work;
-use std::alloc::Global;
+use std::alloc::{AllocError, Global};
 
 /// Saves a text.
 fn save<F: Files>(files: &mut F, name: &str, text: &[u8]) -> Result<(), Ended>
@@ -34,44 +33,34 @@ fn save<F: Files>(files: &mut F, name: &str, text: &[u8]) -> Result<(), Ended>
     }
 }
 
-/// Saves the formula, if a name is given for it.
-fn save_formula<F: Files>(
-    alloc: Global,
-    files: &mut F,
-    name: Option<&str>,
-    cnf: &Cnf,
-) -> Result<(), Ended>
-    ensures saved { OnOk result ((n : List ℕ) → given name.entry ≡ Some n →
-        Holds (F.held files.new) n (dimacs cnf.now)) }
-    ensures others { KeepsAllBut (F.held files.old) (F.held files.new)
-        (λ n. given name.entry ≡ Some n) }
-    ensures fault { IfErr result IsSaveFault }
-    ensures rose { IsErrOf result (Ended.Device Which.Save) →
-        Rose (F.faults files.old) (F.faults files.new) }
-    ensures blamed { IsErrOf result (Ended.Device Which.Save) → (n : List ℕ)
-        × (given name.entry ≡ Some n) × (F.blame files.new ≡ Some (FileCall.Save, n)) }
-    ensures else_keeps_blame { ¬ IsErrOf result (Ended.Device Which.Save) →
-        F.blame files.new ≡ F.blame files.old }
-    ensures never_falls { F.faults files.old ≤ F.faults files.new }
+/// What is saved of a verdict's work.
+#[derive(Clone, Copy, Debug)]
+enum Part<'a> {
+    /// The formula.
+    Formula(&'a Cnf),
+    /// The proof.
+    Proof(&'a Log),
+}
+
+/// Its text.
+fn text(alloc: Global, part: Part<'_>) -> Result<Vec<u8>, AllocError>
+    ensures { IfOk result (λ text. text.items ≡ part_text part.entry) }
 {
-    let Some(name) = name else {
-        return Ok(());
-    };
-    match dimacs_text(alloc, cnf) {
-        Ok(text) => save(files, name, text.as_slice()),
-        Err(_) => Err(Ended::Memory),
+    match part {
+        Part::Formula(cnf) => dimacs_text(alloc, cnf),
+        Part::Proof(log) => lrat_text(alloc, log),
     }
 }
 
-/// Saves the proof, if a name is given for it.
-fn save_proof<F: Files>(
+/// Saves a part, if a name is given for it.
+fn save_part<F: Files>(
     alloc: Global,
     files: &mut F,
     name: Option<&str>,
-    log: &Log,
+    part: Part<'_>,
 ) -> Result<(), Ended>
     ensures saved { OnOk result ((n : List ℕ) → given name.entry ≡ Some n →
-        Holds (F.held files.new) n (lrat log.now)) }
+        Holds (F.held files.new) n (part_text part.entry)) }
     ensures others { KeepsAllBut (F.held files.old) (F.held files.new)
         (λ n. given name.entry ≡ Some n) }
     ensures fault { IfErr result IsSaveFault }
@@ -86,7 +75,7 @@ fn save_proof<F: Files>(
     let Some(name) = name else {
         return Ok(());
     };
-    match lrat_text(alloc, log) {
+    match text(alloc, part) {
         Ok(text) => save(files, name, text.as_slice()),
         Err(_) => Err(Ended::Memory),
     }
@@ -116,6 +105,6 @@ pub fn save_work<F: Files>(
         F.blame files.new ≡ F.blame files.old }
     ensures never_falls { F.faults files.old ≤ F.faults files.new }
 {
-    save_formula(alloc, files, cnf, &work.cnf)?;
-    save_proof(alloc, files, lrat, &work.log)
+    save_part(alloc, files, cnf, Part::Formula(&work.cnf))?;
+    save_part(alloc, files, lrat, Part::Proof(&work.log))
 }

@@ -5,8 +5,9 @@ mod calls;
 mod checks;
 mod replays;
 mod saves;
+mod solvers;
 
-use self::checks::{CHECK_WITHIN, CHECKS, Check, WITHIN_BUDGET};
+use self::checks::{CHECK_WITHIN, CHECKS, Check, DIVERSE, WITHIN_BUDGET};
 use self::replays::{INCREMENT, INCREMENTS, REPLAY, REPLAYS, RUNS, WITHIN};
 use crate::run;
 use bd_files::{Page, Shelf};
@@ -20,6 +21,9 @@ use std::test::Fail;
 const STALLS: &str = "(pipeline (latch a bool) (input go bool false) (next a (ite go (not a) a)) \
 (flush 0) (steps 1))";
 
+/// One whose bit stands, where no step is allowed.
+const STANDS: &str = "(pipeline (latch a bool) (next a a) (flush 0) (steps 0))";
+
 /// A machine that turns its bit, and one that keeps it.
 const TURNS: &str = "(specification (latch a bool) (next a (not a)))";
 
@@ -28,7 +32,7 @@ const KEEPS: &str = "(specification (latch a bool) (next a a))";
 const CHECK: &[&str] = &["burch_dill", "check", "p", "s"];
 
 const USAGE: &str = "usage: burch_dill check PIPE SPEC [INV] [--budget N] [--cnf FILE] \
-[--lrat FILE] | replay PIPE SPEC CASE [INV] | run PIPE SPEC CASE CYCLES | gen DEPTH DROP\n";
+[--lrat FILE] [--diverse] | replay PIPE SPEC CASE [INV] | run PIPE SPEC CASE CYCLES | gen DEPTH DROP\n";
 
 /// What a run is given, and what it ends with and prints.
 #[derive(Clone, Copy)]
@@ -86,19 +90,21 @@ fn holds_of(alloc: Global, row: &Row, words: &[String]) -> Result<bool, AllocErr
 }
 
 fn shelf_of(alloc: Global, row: &Row) -> Result<Shelf, AllocError> {
-    let pipe = file(alloc, "p", row.pipe)?;
-    let spec = file(alloc, "s", row.spec)?;
-    let case = file(alloc, "c", row.case)?;
-    let inv = file(alloc, "i", row.inv)?;
+    shelf_with(alloc, row, row.pipe.as_bytes())
+}
+
+/// The files of a row, with these bytes as its pipeline.
+fn shelf_with(alloc: Global, row: &Row, pipe: &[u8]) -> Result<Shelf, AllocError> {
+    let pipe = file(alloc, "p", pipe)?;
+    let spec = file(alloc, "s", row.spec.as_bytes())?;
+    let case = file(alloc, "c", row.case.as_bytes())?;
+    let inv = file(alloc, "i", row.inv.as_bytes())?;
     let held = vec![in alloc; pipe, spec, case, inv]?;
     Shelf::new(alloc, held, vec![in alloc; row.failing]?)
 }
 
-fn file(alloc: Global, name: &str, text: &str) -> Result<(String, Vec<u8>), AllocError> {
-    Ok((
-        String::from_str(alloc, name)?,
-        text.as_bytes().to_vec(alloc)?,
-    ))
+fn file(alloc: Global, name: &str, bytes: &[u8]) -> Result<(String, Vec<u8>), AllocError> {
+    Ok((String::from_str(alloc, name)?, bytes.to_vec(alloc)?))
 }
 
 fn holds_over(
@@ -136,7 +142,7 @@ fn holds_on(
 }
 
 /// `empty_file`, `nesting_limit`, `faults_across_files`, a check of what isn't text, and generated pipelines.
-static TEXTS: [Row<'static>; 14] = [
+static TEXTS: [Row<'static>; 15] = [
     Row {
         name: "no bytes",
         pipe: "",
@@ -228,6 +234,12 @@ may stall\n(flush 0)(steps 1) );",
         name: "six stages",
         words: &["burch_dill", "gen", "6", "0"],
         out: "gen 6 0 latches 17 correct\n",
+        ..STALLING
+    },
+    Row {
+        name: "twelve stages",
+        words: &["burch_dill", "gen", "12", "0"],
+        out: "gen 12 0 latches 35 correct\n",
         ..STALLING
     },
     Row {
@@ -359,9 +371,11 @@ fn puts_a_prefix_where_the_output_fails(rt: HostRuntime) -> Result<(), Fail> {
 }
 
 #[test]
-fn answers_each_pair_of_texts(rt: HostRuntime) -> Result<(), Fail> {
-    for row in &TEXTS {
-        assert!(rt; holds(rt.alloc(), row)?, "{}", row.name);
+fn answers_each_pair_of_texts_twice_alike(rt: HostRuntime) -> Result<(), Fail> {
+    for time in 1..=2 {
+        for row in &TEXTS {
+            assert!(rt; holds(rt.alloc(), row)?, "{}, time {time}", row.name);
+        }
     }
     Ok(())
 }
@@ -437,17 +451,24 @@ fn shows(alloc: Global, check: &Check, printed: &[u8]) -> Result<bool, AllocErro
     holds(alloc, &row)
 }
 
-fn answers(alloc: Global, check: &Check, words: &[String]) -> Result<bool, AllocError> {
-    let printed = printed(alloc, &row_of(check), words)?;
+/// Whether the check, with these words behind its own, is answered as it says.
+fn answers(alloc: Global, check: &Check, more: &[&str]) -> Result<bool, AllocError> {
+    let mut words = words_of(alloc, check.words)?;
+    for word in more {
+        words.push(String::from_str(alloc, word)?)?;
+    }
+    let printed = printed(alloc, &row_of(check), words.as_slice())?;
     shows(alloc, check, printed.as_slice())
 }
 
 #[test]
 fn checks_designs(rt: HostRuntime) -> Result<(), Fail> {
     for check in &CHECKS {
-        let words = words_of(rt.alloc(), check.words)?;
+        assert!(rt; answers(rt.alloc(), check, &[])?, "{}", check.name);
+    }
+    for check in &CHECKS[..WITHIN_BUDGET] {
         assert!(rt;
-            answers(rt.alloc(), check, words.as_slice())?,
+            answers(rt.alloc(), check, &["--budget=10000"])?,
             "{}",
             check.name
         );
@@ -456,15 +477,16 @@ fn checks_designs(rt: HostRuntime) -> Result<(), Fail> {
 }
 
 #[test]
-fn checks_within_a_small_budget(rt: HostRuntime) -> Result<(), Fail> {
-    for check in &CHECKS[..WITHIN_BUDGET] {
-        let mut words = words_of(rt.alloc(), check.words)?;
-        words.push(String::from_str(rt.alloc(), "--budget=10000")?)?;
+fn checks_designs_by_positive_equality(rt: HostRuntime) -> Result<(), Fail> {
+    for check in &CHECKS {
         assert!(rt;
-            answers(rt.alloc(), check, words.as_slice())?,
+            answers(rt.alloc(), check, &["--diverse"])?,
             "{}",
             check.name
         );
+    }
+    for check in &DIVERSE {
+        assert!(rt; answers(rt.alloc(), check, &[])?, "{}", check.name);
     }
     Ok(())
 }
@@ -526,21 +548,59 @@ fn refuses_a_pipeline_that_is_cut(rt: HostRuntime) -> Result<(), Fail> {
     Ok(())
 }
 
-/// Parentheses that nest so deep.
-fn nested(alloc: Global, depth: usize) -> Result<String, AllocError> {
+/// Whether a pipeline whose byte at that place is 128 is refused there.
+fn refuses_byte_at(alloc: Global, at: usize) -> Result<bool, AllocError> {
+    let mut pipe = STALLS.as_bytes().to_vec(alloc)?;
+    let Some(byte) = pipe.get_mut(at) else {
+        return Ok(false);
+    };
+    *byte = 128;
+    let err = format!(in alloc; "pipe:{at}: E01 byte not allowed\n")?;
+    let row = Row {
+        status: 3,
+        err: err.as_str(),
+        ..STALLING
+    };
+    let words = words_of(alloc, row.words)?;
+    let mut files = shelf_with(alloc, &row, pipe.as_slice())?;
+    holds_over(alloc, &row, words.as_slice(), &mut files)
+}
+
+#[test]
+fn refuses_a_byte_that_is_not_allowed(rt: HostRuntime) -> Result<(), Fail> {
+    for at in 0..STALLS.len() {
+        assert!(rt; refuses_byte_at(rt.alloc(), at)?, "{at}");
+    }
+    Ok(())
+}
+
+/// So many parentheses, open and then closed.
+fn parentheses(alloc: Global, open: usize, closed: usize) -> Result<String, AllocError> {
     let mut text = String::new(alloc);
-    for _ in 0..depth {
+    for _ in 0..open {
         text.push('(')?;
     }
-    for _ in 0..depth {
+    for _ in 0..closed {
         text.push(')')?;
     }
     Ok(text)
 }
 
+/// Whether that pipeline is refused where the list number 201 begins.
+fn refuses_nested(alloc: Global, open: usize, closed: usize) -> Result<bool, AllocError> {
+    let pipe = parentheses(alloc, open, closed)?;
+    let row = Row {
+        pipe: pipe.as_str(),
+        status: 3,
+        err: "pipe:200: E03 nested too deep\n",
+        ..STALLING
+    };
+    holds(alloc, &row)
+}
+
 #[test]
 fn refuses_what_nests_too_deep(rt: HostRuntime) -> Result<(), Fail> {
-    let deep = nested(rt.alloc(), 200)?;
+    let deep = parentheses(rt.alloc(), 200, 200)?;
     let row = Row {
         pipe: deep.as_str(),
         status: 3,
@@ -548,14 +608,8 @@ fn refuses_what_nests_too_deep(rt: HostRuntime) -> Result<(), Fail> {
         ..STALLING
     };
     assert!(rt; holds(rt.alloc(), &row)?);
-    let deeper = nested(rt.alloc(), 201)?;
-    let row = Row {
-        pipe: deeper.as_str(),
-        status: 3,
-        err: "pipe:200: E03 nested too deep\n",
-        ..STALLING
-    };
-    assert!(rt; holds(rt.alloc(), &row)?);
+    assert!(rt; refuses_nested(rt.alloc(), 201, 201)?);
+    assert!(rt; refuses_nested(rt.alloc(), 1_048_576, 0)?);
     Ok(())
 }
 

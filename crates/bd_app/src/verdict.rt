@@ -14,7 +14,7 @@ use crate::load::Sources;
 use bd_case::case_text;
 use bd_cdcl::Cdcl;
 use bd_model::{Case, Design};
-use bd_verify::{Verdict, Work, verify};
+use bd_verify::{Mode, Verdict, Work, verify};
 use std::alloc::{AllocError, Global};
 
 /// What is asked of a design.
@@ -22,6 +22,8 @@ use std::alloc::{AllocError, Global};
 pub struct Asked {
     /// How many clauses the solver may add for each question.
     pub budget: u32,
+    /// How equations become edges.
+    pub mode: Mode,
     /// Whether an invariant is given.
     pub given: bool,
     /// Whether the case that the verdict carries is printed.
@@ -82,7 +84,14 @@ fn decide(alloc: Global, design: &Design, asked: Asked) -> Result<Verdict, Ended
     ensures fault { IfErr result (λ e. e ≡ Ended.Memory) }
 {
     let mut solver = Cdcl::new(alloc);
-    match verify(alloc, &mut solver, design, asked.budget, asked.given) {
+    match verify(
+        alloc,
+        &mut solver,
+        design,
+        asked.budget,
+        asked.given,
+        asked.mode,
+    ) {
         Ok(verdict) => Ok(verdict),
         Err(_) => Err(Ended::Memory),
     }

@@ -216,11 +216,11 @@ module _ (positive : List Sym) (bound : ℕ) (old : World) (nodes : List Node) (
       ]
 
 -- a number that is at least each of these
-record AtLeast (f : ℕ → ℕ) (P : ℕ → Type 0) : Type 0 where
+pub record AtLeast (f : ℕ → ℕ) (P : ℕ → Type 0) : Type 0 where
   pub most : ℕ
   pub bounds : (x : ℕ) → P x → f x ≤ most
 
-at_least-below : (f : ℕ → ℕ) (n : ℕ) → AtLeast f (λ x. x < n)
+pub at_least-below : (f : ℕ → ℕ) (n : ℕ) → AtLeast f (λ x. x < n)
 at_least-below f zero = record { most = 0; bounds = λ x h. absurd (omega arith) }
 at_least-below f (suc n) =
     let b = at_least-below f n in

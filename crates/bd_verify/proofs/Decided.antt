@@ -1,50 +1,47 @@
 -- What a solver's answer says of a question.
-use Rattle.std.proofs.Common.{◌≡◌, ◌↔◌, ℕ, zero, suc, ◌+◌, ◌<◌, ◌==◌, ◌||◌, Bool, true, false, cond, IsTrue, inl, inr, List, [], ◌∷◌, All, Contains, length, get_or, map, slice_get, Some, None, unwrap_or, refl, ap, sym, ◌∙◌, subst, arith, eqb}
+use Rattle.std.proofs.Common.{◌≡◌, ◌↔◌, ℕ, zero, suc, Bool, true, false, cond, IsTrue, List, [], ◌∷◌, All, Contains, get_or, slice_get, Option, Some, unwrap_or, refl, ap, sym, ◌∙◌, subst, arith, eqb}
 use Rattle.std.specs.List.{list_any}
 use Rattle.std.specs.Map.{lookup}
-use Rattle.std.proofs.lemmas.Bool.{cases_Bool, eq-eqb, eqb-true, false_from_ne_true, or_right, or_left, true≢false}
-use Rattle.std.proofs.lemmas.List.Elements.{All-contains, All-contains_itself, All-weaker}
+use Rattle.std.proofs.lemmas.Bool.{eq-eqb, eqb-true, false_from_ne_true, or_right, or_left, true≢false}
+use Rattle.std.proofs.lemmas.List.Elements.{All-contains}
 use Rattle.std.proofs.lemmas.Option.{same_Some, slice_get-get_or}
 use Rattle.bd_model.specs.DesignView.{DesignView}
 use Rattle.bd_model.specs.Fits.{Fits}
 use Rattle.bd_model.specs.Lawful.{IsLawful}
 use Rattle.bd_model.specs.Value.{scalar_truth, scalar_word}
 use Rattle.bd_model.specs.declared.case.Case.{Case}
-use Rattle.bd_model.specs.declared.design.Sort.TheVariants as sort
 use Rattle.bd_model.specs.declared.table.Scalar.{Scalar}
 use Rattle.bd_terms.specs.declared.node.Node.{Node}
 use Rattle.bd_function.specs.declared.flat.FlatSym.{FlatSym}
 use Rattle.bd_function.specs.Flat.{IsFlat}
 use Rattle.bd_prop.specs.declared.atom.Atom.{Atom}
-use Rattle.bd_prop.specs.declared.atom.Atom.TheVariants as atom
 use Rattle.bd_prop.specs.Values.{is_atom, truth_of}
-use Rattle.bd_prop.proofs.Same.{atom_eq, atom_eq-refl, atom_same}
+use Rattle.bd_prop.proofs.Same.{atom_eq-refl, atom_same}
 use Rattle.bd_prop.proofs.Values.{atom_eq-is}
 use Rattle.bd_cnf.specs.Clause.{Satisfies}
 use Rattle.bd_cnf.specs.Problem.{Problem}
 use Rattle.bd_lrat.specs.declared.line.Line.{Line}
 use Rattle.bd_lrat.specs.Database.{database_of}
-use Rattle.bd_lrat.specs.Log.{IsAcceptedLog, adds_empty}
+use Rattle.bd_lrat.specs.Log.{adds_empty}
 use Rattle.bd_lrat.proofs.Soundness.{log_refutes, models_formula}
 use Rattle.bd_cdcl.specs.Law.{IsLaw, ends_empty}
 use Rattle.bd_cdcl.specs.declared.solver.Found.TheVariants as found
 use Rattle.bd_transitive.specs.declared.graph.Edge.{Edge}
 use Rattle.bd_transitive.specs.declared.graph.Order.{Order}
-use Rattle.bd_transitive.specs.Edges.{JoinsAt}
+use Rattle.bd_transitive.specs.Edges.{IsEnd}
 use Rattle.bd_transitive.specs.Orders.{IsOrder}
 use Rattle.bd_transitive.specs.Triangle.{value_at}
 use Rattle.bd_tseitin.specs.declared.row.AtomVar.{AtomVar}
-use Rattle.bd_tseitin.specs.Rows.{Agree, AreApart, AreRows}
-use Rattle.bd_equality.specs.Edges.{IsEdge}
-use Rattle.bd_equality.specs.Encoding.{AgreesWith, IsVariable}
+use Rattle.bd_tseitin.specs.Rows.{Agree, AreRows}
+use Rattle.bd_equality.specs.Edges.{IsEdge, IsVertex}
+use Rattle.bd_equality.specs.Encoding.{AgreesWith, KeepsMarkedApart}
 use Rattle.bd_lift.specs.Decoded.{AreDecoded, decoded_word, edge_truths}
 use Rattle.bd_lift.specs.Lifted.{IsLifted}
-use Rattle.bd_lift.proofs.Deciding.{words-edge}
+use Rattle.bd_lift.proofs.Deciding.{words-alone, words-edge}
 use Rattle.bd_verify.specs.declared.verdict.Question.{Question}
 use Rattle.bd_cdcl.specs.declared.solver.Found.{Found}
 use Rattle.bd_verify.specs.declared.verdict.Work.{Work}
 use Rattle.bd_verify.specs.Verdict.{IsAsked, IsWorkOf, Keeps}
-use Rattle.bd_verify.specs.inner.Edges.{edge_value}
 use Rattle.bd_verify.specs.inner.Kept.{AsksFlat, Formulates, IsAdmitted}
 use Rattle.bd_verify.proofs.Formulated.{StandsIn, stands-in}
 use Rattle.bd_verify.proofs.Lifting.{HasCase, case-exists}
@@ -94,12 +91,12 @@ bool-from true x y h = sym (eq-eqb x y (h.0 refl))
 bool-from false x y h = sym (false_from_ne_true (eqb x y) (λ e. true≢false (sym (h.1 (eqb-true x y e)))))
 
 -- decoded values agree with the atoms at edges between variables
-pub decoded-agree : (nodes : List Node) (order : Order) (atoms : List (Atom × Bool)) (given : List Edge) (v : ℕ → Scalar) → IsOrder order → All (IsEdge nodes None) given
+pub decoded-agree : (nodes : List Node) (marked : Option (List ℕ)) (order : Order) (atoms : List (Atom × Bool)) (given : List Edge) (v : ℕ → Scalar) → IsOrder order → All (IsEdge nodes marked) given
     → ((edge : Edge) → Contains given edge → Contains order.edges edge) → AreDecoded nodes order atoms v → AgreesWith nodes given (truth_of atoms) v
-decoded-agree nodes order atoms given v is vertices ordered d = record {
+decoded-agree nodes marked order atoms given v is vertices ordered d = record {
   edges = λ edge p.
       let s : StandsIn order.edges (truth_of atoms) edge = stands-in order.edges (truth_of atoms) edge (ordered edge p) in
-      let ends : IsEdge nodes None edge = All-contains (IsEdge nodes None) given edge vertices p in
+      let ends : IsEdge nodes marked edge = All-contains (IsEdge nodes marked) given edge vertices p in
       let w = words-edge order atoms d.classes is d.are s.at edge.from edge.to s.joins in
       let from : scalar_word (v edge.from) ≡ decoded_word order d.classes edge.from = ap scalar_word (d.by.words edge.from ends.from.variable) in
       let to : scalar_word (v edge.to) ≡ decoded_word order d.classes edge.to = ap scalar_word (d.by.words edge.to ends.to.variable) in
@@ -108,12 +105,23 @@ decoded-agree nodes order atoms given v is vertices ordered d = record {
   truths = λ x p. sym (ap scalar_truth (d.by.truths x p));
 }
 
-module _ (d : DesignView) (asked : Question) (nodes : List Node) (root : ℕ) (syms : List FlatSym) (order : Order) (formula : Problem) (rows : List AtomVar)
-    (asks : AsksFlat d asked nodes root syms) (f : Formulates d nodes root syms order formula rows) where
+-- and keep marked variables apart, where none is the end of an edge
+pub decoded-apart : (nodes : List Node) (marked : Option (List ℕ)) (order : Order) (atoms : List (Atom × Bool)) (v : ℕ → Scalar) → IsOrder order
+    → ((x : ℕ) → IsEnd order.edges x → IsVertex nodes marked x) → AreDecoded nodes order atoms v → KeepsMarkedApart nodes marked v
+decoded-apart nodes marked order atoms v is ends d = record {
+  apart = λ x y p q ne mark same.
+      words-alone order d.classes is d.are.below x y (λ end. true≢false (sym mark ∙ (ends x end).unmarked)) ne
+      (sym (ap scalar_word (d.by.words x p)) ∙ same ∙ ap scalar_word (d.by.words y q));
+}
+
+module _ (d : DesignView) (asked : Question) (nodes : List Node) (root : ℕ) (syms : List FlatSym) (marked : Option (List ℕ)) (order : Order) (formula : Problem) (rows : List AtomVar)
+    (asks : AsksFlat d asked nodes root syms marked) (f : Formulates d nodes root syms marked order formula rows) where
   -- a case that is lifted from admitted values is such
-  pub lifted-asked : (atoms : List (Atom × Bool)) (c : Case) → Fits d c → IsLifted nodes syms order atoms c → IsAdmitted d nodes root syms order f.given (truth_of atoms) → IsAsked asked d c
+  pub lifted-asked : (atoms : List (Atom × Bool)) (c : Case) → Fits d c → IsLifted nodes syms order atoms c → IsAdmitted d nodes root syms marked order f.given (truth_of atoms) → IsAsked asked d c
   lifted-asked atoms c fits l admitted =
-      asks.to_case order atoms c fits l (admitted.refutes l.values (decoded-agree nodes order atoms f.given l.values f.is_order f.vertices f.ordered l.decoded))
+      asks.to_case order atoms c fits l
+      (admitted.refutes l.values (decoded-apart nodes marked order atoms l.values f.is_order f.ends l.decoded)
+      (decoded-agree nodes marked order atoms f.given l.values f.is_order f.vertices f.ordered l.decoded))
 
   pub case-from : IsLawful d → IsFlat nodes root syms → AreRows formula.vars rows → (a : ℕ → Bool) → Satisfies a formula.clauses → (c : Case) × Fits d c × IsAsked asked d c
   case-from lawful flat are a sat =

@@ -1,7 +1,6 @@
 -- The tests' designs are lawful.
-use Rattle.std.proofs.Common.{◌≡◌, ◌≤◌, ℕ, Bool, true, false, List, length, refl, arith}
+use Rattle.std.proofs.Common.{◌≤◌, Bool, true, false, length, refl, arith}
 use Rattle.std.specs.List.{AllByRecursion}
-use Rattle.bd_model.specs.DesignView.{DesignView}
 use Rattle.bd_model.specs.Lawful.{IsLawful, IsLawfulExact}
 use Rattle.bd_verify.specs.inner.Example.{example, forced_twice}
 

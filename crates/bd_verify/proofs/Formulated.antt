@@ -1,15 +1,14 @@
 -- The formula of a flat one.
-use Rattle.std.proofs.Common.{◌≡◌, ◌≢◌, ◌↔◌, ◌⊎◌, ℕ, ◌+◌, ◌<◌, ◌==◌, Bool, true, false, not, IsTrue, inl, inr, List, [], ◌∷◌, ◌++◌, length, get_or, map, take, drop, slice_get, Some, None, All, Contains, refl, ap, sym, ◌∙◌, subst, arith, eqb}
+use Rattle.std.proofs.Common.{◌≡◌, ◌↔◌, ◌⊎◌, ℕ, ◌<◌, Bool, true, false, IsTrue, inl, inr, List, [], ◌∷◌, length, get_or, take, drop, slice_get, Option, Some, All, Contains, refl, ap, sym, ◌∙◌, subst, arith, eqb}
 use Rattle.std.specs.Prelude.{if◌then◌else◌}
-use Rattle.std.proofs.lemmas.Bool.{cases_order, eq-eqb, eqb-true, false_from_ne_true, ne_eqb, not-true, not_from_false, true≢false}
+use Rattle.std.proofs.lemmas.Bool.{cases_Bool, cases_order, eq-eqb, eqb-true, false_from_ne_true, ne_eqb, true≢false}
 use Rattle.std.proofs.lemmas.List.{get_or-map, take-append-drop}
 use Rattle.std.proofs.lemmas.List.Elements.{Contains-append_left}
-use Rattle.std.proofs.lemmas.Option.{get_or_from_slice_get, same_Some, slice_get-get_or, slice_get_within}
+use Rattle.std.proofs.lemmas.Option.{same_Some}
 use Rattle.bd_model.specs.DesignView.{DesignView}
 use Rattle.bd_model.specs.Lawful.{IsConstant as IsConstantOf, IsLawful, IsLawfulGroup}
 use Rattle.bd_model.specs.Fits.{result_sort}
 use Rattle.bd_model.specs.Value.{scalar_word}
-use Rattle.bd_model.specs.declared.design.Sort.{Sort}
 use Rattle.bd_model.specs.declared.design.Sort.TheVariants as sort
 use Rattle.bd_model.specs.declared.design.Symbol.{Symbol}
 use Rattle.bd_model.specs.declared.table.Scalar.{Scalar}
@@ -28,26 +27,22 @@ use Rattle.bd_cnf.specs.Clause.{Satisfies}
 use Rattle.bd_cnf.specs.Problem.{Problem}
 use Rattle.bd_transitive.specs.declared.graph.Edge.{Edge}
 use Rattle.bd_transitive.specs.declared.graph.Order.{Order}
-use Rattle.bd_transitive.specs.Edges.{JoinsAt}
+use Rattle.bd_transitive.specs.Edges.{IsEnd, JoinsAt}
 use Rattle.bd_transitive.specs.Orders.{IsOrder}
-use Rattle.bd_transitive.specs.Triangle.{AgreesWithClasses, MeetsTriangles, value_at}
+use Rattle.bd_transitive.specs.Triangle.{AgreesWithClasses, value_at}
 use Rattle.bd_transitive.proofs.Ends.{joins_at, joins_at-get, joins_at-within, no_edge}
 use Rattle.bd_transitive.proofs.Meeting.{classes_meet}
 use Rattle.bd_tseitin.specs.declared.row.AtomVar.{AtomVar}
 use Rattle.bd_tseitin.specs.Rows.{Agree}
-use Rattle.bd_equality.specs.Edges.{IsApart, IsConstant, IsEdge, ReachesEdge}
-use Rattle.bd_equality.specs.Encoding.{AgreesWith, Encodes, EncodesByEdges, KeepsMarkedApart, atom_value}
+use Rattle.bd_equality.specs.Edges.{IsApart, IsConstant, IsEdge, IsVertex, ReachesEdge}
+use Rattle.bd_equality.specs.Encoding.{Encodes, EncodesByEdges, atom_value, has_mark}
 use Rattle.bd_lift.specs.Decoded.{variable_use}
-use Rattle.bd_lift.specs.Lifted.{AreKnown, AreToldApart, TellsApart}
+use Rattle.bd_lift.specs.Lifted.{AreKnown, TellsApart}
 use Rattle.bd_lift.proofs.Ends.{joins-turned}
 use Rattle.bd_lift.proofs.Known.{known-function}
-use Rattle.bd_verify.specs.inner.Edges.{AddsEdges, AreFalse, edge_value, edge_values}
+use Rattle.bd_verify.specs.inner.Edges.{AddsEdges, edge_value, edge_values}
 use Rattle.bd_verify.specs.inner.Kept.{Formulates, IsAdmitted, KeepsWordsApart}
-use Rattle.bd_verify.proofs.Flattened.{Contains-at, at-Contains}
-
--- nothing is marked
-pub none-marked : (nodes : List Node) (v : ℕ → Scalar) → KeepsMarkedApart nodes None v
-none-marked nodes v = record { apart = λ x y p q ne marked. absurd (true≢false (sym marked)) }
+use Rattle.bd_verify.proofs.Entries.{Contains-at, at-Contains}
 
 -- the value of an edge by its number
 pub value-at : (value : Atom → Bool) (edges : List Edge) (e : ℕ) (d : Edge) → e < length edges → value_at (edge_values value edges) e ≡ edge_value value (get_or edges e d)
@@ -89,6 +84,15 @@ stands-in edges value edge p = record {
   is = value-at value edges p.0 edge p.1 ∙ ap (edge_value value) p.2;
 }
 
+-- an end of edges between vertices is a vertex
+pub end-vertex : (nodes : List Node) (marked : Option (List ℕ)) (edges : List Edge) → All (IsEdge nodes marked) edges → (x : ℕ) → IsEnd edges x → IsVertex nodes marked x
+end-vertex nodes marked edges vertices x (y, (e, j)) =
+    let ends : IsEdge nodes marked (get_or edges e no_edge) = vertices e no_edge (joins_at-within edges e x y j) in
+    elim (joins_at-get edges e x y no_edge j) [
+      | inl h ↦ subst (IsVertex nodes marked) h.0 ends.from
+      | inr h ↦ subst (IsVertex nodes marked) h.1 ends.to
+    ]
+
 -- the edges of the first part are edges
 pub ordered-by : (n : ℕ) (all edges : List Edge) → take n all ≡ edges → (edge : Edge) → Contains edges edge → Contains all edge
 ordered-by n all edges given edge p =
@@ -98,10 +102,10 @@ none-long : {X : Type 0} (xs : List X) → length xs ≡ 0 → xs ≡ []
 none-long [] e = refl
 none-long (x ∷ xs) e = absurd (omega (arith, e))
 
-module _ (d : DesignView) (nodes : List Node) (root : ℕ) (syms : List FlatSym) (lawful : IsLawful d) (known : AreKnown d nodes syms) (flat : IsFlat nodes root syms) where
-  -- the first application of a constant has its vertex
-  constant-of : (f : ℕ) (s : FlatSym) (q : FlatRow) → IsConstantOf d f → Contains syms s → s.sym ≡ symbol.Function f → slice_get s.rows 0 ≡ Some q → IsConstant nodes syms None f q.var
-  constant-of f s q c p e first =
+module _ (d : DesignView) (nodes : List Node) (root : ℕ) (syms : List FlatSym) (marked : Option (List ℕ)) (lawful : IsLawful d) (known : AreKnown d nodes syms) (flat : IsFlat nodes root syms) where
+  -- the first application of a constant has its vertex, unless it is marked
+  constant-of : (f : ℕ) (s : FlatSym) (q : FlatRow) → IsConstantOf d f → Contains syms s → s.sym ≡ symbol.Function f → slice_get s.rows 0 ≡ Some q → has_mark marked q.var ≡ false → IsConstant nodes syms marked f q.var
+  constant-of f s q c p e first unmarked =
       let k = known.each s p q (Contains-at s.rows 0 q first) in
       let is = known-function d k.applied f k.known (k.same ∙ e) in
       let same : is.0 ≡ c.0 = same_Some is.0 c.0 (sym is.1 ∙ c.1) in
@@ -115,56 +119,68 @@ module _ (d : DesignView) (nodes : List Node) (root : ℕ) (syms : List FlatSym)
         first = first;
         plain = none-long q.args none;
         variable = refl;
-        vertex = record { variable = subst (λ z. Contains (uses nodes) (variable_use q.var z)) kind k.variable; unmarked = refl };
+        vertex = record { variable = subst (λ z. Contains (uses nodes) (variable_use q.var z)) kind k.variable; unmarked = unmarked };
       }
 
-  -- the edges that are kept apart tell constants apart
-  pub tells-apart : (order : Order) (value : Atom → Bool) → ((edge : Edge) → IsApart nodes syms d.distinct None edge → Contains order.edges edge × (edge_value value edge ≡ false))
+  -- the edges that are kept apart tell constants apart, where no marked variable is the end of an edge
+  pub tells-apart : (order : Order) (value : Atom → Bool) → ((x : ℕ) → IsEnd order.edges x → IsVertex nodes marked x)
+      → ((edge : Edge) → IsApart nodes syms d.distinct marked edge → Contains order.edges edge × (edge_value value edge ≡ false))
       → TellsApart d syms order (value_at (edge_values value order.edges))
-  tells-apart order value false_at = record {
+  tells-apart order value ends false_at = record {
     apart = λ group p f g pf pg ne s t ps pt es et q r first second.
         let place = at-Contains d.distinct group p in
         let lawful_group : IsLawfulGroup d group = AllByRecursion-get (IsLawfulGroup d) d.distinct place.0 group lawful.distinct place.1 in
         let at_f = at-Contains group f pf in
         let at_g = at-Contains group g pg in
-        let cf = constant-of f s q (AllByRecursion-get (IsConstantOf d) group at_f.0 f lawful_group.constants at_f.1) ps es first in
-        let cg = constant-of g t r (AllByRecursion-get (IsConstantOf d) group at_g.0 g lawful_group.constants at_g.1) pt et second in
-        elim (cases_order q.var r.var) [
-          | inl same ↦
-              let one = (flat.different s t q r ps (Contains-at s.rows 0 q first) pt (Contains-at t.rows 0 r second) same).0 in
-              let bad : symbol.Function f ≡ symbol.Function g = sym es ∙ one ∙ et in
-              absurd (ne (function-number f g bad))
-          | inr (inl lt) ↦ inl (told order value (record { from = q.var; to = r.var }) (false_at (record { from = q.var; to = r.var })
-              (record { group = group; f = f; g = g; listed = p; has_f = pf; has_g = pg; from = cf; to = cg; below = lt })))
-          | inr (inr lt) ↦ inl (turned order value (record { from = r.var; to = q.var }) (false_at (record { from = r.var; to = q.var })
-              (record { group = group; f = g; g = f; listed = p; has_f = pg; has_g = pf; from = cg; to = cf; below = lt })))
+        elim (cases_Bool (has_mark marked q.var)) [
+          | inl mark ↦ inr (inl (alone q.var mark))
+          | inr unmarked ↦ elim (cases_Bool (has_mark marked r.var)) [
+            | inl mark ↦ inr (inr (alone r.var mark))
+            | inr unmarked' ↦
+                let cf = constant-of f s q (AllByRecursion-get (IsConstantOf d) group at_f.0 f lawful_group.constants at_f.1) ps es first unmarked in
+                let cg = constant-of g t r (AllByRecursion-get (IsConstantOf d) group at_g.0 g lawful_group.constants at_g.1) pt et second unmarked' in
+                elim (cases_order q.var r.var) [
+                  | inl same ↦
+                      let one = (flat.different s t q r ps (Contains-at s.rows 0 q first) pt (Contains-at t.rows 0 r second) same).0 in
+                      let bad : symbol.Function f ≡ symbol.Function g = sym es ∙ one ∙ et in
+                      absurd (ne (function-number f g bad))
+                  | inr (inl lt) ↦ inl (told (record { from = q.var; to = r.var }) (false_at (record { from = q.var; to = r.var })
+                      (record { group = group; f = f; g = g; listed = p; has_f = pf; has_g = pg; from = cf; to = cg; below = lt })))
+                  | inr (inr lt) ↦ inl (turned (record { from = r.var; to = q.var }) (false_at (record { from = r.var; to = q.var })
+                      (record { group = group; f = g; g = f; listed = p; has_f = pg; has_g = pf; from = cg; to = cf; below = lt })))
+                ]
+          ]
         ];
   } where
     function-number : (m n : ℕ) → symbol.Function m ≡ symbol.Function n → m ≡ n
     function-number m n h = cc
 
-    told : (order : Order) (value : Atom → Bool) (edge : Edge) → Contains order.edges edge × (edge_value value edge ≡ false)
-        → (e : ℕ) × JoinsAt order.edges e edge.from edge.to × (value_at (edge_values value order.edges) e ≡ false)
-    told order value edge h = let s = stands-in order.edges value edge h.0 in (s.at, s.joins, s.is ∙ h.1)
+    alone : (x : ℕ) → has_mark marked x ≡ true → IsEnd order.edges x → ⊥
+    alone x mark end = true≢false (sym mark ∙ (ends x end).unmarked)
 
-    turned : (order : Order) (value : Atom → Bool) (edge : Edge) → Contains order.edges edge × (edge_value value edge ≡ false)
-        → (e : ℕ) × JoinsAt order.edges e edge.to edge.from × (value_at (edge_values value order.edges) e ≡ false)
-    turned order value edge h = let s = stands-in order.edges value edge h.0 in (s.at, joins-turned order.edges s.at edge.from edge.to s.joins, s.is ∙ h.1)
+    told : (edge : Edge) → Contains order.edges edge × (edge_value value edge ≡ false) → (e : ℕ) × JoinsAt order.edges e edge.from edge.to × (value_at (edge_values value order.edges) e ≡ false)
+    told edge h = let s = stands-in order.edges value edge h.0 in (s.at, s.joins, s.is ∙ h.1)
 
-  module _ (prop : List PropNode) (prop_root : ℕ) (edges apart : List Edge) (by_value : Encodes nodes root None prop prop_root) (by_edges : EncodesByEdges nodes root None edges prop prop_root)
-      (edges_are : (edge : Edge) → Contains edges edge ↔ (ReachesEdge prop prop_root edge ⊎ Contains apart edge)) (vertices : All (IsEdge nodes None) edges)
-      (apart_are : (edge : Edge) → Contains apart edge ↔ IsApart nodes syms d.distinct None edge)
-      (order : Order) (is_order : IsOrder order) (given : take (length edges) order.edges ≡ edges)
+    turned : (edge : Edge) → Contains order.edges edge × (edge_value value edge ≡ false) → (e : ℕ) × JoinsAt order.edges e edge.to edge.from × (value_at (edge_values value order.edges) e ≡ false)
+    turned edge h = let s = stands-in order.edges value edge h.0 in (s.at, joins-turned order.edges s.at edge.from edge.to s.joins, s.is ∙ h.1)
+
+  module _ (prop : List PropNode) (prop_root : ℕ) (edges apart : List Edge) (by_value : Encodes nodes root marked prop prop_root) (by_edges : EncodesByEdges nodes root marked edges prop prop_root)
+      (edges_are : (edge : Edge) → Contains edges edge ↔ (ReachesEdge prop prop_root edge ⊎ Contains apart edge)) (vertices : All (IsEdge nodes marked) edges)
+      (apart_are : (edge : Edge) → Contains apart edge ↔ IsApart nodes syms d.distinct marked edge)
+      (order : Order) (is_order : IsOrder order) (order_ends : (x : ℕ) → Contains order.vertices x ↔ IsEnd edges x) (given : take (length edges) order.edges ≡ edges)
       (old new : Problem) (old_rows rows : List AtomVar) (adds : AddsEdges order apart old old_rows new rows)
       (form-up : (value : Atom → Bool) → truth_at value prop prop_root ≡ false → (a : ℕ → Bool) × Satisfies a old.clauses × Agree a value old_rows)
       (form-down : (a : ℕ → Bool) (value : Atom → Bool) → Satisfies a old.clauses → Agree a value old_rows → truth_at value prop prop_root ≡ false) where
     ordered : (edge : Edge) → Contains edges edge → Contains order.edges edge
     ordered edge p = ordered-by (length edges) order.edges edges given edge p
 
-    up : (v : ℕ → Scalar) → KeepsWordsApart d nodes syms v → (IsTrue (truth (under v) nodes root) → ⊥) → (a : ℕ → Bool) × Satisfies a new.clauses
+    ends : (x : ℕ) → IsEnd order.edges x → IsVertex nodes marked x
+    ends x end = end-vertex nodes marked edges vertices x ((order_ends x).0 (is_order.ends x end))
+
+    up : (v : ℕ → Scalar) → KeepsWordsApart d nodes syms marked v → (IsTrue (truth (under v) nodes root) → ⊥) → (a : ℕ → Bool) × Satisfies a new.clauses
     up v apart_words fails =
         let value : Atom → Bool = atom_value v in
-        let root_false : truth_at value prop prop_root ≡ false = by_value.denotes v (none-marked nodes v) ∙ false_from_ne_true (truth (under v) nodes root) fails in
+        let root_false : truth_at value prop prop_root ≡ false = by_value.denotes v apart_words.apart ∙ false_from_ne_true (truth (under v) nodes root) fails in
         let first = form-up value root_false in
         let more = adds.extends first.0 value first.2 first.1 in (
           more.0,
@@ -175,21 +191,22 @@ module _ (d : DesignView) (nodes : List Node) (root : ℕ) (syms : List FlatSym)
           ),
         )
 
-    down : (a : ℕ → Bool) (value : Atom → Bool) → Satisfies a new.clauses → Agree a value rows → IsAdmitted d nodes root syms order edges value
+    down : (a : ℕ → Bool) (value : Atom → Bool) → Satisfies a new.clauses → Agree a value rows → IsAdmitted d nodes root syms marked order edges value
     down a value sat agree =
         let parts = (adds.means a value agree).0 sat in
         let root_false : truth_at value prop prop_root ≡ false = form-down a value parts.0 (adds.keeps a value agree) in
         record {
           triangles = parts.1;
-          constants = tells-apart order value (λ edge is.
+          constants = tells-apart order value ends (λ edge is.
               let p : Contains apart edge = (apart_are edge).1 is in
               (ordered edge ((edges_are edge).1 (inr p)), parts.2 edge p));
-          refutes = λ v agrees holds. true≢false (sym holds ∙ sym (by_edges.denotes value v (none-marked nodes v) agrees) ∙ root_false);
+          refutes = λ v apart_words agrees holds. true≢false (sym holds ∙ sym (by_edges.denotes value v apart_words agrees) ∙ root_false);
         }
 
-    pub formulates : Formulates d nodes root syms order new rows
+    pub formulates : Formulates d nodes root syms marked order new rows
     formulates = record {
       is_order = is_order;
+      ends = ends;
       given = edges;
       vertices = vertices;
       ordered = ordered;

@@ -1,13 +1,11 @@
 -- The variables of edges, one for each.
-use Rattle.std.proofs.Common.{◌≡◌, ℕ, ◌+◌, ◌<◌, ◌≤◌, Bool, List, [], ◌∷◌, ◌++◌, length, get_or, map, take, All, refl, ap, sym, ◌∙◌, subst, arith}
-use Rattle.std.proofs.lemmas.List.{length-map, length_push, map-append, map_more, take_more}
+use Rattle.std.proofs.Common.{◌≡◌, ℕ, ◌+◌, ◌<◌, ◌≤◌, List, [], ◌∷◌, ◌++◌, length, get_or, take, refl, ap, sym, ◌∙◌, subst, arith}
+use Rattle.std.proofs.lemmas.List.{length_push, map-append, map_more, take_more}
 use Rattle.std.proofs.lemmas.List.Elements.{All-nil, All-push, All-weaker}
-use Rattle.bd_prop.specs.declared.atom.Atom.{Atom}
 use Rattle.bd_prop.specs.declared.atom.Atom.TheVariants as atom
 use Rattle.bd_transitive.specs.declared.graph.Edge.{Edge}
-use Rattle.bd_tseitin.specs.Rows.{Agree}
 use Rattle.bd_verify.specs.declared.numbers.Numbers.{Numbers}
-use Rattle.bd_verify.specs.inner.Edges.{NamesEdges, edge_value, edge_values}
+use Rattle.bd_verify.specs.inner.Edges.{NamesEdges, edge_value}
 use Rattle.bd_verify.specs.inner.Numbers.{GrowsRows, Names}
 
 pub NamesEdges-none : (n : Numbers) (vars : List ℕ) → vars ≡ [] → NamesEdges n [] vars

@@ -1,3 +1,4 @@
 pub mod Settled
 pub mod Verdict
+pub mod Agreement
 pub mod inner

@@ -1,12 +1,13 @@
 -- What a verdict on a design means, and what stands behind it: a formula that is satisfiable exactly where some case is
 -- such as was asked, and the log of an honest solver's answer over it (Burch and Dill 1994; DIMACS CNF; textual LRAT).
-use Rattle.std.specs.Prelude.{◌↔◌, ℕ, Bool, List, Option}
+use Rattle.std.specs.Prelude.{◌≡◌, ◌↔◌, ℕ, Bool, true}
 use Rattle.bd_model.specs.DesignView.{DesignView}
 use Rattle.bd_model.specs.Fits.{Fits}
-use Rattle.bd_model.specs.Cycle.{flushed}
-use Rattle.bd_model.specs.Conditions.{Breaks, MeetsInvariant}
+use Rattle.bd_model.specs.Conditions.{Breaks, IsJudged, MeetsInvariant, SomeCaseMeetsInvariant}
+use Rattle.bd_model.specs.Right.{IsRight}
 use Rattle.bd_model.specs.declared.case.Case.{Case}
 use Rattle.bd_model.specs.declared.case.Condition.{Condition}
+use Rattle.bd_model.specs.declared.case.Judged.TheVariants as judged
 use Rattle.bd_cnf.specs.Clause.{Satisfies}
 use Rattle.bd_cnf.specs.Problem.{Problem}
 use Rattle.bd_cdcl.specs.Law.{IsLaw}
@@ -17,6 +18,14 @@ use Rattle.bd_verify.specs.declared.verdict.Question.TheVariants as question
 use Rattle.bd_verify.specs.declared.verdict.Work.{Work}
 use Rattle.bd_verify.specs.declared.verdict.Verdict.{Verdict}
 use Rattle.bd_verify.specs.declared.verdict.Verdict.TheVariants.{Correct, Wrong, Void, Undecided}
+
+-- what a verdict says of a design, where an invariant is given or none: it is right, and a case meets a given invariant;
+-- a fitting case breaks the condition; an invariant is given that no case meets; or nothing
+abbrev pub Says : DesignView → Bool → Verdict → Type 0
+Says d given (Correct met work) = IsRight d × (given ≡ true → SomeCaseMeetsInvariant d)
+Says d given (Wrong which c work) = Fits d c × IsJudged d c (judged.Broken which)
+Says d given (Void work) = (given ≡ true) × (¬ SomeCaseMeetsInvariant d)
+Says d given (Undecided asked work) = Unit {0}
 
 -- what a question asks of a case: that it breaks a condition, or that its state meets the invariant
 abbrev pub IsAsked : Question → DesignView → Case → Type 0

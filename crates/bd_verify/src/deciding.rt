@@ -12,7 +12,7 @@ ghost use Rattle.bd_verify.specs.Verdict.{IsAsked};
 ghost use Rattle.bd_verify.specs.inner.Reduced.{IsFlatOf, IsFormulaOf};
 
 use crate::kept::{Reduction, reduced};
-use crate::verdict::{Question, Work};
+use crate::verdict::{Mode, Question, Work};
 use bd_cdcl::{Found, HonestSolver};
 use bd_cnf::Assignment;
 use bd_lift::lift;
@@ -39,11 +39,12 @@ pub(crate) fn decide<S: HonestSolver>(
     design: &Design,
     budget: u32,
     asked: Question,
+    mode: Mode,
 ) -> Result<Decision, AllocError>
     requires { IsLawful (design_view design.now) }
     ensures { IfOk result (IsDecided (design_view design.now) asked budget) }
 {
-    let reduction = reduced(alloc, design, asked)?;
+    let reduction = reduced(alloc, design, asked, mode)?;
     let mut log = Log::new(alloc);
     match solver.solve(&reduction.formula.cnf, budget, &mut log)? {
         Found::Model(assignment) => {

@@ -1,15 +1,16 @@
 //! The formula that is kept of a question: satisfiable exactly where some fitting case is such as is asked.
-ghost use Rattle.std.specs.Prelude.{◌≡◌, [], IfOk};
+ghost use Rattle.std.specs.Prelude.{◌≡◌, ◌<◌, [], IfOk, length, option_copied};
 ghost use Rattle.bd_model.specs.DesignView.{design_view};
 ghost use Rattle.bd_model.specs.Lawful.{IsLawful};
 ghost use Rattle.bd_lift.specs.Lifted.{AreKnown};
-ghost use Rattle.bd_verify.specs.inner.Kept.{Asks, AsksFlat, Formulates};
+ghost use Rattle.bd_verify.specs.inner.Kept.{Asks, AsksFlat, Formulates, MarksAllPositive, MarksPositive};
 ghost use Rattle.bd_verify.specs.inner.Reduced.{IsFlatOf, IsFormulaOf};
 
 use crate::edges::with_edges;
-use crate::verdict::Question;
+use crate::verdict::{Mode, Question};
+use bd_diverse::{marked, positive};
 use bd_equality::encode;
-use bd_function::{Flat, flatten};
+use bd_function::{Flat, Marked, flatten};
 use bd_goal::{goal, meets};
 use bd_memory::forward;
 use bd_model::Design;
@@ -22,6 +23,8 @@ use std::alloc::{AllocError, Global};
 #[derive(Drop)]
 pub(crate) struct Reduction {
     pub flat: Flat,
+    /// The variables that are taken as different from all others.
+    pub marked: Option<Marked>,
     pub order: Order,
     pub formula: Formula,
 }
@@ -31,29 +34,36 @@ pub(crate) fn reduced(
     alloc: Global,
     design: &Design,
     asked: Question,
+    mode: Mode,
 ) -> Result<Reduction, AllocError>
     requires { IsLawful (design_view design.now) }
     ensures flat { IfOk result (IsFlatOf (design_view design.now) asked) }
     ensures formula { IfOk result (IsFormulaOf (design_view design.now)) }
 {
-    let flat = flat_of(alloc, design, asked)?;
-    let (order, formula) = formula_of(alloc, design, &flat)?;
+    let (flat, marked) = flat_of(alloc, design, asked, mode)?;
+    let (order, formula) = formula_of(alloc, design, &flat, marked.as_ref())?;
     Ok(Reduction {
         flat,
+        marked,
         order,
         formula,
     })
 }
 
 /// The formula of a flat one.
-fn formula_of(alloc: Global, design: &Design, flat: &Flat) -> Result<(Order, Formula), AllocError>
+fn formula_of(
+    alloc: Global,
+    design: &Design,
+    flat: &Flat,
+    marked: Option<&Marked>,
+) -> Result<(Order, Formula), AllocError>
     requires lawful { IsLawful (design_view design.now) }
     requires known { AreKnown (design_view design.now) flat.now.graph flat.now.syms }
     ensures { IfOk result (λ r.
-        Formulates (design_view design.now) flat.now.graph flat.now.root flat.now.syms r.0
-        r.1.cnf r.1.atoms) }
+        Formulates (design_view design.now) flat.now.graph flat.now.root flat.now.syms
+        (option_copied marked.entry) r.0 r.1.cnf r.1.atoms) }
 {
-    let encoded = encode(alloc, flat, &design.distinct, None)?;
+    let encoded = encode(alloc, flat, &design.distinct, marked)?;
     let mut prop = encoded.prop;
     let denied = prop.mk_not(encoded.root)?;
     let formula = clauses(alloc, &prop, denied)?;
@@ -64,18 +74,46 @@ fn formula_of(alloc: Global, design: &Design, flat: &Flat) -> Result<(Order, For
     Ok((order, formula))
 }
 
-/// The question without memories and functions.
-fn flat_of(alloc: Global, design: &Design, asked: Question) -> Result<Flat, AllocError>
+/// The question without memories and functions, and in diverse mode the variables that are taken as different from all
+/// others.
+fn flat_of(
+    alloc: Global,
+    design: &Design,
+    asked: Question,
+    mode: Mode,
+) -> Result<(Flat, Option<Marked>), AllocError>
     requires { IsLawful (design_view design.now) }
-    ensures { IfOk result (λ flat.
-        AsksFlat (design_view design.now) asked flat.graph flat.root flat.syms) }
+    ensures { IfOk result (λ r.
+        AsksFlat (design_view design.now) asked r.0.graph r.0.root r.0.syms r.1) }
 {
     let mut graph = Graph::new(alloc);
     let root = root_of(alloc, &mut graph, design, asked)?;
     let (plain, root) = forward(alloc, &graph, root)?;
     let flat = flatten(alloc, &plain, root)?;
-    prove!(flat.root.index() < flat.graph.len());
-    Ok(flat)
+    let marked = marks(alloc, &plain, root, &flat, mode)?;
+    Ok((flat, marked))
+}
+
+/// In diverse mode the variables of the applications of positive symbols.
+fn marks(
+    alloc: Global,
+    plain: &Graph,
+    root: Id,
+    flat: &Flat,
+    mode: Mode,
+) -> Result<Option<Marked>, AllocError>
+    requires { root < length plain.now }
+    ensures positive { IfOk result (MarksPositive plain.now root flat.now.syms) }
+    ensures all { mode ≡ Mode.Diverse →
+        IfOk result (MarksAllPositive plain.now root flat.now.syms) }
+{
+    match mode {
+        Mode::Plain => Ok(None),
+        Mode::Diverse => {
+            let symbols = positive(alloc, plain, root)?;
+            Ok(Some(marked(alloc, flat, &symbols)?))
+        }
+    }
 }
 
 /// The term of the question.

@@ -4,12 +4,14 @@
 mod deciding;
 mod edges;
 mod kept;
+mod laws;
 mod numbers;
 mod settling;
 mod verdict;
 
+pub use laws::verdicts_agree;
 pub use settling::{Settled, settle};
-pub use verdict::{Question, Verdict, Work, verify};
+pub use verdict::{Mode, Question, Verdict, Work, verify};
 
 #[cfg(test)]
 mod tests;

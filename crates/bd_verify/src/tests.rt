@@ -7,6 +7,7 @@ use std::alloc::AllocError;
 use std::process::Abort;
 use std::test::Fail;
 
+mod left_out;
 mod verdicts;
 
 type Parts = &'static [(u64, bool)];
@@ -122,8 +123,12 @@ fn clause(rt: &(impl Abort + AllocGlobal), parts: &[(u64, bool)]) -> Result<Clau
     Ok(Clause::of(rt.alloc(), &lits)?.expect(rt, "no tautology"))
 }
 
-fn formula(rt: &(impl Abort + AllocGlobal), clauses: &[Parts]) -> Result<Cnf, AllocError> {
-    let mut cnf = Cnf::new(2, Clauses::new(rt.alloc()));
+fn formula(
+    rt: &(impl Abort + AllocGlobal),
+    vars: u64,
+    clauses: &[Parts],
+) -> Result<Cnf, AllocError> {
+    let mut cnf = Cnf::new(vars, Clauses::new(rt.alloc()));
     for parts in clauses {
         let clause = clause(rt, parts)?;
         assert!(rt; clause.is_within(cnf.vars()));
@@ -132,12 +137,19 @@ fn formula(rt: &(impl Abort + AllocGlobal), clauses: &[Parts]) -> Result<Cnf, Al
     Ok(cnf)
 }
 
-fn line(rt: &(impl Abort + AllocGlobal), text: Text) -> Result<Line, AllocError> {
+/// The line, without the hint at the place.
+fn line(
+    rt: &(impl Abort + AllocGlobal),
+    text: Text,
+    without: Option<usize>,
+) -> Result<Line, AllocError> {
     match text {
         Text::Add(id, parts, ids) => {
             let mut hints = Hints::new(rt.alloc());
-            for id in ids {
-                hints.push(Hint::Unit(*id))?;
+            for (place, id) in ids.iter().enumerate() {
+                if without != Some(place) {
+                    hints.push(Hint::Unit(*id))?;
+                }
             }
             let clause = clause(rt, parts)?;
             Ok(Line::Add { id, clause, hints })
@@ -152,7 +164,7 @@ fn line(rt: &(impl Abort + AllocGlobal), text: Text) -> Result<Line, AllocError>
 fn log(rt: &(impl Abort + AllocGlobal), texts: &[Text]) -> Result<Log, AllocError> {
     let mut log = Log::new(rt.alloc());
     for text in texts {
-        log.push(line(rt, *text)?)?;
+        log.push(line(rt, *text, None)?)?;
     }
     Ok(log)
 }
@@ -184,7 +196,7 @@ fn kind_of(settled: &Settled) -> Kind {
 
 #[test]
 fn answers_are_checked(rt: HostRuntime) -> Result<(), Fail> {
-    let cnf = formula(&rt, &SQUARE)?;
+    let cnf = formula(&rt, 2, &SQUARE)?;
     for (number, row) in ROWS.iter().enumerate() {
         let (said, budget, texts, want) = *row;
         let mut solver = Scripted {
@@ -199,7 +211,7 @@ fn answers_are_checked(rt: HostRuntime) -> Result<(), Fail> {
 
 #[test]
 fn a_model_is_given_on(rt: HostRuntime) -> Result<(), Fail> {
-    let cnf = formula(&rt, &SQUARE[..3])?;
+    let cnf = formula(&rt, 2, &SQUARE[..3])?;
     let mut solver = Scripted {
         found: found(&rt, Said::Model(&[1, 2]))?,
         lines: Log::new(rt.alloc()),

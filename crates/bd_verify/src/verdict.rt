@@ -5,7 +5,7 @@ ghost use Rattle.bd_model.specs.Fits.{Fits};
 ghost use Rattle.bd_model.specs.Conditions.{IsJudged, MeetsInvariant, SomeCaseMeetsInvariant};
 ghost use Rattle.bd_model.specs.Lawful.{IsLawful};
 ghost use Rattle.bd_model.specs.Right.{IsRight};
-ghost use Rattle.bd_verify.specs.Verdict.{HasWork};
+ghost use Rattle.bd_verify.specs.Verdict.{HasWork, Says};
 ghost use Rattle.bd_verify.specs.inner.Decided.{IsFound};
 
 use crate::deciding::{Decision, decide};
@@ -23,6 +23,16 @@ pub enum Question {
     Breaks,
     /// Whether one meets the invariant.
     Meets,
+}
+
+/// How equations between words become edges.
+#[derive(Clone, Copy, Debug, PartialEq, Eq)]
+pub enum Mode {
+    /// Each equation between two variables may have an edge.
+    Plain,
+    /// Positive equality (Bryant, German and Velev 2001): applications of positive symbols are taken as different from
+    /// all else, and have no edge.
+    Diverse,
 }
 
 /// The formula of a question, and the log of the solver's answer over it: with the clauses from 1 in order, each line
@@ -54,6 +64,7 @@ pub fn verify<S: HonestSolver>(
     design: &Design,
     budget: u32,
     given: bool,
+    mode: Mode,
 ) -> Result<Verdict, AllocError>
     requires lawful { IsLawful (design_view design.now) }
     ensures correct { (c : Option Case) (work : Work) → result ≡ Ok (Verdict.Correct c work) →
@@ -73,13 +84,14 @@ pub fn verify<S: HonestSolver>(
     ensures met { (work : Work) → result ≡ Ok (Verdict.Undecided Question.Breaks work) →
         given ≡ true → SomeCaseMeetsInvariant (design_view design.now) }
     ensures work { IfOk result (HasWork (design_view design.now) budget) }
+    ensures says { IfOk result (Says (design_view design.now) given) }
 {
     if !given {
-        return breaks(alloc, solver, design, budget, None);
+        return breaks(alloc, solver, design, budget, None, mode);
     }
-    match decide(alloc, solver, design, budget, Question::Meets)? {
+    match decide(alloc, solver, design, budget, Question::Meets, mode)? {
         Decision::None(work) => Ok(Verdict::Void(work)),
-        Decision::Some(case, _) => breaks(alloc, solver, design, budget, Some(case)),
+        Decision::Some(case, _) => breaks(alloc, solver, design, budget, Some(case), mode),
         Decision::Spent(work) => Ok(Verdict::Undecided(Question::Meets, work)),
     }
 }
@@ -91,13 +103,14 @@ fn breaks<S: HonestSolver>(
     design: &Design,
     budget: u32,
     met: Option<Case>,
+    mode: Mode,
 ) -> Result<Verdict, AllocError>
     requires lawful { IsLawful (design_view design.now) }
     requires met { IfSome met (λ c. Fits (design_view design.now) c
         × MeetsInvariant (design_view design.now) c.interp c.state) }
     ensures { IfOk result (IsFound (design_view design.now) budget met) }
 {
-    match decide(alloc, solver, design, budget, Question::Breaks)? {
+    match decide(alloc, solver, design, budget, Question::Breaks, mode)? {
         Decision::None(work) => Ok(Verdict::Correct(met, work)),
         Decision::Some(case, work) => {
             let condition = broken(judge(alloc, design, &case)?);

@@ -3,9 +3,8 @@ use Rattle.std.specs.Prelude.{ℕ, ◌≤◌, List, length, Option, IfSome, Vec}
 use Rattle.std.specs.declared.alloc.Global.{Global}
 use Rattle.std.specs.Option.{option_map}
 use Rattle.bd_app.specs.Files.{File, Sources, case_files}
-use Rattle.bd_app.specs.Words.{Question, check, replay}
+use Rattle.bd_app.specs.Words.{Question, replay}
 use Rattle.bd_app.specs.inner.Asked.{given}
-use Rattle.bd_app.specs.declared.check.CheckWords.{CheckWords}
 use Rattle.bd_app.specs.declared.load.Names.{Names}
 use Rattle.bd_app.specs.declared.load.Sources.{Sources as LoadedSources}
 
@@ -28,8 +27,3 @@ pub record AreShort (s : Sources) : Type 0 where
 -- the question on a case with these names
 abbrev pub replay_of : Names → Question
 replay_of names = replay names.pipe.now names.spec.now names.case.now (given names.inv)
-
--- the question for a verdict with these words
-abbrev pub check_of : CheckWords → Question
-check_of c =
-    check c.pipe.now c.spec.now (given c.inv) c.budget (given c.cnf) (given c.lrat)

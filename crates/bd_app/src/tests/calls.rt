@@ -129,6 +129,12 @@ const INV_I: Load = Load {
     text: "(invariant true)",
 };
 
+/// An invariant whose name looks like an option.
+const INV_DIVERSE: Load = Load {
+    name: "--diverse",
+    ..INV_I
+};
+
 /// Loads of two files, in the order of the words.
 const BOTH: &[Load] = &[PIPE_Z, SPEC_A];
 
@@ -151,7 +157,7 @@ const TAKEN: Calls = Calls {
 };
 
 /// `usage` and others: which calls are made.
-static CALLS: [Calls; 20] = [
+static CALLS: [Calls; 27] = [
     TAKEN,
     Calls {
         words: &["burch_dill", "check", "--budget=200000", "--", "z", "a"],
@@ -166,6 +172,21 @@ static CALLS: [Calls; 20] = [
         words: &["burch_dill", "check", "z", "a", "i", "--lrat", "l"],
         loads: &[PIPE_Z, SPEC_A, INV_I],
         saves: &["l"],
+        out: &["correct\n(case 1\n (latch a false)\n (input go false))\n"],
+        ..TAKEN
+    },
+    Calls {
+        words: &["burch_dill", "check", "--diverse", "z", "a"],
+        ..TAKEN
+    },
+    Calls {
+        words: &["burch_dill", "check", "z", "--lrat", "l", "a", "--diverse"],
+        saves: &["l"],
+        ..TAKEN
+    },
+    Calls {
+        words: &["burch_dill", "check", "z", "a", "--", "--diverse"],
+        loads: &[PIPE_Z, SPEC_A, INV_DIVERSE],
         out: &["correct\n(case 1\n (latch a false)\n (input go false))\n"],
         ..TAKEN
     },
@@ -209,6 +230,22 @@ static CALLS: [Calls; 20] = [
     },
     Calls {
         words: &["burch_dill", "check", "p", "s", "--budget", "1000000001"],
+        ..NOT_TAKEN
+    },
+    Calls {
+        words: &["burch_dill", "check", "p", "s", "--diverse", "--diverse"],
+        ..NOT_TAKEN
+    },
+    Calls {
+        words: &["burch_dill", "check", "p", "s", "--diverse=true"],
+        ..NOT_TAKEN
+    },
+    Calls {
+        words: &["burch_dill", "replay", "p", "s", "c", "--diverse"],
+        ..NOT_TAKEN
+    },
+    Calls {
+        words: &["burch_dill", "gen", "2", "0", "--diverse"],
         ..NOT_TAKEN
     },
     Calls {

@@ -3,7 +3,7 @@
 use super::replays::{
     KEEPS_MEMORY, ONCE, ONE_STAGE, TWICE_AT_ONCE, TWICE_IN_TWO, TWO_STAGE, WITHIN, WRITES_BACK,
 };
-use super::{CHECK, KEEPS, STALLS, TURNS};
+use super::{CHECK, KEEPS, STALLS, STANDS, TURNS};
 
 /// A check, the status and the first line that it ends with, and what a replay of the case that is printed behind the
 /// line answers, or nothing where no case is printed.
@@ -224,7 +224,7 @@ pub static CHECKS: [Check; 29] = [
     Check {
         name: "decided by propagation",
         words: &["burch_dill", "check", "p", "s", "--budget", "0"],
-        pipe: "(pipeline (latch a bool) (next a a) (flush 0) (steps 0))",
+        pipe: STANDS,
         spec: KEEPS,
         ..RIGHT
     },
@@ -325,3 +325,37 @@ pub static CHECKS: [Check; 29] = [
 
 /// The first of these, which `--budget 10000` answers alike.
 pub const WITHIN_BUDGET: usize = 13;
+
+/// Increments with a budget of nothing: by positive equality no equation between them has an edge.
+pub static DIVERSE: [Check; 2] = [
+    Check {
+        name: "two increments by positive equality",
+        words: &[
+            "burch_dill",
+            "check",
+            "--diverse",
+            "p",
+            "s",
+            "--budget",
+            "0",
+        ],
+        pipe: TWICE_AT_ONCE,
+        spec: ONCE,
+        ..WRONG
+    },
+    Check {
+        name: "two increments in two steps by positive equality",
+        words: &[
+            "burch_dill",
+            "check",
+            "p",
+            "s",
+            "--budget",
+            "0",
+            "--diverse",
+        ],
+        pipe: TWICE_IN_TWO,
+        spec: ONCE,
+        ..RIGHT
+    },
+];

@@ -1,6 +1,6 @@
 //! What a run leaves in the files that it saves to.
 
-use super::{Row, SAVES, STALLING, page, shelf_of, words_of};
+use super::{KEEPS, Row, SAVES, STALLING, STANDS, page, shelf_of, words_of};
 use crate::run;
 use bd_files::{Files, Page, Shelf};
 use std::alloc::{AllocError, Global};
@@ -11,27 +11,58 @@ use std::test::Fail;
 struct Saving {
     name: &'static str,
     words: &'static [&'static str],
+    pipe: &'static str,
     failing: u64,
     kept: Option<usize>,
     formula: Option<&'static str>,
     proof: Option<&'static str>,
 }
 
-/// The formula that is saved of the stalling bit.
-const FORMULA: &str = "p cnf ";
+/// The formula that is saved of the bit that stands, worked out by hand. With `a` as variable 1 it says that 2, which is
+/// `a` where 1 is true and its negation where it isn't, is false. Of the four clauses that define 2 (Tseitin 1968) two are
+/// always true, and aren't kept.
+const FORMULA: &str = "p cnf 2 3\n-1 2 0\n1 2 0\n-2 0\n";
+
+/// Its refutation, which `bench/lrat_check.py` accepts: by clause 3 variable 2 is false, so that clause 1 makes 1 false,
+/// and clause 2 is false.
+const PROOF: &str = "4 0 3 1 2 0\n";
 
 const SAVED: Saving = Saving {
     name: "",
     words: SAVES,
+    pipe: STANDS,
     failing: 0,
     kept: None,
     formula: Some(FORMULA),
-    proof: Some(""),
+    proof: Some(PROOF),
 };
 
-static SAVINGS: [Saving; 7] = [
+static SAVINGS: [Saving; 9] = [
     Saving {
         name: "both are saved",
+        ..SAVED
+    },
+    Saving {
+        name: "both are saved by positive equality",
+        words: &[
+            "burch_dill",
+            "check",
+            "--diverse",
+            "p",
+            "s",
+            "--cnf",
+            "formula",
+            "--lrat",
+            "proof",
+        ],
+        ..SAVED
+    },
+    // The bit becomes true where no step is allowed, so the formula says that `a`, variable 1, is false.
+    Saving {
+        name: "a wrong design",
+        pipe: "(pipeline (latch a bool) (next a true) (flush 0) (steps 0))",
+        formula: Some("p cnf 1 1\n-1 0\n"),
+        proof: Some(""),
         ..SAVED
     },
     Saving {
@@ -84,10 +115,10 @@ static SAVINGS: [Saving; 7] = [
     },
 ];
 
-/// Whether a text of that beginning is held under the name, or nothing is.
-fn begins(files: &mut Shelf, name: &str, text: Option<&str>) -> bool {
+/// Whether that text is held under the name, or nothing is.
+fn keeps(files: &mut Shelf, name: &str, text: Option<&str>) -> bool {
     match (files.load(name, 1_048_576), text) {
-        (Ok(bytes), Some(text)) => bytes.as_slice().starts_with(text.as_bytes()),
+        (Ok(bytes), Some(text)) => bytes.as_slice() == text.as_bytes(),
         (Err(_), None) => true,
         _ => false,
     }
@@ -95,6 +126,8 @@ fn begins(files: &mut Shelf, name: &str, text: Option<&str>) -> bool {
 
 fn saves(alloc: Global, saving: &Saving, words: &[String]) -> Result<bool, AllocError> {
     let row = Row {
+        pipe: saving.pipe,
+        spec: KEEPS,
         failing: saving.failing,
         ..STALLING
     };
@@ -121,7 +154,7 @@ fn saves_on(
 ) -> Result<bool, AllocError> {
     let mut err = page(alloc, 200, None)?;
     let _ = run(alloc, words, files, out, &mut err);
-    Ok(begins(files, "formula", saving.formula) && begins(files, "proof", saving.proof))
+    Ok(keeps(files, "formula", saving.formula) && keeps(files, "proof", saving.proof))
 }
 
 #[test]

@@ -1,5 +1,5 @@
 -- A formula with what its edges have to meet (Bryant and Velev 2000: triangles of the completed comparison graph).
-use Rattle.std.specs.Prelude.{◌≡◌, ◌↔◌, ◌<◌, ◌≤◌, ◌-◌, ℕ, Bool, false, not, List, All, Contains, length, map, slice_index}
+use Rattle.std.specs.Prelude.{◌≡◌, ◌↔◌, ◌<◌, ◌≤◌, ◌-◌, ℕ, Bool, false, List, All, Contains, length, map, slice_index}
 use Rattle.bd_cnf.specs.Literal.{Literal, literal}
 use Rattle.bd_cnf.specs.Clause.{Satisfies}
 use Rattle.bd_prop.specs.declared.atom.Atom.{Atom}

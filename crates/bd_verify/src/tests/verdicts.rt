@@ -1,11 +1,11 @@
 //! Designs of no parts. A cycle stands for no step of the specification, unless it is forced to stand for none and for
-//! one.
+//! one. Both modes give the same verdict.
 ghost use Rattle.std.specs.Prelude.{◌≡◌, [], IfOk, map};
 ghost use Rattle.bd_model.specs.DesignView.{design_view, exact_view, machine_view};
 ghost use Rattle.bd_model.specs.Lawful.{IsLawful};
 ghost use Rattle.bd_verify.specs.inner.Example.{forced_twice};
 
-use crate::{Verdict, verify};
+use crate::{Mode, Verdict, verify};
 use bd_cdcl::{Cdcl, HonestSolver, Plain};
 use bd_list::Sequence;
 use bd_model::{Design, Entries, Exact, Exacts, Expr, Exprs, Machine, Ports, Symbols};
@@ -89,6 +89,19 @@ fn word(verdict: &Verdict) -> &'static str {
     }
 }
 
+fn found<S: HonestSolver>(
+    alloc: Global,
+    solver: &mut S,
+    design: &Design,
+    given: bool,
+    mode: Mode,
+) -> Result<&'static str, AllocError>
+    requires { IsLawful (design_view design.now) }
+{
+    let verdict = verify(alloc, solver, design, 9, given, mode)?;
+    Ok(word(&verdict))
+}
+
 fn check<S: HonestSolver>(
     rt: &(impl Abort + AllocGlobal),
     solver: &mut S,
@@ -98,8 +111,10 @@ fn check<S: HonestSolver>(
 ) -> Result<(), AllocError>
     requires { IsLawful (design_view design.now) }
 {
-    let verdict = verify(rt.alloc(), solver, design, 9, given)?;
-    assert_eq!(rt; word(&verdict), want);
+    let plain = found(rt.alloc(), solver, design, given, Mode::Plain)?;
+    assert_eq!(rt; plain, want);
+    let diverse = found(rt.alloc(), solver, design, given, Mode::Diverse)?;
+    assert_eq!(rt; diverse, want);
     Ok(())
 }
 
@@ -123,7 +138,7 @@ fn check_row(rt: &(impl Abort + AllocGlobal), row: &Row) -> Result<(), AllocErro
 }
 
 #[test]
-fn both_solvers_give_the_verdict(rt: HostRuntime) -> Result<(), Fail> {
+fn both_solvers_give_the_verdict_in_both_modes(rt: HostRuntime) -> Result<(), Fail> {
     for row in ROWS.iter() {
         check_row(&rt, row)?;
     }

@@ -1,6 +1,7 @@
 use Rattle.std.proofs.Common.{refl}
 use Rattle.std.proofs.lemmas.Result.{IfOk-weaker}
-use Rattle.bd_app.specs.inner.Loaded.{check_of, sources_view}
+use Rattle.bd_app.specs.inner.Asked.{check_of}
+use Rattle.bd_app.specs.inner.Loaded.{sources_view}
 use Rattle.bd_app.proofs.Verdicts.{found_for, same_given}
 use Rattle.bd_app.proofs.check.found_in.Goals as goal
 

@@ -1,6 +1,6 @@
 use Rattle.std.proofs.Common.{subst, sym}
-use Rattle.bd_app.specs.Words.{check, gen, run}
-use Rattle.bd_app.specs.inner.Asked.{asked, given}
+use Rattle.bd_app.specs.Words.{gen, run}
+use Rattle.bd_app.specs.inner.Asked.{asked, check_of}
 use Rattle.bd_app.specs.inner.Told.{IsAnswered, Leaves, files_seen}
 use Rattle.bd_app.specs.declared.command.Command.{Command}
 use Rattle.bd_app.proofs.Printing.{check_answered, gen_answered, nothing_held, run_answered}
@@ -11,7 +11,7 @@ returns-in-Check-clause-answered g c =
     let k = c.in-Check in
     let held = g.F.Files.held c.args.files.now in
     subst (λ (x : Command). IsAnswered held (asked x) c.check.result) (sym k.is)
-    (check_answered held (check k.pipe.now k.spec.now (given k.inv) k.budget (given k.cnf) (given k.lrat)) c.check.result tt c.check.ensures.answer c.check.ensures.told c.check.ensures.fault)
+    (check_answered held (check_of k.words) c.check.result tt c.check.ensures.answer c.check.ensures.told c.check.ensures.fault)
 
 pub returns-in-Check-clause-leaves : goal.returns-in-Check-clause-leaves
 returns-in-Check-clause-leaves g c =

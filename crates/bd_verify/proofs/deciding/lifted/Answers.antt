@@ -24,4 +24,4 @@ returns-clause-asked c =
     let r = c.args.reduction.now in
     let admitted = c.requires.formulates.down (value_of c.args.model.now) (truth_of c.in_ok-values.values) c.requires.model c.in_ok-values.ensures.agree in
     if_ok (Fits d) (IsLifted r.flat.graph r.flat.syms r.order c.in_ok-values.values) (λ k. (asked : Question) → IsFlatOf d asked r → IsAsked asked d k) c.lift.result c.lift.ensures.fits c.lift.ensures.lifted
-    (λ k fits l asked asks. lifted-asked d asked r.flat.graph r.flat.root r.flat.syms r.order r.formula.cnf r.formula.atoms asks c.requires.formulates c.in_ok-values.values k fits l admitted)
+    (λ k fits l asked asks. lifted-asked d asked r.flat.graph r.flat.root r.flat.syms r.marked r.order r.formula.cnf r.formula.atoms asks c.requires.formulates c.in_ok-values.values k fits l admitted)

@@ -1,6 +1,5 @@
-use Rattle.std.proofs.Common.{◌≡◌, ℕ, Bool, not, ◌&&◌, sym, ◌∙◌, get_or}
+use Rattle.std.proofs.Common.{not, sym}
 use Rattle.bd_cnf.specs.Clause.{clauses_value}
-use Rattle.bd_prop.specs.declared.atom.Atom.{Atom}
 use Rattle.bd_transitive.proofs.Ends.{no_edge}
 use Rattle.bd_verify.specs.inner.Edges.{edge_value}
 use Rattle.bd_verify.proofs.Numbering.{GrowsRows-self, GrowsRows-trans}

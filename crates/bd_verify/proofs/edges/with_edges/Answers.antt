@@ -1,13 +1,7 @@
-use Rattle.std.proofs.Common.{◌≡◌, ◌↔◌, ℕ, ◌<◌, ◌≤◌, Bool, ◌&&◌, not, List, length, All, ap, sym, ◌∙◌, subst}
-use Rattle.std.specs.List.{list_all}
-use Rattle.bd_cnf.specs.Literal.{Literal}
-use Rattle.bd_cnf.specs.Clause.{Satisfies, clauses_value}
-use Rattle.bd_cnf.specs.Problem.{AreWithin, Problem, problem}
-use Rattle.bd_prop.specs.declared.atom.Atom.{Atom}
-use Rattle.bd_transitive.specs.declared.graph.Edge.{Edge}
-use Rattle.bd_tseitin.specs.Rows.{Agree}
-use Rattle.bd_tseitin.specs.declared.row.AtomVar.{AtomVar}
-use Rattle.bd_verify.specs.inner.Edges.{AddsEdges, NamesEdges, edge_value, renamed}
+use Rattle.std.proofs.Common.{◌≡◌, ℕ, ◌≤◌, Bool, ◌&&◌, All, sym, ◌∙◌, subst}
+use Rattle.bd_cnf.specs.Clause.{clauses_value}
+use Rattle.bd_cnf.specs.Problem.{AreWithin}
+use Rattle.bd_verify.specs.inner.Edges.{AddsEdges, NamesEdges, renamed}
 use Rattle.bd_verify.specs.inner.Numbers.{GrowsRows}
 use Rattle.bd_verify.proofs.Edged.{edges-added}
 use Rattle.bd_verify.proofs.Pushing.{AreWithin-more}

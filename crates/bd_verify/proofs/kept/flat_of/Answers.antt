@@ -15,5 +15,6 @@ returns c =
     let h = c.in_ok-plain.ensures in
     let f = c.in_ok-flat.flat in
     let k = c.in_ok-flat.ensures in
-    asks-flat (design_view c.args.design.now) c.args.asked c.root_of.new.graph c.in_ok-root.root c.in_ok-plain.plain c.in_ok-plain.root f.graph f.root f.syms (subst IsGraph c.graph.view_is c.graph.invariant.graph)
-    c.in_ok-root.ensures h.denotes h.sorted h.symbols h.graph k.flattens k.rows k.all_rows k.realized f.flat c.len.ensures.graph
+    asks-flat (design_view c.args.design.now) c.args.asked c.root_of.new.graph c.in_ok-root.root c.in_ok-plain.plain c.in_ok-plain.root f.graph f.root f.syms c.in_ok-marked.marked
+    (subst IsGraph c.graph.view_is c.graph.invariant.graph) c.in_ok-root.ensures h.denotes h.sorted h.symbols h.graph
+    (ReachesNoMemory-all c.in_ok-plain.plain h.graph c.in_ok-plain.root h.sorted.inside h.memories.no_memory) k.flattens k.rows k.all_rows k.chosen f.flat k.graph c.in_ok-marked.ensures.positive

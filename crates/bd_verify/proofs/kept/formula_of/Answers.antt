@@ -1,4 +1,4 @@
-use Rattle.std.proofs.Common.{◌≡◌, ℕ, Bool, true, false, not, Contains, ap, sym, ◌∙◌, subst, ◌↔◌}
+use Rattle.std.proofs.Common.{ℕ, Bool, not, ap, sym, ◌∙◌, subst, ◌↔◌, option_copied}
 use Rattle.std.proofs.lemmas.Bool.{not-true}
 use Rattle.bd_model.specs.DesignView.{design_view}
 use Rattle.bd_cnf.specs.Clause.{Satisfies}
@@ -20,7 +20,7 @@ returns c =
     let old = c.in_ok-formula.formula in
     let new = c.in_ok-formula-2.formula in
     let order = c.in_ok-order.order in
-    formulates d f.graph f.root f.syms c.requires.lawful c.requires.known f.flat e.prop e.root e.edges e.apart h.denotes h.by_edges h.edges h.vertices h.apart order c.in_ok-order.ensures.order c.in_ok-order.ensures.given
+    formulates d f.graph f.root f.syms (option_copied c.args.marked) c.requires.lawful c.requires.known f.flat e.prop e.root e.edges e.apart h.denotes h.by_edges h.edges h.vertices h.apart order c.in_ok-order.ensures.order c.in_ok-order.ensures.vertices c.in_ok-order.ensures.given
     old.cnf new.cnf old.atoms new.atoms
     (subst (λ l. AddsEdges order l old.cnf old.atoms new.cnf new.atoms) c.as_slice-apart.ensures c.in_ok-formula-2.ensures)
     (λ value root_false.

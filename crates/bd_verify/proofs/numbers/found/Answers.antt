@@ -1,9 +1,6 @@
-use Rattle.std.proofs.Common.{◌≡◌, cond, get_or, take, Some, sym, ◌∙◌, subst}
-use Rattle.std.specs.Map.{lookup}
+use Rattle.std.proofs.Common.{cond, get_or, take, Some, sym, ◌∙◌, subst}
 use Rattle.std.proofs.lemmas.List.{take_more}
-use Rattle.bd_prop.specs.declared.atom.Atom.{Atom}
 use Rattle.bd_prop.specs.declared.atom.Atom.TheVariants.{Edge}
-use Rattle.bd_prop.specs.Values.{is_atom}
 use Rattle.bd_prop.proofs.Values.{atom_eq-is}
 use Rattle.bd_tseitin.specs.declared.row.AtomVar.{AtomVar}
 use Rattle.bd_verify.specs.inner.Numbers.{Finds}

@@ -1,11 +1,10 @@
-use Rattle.std.proofs.Common.{◌≡◌, ◌≢◌, ℕ, ◌+◌, cond, None, Some, ap, sym, ◌∙◌, subst, ◌++◌, ◌∷◌, []}
+use Rattle.std.proofs.Common.{◌≡◌, ◌+◌, cond, None, Some, sym, ◌∙◌, subst, ◌++◌, ◌∷◌, []}
 use Rattle.std.specs.Map.{lookup}
 use Rattle.bd_prop.proofs.Same.{atom_eq}
 use Rattle.bd_prop.proofs.Values.{atom_eq-is}
-use Rattle.bd_tseitin.specs.declared.row.AtomVar.{AtomVar}
-use Rattle.bd_tseitin.specs.Rows.{AreRows, HasAtom}
+use Rattle.bd_tseitin.specs.Rows.{AreRows}
 use Rattle.bd_tseitin.proofs.Further.{AreRows-push}
-use Rattle.bd_verify.specs.inner.Numbers.{Finds, GrowsRows, IsNumbered}
+use Rattle.bd_verify.specs.inner.Numbers.{Finds, GrowsRows}
 use Rattle.bd_verify.proofs.Numbering.{Finds-more, GrowsRows-push, Names-row, checked, lookup-atom}
 use Rattle.bd_verify.proofs.numbers.Numbers.variable.Goals as goal
 

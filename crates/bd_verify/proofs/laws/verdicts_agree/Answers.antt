@@ -1,0 +1,5 @@
+use Rattle.bd_verify.proofs.Agreeing.{verdicts-agree}
+use Rattle.bd_verify.proofs.laws.verdicts_agree.Goals as goal
+
+pub returns : goal.returns
+returns c = verdicts-agree
