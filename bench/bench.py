@@ -1,14 +1,17 @@
 #!/usr/bin/env python3
-"""Runs the built program on families of pipelines and formulas, and other programs on the same questions, where they are installed.
+"""Runs the built program, and others where they are installed, on families of pipelines and formulas.
 
-Each row is one question: what the program says, its user time and peak memory, the size of the formula that it kept
-and of the proof that it wrote; then the user times of `z3` and `cvc5` on the question as SMT-LIB, and of `minisat` and
-`cadical` on the kept formula, with their conflicts. Times are in seconds; `-` is a program that isn't installed, and
-`>N` one that didn't end within the limit.
+Each design has a row for each mode of `check`, the second with `--diverse`: what the program says; its user time to
+read the design and build the formula (`--budget 0`), and that for all, both texts saved; its peak memory; the size of
+the formula that it kept, and how many triangles are in it; how many clauses it learned, and the size of the proof
+that it wrote; then the user times of `minisat` and `cadical` on the kept formula, with their conflicts, and of `z3`
+and `cvc5` on the question as SMT-LIB. Times are in seconds; `-` is a program that isn't installed, and `>N` one that
+didn't end within the limit. It stops where the two modes don't say the same.
 
 usage: bench.py PROGRAM [--limit SECONDS] [--only WORD] [--long]
 """
 import argparse
+import itertools
 import os
 import re
 import resource
@@ -18,8 +21,9 @@ import sys
 import tempfile
 
 HERE = os.path.dirname(os.path.abspath(__file__))
-HEAD = ("design", "answer", "time", "MB", "variables", "clauses", "added", "proof MB",
-        "z3", "cvc5", "minisat", "its conflicts", "cadical", "its conflicts")
+HEAD = ("design", "mode", "answer", "build", "whole", "MB", "variables", "clauses", "triangles", "learned",
+        "proof MB", "minisat", "its conflicts", "cadical", "its conflicts", "z3", "cvc5")
+MODES = {"plain": [], "diverse": ["--diverse"]}
 
 
 def run(words, limit):
@@ -59,27 +63,55 @@ def formula_size(name):
     return variables, clauses
 
 
+def is_triangle(clauses):
+    """Whether clauses over the same variables are three of three literals, in each of which another one is positive."""
+    positive = [[literal for literal in clause if literal > 0] for clause in clauses]
+    return (len(clauses) == 3 and all(len(clause) == 3 for clause in clauses)
+            and all(len(part) == 1 for part in positive) and len({part[0] for part in positive}) == 3)
+
+
+def triangles(name):
+    with open(name) as file:
+        clauses = [[int(word) for word in line.split()[:-1]] for line in file if line[0] != "p"]
+    groups = itertools.groupby(clauses, key=lambda clause: sorted(map(abs, clause)))
+    return sum(is_triangle(list(group)) for _, group in groups)
+
+
 def added_clauses(name):
     with open(name) as file:
         return sum(1 for line in file if " d " not in line)
 
 
-def row(program, name, pipe, spec, limit, folder):
-    cnf, proof, smt = (os.path.join(folder, part) for part in ("kept.cnf", "proof.lrat", "question.smt2"))
-    done = run([program, "check", pipe, spec, "--cnf", cnf, "--lrat", proof], limit)
-    if done is None:
-        return [name, "-", f">{limit}"] + ["-"] * (len(HEAD) - 3)
+def mode_row(program, name, mode, pipe, spec, limit, folder):
+    """The cells of a mode, but for those of `z3` and `cvc5`, and the answer."""
+    cnf, proof = (os.path.join(folder, part) for part in ("kept.cnf", "proof.lrat"))
+    check = [program, "check", pipe, spec, *MODES[mode]]
+    build = run([*check, "--budget", "0"], limit)
+    done = run([*check, "--cnf", cnf, "--lrat", proof], limit)
+    if build is None or done is None:
+        return [name, mode, "-", "-", f">{limit}"] + ["-"] * (len(HEAD) - 7), None
     output, _, time, memory = done
     answer = output.split("\n", 1)[0]
-    with open(smt, "w") as file:
-        subprocess.run([sys.executable, os.path.join(HERE, "smtlib.py"), pipe, spec], stdout=file, check=True)
-    z3, _ = timed(["z3", smt], limit)
-    cvc5, _ = timed(["cvc5", smt], limit)
     minisat, said = timed(["minisat", cnf], limit)
     cadical, also = timed(["cadical", "--plain", "--reduce=0", cnf], limit)
     size = os.path.getsize(proof) / 2 ** 20
-    return [name, answer, f"{time:.2f}", f"{memory:.0f}", *formula_size(cnf), str(added_clauses(proof)),
-            f"{size:.1f}", z3, cvc5, minisat, conflicts(said), cadical, conflicts(also)]
+    return [name, mode, answer, f"{build[2]:.2f}", f"{time:.2f}", f"{memory:.0f}", *formula_size(cnf),
+            str(triangles(cnf)), str(added_clauses(proof)), f"{size:.1f}", minisat, conflicts(said), cadical,
+            conflicts(also)], answer
+
+
+def rows(program, name, pipe, spec, limit, folder):
+    smt, words = os.path.join(folder, "question.smt2"), {}
+    with open(smt, "w") as file:
+        subprocess.run([sys.executable, os.path.join(HERE, "smtlib.py"), pipe, spec], stdout=file, check=True)
+    others = [timed([solver, smt], limit)[0] for solver in ("z3", "cvc5")]
+    for mode in MODES:
+        cells, answer = mode_row(program, name, mode, pipe, spec, limit, folder)
+        if answer is not None and not answer.startswith("undecided"):
+            words[answer.split()[0]] = mode
+        yield cells + (others if mode == "plain" else ["", ""])
+    if len(words) > 1:
+        raise SystemExit(f"{name}: the modes disagree: {words}")
 
 
 def generated():
@@ -115,8 +147,8 @@ def main():
         for name, (script, *parts) in [*generated(), *superscalars(words.long), *formulas()]:
             if words.only in name:
                 subprocess.run([sys.executable, os.path.join(HERE, script), *parts, pipe, spec], check=True)
-                cells = row(words.program, name, pipe, spec, words.limit, folder)
-                print("| " + " | ".join(cells) + " |", flush=True)
+                for cells in rows(words.program, name, pipe, spec, words.limit, folder):
+                    print("| " + " | ".join(cells) + " |", flush=True)
 
 
 if __name__ == "__main__":

@@ -9,7 +9,10 @@ the formula.
   random N SEED       random 3-SAT of N variables at 4.26 clauses a variable
   parity N SEED       two chains over N variables whose parities differ: right
 
+With --dimacs the formula itself is written, for solvers of such formulas.
+
 usage: formula.py FAMILY NUMBER .. PIPE SPEC
+       formula.py --dimacs FAMILY NUMBER .. FILE
 """
 import random
 import sys
@@ -33,6 +36,11 @@ def formula_design(variables, clauses):
     return pipe, "(specification (latch wrong bool) (next wrong wrong))\n"
 
 
+def dimacs(variables, clauses):
+    lines = [" ".join(map(str, sorted(clause, key=abs))) + " 0\n" for clause in clauses]
+    return f"p cnf {variables} {len(clauses)}\n" + "".join(lines)
+
+
 def pigeons(holes):
     def at(pigeon, hole):
         return pigeon * holes + hole + 1
@@ -41,7 +49,7 @@ def pigeons(holes):
     for h in range(holes):
         for p in range(holes + 1):
             clauses += [[-at(q, h), -at(p, h)] for q in range(p)]
-    return formula_design((holes + 1) * holes, clauses)
+    return (holes + 1) * holes, clauses
 
 
 def random_formula(variables, seed):
@@ -50,7 +58,7 @@ def random_formula(variables, seed):
     for _ in range(round(4.26 * variables)):
         chosen = source.sample(range(1, variables + 1), 3)
         clauses.append([v if source.random() < 0.5 else -v for v in chosen])
-    return formula_design(variables, clauses)
+    return variables, clauses
 
 
 def parity(variables, seed):
@@ -73,19 +81,28 @@ def parity(variables, seed):
     source.shuffle(order)
     other = chain(order)
     clauses += [[one], [-other]]
-    return formula_design(count, clauses)
+    return count, clauses
 
 
 FAMILIES = {"pigeons": pigeons, "random": random_formula, "parity": parity}
 
 
+def write(name, text):
+    with open(name, "w", encoding="ascii") as file:
+        file.write(text)
+
+
 def main():
-    if len(sys.argv) < 5 or sys.argv[1] not in FAMILIES:
+    words = sys.argv[1:]
+    is_dimacs = words[:1] == ["--dimacs"]
+    family, *rest = words[is_dimacs:] or [""]
+    files = 1 if is_dimacs else 2
+    if family not in FAMILIES or len(rest) <= files:
         sys.exit(__doc__)
-    family, *numbers, pipe, spec = sys.argv[1:]
-    for name, text in zip((pipe, spec), FAMILIES[family](*map(int, numbers))):
-        with open(name, "w", encoding="ascii") as file:
-            file.write(text)
+    formula = FAMILIES[family](*map(int, rest[:-files]))
+    texts = [dimacs(*formula)] if is_dimacs else formula_design(*formula)
+    for name, text in zip(rest[-files:], texts):
+        write(name, text)
 
 
 if __name__ == "__main__":
