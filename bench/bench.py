@@ -64,7 +64,7 @@ def formula_size(name):
 
 
 def is_triangle(clauses):
-    """Whether clauses over the same variables are three of three literals, in each of which another one is positive."""
+    """Whether clauses over the same variables are three of three literals, each with another positive one."""
     positive = [[literal for literal in clause if literal > 0] for clause in clauses]
     return (len(clauses) == 3 and all(len(clause) == 3 for clause in clauses)
             and all(len(part) == 1 for part in positive) and len({part[0] for part in positive}) == 3)
