@@ -148,7 +148,7 @@ module _ (spans : List Span) (value : ℕ → Bool) (count n : ℕ) (links : Lis
       other p ne = get_or-set_other links s.low p s.high 0 ne
 
 module _ (links ends : List ℕ) (n : ℕ) (within : n < length links) (bounded : (p : ℕ) → p < length links → (p ≤ get_or links p 0) × (get_or links p 0 < length links))
-    (h : AreFollowed links ends (n + 1)) (todo : (p : ℕ) → p < n + 1 → get_or ends p 0 ≡ p) where
+    (h : AreFollowed links ends (n + 1)) (ahead : (p : ℕ) → p < n + 1 → get_or ends p 0 ≡ p) where
   size : length ends ≡ length links
   size = h.size
 
@@ -174,7 +174,7 @@ module _ (links ends : List ℕ) (n : ℕ) (within : n < length links) (bounded 
         (λ ne. let k = other p ne in let b = h.bounded p lt in let b0 = b.0 in let b1 = b.1 in (omega arith, omega arith))
         (cases_eq p n);
     own = λ p from lt self. ⊎_elim
-        (λ e. ap (λ x. get_or (set ends n (get_or ends (get_or links n 0) 0)) x 0) e ∙ here ∙ ap (λ x. get_or ends x 0) (ap (λ x. get_or links x 0) (sym e) ∙ self ∙ e) ∙ todo n (omega arith) ∙ sym e)
+        (λ e. ap (λ x. get_or (set ends n (get_or ends (get_or links n 0) 0)) x 0) e ∙ here ∙ ap (λ x. get_or ends x 0) (ap (λ x. get_or links x 0) (sym e) ∙ self ∙ e) ∙ ahead n (omega arith) ∙ sym e)
         (λ ne. other p ne ∙ h.own p (omega arith) lt self)
         (cases_eq p n);
     same = λ p from lt. ⊎_elim
@@ -190,8 +190,8 @@ module _ (links ends : List ℕ) (n : ℕ) (within : n < length links) (bounded 
           (λ ne. other (get_or links p 0) ne ∙ ap (λ x. get_or ends x 0) is)
           (cases_eq (get_or links p 0) n)
 
-  pub todo_less : (p : ℕ) → p < n → get_or (set ends n (get_or ends (get_or links n 0) 0)) p 0 ≡ p
-  todo_less p lt = other p (λ e. omega arith) ∙ todo p (omega arith)
+  pub ahead_less : (p : ℕ) → p < n → get_or (set ends n (get_or ends (get_or links n 0) 0)) p 0 ≡ p
+  ahead_less p lt = other p (λ e. omega arith) ∙ ahead p (omega arith)
 
 -- at first nothing has followed
 pub followed_none : (links ends : List ℕ) → length ends ≡ length links → ((p : ℕ) → p < length links → get_or ends p 0 ≡ p) → AreFollowed links ends (length links)

@@ -9,7 +9,7 @@ use Rattle.bd_transitive.specs.Orders.{IsOrder}
 use Rattle.bd_transitive.specs.Triangle.{AgreesWithClasses, MeetsTriangles, class_of}
 use Rattle.bd_transitive.specs.inner.Spans.{IsSpan, span, span_of}
 use Rattle.bd_transitive.specs.inner.Links.{AreFollowed, AreLinks}
-use Rattle.bd_transitive.proofs.Linking.{followed_more, followed_none, links_false, links_none, links_true, todo_less}
+use Rattle.bd_transitive.proofs.Linking.{followed_more, followed_none, links_false, links_none, links_true, ahead_less}
 use Rattle.bd_transitive.proofs.OrderSpans.{complete_from_order}
 use Rattle.bd_transitive.proofs.ClassesAgree.{classes_agree, classes_below}
 
@@ -41,15 +41,15 @@ module _ (order : Order) (value : ℕ → Bool) (bounded : All (IsSpan (length o
 
 record IsFollowedFrom (links ends : List ℕ) (n : ℕ) : Type 0 where
   done : AreFollowed links ends n
-  todo : (p : ℕ) → p < n → get_or ends p 0 ≡ p
+  ahead : (p : ℕ) → p < n → get_or ends p 0 ≡ p
 
 module _ (links : List ℕ) (bounded : (p : ℕ) → p < length links → (p ≤ get_or links p 0) × (get_or links p 0 < length links)) where
   followed-more : (n : ℕ) → n < length links → (ends : List ℕ) × IsFollowedFrom links ends (n + 1) → (ends : List ℕ) × IsFollowedFrom links ends n
   followed-more n within (ends, h) = (
     set ends n (get_or ends (get_or links n 0) 0),
     record {
-      done = followed_more links ends n within bounded h.done h.todo;
-      todo = todo_less links ends n within bounded h.done h.todo;
+      done = followed_more links ends n within bounded h.done h.ahead;
+      ahead = ahead_less links ends n within bounded h.done h.ahead;
     },
   )
 
@@ -59,7 +59,7 @@ module _ (links : List ℕ) (bounded : (p : ℕ) → p < length links → (p ≤
       let is : length links ≡ n = omega (arith, e) in
       let own : (p : ℕ) → p < length links → get_or (range_with_len 0 (length links)) p 0 ≡ p = own-places (length links) in (
         range_with_len 0 (length links),
-        subst (IsFollowedFrom links (range_with_len 0 (length links))) is (record { done = followed_none links (range_with_len 0 (length links)) (length-range_with_len 0 (length links)) own; todo = own }),
+        subst (IsFollowedFrom links (range_with_len 0 (length links))) is (record { done = followed_none links (range_with_len 0 (length links)) (length-range_with_len 0 (length links)) own; ahead = own }),
       )
   followed-from (suc k) n e =
       let is : n + 1 ≡ suc n = omega arith in

@@ -5,5 +5,5 @@ use Rattle.bd_transitive.proofs.equivalence.followed.Given as goal
 abbrev pub invariant-loop-place : goal.invariant-loop-place
 invariant-loop-place l = record {
   done : AreFollowed l.links l.ends.items l.place;
-  todo : (p : ℕ) → p < l.place → slice_index l.ends.items p ≡ p;
+  ahead : (p : ℕ) → p < l.place → slice_index l.ends.items p ≡ p;
 }
