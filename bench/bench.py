@@ -1,14 +1,17 @@
 #!/usr/bin/env python3
 """Runs the built program, and others where they are installed, on families of pipelines and formulas.
 
-Each design has a row for each mode of `check`, the second with `--diverse`: what the program says; its user time to
-read the design and build the formula (`--budget 0`), and that for all, both texts saved; its peak memory; the size of
-the formula that it kept, and how many triangles are in it; how many clauses it learned, and the size of the proof
-that it wrote; then the user times of `minisat` and `cadical` on the kept formula, with their conflicts, and of `z3`
-and `cvc5` on the question as SMT-LIB. Times are in seconds; `-` is a program that isn't installed, and `>N` one that
-didn't end within the limit. It stops where the two modes don't say the same.
+Each design has a row for each mode of `check`, the second with `--diverse`: what the program says; by `gdb`
+(`inside.py`), the time that it takes to read the design, to reduce the question to terms without memories and
+functions, to encode these as clauses, and for what comes behind, from the solver's start to the answer; its processor
+time for all, both texts saved, and its peak memory; how many terms the question has, how many are left, and how many
+edges and triangles; the size of the formula that it kept; how many clauses it learned, and the size of the proof that
+it wrote; then the processor times of `minisat` and `cadical` on the kept formula, with their conflicts, and of `z3`
+and `cvc5` on the question as SMT-LIB, each with how many times the whole time of the row it is. Times are in seconds;
+`-` is a program that isn't installed, and `>N` one that didn't end within the limit. It stops where the two modes or
+the other programs don't say the same.
 
-usage: bench.py PROGRAM [--limit SECONDS] [--only WORD] [--long]
+usage: bench.py PROGRAM [--limit SECONDS] [--smt SECONDS] [--only WORD] [--long]
 """
 import argparse
 import itertools
@@ -20,14 +23,17 @@ import subprocess
 import sys
 import tempfile
 
+from inside import inside
+
 HERE = os.path.dirname(os.path.abspath(__file__))
-HEAD = ("design", "mode", "answer", "build", "whole", "MB", "variables", "clauses", "triangles", "learned",
-        "proof MB", "minisat", "its conflicts", "cadical", "its conflicts", "z3", "cvc5")
+HEAD = ("design", "mode", "answer", "read", "reduce", "encode", "solve", "whole", "MB", "terms", "left", "edges",
+        "triangles", "variables", "clauses", "learned", "proof MB", "minisat", "its conflicts", "cadical",
+        "its conflicts", "z3", "cvc5")
 MODES = {"plain": [], "diverse": ["--diverse"]}
 
 
 def run(words, limit):
-    """The output, status, user time and peak memory in MB of a command, or None where it takes too long."""
+    """The output, status, processor time and peak memory in MB of a command, or None where it takes too long."""
     read, write = os.pipe()
     child = os.fork()
     if child == 0:
@@ -42,14 +48,26 @@ def run(words, limit):
     _, status, usage = os.wait4(child, 0)
     if os.WIFSIGNALED(status):
         return None
-    return output, os.WEXITSTATUS(status), usage.ru_utime, usage.ru_maxrss / 1024
+    return output, os.WEXITSTATUS(status), usage.ru_utime + usage.ru_stime, usage.ru_maxrss / 1024
 
 
-def timed(words, limit):
+def answer_of(text):
+    """What another program's answer says of the design, if it is one."""
+    words = text.lower().split()
+    if "unsat" in words or "unsatisfiable" in words:
+        return "correct"
+    return "wrong" if "sat" in words or "satisfiable" in words else None
+
+
+def timed(words, limit, own, answers):
+    """The cell of another program: its seconds, and how many times the row's own time that is; and its output."""
     if shutil.which(words[0]) is None:
         return "-", ""
     done = run(words, limit)
-    return (f">{limit}", "") if done is None else (f"{done[2]:.2f}", done[0])
+    if done is None:
+        return f">{limit} (>{limit / own:.0f})", ""
+    answers[answer_of(done[0])] = words[0]
+    return f"{done[2]:.3f} ({done[2] / own:.1f})", done[0]
 
 
 def conflicts(text):
@@ -82,36 +100,46 @@ def added_clauses(name):
         return sum(1 for line in file if " d " not in line)
 
 
-def mode_row(program, name, mode, pipe, spec, limit, folder):
-    """The cells of a mode, but for those of `z3` and `cvc5`, and the answer."""
+def part_cells(command, limit):
+    """The cells of the parts' times, and of the terms and edges."""
+    seen = inside(command, limit)
+    times = [f"{seen[part]:.4f}" if part in seen else "-" for part in ("read", "reduce", "encode", "solve")]
+    terms = seen.get("terms") or ["-"]
+    return times, [str(terms[0]), str(terms[-1]), str(seen.get("edges", "-"))]
+
+
+def mode_row(program, name, mode, pipe, spec, limit, folder, answers):
+    """The cells of a mode, but for those of `z3` and `cvc5`, and the whole time."""
     cnf, proof = (os.path.join(folder, part) for part in ("kept.cnf", "proof.lrat"))
     check = [program, "check", pipe, spec, *MODES[mode]]
-    build = run([*check, "--budget", "0"], limit)
     done = run([*check, "--cnf", cnf, "--lrat", proof], limit)
-    if build is None or done is None:
-        return [name, mode, "-", "-", f">{limit}"] + ["-"] * (len(HEAD) - 7), None
+    if done is None:
+        return [name, mode, *["-"] * 5, f">{limit}"] + ["-"] * (len(HEAD) - 10), limit
     output, _, time, memory = done
+    times, terms = part_cells(check, limit)
     answer = output.split("\n", 1)[0]
-    minisat, said = timed(["minisat", cnf], limit)
-    cadical, also = timed(["cadical", "--plain", "--reduce=0", cnf], limit)
+    if not answer.startswith("undecided"):
+        answers[answer.split()[0]] = mode
+    minisat, said = timed(["minisat", cnf], limit, time, answers)
+    cadical, also = timed(["cadical", "--plain", "--reduce=0", cnf], limit, time, answers)
     size = os.path.getsize(proof) / 2 ** 20
-    return [name, mode, answer, f"{build[2]:.2f}", f"{time:.2f}", f"{memory:.0f}", *formula_size(cnf),
-            str(triangles(cnf)), str(added_clauses(proof)), f"{size:.1f}", minisat, conflicts(said), cadical,
-            conflicts(also)], answer
+    return [name, mode, answer, *times, f"{time:.3f}", f"{memory:.0f}", *terms, str(triangles(cnf)),
+            *formula_size(cnf), str(added_clauses(proof)), f"{size:.1f}", minisat, conflicts(said), cadical,
+            conflicts(also)], time
 
 
-def rows(program, name, pipe, spec, limit, folder):
-    smt, words = os.path.join(folder, "question.smt2"), {}
+def rows(program, name, pipe, spec, limit, smt_limit, folder):
+    smt, answers = os.path.join(folder, "question.smt2"), {}
     with open(smt, "w") as file:
         subprocess.run([sys.executable, os.path.join(HERE, "smtlib.py"), pipe, spec], stdout=file, check=True)
-    others = [timed([solver, smt], limit)[0] for solver in ("z3", "cvc5")]
     for mode in MODES:
-        cells, answer = mode_row(program, name, mode, pipe, spec, limit, folder)
-        if answer is not None and not answer.startswith("undecided"):
-            words[answer.split()[0]] = mode
-        yield cells + (others if mode == "plain" else ["", ""])
-    if len(words) > 1:
-        raise SystemExit(f"{name}: the modes disagree: {words}")
+        cells, time = mode_row(program, name, mode, pipe, spec, limit, folder, answers)
+        others = [timed([solver, smt], smt_limit, time, answers)[0] if mode == "plain" else ""
+                  for solver in ("z3", "cvc5")]
+        yield cells + others
+    answers.pop(None, None)
+    if len(answers) > 1:
+        raise SystemExit(f"{name}: they don't say the same: {answers}")
 
 
 def generated():
@@ -136,7 +164,8 @@ def formulas():
 def main():
     parser = argparse.ArgumentParser(description="Runs the built program and others on families of pipelines.")
     parser.add_argument("program")
-    parser.add_argument("--limit", type=int, default=600, help="user seconds for each run")
+    parser.add_argument("--limit", type=int, default=600, help="processor seconds for each run")
+    parser.add_argument("--smt", type=int, default=60, help="the same for `z3` and `cvc5`")
     parser.add_argument("--only", default="", help="rows whose name has this in it")
     parser.add_argument("--long", action="store_true", help="also the largest superscalars")
     words = parser.parse_args()
@@ -147,7 +176,7 @@ def main():
         for name, (script, *parts) in [*generated(), *superscalars(words.long), *formulas()]:
             if words.only in name:
                 subprocess.run([sys.executable, os.path.join(HERE, script), *parts, pipe, spec], check=True)
-                for cells in rows(words.program, name, pipe, spec, words.limit, folder):
+                for cells in rows(words.program, name, pipe, spec, words.limit, words.smt, folder):
                     print("| " + " | ".join(cells) + " |", flush=True)
 
 

@@ -1,11 +1,11 @@
 #!/usr/bin/env python3
-"""The question of `burch_dill check PIPE SPEC` as SMT-LIB, for general solvers: `unsat` where it is correct.
+"""The question of `burch_dill check PIPE SPEC [INV]` as SMT-LIB, for general solvers: `unsat` where it is correct.
 
 Words are of a sort of their own, memories are arrays, and two memories are compared at one fresh address each, as the
-program does. Each step's terms are defined once, so the text grows with the number of cycles. Invariants and distinct
-constants aren't written.
+program does. Each step's terms are defined once, so the text grows with the number of cycles. With an invariant it is
+asked first whether any state meets it.
 
-usage: smtlib.py PIPE SPEC > QUESTION.smt2
+usage: smtlib.py PIPE SPEC [INV] > QUESTION.smt2
 """
 import re
 import sys
@@ -32,7 +32,7 @@ def parse(text):
 class Machine:
     def __init__(self, tree):
         self.entries, self.inputs, self.functions, self.lets, self.nexts, self.exact = {}, {}, {}, [], {}, []
-        self.flush, self.steps = 0, 0
+        self.flush, self.steps, self.distinct = 0, 0, []
         for head, *parts in tree[1:]:
             if head == "latch":
                 self.entries[parts[0]] = SORTS[parts[1]]
@@ -46,12 +46,23 @@ class Machine:
                 self.lets.append((parts[0], SORTS[parts[1]], parts[2]))
             elif head == "next":
                 self.nexts[parts[0]] = parts[1]
+            elif head == "distinct":
+                self.distinct.append(parts)
             elif head == "exact":
                 self.exact.append((int(parts[0]), parts[1]))
             elif head == "flush":
                 self.flush = int(parts[0])
             elif head == "steps":
                 self.steps = int(parts[0])
+
+
+class Invariant:
+    def __init__(self, tree):
+        self.lets = [(name, SORTS[sort], expr) for _, name, sort, expr in tree[1:-1]]
+        self.expr = tree[-1]
+
+    def holds(self, writer, state):
+        return written(self.expr, lets_of(self, writer, state))
 
 
 class Writer:
@@ -113,27 +124,44 @@ def equal(spec, writer, left, right):
     return f"(and {' '.join(parts)} true)"
 
 
-def question(pipe, spec):
-    writer = Writer()
-    for name, (arity, sort) in {**pipe.functions, **spec.functions}.items():
-        writer.declare(f"f_{name}", arity, sort)
-    state = {name: writer.declare(f"s_{name}", 0, sort) for name, sort in pipe.entries.items()}
-    inputs = {name: writer.declare(f"i_{name}", 0, sort) for name, (sort, _) in pipe.inputs.items()}
+def commutes(pipe, spec, writer, state, inputs, after):
+    """That the flushed pipeline stands where the specification stands after some number of steps that is allowed."""
     names = lets_of(pipe, writer, {**state, **inputs})
-    after = flushed(pipe, writer, step(pipe, writer, state, inputs))
-    before = {entry: flushed_state for entry, flushed_state in flushed(pipe, writer, state).items() if entry in spec.entries}
+    after = flushed(pipe, writer, after)
+    before = {name: term for name, term in flushed(pipe, writer, state).items() if name in spec.entries}
     allowed = []
     for count in range(pipe.steps + 1):
         bars = [f"(not {written(when, names)})" for exact, when in pipe.exact if exact != count]
         allowed.append(f"(and true {' '.join(bars)} {equal(spec, writer, after, before)})")
         before = step(spec, writer, before, {})
-    writer.lines += [f"(assert (not (or false {' '.join(allowed)})))", "(check-sat)"]
+    return f"(or false {' '.join(allowed)})"
+
+
+def question(pipe, spec, invariant):
+    writer = Writer()
+    for name, (arity, sort) in {**pipe.functions, **spec.functions}.items():
+        writer.declare(f"f_{name}", arity, sort)
+    for constants in pipe.distinct + spec.distinct:
+        writer.lines.append(f"(assert (distinct {' '.join(f'f_{name}' for name in constants)}))")
+    state = {name: writer.declare(f"s_{name}", 0, sort) for name, sort in pipe.entries.items()}
+    inputs = {name: writer.declare(f"i_{name}", 0, sort) for name, (sort, _) in pipe.inputs.items()}
+    after = step(pipe, writer, state, inputs)
+    right = commutes(pipe, spec, writer, state, inputs, after)
+    if invariant:
+        right = f"(and {right} {invariant.holds(writer, after)})"
+        writer.lines += [f"(assert {invariant.holds(writer, state)})", "(check-sat)"]
+    writer.lines += [f"(assert (not {right}))", "(check-sat)"]
     return "\n".join(writer.lines) + "\n"
 
 
+def tree_in(name):
+    with open(name) as file:
+        return parse(file.read())
+
+
 def main():
-    with open(sys.argv[1]) as pipe, open(sys.argv[2]) as spec:
-        sys.stdout.write(question(Machine(parse(pipe.read())), Machine(parse(spec.read()))))
+    pipe, spec, *inv = (tree_in(name) for name in sys.argv[1:])
+    sys.stdout.write(question(Machine(pipe), Machine(spec), Invariant(inv[0]) if inv else None))
 
 
 if __name__ == "__main__":

@@ -1,0 +1,88 @@
+"""What a run of the built program does inside, by `gdb`: how long each part takes, and how large its question is.
+
+The program is stopped where it enters and leaves the calls below, which are found in its symbol table. In front of a
+call of `reached` the second argument is a graph of terms, which begins with the list of its nodes; in front of
+`triangles` it is an order, which begins with the list of its vertices, and then has that of its edges. A list is
+three words: where it lies, its length, and its room.
+"""
+import json
+import os
+import shutil
+import subprocess
+import tempfile
+
+WORD = 8
+PARTS = {
+    "read": "bd_app::design::design",
+    "reduce": "bd_verify::kept::flat_of",
+    "encode": "bd_verify::kept::formula_of",
+}
+
+
+def inside(command, limit):
+    """The processor seconds of each part, the terms of each graph and the edges, or nothing without `gdb`."""
+    if shutil.which("gdb") is None:
+        return {}
+    with tempfile.TemporaryDirectory() as folder:
+        name = os.path.join(folder, "inside.json")
+        words = ["gdb", "-nx", "-batch", "-x", os.path.abspath(__file__), "--args", *command]
+        env = {**os.environ, "INSIDE": name}
+        try:
+            subprocess.run(words, env=env, stdout=subprocess.DEVNULL, stderr=subprocess.DEVNULL, timeout=limit)
+            with open(name) as file:
+                return json.load(file)
+        except (subprocess.TimeoutExpired, OSError):
+            return {}
+
+
+def watch(gdb):
+    """Runs the program under the debugger, and writes down what was seen."""
+    seen = {"terms": []}
+    begun = {}
+
+    def clock():
+        with open(f"/proc/{gdb.selected_inferior().pid}/schedstat") as file:
+            return int(file.read().split()[0]) / 1e9
+
+    def word(place):
+        return int.from_bytes(gdb.selected_inferior().read_memory(place, WORD).tobytes(), "little")
+
+    def register(name):
+        return int(gdb.parse_and_eval(f"(unsigned long) ${name}"))
+
+    class Stop(gdb.Breakpoint):
+        """Does something each time that the program comes to a place, and goes on."""
+
+        def __init__(self, place, then):
+            super().__init__(place, internal=True)
+            self.then = then
+
+        def stop(self):
+            self.then()
+            return False
+
+    def end(part):
+        seen[part] = seen.get(part, 0) + clock() - begun[part]
+        begun["solve"] = clock()
+
+    def begin(part):
+        if part not in begun:
+            Stop(f"*{word(register('rsp'))}", lambda: end(part))
+        begun[part] = clock()
+
+    for part, name in PARTS.items():
+        Stop(name, lambda part=part: begin(part))
+    Stop("bd_app::report::verdict_answer", lambda: end("solve"))
+    Stop("bd_terms::reach::reached", lambda: seen["terms"].append(word(register("rsi") + WORD)))
+    Stop("bd_transitive::clauses::triangles", lambda: seen.update(edges=word(register("rsi") + 4 * WORD)))
+    gdb.execute("run")
+    with open(os.environ["INSIDE"], "w") as file:
+        json.dump(seen, file)
+
+
+try:
+    import gdb
+except ImportError:
+    pass
+else:
+    watch(gdb)
