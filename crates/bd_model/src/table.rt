@@ -20,6 +20,7 @@ pub enum Scalar {
 
 impl Scalar {
     ghost use Rattle.bd_model.specs.Fits.{scalar_sort};
+    ghost use Rattle.bd_model.specs.Value.{scalar_truth, scalar_word};
 
     /// Its sort.
     pub fn sort(self) -> Sort
@@ -28,6 +29,26 @@ impl Scalar {
         match self {
             Scalar::Bool(_) => Sort::Bool,
             Scalar::Word(_) => Sort::Word,
+        }
+    }
+
+    /// The truth value. A word counts as false.
+    pub fn truth(self) -> bool
+        ensures { result ≡ scalar_truth self }
+    {
+        match self {
+            Scalar::Bool(truth) => truth,
+            Scalar::Word(_) => false,
+        }
+    }
+
+    /// The word. A truth value counts as 0.
+    pub fn word(self) -> u64
+        ensures { result ≡ scalar_word self }
+    {
+        match self {
+            Scalar::Bool(_) => 0,
+            Scalar::Word(word) => word,
         }
     }
 }
