@@ -8,7 +8,7 @@ ghost use Rattle.bd_equality.specs.inner.Split.{AreAsked, Asks};
 
 use crate::split::split;
 use bd_function::Flat;
-use bd_terms::{Id, Marks, Node};
+use bd_terms::{Id, Node, ReachedTerms};
 use indexmap::IndexSet;
 use std::alloc::{AllocError, Global};
 use std::marker::Model;
@@ -52,7 +52,7 @@ impl Partners {
 }
 
 /// For each ite the words with which it is compared.
-pub(crate) fn asked(alloc: Global, flat: &Flat, marks: &Marks) -> Result<Vec<Partners>, AllocError>
+pub(crate) fn asked(alloc: Global, flat: &Flat, marks: &ReachedTerms) -> Result<Vec<Partners>, AllocError>
     requires { (id : ℕ) → IsTrue (slice_index_or marks.now id false)
         ↔ Reaches flat.now.graph flat.now.root id }
     ensures { IfOk result (λ p. AreAsked flat.now.graph flat.now.root 0 p.items) }

@@ -15,7 +15,7 @@ use crate::split::{Equation, split};
 use bd_function::{Flat, Marked};
 use bd_model::Sort;
 use bd_prop::{Atom, Prop};
-use bd_terms::{Id, Marks, Node};
+use bd_terms::{Id, Node, ReachedTerms};
 use std::alloc::{AllocError, Global};
 
 /// The truth graph, the node of each term that is passed (0 for words and what isn't reached), and those of the
@@ -54,7 +54,7 @@ impl Encoding {
         &mut self,
         flat: &Flat,
         marked: Option<&Marked>,
-        marks: &Marks,
+        marks: &ReachedTerms,
         partners: &[Partners],
         id: Id,
     ) -> Result<usize, AllocError>

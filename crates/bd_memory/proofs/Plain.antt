@@ -5,8 +5,8 @@ use Rattle.bd_model.specs.declared.design.Sort.{Sort}
 use Rattle.bd_model.specs.declared.design.Sort.TheVariants as sort
 use Rattle.bd_terms.specs.declared.node.Node.{Node}
 use Rattle.bd_terms.specs.declared.node.Node.TheVariants.{True, Not, And, Or, Ite, Eq, App, Pred, Read, Write, Init}
-use Rattle.bd_terms.specs.declared.simplify.Form.{Form}
-use Rattle.bd_terms.specs.declared.simplify.Form.TheVariants.{Same, Built}
+use Rattle.bd_terms.specs.declared.simplify.Outcome.{Outcome}
+use Rattle.bd_terms.specs.declared.simplify.Outcome.TheVariants.{Same, Built}
 use Rattle.bd_terms.specs.Graph.{IsGraph, children, node_sort, sorts, sort_at}
 use Rattle.bd_terms.specs.Simplified.{Gives, is_true, is_false, negated, simplified}
 use Rattle.bd_terms.proofs.Places.{get-push}
@@ -15,12 +15,12 @@ use Rattle.bd_terms.proofs.Reaching.{children-below}
 use Rattle.bd_memory.specs.Forward.{HasNoMemory}
 use Rattle.bd_memory.specs.inner.Forwarding.{IsPlain, is_plain}
 
-FormPlain : Form → Type 0
-FormPlain (Same a) = Unit {0}
-FormPlain (Built n) = is_plain n ≡ true
+OutcomePlain : Outcome → Type 0
+OutcomePlain (Same a) = Unit {0}
+OutcomePlain (Built n) = is_plain n ≡ true
 
-negated-plain : (a : ℕ) (o : Option Node) → FormPlain (negated a o)
-unfolding FormPlain
+negated-plain : (a : ℕ) (o : Option Node) → OutcomePlain (negated a o)
+unfolding OutcomePlain
 negated-plain a (Some (Not b)) = tt
 negated-plain a None = refl
 negated-plain a (Some True) = refl
@@ -34,23 +34,23 @@ negated-plain a (Some (Read m b)) = refl
 negated-plain a (Some (Write m b d)) = refl
 negated-plain a (Some (Init x)) = refl
 
-if-form : (P : Form → Type 0) (t : Bool) (x y : Form) → P x → P y → P (if t then x else y)
-if-form P true x y h k = h
-if-form P false x y h k = k
+if-outcome : (P : Outcome → Type 0) (t : Bool) (x y : Outcome) → P x → P y → P (if t then x else y)
+if-outcome P true x y h k = h
+if-outcome P false x y h k = k
 
-simplified-plain : (old : List Node) (node : Node) → is_plain node ≡ true → FormPlain (simplified old node)
-unfolding FormPlain
+simplified-plain : (old : List Node) (node : Node) → is_plain node ≡ true → OutcomePlain (simplified old node)
+unfolding OutcomePlain
 simplified-plain old (Not a) h = negated-plain a (slice_get old a)
 simplified-plain old (And a b) h =
-    if-form FormPlain (is_true old a || is_false old b || a == b) (Same b) (if is_false old a || is_true old b then Same a else Built (And a b)) tt
-    (if-form FormPlain (is_false old a || is_true old b) (Same a) (Built (And a b)) tt refl)
+    if-outcome OutcomePlain (is_true old a || is_false old b || a == b) (Same b) (if is_false old a || is_true old b then Same a else Built (And a b)) tt
+    (if-outcome OutcomePlain (is_false old a || is_true old b) (Same a) (Built (And a b)) tt refl)
 simplified-plain old (Or a b) h =
-    if-form FormPlain (is_false old a || is_true old b || a == b) (Same b) (if is_true old a || is_false old b then Same a else Built (Or a b)) tt
-    (if-form FormPlain (is_true old a || is_false old b) (Same a) (Built (Or a b)) tt refl)
+    if-outcome OutcomePlain (is_false old a || is_true old b || a == b) (Same b) (if is_true old a || is_false old b then Same a else Built (Or a b)) tt
+    (if-outcome OutcomePlain (is_true old a || is_false old b) (Same a) (Built (Or a b)) tt refl)
 simplified-plain old (Ite c a b) h =
-    if-form FormPlain (is_true old c || a == b) (Same a) (if is_false old c then Same b else Built (Ite c a b)) tt
-    (if-form FormPlain (is_false old c) (Same b) (Built (Ite c a b)) tt refl)
-simplified-plain old (Eq a b) h = if-form FormPlain (a == b) (Built True) (Built (Eq a b)) refl refl
+    if-outcome OutcomePlain (is_true old c || a == b) (Same a) (if is_false old c then Same b else Built (Ite c a b)) tt
+    (if-outcome OutcomePlain (is_false old c) (Same b) (Built (Ite c a b)) tt refl)
+simplified-plain old (Eq a b) h = if-outcome OutcomePlain (a == b) (Built True) (Built (Eq a b)) refl refl
 simplified-plain old True h = h
 simplified-plain old (App s args) h = h
 simplified-plain old (Pred s args) h = h
@@ -63,15 +63,15 @@ IsPlain-push old n p q = record {
   plain = λ i node h. elim (get-push old n i node h) [ inl a ↦ p.plain i node a | inr a ↦ ap is_plain a.1 ∙ q ];
 }
 
-Gives-IsPlain_form : (old new : List Node) (id : ℕ) (f : Form) → FormPlain f → Gives old new id f → IsPlain old → IsPlain new
-unfolding FormPlain
-Gives-IsPlain_form old new id (Same a) q h p = subst IsPlain (sym h.0) p
-Gives-IsPlain_form old new id (Built n) q h p =
+Gives-IsPlain_outcome : (old new : List Node) (id : ℕ) (f : Outcome) → OutcomePlain f → Gives old new id f → IsPlain old → IsPlain new
+unfolding OutcomePlain
+Gives-IsPlain_outcome old new id (Same a) q h p = subst IsPlain (sym h.0) p
+Gives-IsPlain_outcome old new id (Built n) q h p =
     elim h.adds [ inl e ↦ subst IsPlain (sym e) p | inr e ↦ subst IsPlain (sym e) (IsPlain-push old n p q) ]
 
 -- a plain term that is built leaves the graph plain
 pub Gives-IsPlain : (old new : List Node) (id : ℕ) (node : Node) → is_plain node ≡ true → Gives old new id (simplified old node) → IsPlain old → IsPlain new
-Gives-IsPlain old new id node q h p = Gives-IsPlain_form old new id (simplified old node) (simplified-plain old node q) h p
+Gives-IsPlain old new id node q h p = Gives-IsPlain_outcome old new id (simplified old node) (simplified-plain old node q) h p
 
 pub is_memory : Sort → Bool
 is_memory sort.Bool = false

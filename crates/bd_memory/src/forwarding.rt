@@ -10,7 +10,7 @@ ghost use Rattle.bd_memory.specs.inner.Forwarding.{Follows, Grows, Holds, IsStep
 
 use crate::reads::Reads;
 use bd_model::Sort;
-use bd_terms::{Graph, Id, Marks, Node, Sym};
+use bd_terms::{Graph, Id, Node, ReachedTerms, Sym};
 use std::alloc::{AllocError, Global};
 
 // The new graph, the new place of each old term that is passed (0 for memories and what isn't reached), and the
@@ -51,7 +51,7 @@ impl Forwarding {
     }
 
     // The place of the next term of the old graph: one of no meaning for a memory and what isn't marked.
-    pub(crate) fn next(&mut self, old: &Graph, marks: &Marks, id: Id) -> Result<Id, AllocError>
+    pub(crate) fn next(&mut self, old: &Graph, marks: &ReachedTerms, id: Id) -> Result<Id, AllocError>
         ghost root: { ℕ }
         requires holds { Holds old.now root self.old }
         requires next { id ≡ length self.old.places.items }

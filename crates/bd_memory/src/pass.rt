@@ -8,7 +8,7 @@ ghost use Rattle.bd_memory.specs.Forward.{AppliesReached, DenotesSame, HasNoMemo
 ghost use Rattle.bd_memory.specs.inner.Forwarding.{MarksReached};
 
 use crate::forwarding::Forwarding;
-use bd_terms::{Graph, Id, Marks, reached};
+use bd_terms::{Graph, Id, ReachedTerms, reached};
 use std::alloc::{AllocError, Global};
 
 /// A graph without memories, and the root in it that denotes what this root denotes.
@@ -29,7 +29,7 @@ fn forward_marked(
     alloc: Global,
     graph: &Graph,
     root: Id,
-    marks: &Marks,
+    marks: &ReachedTerms,
 ) -> Result<(Graph, Id), AllocError>
     ghost top: { ℕ }
     requires top { root ≡ top }

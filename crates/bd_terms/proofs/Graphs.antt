@@ -1,4 +1,4 @@
--- What a graph keeps when a node is put behind the others.
+-- What a graph keeps when a node is put after the others.
 use Rattle.std.proofs.Common.{◌≡◌, ℕ, zero, suc, ◌+◌, ◌<◌, ◌⊎◌, inl, inr, List, [], ◌∷◌, ◌++◌, length, slice_get, take, drop, Some, Contains, refl, ap, sym, ◌∙◌, subst, arith, length-append}
 use Rattle.std.specs.List.{All}
 use Rattle.bd_list.proofs.Grown.{grown-push, get-grown_front}
@@ -6,8 +6,8 @@ use Rattle.bd_model.specs.declared.design.Sort.{Sort}
 use Rattle.bd_model.specs.declared.design.Sort.TheVariants as sort
 use Rattle.bd_terms.specs.declared.node.Node.{Node}
 use Rattle.bd_terms.specs.declared.node.Node.TheVariants.{True, Not, And, Or, Ite, Eq, App, Pred, Read, Write, Init}
-use Rattle.bd_terms.specs.Graph.{node_sort, sorts, sort_at, HasSort, FitsSorts, Use, node_uses, uses, KeepsSymbol, IsGraph}
-use Rattle.bd_terms.specs.inner.Kept.{KeepsUses, IsKept}
+use Rattle.bd_terms.specs.Graph.{node_sort, sorts, sort_at, HasSort, FitsSorts, Use, node_uses, uses, KeepsSymbol, KeepsUses, IsGraph}
+use Rattle.bd_terms.specs.inner.Kept.{IsKept}
 use Rattle.bd_terms.proofs.Places.{get-push, around, grown-get}
 use Rattle.std.proofs.lemmas.Option.{slice_get_within}
 use Rattle.std.proofs.lemmas.Grind.{flat_map-append}
@@ -110,7 +110,7 @@ Agree-push nodes node g k u v (inr p) (inr q) =
     let same = node_uses-one node v u q p in
     record { agree = λ e. (ap (λ x. x.arity) same, ap (λ x. x.sort) same) }
 
--- a graph stays one when a node is put behind the others that fits it, applies its symbol as the graph does, and
+-- a graph stays one when a node is put after the others that fits it, applies its symbol as the graph does, and
 -- isn't there
 IsGraph-push : (nodes : List Node) (node : Node) → IsGraph nodes → FitsSorts nodes node → KeepsUses nodes node
     → ((i j : ℕ) (n : Node) → slice_get (nodes ++ node ∷ []) i ≡ Some n → slice_get (nodes ++ node ∷ []) j ≡ Some n → i ≡ j)
@@ -138,7 +138,7 @@ IsGraph-pushed nodes node nodes' g fits keeps e different =
     subst IsGraph (sym e) (IsGraph-push nodes node g fits keeps
     (subst (λ l. (i j : ℕ) (n : Node) → slice_get l i ≡ Some n → slice_get l j ≡ Some n → i ≡ j) e different))
 
--- a node behind the others, and its sort behind theirs
+-- a node after the others, and its sort after theirs
 pub IsKept-pushed : (nodes : List Node) (kept : List Sort) (node : Node) (s : Sort) (nodes' : List Node) (kept' : List Sort)
     → IsKept nodes kept → FitsSorts nodes node → KeepsUses nodes node
     → s ≡ node_sort (sorts nodes) node → nodes' ≡ nodes ++ node ∷ [] → kept' ≡ kept ++ s ∷ []

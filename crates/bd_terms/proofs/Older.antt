@@ -5,8 +5,8 @@ use Rattle.std.proofs.lemmas.List.{append-nil}
 use Rattle.std.proofs.lemmas.List.Elements.{All-contains}
 use Rattle.bd_terms.specs.declared.node.Node.{Node}
 use Rattle.bd_terms.specs.declared.node.Node.TheVariants.{True, Not, And, Or, Ite, Eq, App, Pred, Read, Write, Init}
-use Rattle.bd_terms.specs.declared.simplify.Form.{Form}
-use Rattle.bd_terms.specs.declared.simplify.Form.TheVariants.{Same, Built}
+use Rattle.bd_terms.specs.declared.simplify.Outcome.{Outcome}
+use Rattle.bd_terms.specs.declared.simplify.Outcome.TheVariants.{Same, Built}
 use Rattle.bd_terms.specs.Graph.{Extends, FitsSorts, IsGraph, Use, children, node_uses}
 use Rattle.bd_terms.specs.Reaches.{Reaches, Root, Child, ReachesUse}
 use Rattle.bd_terms.specs.Simplified.{Gives, KeptAt, is_true, is_false, negated, simplified}
@@ -87,7 +87,7 @@ KeptAt-Extends : (old new : List Node) (id : ℕ) (n : Node) → KeptAt old new 
 KeptAt-Extends old new id n h = elim h.adds [ inl e ↦ record { more = []; grows = e ∙ sym (append-nil old) } | inr e ↦ record { more = n ∷ []; grows = e } ]
 
 -- a form stands for a node that a child of the term reaches, or for the term, or for one that stands over none
-FormReaches : List Node → Node → Form → Type 0
+FormReaches : List Node → Node → Outcome → Type 0
 FormReaches old node (Same a) = (c : ℕ) × Contains (children node) c × Reaches old c a
 FormReaches old node (Built n) = (n ≡ node) ⊎ ((node_uses n ≡ []) × (children n ≡ []))
 
@@ -106,7 +106,7 @@ negated-reaches old a (Some (Read m b)) e = inl refl
 negated-reaches old a (Some (Write m b d)) e = inl refl
 negated-reaches old a (Some (Init x)) e = inl refl
 
-if-form : (P : Form → Type 0) (t : Bool) (x y : Form) → P x → P y → P (if t then x else y)
+if-form : (P : Outcome → Type 0) (t : Bool) (x y : Outcome) → P x → P y → P (if t then x else y)
 if-form P true x y h k = h
 if-form P false x y h k = k
 
@@ -171,7 +171,7 @@ ReachesUse-KeptAt old new g id n node u fits same h r = elim (Reaches-first new 
       ]
 ]
 
-ReachesUse-Gives_form : (old new : List Node) → IsGraph new → (id : ℕ) (node : Node) (f : Form) (u : Use) → FitsSorts old node → FormReaches old node f
+ReachesUse-Gives_form : (old new : List Node) → IsGraph new → (id : ℕ) (node : Node) (f : Outcome) (u : Use) → FitsSorts old node → FormReaches old node f
     → Gives old new id f → ReachesUse new id u → Contains (node_uses node) u ⊎ UseBelow old node u
 unfolding FormReaches
 ReachesUse-Gives_form old new g id node (Same a) u fits below h r = inr (ReachesUse-Same old new id a node u below h r)

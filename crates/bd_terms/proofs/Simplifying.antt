@@ -6,8 +6,8 @@ use Rattle.bd_model.specs.declared.design.Sort.{Sort}
 use Rattle.bd_model.specs.declared.design.Sort.TheVariants as sort
 use Rattle.bd_terms.specs.declared.node.Node.{Node}
 use Rattle.bd_terms.specs.declared.node.Node.TheVariants.{True, Not, And, Or, Ite, Eq, App, Pred, Read, Write, Init}
-use Rattle.bd_terms.specs.declared.simplify.Form.{Form}
-use Rattle.bd_terms.specs.declared.simplify.Form.TheVariants.{Same, Built}
+use Rattle.bd_terms.specs.declared.simplify.Outcome.{Outcome}
+use Rattle.bd_terms.specs.declared.simplify.Outcome.TheVariants.{Same, Built}
 use Rattle.bd_terms.specs.Graph.{HasSort, FitsSorts, IsGraph, sorts, sort_at, node_sort, node_uses}
 use Rattle.bd_terms.specs.Denotation.{World, Denoted, Truth, Word, Contents, truth_of, word_of, contents_of, node_value, values, denoted, denoted_sort, truth, word, contents}
 use Rattle.bd_terms.specs.Simplified.{node_is_true, node_is_false, is_true, is_false, negated, simplified}
@@ -114,7 +114,7 @@ truth-false_by w nodes g i (Some (Init x)) e h = cc
 truth-false : (w : World) (nodes : List Node) → IsGraph nodes → (i : ℕ) → is_false nodes i ≡ true → truth w nodes i ≡ false
 truth-false w nodes g i h = truth-false_by w nodes g i (slice_get nodes i) refl h
 
-if-either : (P : Form → Type 0) (t : Bool) (x y : Form) → (t ≡ true → P x) → (t ≡ false → P y) → P (if t then x else y)
+if-either : (P : Outcome → Type 0) (t : Bool) (x y : Outcome) → (t ≡ true → P x) → (t ≡ false → P y) → P (if t then x else y)
 if-either P true x y h k = h refl
 if-either P false x y h k = k refl
 
@@ -167,12 +167,12 @@ not-not true = refl
 not-not false = refl
 
 -- what a form denotes
-abbrev pub form_value : World → List Node → Form → Denoted
-form_value w nodes (Same a) = denoted w nodes a
-form_value w nodes (Built n) = node_value w (values w nodes) n
+abbrev pub outcome_value : World → List Node → Outcome → Denoted
+outcome_value w nodes (Same a) = denoted w nodes a
+outcome_value w nodes (Built n) = node_value w (values w nodes) n
 
 negated-value : (w : World) (nodes : List Node) → IsGraph nodes → (a : ℕ) (o : Option Node) → slice_get nodes a ≡ o
-    → form_value w nodes (negated a o) ≡ node_value w (values w nodes) (Not a)
+    → outcome_value w nodes (negated a o) ≡ node_value w (values w nodes) (Not a)
 negated-value w nodes g a (Some (Not b)) e =
     denoted-truth w nodes g b (FitsSorts-get nodes g a (Not b) e)
     ∙ ap Truth (not-not (truth w nodes b) ∙ ap (λ d. not (truth_of d)) (sym (denoted-get w nodes g a (Not b) e)))
@@ -190,10 +190,10 @@ negated-value w nodes g a (Some (Init x)) e = refl
 
 -- a simplified term denotes what the term does
 pub simplified-value : (w : World) (nodes : List Node) → IsGraph nodes → (node : Node) → FitsSorts nodes node
-    → form_value w nodes (simplified nodes node) ≡ node_value w (values w nodes) node
+    → outcome_value w nodes (simplified nodes node) ≡ node_value w (values w nodes) node
 simplified-value w nodes g (Not a) fits = negated-value w nodes g a (slice_get nodes a) refl
 simplified-value w nodes g (And a b) fits =
-    let P : Form → Type 0 = λ f. form_value w nodes f ≡ Truth (truth w nodes a && truth w nodes b) in
+    let P : Outcome → Type 0 = λ f. outcome_value w nodes f ≡ Truth (truth w nodes a && truth w nodes b) in
     if-either P (is_true nodes a || is_false nodes b || a == b) (Same b) (if is_false nodes a || is_true nodes b then Same a else Built (And a b))
     (λ h. denoted-truth w nodes g b fits.1 ∙ ap Truth (and-second (truth w nodes a) (truth w nodes b)
     (or-three (is_true nodes a) (is_false nodes b) (a == b) h (truth-true w nodes g a) (truth-false w nodes g b) (λ e. ap (truth w nodes) (eqb-true a b e)))))
@@ -202,7 +202,7 @@ simplified-value w nodes g (And a b) fits =
     (or-two (is_false nodes a) (is_true nodes b) h (truth-false w nodes g a) (truth-true w nodes g b))))
     (λ _. refl))
 simplified-value w nodes g (Or a b) fits =
-    let P : Form → Type 0 = λ f. form_value w nodes f ≡ Truth (truth w nodes a || truth w nodes b) in
+    let P : Outcome → Type 0 = λ f. outcome_value w nodes f ≡ Truth (truth w nodes a || truth w nodes b) in
     if-either P (is_false nodes a || is_true nodes b || a == b) (Same b) (if is_true nodes a || is_false nodes b then Same a else Built (Or a b))
     (λ h. denoted-truth w nodes g b fits.1 ∙ ap Truth (or-second (truth w nodes a) (truth w nodes b)
     (or-three (is_false nodes a) (is_true nodes b) (a == b) h (truth-false w nodes g a) (truth-true w nodes g b) (λ e. ap (truth w nodes) (eqb-true a b e)))))
@@ -211,7 +211,7 @@ simplified-value w nodes g (Or a b) fits =
     (or-two (is_true nodes a) (is_false nodes b) h (truth-true w nodes g a) (truth-false w nodes g b))))
     (λ _. refl))
 simplified-value w nodes g (Ite c a b) fits =
-    let P : Form → Type 0 = λ f. form_value w nodes f ≡ (if truth w nodes c then denoted w nodes a else denoted w nodes b) in
+    let P : Outcome → Type 0 = λ f. outcome_value w nodes f ≡ (if truth w nodes c then denoted w nodes a else denoted w nodes b) in
     if-either P (is_true nodes c || a == b) (Same a) (if is_false nodes c then Same b else Built (Ite c a b))
     (λ h. if-first (truth w nodes c) (denoted w nodes a) (denoted w nodes b)
     (or-two (is_true nodes c) (a == b) h (truth-true w nodes g c) (λ e. ap (denoted w nodes) (eqb-true a b e))))
@@ -219,7 +219,7 @@ simplified-value w nodes g (Ite c a b) fits =
     (λ h. if-second (truth w nodes c) (denoted w nodes a) (denoted w nodes b) (truth-false w nodes g c h))
     (λ _. refl))
 simplified-value w nodes g (Eq a b) fits =
-    let P : Form → Type 0 = λ f. form_value w nodes f ≡ Truth (word w nodes a == word w nodes b) in
+    let P : Outcome → Type 0 = λ f. outcome_value w nodes f ≡ Truth (word w nodes a == word w nodes b) in
     if-either P (a == b) (Built True) (Built (Eq a b))
     (λ h. ap Truth (sym (eq-eqb (word w nodes a) (word w nodes b) (ap (word w nodes) (eqb-true a b h)))))
     (λ _. refl)
@@ -231,11 +231,11 @@ simplified-value w nodes g (Write m a d) fits = refl
 simplified-value w nodes g (Init e) fits = refl
 
 -- a form has the sort of a term, and applies no other symbol
-abbrev pub FormFits : List Node → Node → Form → Type 0
-FormFits nodes node (Same a) = HasSort nodes a (node_sort (sorts nodes) node)
-FormFits nodes node (Built n) = FitsSorts nodes n × (node_sort (sorts nodes) n ≡ node_sort (sorts nodes) node) × ((n ≡ node) ⊎ (node_uses n ≡ []))
+abbrev pub OutcomeFits : List Node → Node → Outcome → Type 0
+OutcomeFits nodes node (Same a) = HasSort nodes a (node_sort (sorts nodes) node)
+OutcomeFits nodes node (Built n) = FitsSorts nodes n × (node_sort (sorts nodes) n ≡ node_sort (sorts nodes) node) × ((n ≡ node) ⊎ (node_uses n ≡ []))
 
-negated-fits : (nodes : List Node) → IsGraph nodes → (a : ℕ) → HasSort nodes a sort.Bool → (o : Option Node) → slice_get nodes a ≡ o → FormFits nodes (Not a) (negated a o)
+negated-fits : (nodes : List Node) → IsGraph nodes → (a : ℕ) → HasSort nodes a sort.Bool → (o : Option Node) → slice_get nodes a ≡ o → OutcomeFits nodes (Not a) (negated a o)
 negated-fits nodes g a h (Some (Not b)) e = FitsSorts-get nodes g a (Not b) e
 negated-fits nodes g a h None e = (h, refl, inl refl)
 negated-fits nodes g a h (Some True) e = (h, refl, inl refl)
@@ -250,22 +250,22 @@ negated-fits nodes g a h (Some (Write m b d)) e = (h, refl, inl refl)
 negated-fits nodes g a h (Some (Init x)) e = (h, refl, inl refl)
 
 -- a simplified term has the term's sort, and applies no other symbol
-pub simplified-fits : (nodes : List Node) → IsGraph nodes → (node : Node) → FitsSorts nodes node → FormFits nodes node (simplified nodes node)
+pub simplified-fits : (nodes : List Node) → IsGraph nodes → (node : Node) → FitsSorts nodes node → OutcomeFits nodes node (simplified nodes node)
 simplified-fits nodes g (Not a) fits = negated-fits nodes g a fits (slice_get nodes a) refl
 simplified-fits nodes g (And a b) fits =
-    if-either (FormFits nodes (And a b)) (is_true nodes a || is_false nodes b || a == b) (Same b) (if is_false nodes a || is_true nodes b then Same a else Built (And a b))
+    if-either (OutcomeFits nodes (And a b)) (is_true nodes a || is_false nodes b || a == b) (Same b) (if is_false nodes a || is_true nodes b then Same a else Built (And a b))
     (λ _. fits.1)
-    (λ _. if-either (FormFits nodes (And a b)) (is_false nodes a || is_true nodes b) (Same a) (Built (And a b)) (λ _. fits.0) (λ _. (fits, refl, inl refl)))
+    (λ _. if-either (OutcomeFits nodes (And a b)) (is_false nodes a || is_true nodes b) (Same a) (Built (And a b)) (λ _. fits.0) (λ _. (fits, refl, inl refl)))
 simplified-fits nodes g (Or a b) fits =
-    if-either (FormFits nodes (Or a b)) (is_false nodes a || is_true nodes b || a == b) (Same b) (if is_true nodes a || is_false nodes b then Same a else Built (Or a b))
+    if-either (OutcomeFits nodes (Or a b)) (is_false nodes a || is_true nodes b || a == b) (Same b) (if is_true nodes a || is_false nodes b then Same a else Built (Or a b))
     (λ _. fits.1)
-    (λ _. if-either (FormFits nodes (Or a b)) (is_true nodes a || is_false nodes b) (Same a) (Built (Or a b)) (λ _. fits.0) (λ _. (fits, refl, inl refl)))
+    (λ _. if-either (OutcomeFits nodes (Or a b)) (is_true nodes a || is_false nodes b) (Same a) (Built (Or a b)) (λ _. fits.0) (λ _. (fits, refl, inl refl)))
 simplified-fits nodes g (Ite c a b) fits =
-    if-either (FormFits nodes (Ite c a b)) (is_true nodes c || a == b) (Same a) (if is_false nodes c then Same b else Built (Ite c a b))
+    if-either (OutcomeFits nodes (Ite c a b)) (is_true nodes c || a == b) (Same a) (if is_false nodes c then Same b else Built (Ite c a b))
     (λ _. fits.1)
-    (λ _. if-either (FormFits nodes (Ite c a b)) (is_false nodes c) (Same b) (Built (Ite c a b)) (λ _. fits.2) (λ _. (fits, refl, inl refl)))
+    (λ _. if-either (OutcomeFits nodes (Ite c a b)) (is_false nodes c) (Same b) (Built (Ite c a b)) (λ _. fits.2) (λ _. (fits, refl, inl refl)))
 simplified-fits nodes g (Eq a b) fits =
-    if-either (FormFits nodes (Eq a b)) (a == b) (Built True) (Built (Eq a b)) (λ _. (tt, refl, inr refl)) (λ _. (fits, refl, inl refl))
+    if-either (OutcomeFits nodes (Eq a b)) (a == b) (Built True) (Built (Eq a b)) (λ _. (tt, refl, inr refl)) (λ _. (fits, refl, inl refl))
 simplified-fits nodes g True fits = (tt, refl, inl refl)
 simplified-fits nodes g (App s args) fits = (fits, refl, inl refl)
 simplified-fits nodes g (Pred s args) fits = (fits, refl, inl refl)

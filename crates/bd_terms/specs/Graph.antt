@@ -1,7 +1,7 @@
 -- Graphs of terms as lists of nodes, each node over nodes that stand before it (Burch and Dill 1994; the logic
 -- of equality with uninterpreted functions and memories of Bryant, German and Velev 2001, every term kept once).
 use Rattle.std.specs.Prelude.{◌≡◌, ℕ, ◌<◌, List, [], ◌∷◌, ◌++◌, Contains, length, slice_get, slice_index_or, take, Some}
-use Rattle.std.specs.List.{All, flat_map}
+use Rattle.std.specs.List.{All, AllByRecursion, flat_map}
 use Rattle.bd_list.specs.Grown.{grown}
 use Rattle.bd_model.specs.declared.design.Sort.{Sort}
 use Rattle.bd_model.specs.declared.design.Sort.TheVariants as sort
@@ -66,6 +66,10 @@ uses nodes = flat_map node_uses nodes
 -- wherever the graph applies the symbol, it has this arity and sort
 pub record KeepsSymbol (nodes : List Node) (symbol : Sym) (arity : ℕ) (s : Sort) : Type 0 where
   pub keeps : (u : Use) → Contains (uses nodes) u → u.symbol ≡ symbol → (u.arity ≡ arity) × (u.sort ≡ s)
+
+-- the symbol that the node applies keeps its arity and sort
+abbrev pub KeepsUses : List Node → Node → Type 0
+KeepsUses nodes node = AllByRecursion (λ u. KeepsSymbol nodes u.symbol u.arity u.sort) (node_uses node)
 
 -- the terms that a term stands over have the sorts that its form asks for
 abbrev pub FitsSorts : List Node → Node → Type 0

@@ -3,3 +3,4 @@ pub mod Denotation
 pub mod Simplified
 pub mod inner
 pub mod Reaches
+pub mod Renamed

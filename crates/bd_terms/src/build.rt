@@ -5,15 +5,14 @@ ghost use Rattle.std.specs.List.{All};
 ghost use Rattle.bd_model.specs.declared.design.Sort.TheVariants as sort;
 ghost use Rattle.bd_terms.specs.declared.node.Node.TheVariants as node;
 ghost use Rattle.bd_terms.specs.declared.node.Sym.TheVariants as symbol;
-ghost use Rattle.bd_terms.specs.Graph.{AddsUses, Extends, FitsSorts, HasSort, IsGraph, KeepsSymbol, node_sort, node_uses, sort_at, sorts};
+ghost use Rattle.bd_terms.specs.Graph.{AddsUses, Extends, FitsSorts, HasSort, IsGraph, KeepsSymbol, KeepsUses, node_sort, node_uses, sort_at, sorts};
 ghost use Rattle.bd_terms.specs.Denotation.{Contents, Denotes, Truth, Word, applied, contents, denoted, holds, node_value, truth, values, word, word as word_at, words, written};
-ghost use Rattle.bd_terms.specs.inner.Kept.{KeepsUses};
 ghost use Rattle.bd_terms.specs.Simplified.{Gives, simplified};
 
 use crate::graph::Graph;
 use crate::id::{Id, Ids};
 use crate::node::{Node, Sym};
-use crate::simplify::Form;
+use crate::simplify::Outcome;
 use std::alloc::AllocError;
 
 impl Graph {
@@ -206,8 +205,23 @@ impl Graph {
         self.build(Node::Init(entry))
     }
 
-    // The simplified term, kept.
-    fn build(&mut self, node: Node) -> Result<Id, AllocError>
+    /// The implication, as the disjunction with the negation. Refused, it may keep the negation.
+    pub fn mk_implies(&mut self, a: Id, b: Id) -> Result<Id, AllocError>
+        requires first { HasSort self.old a sort.Bool }
+        requires second { HasSort self.old b sort.Bool }
+        ensures denotes { IfOk result (λ id. Denotes self.new id
+            (λ w. Truth (not (truth w self.old a) || truth w self.old b))) }
+        ensures sorted { IfOk result (λ id. HasSort self.new id sort.Bool) }
+        ensures extends { Extends self.old self.new }
+        ensures uses { AddsUses self.old self.new [] }
+        ensures graph { IsGraph self.new }
+    {
+        let denied = self.mk_not(a)?;
+        self.mk_or(denied, b)
+    }
+
+    /// The term of this node, simplified, and where it was if it is there.
+    pub fn build(&mut self, node: Node) -> Result<Id, AllocError>
         requires fits { FitsSorts self.old node }
         requires symbols { KeepsUses self.old node }
         ensures gives { IfOk result (λ id.
@@ -221,8 +235,8 @@ impl Graph {
         ensures err { OnErr result (self.new ≡ self.old) }
     {
         match self.simplified(node) {
-            Form::Same(id) => Ok(id),
-            Form::Built(node) => self.keep(node),
+            Outcome::Same(id) => Ok(id),
+            Outcome::Built(node) => self.keep(node),
         }
     }
 }

@@ -1,8 +1,7 @@
-//! Graphs of terms. Every term is kept once, behind the terms that it stands over, so that a pass over the
-//! nodes in rising order meets each term behind its children, and two terms are equal where their Ids are.
+//! Graphs of terms. Every term is kept once, after the terms that it stands over, so that a pass over the
+//! nodes in rising order meets each term after its children, and two terms are equal where their Ids are.
 ghost use Rattle.std.specs.Prelude.{◌≡◌, ◌<◌, ◌∷◌, [], length, slice_get, ◌↔◌, IsTrue, Some, IfOk, OnErr};
-ghost use Rattle.bd_terms.specs.Graph.{FitsSorts, KeepsSymbol, node_sort, sorts, sort_at};
-ghost use Rattle.bd_terms.specs.inner.Kept.{KeepsUses};
+ghost use Rattle.bd_terms.specs.Graph.{FitsSorts, KeepsSymbol, KeepsUses, node_sort, sorts, sort_at};
 ghost use Rattle.bd_terms.specs.Simplified.{KeptAt};
 
 use crate::id::Id;
@@ -89,7 +88,7 @@ impl Graph {
         true
     }
 
-    // The Id of the node, which is put behind the others if it isn't there.
+    // The Id of the node, which is put after the others if it isn't there.
     pub(crate) fn keep(&mut self, node: Node) -> Result<Id, AllocError>
         requires fits { FitsSorts self.old node }
         requires symbols { KeepsUses self.old node }

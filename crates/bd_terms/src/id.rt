@@ -1,9 +1,11 @@
 //! Names of nodes, and lists of them.
-ghost use Rattle.std.specs.Prelude.{◌≡◌, IfOk, nat_eq};
+ghost use Rattle.std.specs.Prelude.{◌≡◌, ◌<◌, IfOk, length, map, nat_eq};
+ghost use Rattle.std.specs.List.{All};
 ghost use Rattle.std.specs.Cmp.{nat_eq_equiv, partial_equiv_from_equiv, unsigned_Decides};
 ghost use Rattle.std.specs.Cmp.Lexicographic.{pointwise, lists_per, lists_equiv};
 ghost use Rattle.std.specs.Hash as fed;
 ghost use Rattle.std.specs.Hash.{items_Alike, same_Alike};
+ghost use Rattle.bd_terms.specs.Renamed.{id_at};
 
 use smallvec::SmallVec;
 use std::alloc::{AllocError, Global};
@@ -71,6 +73,18 @@ impl Ids {
         ensures { result.now ≡ self.now }
     {
         self.items.as_slice()
+    }
+
+    /// The Ids that these have in another graph.
+    pub fn renamed(&self, ids: &[Id]) -> Result<Ids, AllocError>
+        requires { All (λ id. id < length ids.now) self.now }
+        ensures { IfOk result (λ new. new ≡ map (id_at ids.now) self.now) }
+    {
+        let mut items = SmallVec::new(*self.items.allocator());
+        for id in self.items.as_slice() {
+            items.push(ids[id.index])?;
+        }
+        Ok(Ids { items })
     }
 }
 

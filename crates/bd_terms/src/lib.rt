@@ -11,7 +11,7 @@ mod simplify;
 pub use graph::Graph;
 pub use id::{Id, Ids};
 pub use node::{Node, Sym};
-pub use reach::{Marks, reached};
+pub use reach::{ReachedTerms, reached};
 
 #[cfg(test)]
 mod tests;

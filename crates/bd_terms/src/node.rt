@@ -1,8 +1,10 @@
 //! Symbols and nodes.
-ghost use Rattle.std.specs.Prelude.{◌≡◌, ◌↔◌, IsTrue};
+ghost use Rattle.std.specs.Prelude.{◌≡◌, ◌<◌, ◌↔◌, IfOk, IsTrue, length};
+ghost use Rattle.std.specs.List.{All};
 
 use crate::id::{Id, Ids};
 use bd_model::Sort;
+use std::alloc::AllocError;
 
 /// What an application stands for: a function or predicate of the design, the first contents of an entry, an
 /// input, a fresh address, or a variable.
@@ -33,7 +35,30 @@ pub enum Node {
 }
 
 impl Node {
+    ghost use Rattle.bd_terms.specs.Graph.{children};
+    ghost use Rattle.bd_terms.specs.Renamed.{renamed};
     ghost use Rattle.bd_terms.specs.inner.Kept.{NodeKeepsSymbol};
+
+    /// The node over the Ids that its children have in another graph.
+    pub fn renamed(&self, ids: &[Id]) -> Result<Node, AllocError>
+        requires { All (λ c. c < length ids.now) (children self.now) }
+        ensures { IfOk result (λ node. node ≡ renamed ids.now self.now) }
+    {
+        let node = match self {
+            Node::True => Node::True,
+            Node::Not(a) => Node::Not(ids[a.index()]),
+            Node::And(a, b) => Node::And(ids[a.index()], ids[b.index()]),
+            Node::Or(a, b) => Node::Or(ids[a.index()], ids[b.index()]),
+            Node::Ite(c, a, b) => Node::Ite(ids[c.index()], ids[a.index()], ids[b.index()]),
+            Node::Eq(a, b) => Node::Eq(ids[a.index()], ids[b.index()]),
+            Node::App(sym, args) => Node::App(*sym, args.renamed(ids)?),
+            Node::Pred(sym, args) => Node::Pred(*sym, args.renamed(ids)?),
+            Node::Read(m, a) => Node::Read(ids[m.index()], ids[a.index()]),
+            Node::Write(m, a, d) => Node::Write(ids[m.index()], ids[a.index()], ids[d.index()]),
+            Node::Init(entry) => Node::Init(*entry),
+        };
+        Ok(node)
+    }
 
     // Whether the node applies the symbol to so many arguments and as a term of this sort, if it applies it.
     pub(crate) fn keeps_symbol(&self, sym: Sym, arity: usize, sort: Sort) -> bool

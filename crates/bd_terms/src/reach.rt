@@ -11,13 +11,13 @@ use crate::node::Node;
 use std::alloc::AllocError;
 use std::marker::Model;
 
-/// A mark for each term of a graph.
+/// A mark for each term of a graph, on those that a root reaches.
 #[derive(Drop)]
-pub struct Marks {
+pub struct ReachedTerms {
     items: Vec<bool>,
 }
 
-impl Model for Marks {
+impl Model for ReachedTerms {
     ghost use Rattle.std.specs.Prelude.{List, Bool};
 
     ghost Value = { List Bool };
@@ -25,8 +25,8 @@ impl Model for Marks {
     ghost view = { λ m. m.items.items };
 }
 
-impl Marks {
-    /// Whether the term is marked. No Id past the graph is.
+impl ReachedTerms {
+    /// Whether the root reaches the term. It reaches no Id past the graph.
     pub fn has(&self, id: Id) -> bool
         ensures { result ≡ slice_index_or self.now id false }
     {
@@ -34,8 +34,8 @@ impl Marks {
     }
 }
 
-/// Marks the terms that the root reaches.
-pub fn reached(graph: &Graph, root: Id) -> Result<Marks, AllocError>
+/// The terms that the root reaches.
+pub fn reached(graph: &Graph, root: Id) -> Result<ReachedTerms, AllocError>
     requires { root < length graph.now }
     ensures length { IfOk result (λ marks. length marks ≡ length graph.now) }
     ensures marks { IfOk result (λ marks.
@@ -48,7 +48,7 @@ pub fn reached(graph: &Graph, root: Id) -> Result<Marks, AllocError>
             mark_children(&mut items, graph.node(graph.id(index)));
         }
     }
-    Ok(Marks { items })
+    Ok(ReachedTerms { items })
 }
 
 // Marks what the node stands over.

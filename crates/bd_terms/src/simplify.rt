@@ -4,7 +4,7 @@ ghost use Rattle.std.specs.Prelude.{◌≡◌, ◌==◌, ◌<◌, length, if◌t
 ghost use Rattle.bd_terms.specs.Graph.{FitsSorts, IsGraph};
 ghost use Rattle.bd_terms.specs.Simplified.{is_true, is_false, simplified};
 ghost use Rattle.bd_terms.specs.declared.node.Node.TheVariants as node;
-ghost use Rattle.bd_terms.specs.declared.simplify.Form.TheVariants as form;
+ghost use Rattle.bd_terms.specs.declared.simplify.Outcome.TheVariants as outcome;
 
 use crate::graph::Graph;
 use crate::id::Id;
@@ -12,16 +12,16 @@ use crate::node::Node;
 
 /// What a term comes out as: a node that is there, or this node.
 #[derive(Drop)]
-pub enum Form {
+pub enum Outcome {
     Same(Id),
     Built(Node),
 }
 
 impl Graph {
     // What the node comes out as.
-    pub(crate) fn simplified(&self, node: Node) -> Form
+    pub(crate) fn simplified(&self, node: Node) -> Outcome
         requires { FitsSorts self.now node }
-        ensures form { result ≡ simplified self.now node }
+        ensures outcome { result ≡ simplified self.now node }
         ensures graph { IsGraph self.now }
     {
         let _ = &self.nodes;
@@ -31,58 +31,58 @@ impl Graph {
             Node::Or(a, b) => self.disjunction(a, b),
             Node::Ite(c, a, b) => self.choice(c, a, b),
             Node::Eq(a, b) => equation(a, b),
-            other => Form::Built(other),
+            other => Outcome::Built(other),
         }
     }
 
-    fn negation(&self, a: Id) -> Form
+    fn negation(&self, a: Id) -> Outcome
         requires { a < length self.now }
         ensures { result ≡ simplified self.now (node.Not a) }
     {
         match self.node(a) {
-            Node::Not(b) => Form::Same(*b),
-            _ => Form::Built(Node::Not(a)),
+            Node::Not(b) => Outcome::Same(*b),
+            _ => Outcome::Built(Node::Not(a)),
         }
     }
 
-    fn conjunction(&self, a: Id, b: Id) -> Form
+    fn conjunction(&self, a: Id, b: Id) -> Outcome
         requires first { a < length self.now }
         requires second { b < length self.now }
         ensures { result ≡ simplified self.now (node.And a b) }
     {
         if self.is_true(a) || self.is_false(b) || a == b {
-            Form::Same(b)
+            Outcome::Same(b)
         } else if self.is_false(a) || self.is_true(b) {
-            Form::Same(a)
+            Outcome::Same(a)
         } else {
-            Form::Built(Node::And(a, b))
+            Outcome::Built(Node::And(a, b))
         }
     }
 
-    fn disjunction(&self, a: Id, b: Id) -> Form
+    fn disjunction(&self, a: Id, b: Id) -> Outcome
         requires first { a < length self.now }
         requires second { b < length self.now }
         ensures { result ≡ simplified self.now (node.Or a b) }
     {
         if self.is_false(a) || self.is_true(b) || a == b {
-            Form::Same(b)
+            Outcome::Same(b)
         } else if self.is_true(a) || self.is_false(b) {
-            Form::Same(a)
+            Outcome::Same(a)
         } else {
-            Form::Built(Node::Or(a, b))
+            Outcome::Built(Node::Or(a, b))
         }
     }
 
-    fn choice(&self, control: Id, yes: Id, no: Id) -> Form
+    fn choice(&self, control: Id, yes: Id, no: Id) -> Outcome
         requires { control < length self.now }
         ensures { result ≡ simplified self.now (node.Ite control yes no) }
     {
         if self.is_true(control) || yes == no {
-            Form::Same(yes)
+            Outcome::Same(yes)
         } else if self.is_false(control) {
-            Form::Same(no)
+            Outcome::Same(no)
         } else {
-            Form::Built(Node::Ite(control, yes, no))
+            Outcome::Built(Node::Ite(control, yes, no))
         }
     }
 
@@ -104,12 +104,12 @@ impl Graph {
     }
 }
 
-fn equation(a: Id, b: Id) -> Form
-    ensures { result ≡ (if a == b then form.Built node.True else form.Built (node.Eq a b)) }
+fn equation(a: Id, b: Id) -> Outcome
+    ensures { result ≡ (if a == b then outcome.Built node.True else outcome.Built (node.Eq a b)) }
 {
     if a == b {
-        Form::Built(Node::True)
+        Outcome::Built(Node::True)
     } else {
-        Form::Built(Node::Eq(a, b))
+        Outcome::Built(Node::Eq(a, b))
     }
 }

@@ -1,8 +1,8 @@
--- A node that isn't there goes behind the others, with its sort beside it.
+-- A node that isn't there goes after the others, with its sort beside it.
 use Rattle.std.proofs.Common.{◌≡◌, [], ◌∷◌, ◌++◌, ap, sym, ◌∙◌, subst, arith}
 use Rattle.std.proofs.lemmas.Grind.{common_steps}
 use Rattle.bd_terms.specs.Graph.{sorts, node_sort, FitsSorts, IsGraph}
-use Rattle.bd_terms.specs.inner.Kept.{KeepsUses}
+use Rattle.bd_terms.specs.Graph.{KeepsUses}
 use Rattle.bd_terms.specs.contracts.node.NodeEq.TheImpl.Laws.{laws-law}
 use Rattle.bd_terms.proofs.Places.{IsDistinct-place}
 use Rattle.bd_terms.proofs.Graphs.{IsGraph-pushed, IsKept-pushed}
