@@ -48,8 +48,8 @@ files_of_push (first ∷ held) name bytes at = grind (arith, files_of_push held 
 -- so it is where a search for the name finds no place
 pub files_of_push_absent : (held searched : List (String Global × Vec ℕ Global)) (name : String Global) (text : List ℕ) (bytes : Vec ℕ Global) → searched ≡ held → text ≡ string_bytes name → None ≡ position (λ file. bytes_eq (string_bytes file.0) text) searched → files_of (held ++ (name, bytes) ∷ []) ≡ put_file (files_of held) (string_bytes name) bytes.items
 files_of_push_absent held searched name text bytes same is absent =
-    let behind : length searched ≤ place_in searched text = grind (arith, nat_tests) in
-    files_of_push held name bytes (subst (λ (xs : List (String Global × Vec ℕ Global)). length xs ≤ place_in xs (string_bytes name)) same (subst (λ (t : List ℕ). length searched ≤ place_in searched t) is behind))
+    let later : length searched ≤ place_in searched text = grind (arith, nat_tests) in
+    files_of_push held name bytes (subst (λ (xs : List (String Global × Vec ℕ Global)). length xs ≤ place_in xs (string_bytes name)) same (subst (λ (t : List ℕ). length searched ≤ place_in searched t) is later))
 
 -- a save leaves what is under every other name, whatever it answers
 pub keeps_others : {T : Type 0} (result : Result T SaveError) (old new : ShelfState) (name bytes other : List ℕ) → OnOk result (new ≡ saved old name bytes) → (IsErrOf result Failed → new ≡ failed old Save name) → (IsErrOf result Memory → new ≡ numbered old) → other ≢ name → bytes_of new.held other ≡ bytes_of old.held other

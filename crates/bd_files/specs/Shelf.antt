@@ -32,7 +32,7 @@ abbrev pub bytes_of : List File → List ℕ → Option (List ℕ)
 bytes_of [] name = None
 bytes_of (file ∷ files) name = if bytes_eq file.0 name then Some file.1 else bytes_of files name
 
--- the files with these bytes under the name: in place of the first file with that name, or behind
+-- the files with these bytes under the name: in place of the first file with that name, or after
 -- them all
 abbrev pub put_file : List File → List ℕ → List ℕ → List File
 put_file [] name bytes = (name, bytes) ∷ []

@@ -20,6 +20,3 @@ pub use fault_log::FaultLog;
 pub use memory_files::Shelf;
 pub use memory_sink::Page;
 pub use pieces::put_pieces;
-
-#[cfg(test)]
-mod tests;

@@ -1,7 +1,7 @@
 -- Text that is written a stage at a time: what is still to come, and what the whole is.
 use Rattle.std.proofs.Common.{◌≡◌, ◌≢◌, ◌==◌, ◌&&◌, nat_le, false, ℕ, ◌+◌, ◌-◌, ◌<◌, ◌≤◌, List, [], ◌∷◌, ◌++◌, ap, sym, ◌∙◌, append_assoc, arith, reverse}
-use Rattle.std.proofs.lemmas.List.{append-nil, reverse-append}
-use Rattle.std.proofs.iter.Rest.{range_with_len_first, range_with_len_last, range_with_len_none}
+use Rattle.std.proofs.lemmas.List.{reverse-append}
+use Rattle.std.proofs.iter.Rest.{range_with_len_first, range_with_len_last}
 use Rattle.std.specs.List.{flat_map, range_with_len}
 use Rattle.bd_gen.specs.Pipeline.{stages}
 
@@ -18,13 +18,6 @@ module _ {X : Type 0} (f : ℕ → List X) where
       ∙ ap (λ s. before ++ flat_map f s) (sym (range_with_len_first i (last + 1) (omega arith)))
       ∙ rest
 
-  -- no stage is to come
-  pub flat-none : (i last : ℕ) (text whole : List X) → last < i → text ++ flat_map f (stages i last) ≡ whole → text ≡ whole
-  flat-none i last text whole past rest =
-      sym (append-nil text)
-      ∙ ap (λ s. text ++ flat_map f s) (sym (range_with_len_none i (last + 1) (omega arith)))
-      ∙ rest
-
   -- the last of the stages below end is written, where they go from the last to the first
   pub flat-last : (first end : ℕ) (before after whole : List X) → first < end → after ≡ before ++ f (end - 1) → before ++ flat_map f (reverse (range_with_len first (end - first))) ≡ whole → after ++ flat_map f (reverse (range_with_len first (end - 1 - first))) ≡ whole
   flat-last first end before after whole low wrote rest =
@@ -32,13 +25,6 @@ module _ {X : Type 0} (f : ℕ → List X) where
       ap (λ t. t ++ flat_map f (reverse younger)) wrote
       ∙ append_assoc before (f (end - 1)) (flat_map f (reverse younger))
       ∙ ap (λ s. before ++ flat_map f s) (sym (ap reverse (range_with_len_last first end low) ∙ reverse-append younger ((end - 1) ∷ [])))
-      ∙ rest
-
-  -- no stage is below end
-  pub flat-last_none : (first end : ℕ) (text whole : List X) → end ≤ first → text ++ flat_map f (reverse (range_with_len first (end - first))) ≡ whole → text ≡ whole
-  flat-last_none first end text whole past rest =
-      sym (append-nil text)
-      ∙ ap (λ s. text ++ flat_map f (reverse s)) (sym (range_with_len_none first end past))
       ∙ rest
 
 -- where path i - 1 is not the one that is left out, stage i forwards

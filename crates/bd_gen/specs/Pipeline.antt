@@ -52,7 +52,7 @@ fetch_lines =
 abbrev pub result_line : ℕ → List ℕ
 result_line i = codes " (let r" ++ decimal i ++ codes " word x" ++ decimal i ++ codes ")\n"
 
--- the operand as the registers have it, behind the last stage
+-- the operand as the registers have it, after the last stage
 abbrev pub register_line : ℕ → List ℕ
 register_line depth = codes " (let q" ++ decimal (depth + 1) ++ codes " word (read rf s))\n"
 
@@ -106,7 +106,7 @@ next_result i = codes " (next x" ++ decimal i ++ codes " r" ++ decimal (i - 1) +
 abbrev pub passing_lines : ℕ → List ℕ
 passing_lines depth = flat_map (λ i. next_valid i ++ next_destination i ++ next_result i) (stages 3 depth)
 
--- cycles that empty every stage behind the fetch
+-- cycles that empty every stage after the fetch
 abbrev pub flush_line : ℕ → List ℕ
 flush_line depth = codes " (flush " ++ decimal (depth - 1) ++ codes ")\n"
 

@@ -1,5 +1,5 @@
 //! A pipeline of `depth` stages with full forwarding, one result a stage. Stage 1 fetches. The
-//! operand is read from the registers behind the last stage, and each younger stage that is to write
+//! operand is read from the registers as the last stage leaves them, and each younger stage that is to write
 //! the same register puts its own result before that. So the youngest writer decides, as it does
 //! where instructions run one after the other. A path that is left out lets an older value through.
 ghost use Rattle.std.specs.Prelude.{◌≡◌, ◌++◌, ◌+◌, ◌≤◌, OnOk, IfOk, string_bytes};
@@ -95,8 +95,8 @@ fn push_lets(text: &mut String, depth: u32, drop: u32) -> Result<(), AllocError>
 {
     text.push_str(FETCH)?;
     push_results(text, depth)?;
-    let behind = depth + 1;
-    write!(text, " (let q{behind} word (read rf s))\n")?;
+    let registers = depth + 1;
+    write!(text, " (let q{registers} word (read rf s))\n")?;
     push_operands(text, depth, drop)
 }
 
@@ -123,7 +123,7 @@ fn push_operands(text: &mut String, depth: u32, drop: u32) -> Result<(), AllocEr
 }
 
 fn push_operand(text: &mut String, i: u32, drop: u32) -> Result<(), AllocError>
-    requires behind { 2 ≤ i }
+    requires after_fetch { 2 ≤ i }
     requires bounded { i ≤ 12 }
     ensures { OnOk result (string_bytes text.new ≡ string_bytes text.old ++ operand_line drop i) }
 {

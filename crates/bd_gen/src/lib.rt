@@ -5,6 +5,3 @@
 mod generated;
 
 pub use generated::design_text;
-
-#[cfg(test)]
-mod tests;

@@ -55,7 +55,7 @@ example_lawful = record {
   inv_limits = (omega arith, omega arith);
   exact = (record { count = omega arith; when = refl; limits = (omega arith, omega arith) }, tt);
   distinct = tt;
-  names = (record { spelled = refl; short = omega arith; no_word = refl }, (record { spelled = refl; short = omega arith; no_word = refl }, (record { spelled = refl; short = omega arith; no_word = refl }, (record { spelled = refl; short = omega arith; no_word = refl }, (record { spelled = refl; short = omega arith; no_word = refl }, (record { spelled = refl; short = omega arith; no_word = refl }, (record { spelled = refl; short = omega arith; no_word = refl }, (record { spelled = refl; short = omega arith; no_word = refl }, (record { spelled = refl; short = omega arith; no_word = refl }, (record { spelled = refl; short = omega arith; no_word = refl }, (record { spelled = refl; short = omega arith; no_word = refl }, tt)))))))))));
+  names = (record { spelled = refl; short = omega arith; no_keyword = refl }, (record { spelled = refl; short = omega arith; no_keyword = refl }, (record { spelled = refl; short = omega arith; no_keyword = refl }, (record { spelled = refl; short = omega arith; no_keyword = refl }, (record { spelled = refl; short = omega arith; no_keyword = refl }, (record { spelled = refl; short = omega arith; no_keyword = refl }, (record { spelled = refl; short = omega arith; no_keyword = refl }, (record { spelled = refl; short = omega arith; no_keyword = refl }, (record { spelled = refl; short = omega arith; no_keyword = refl }, (record { spelled = refl; short = omega arith; no_keyword = refl }, (record { spelled = refl; short = omega arith; no_keyword = refl }, tt)))))))))));
   different_names = different_names;
   visible = (refl, (refl, (refl, (refl, tt))));
   visible_once = AllPairs-different nat_eq unsigned_Decides (0 ∷ 1 ∷ 2 ∷ 3 ∷ []) refl;

@@ -5,7 +5,7 @@ use Rattle.std.proofs.lemmas.List.{get_or_append_left}
 use Rattle.std.proofs.Math.Seq.{get_or-append_seam}
 use Rattle.bd_list.specs.Grown.{grown}
 
--- what comes behind starts from what is before it
+-- what comes after starts from what is before it
 pub grown-append : {X Y : Type 0} → (f : List Y → X → Y) (done : List Y) (xs ys : List X) → grown f done (xs ++ ys) ≡ grown f (grown f done xs) ys
 grown-append f done [] ys = refl
 grown-append f done (x ∷ xs) ys = grown-append f (done ++ f done x ∷ []) xs ys
@@ -14,7 +14,7 @@ grown-append f done (x ∷ xs) ys = grown-append f (done ++ f done x ∷ []) xs 
 pub grown-push : {X Y : Type 0} → (f : List Y → X → Y) (done : List Y) (xs : List X) (x : X) → grown f done (xs ++ x ∷ []) ≡ grown f done xs ++ f (grown f done xs) x ∷ []
 grown-push f done xs x = grown-append f done xs (x ∷ [])
 
--- a value for each item, behind those done
+-- a value for each item, after those done
 pub length-grown : {X Y : Type 0} → (f : List Y → X → Y) (done : List Y) (xs : List X) → length (grown f done xs) ≡ length done + length xs
 length-grown f done [] = omega arith
 length-grown f done (x ∷ xs) = length-grown f (done ++ f done x ∷ []) xs ∙ omega (arith, length-append done (f done x ∷ []))
@@ -25,7 +25,7 @@ get-grown_done f done [] i d h = refl
 get-grown_done f done (x ∷ xs) i d h =
     get-grown_done f (done ++ f done x ∷ []) xs i d (omega (arith, length-append done (f done x ∷ []))) ∙ get_or_append_left done (f done x ∷ []) d i h
 
--- so the values of a list's front don't depend on what comes behind it
+-- so the values of a list's front don't depend on what comes after it
 pub get-grown_front : {X Y : Type 0} → (f : List Y → X → Y) (xs ys : List X) (i : ℕ) (d : Y) → i < length xs → slice_index_or (grown f [] (xs ++ ys)) i d ≡ slice_index_or (grown f [] xs) i d
 get-grown_front f xs ys i d h = ap (λ vs. slice_index_or vs i d) (grown-append f [] xs ys) ∙ get-grown_done f (grown f [] xs) ys i d (omega (arith, length-grown f [] xs))
 

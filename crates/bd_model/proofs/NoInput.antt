@@ -1,5 +1,4 @@
--- Expressions that use no input have one value whatever the inputs are, so the inputs of a flush cycle fit, and so
--- does what is flushed.
+-- Expressions that use no input have one value whatever the inputs are, so the inputs of a flush cycle fit.
 use Rattle.std.proofs.Common.{◌≡◌, ◌≢◌, ℕ, zero, suc, Bool, true, false, List, [], ◌∷◌, ◌++◌, map, refl, ap, sym, ◌∙◌}
 use Rattle.std.specs.Prelude.{◌||◌, slice_index_or}
 use Rattle.std.specs.List.{AllByRecursion}
@@ -7,8 +6,8 @@ use Rattle.bd_list.specs.Grown.{grown}
 use Rattle.bd_model.specs.ExprView.{ExprView, ExprViews, Truth, Entry, Input, Local, Not, And, Or, Implies, Iff, Equal, Ite, Read, Write, Apply, no_exprs, expr}
 use Rattle.bd_model.specs.DesignView.{DesignView, LocalView, PortView}
 use Rattle.bd_model.specs.Value.{Env, value_of, values_of, truth, scalar_of, let_value, env_of}
-use Rattle.bd_model.specs.Cycle.{idle_inputs, flush_cycles, flush, flushed}
-use Rattle.bd_model.specs.Fits.{scalar_sort, value_sort, InterpFits, StateFits, VisibleFits, InputsFit, ScalarsFit}
+use Rattle.bd_model.specs.Cycle.{idle_inputs}
+use Rattle.bd_model.specs.Fits.{scalar_sort, value_sort, InterpFits, StateFits, InputsFit, ScalarsFit}
 use Rattle.bd_model.specs.Lawful.{uses_input, any_uses_input, input_flags, context_of, IsLawfulPort, IsLawful}
 use Rattle.bd_model.specs.declared.table.Scalar.{Scalar}
 use Rattle.bd_model.specs.declared.table.Scalar.TheVariants as scalar
@@ -17,7 +16,7 @@ use Rattle.bd_model.specs.declared.table.Value.{Value}
 use Rattle.bd_model.specs.declared.table.Value.TheVariants as value
 use Rattle.bd_model.specs.declared.design.Sort.{Sort}
 use Rattle.bd_model.specs.declared.design.Sort.TheVariants as sort
-use Rattle.bd_model.proofs.SortLemmas.{EnvFits-env_of, value_sort-value_of, StateFits-step, VisibleFits-look}
+use Rattle.bd_model.proofs.SortLemmas.{EnvFits-env_of, value_sort-value_of}
 
 -- values that are equal where no flag is set
 abbrev pub AgreeUnless : List Bool → List Value → List Value → Type 0
@@ -129,15 +128,3 @@ idle_values_fit d interp state lawful fits h (p ∷ ports) k =
 -- the inputs of a flush cycle fit
 pub InputsFit-idle_inputs : (d : DesignView) (interp : List Table) (state : List Value) → IsLawful d → InterpFits d interp → StateFits d state → InputsFit d (idle_inputs d.pipe interp state)
 InputsFit-idle_inputs d interp state lawful fits h = idle_values_fit d interp state lawful fits h d.pipe.ports lawful.ports
-
--- flush cycles take a fitting state to a fitting state
-pub StateFits-flush_cycles : (n : ℕ) (d : DesignView) (interp : List Table) (state : List Value) → IsLawful d → InterpFits d interp → StateFits d state → StateFits d (flush_cycles n d.pipe interp state)
-StateFits-flush_cycles zero d interp state lawful fits h = h
-StateFits-flush_cycles (suc n) d interp state lawful fits h =
-    StateFits-flush_cycles n d interp _ lawful fits
-    (StateFits-step d interp state (idle_inputs d.pipe interp state) lawful fits h (InputsFit-idle_inputs d interp state lawful fits h))
-
--- what is visible once the pipeline is flushed is a fitting state of the specification
-pub VisibleFits-flushed : (d : DesignView) (interp : List Table) (state : List Value) → IsLawful d → InterpFits d interp → StateFits d state → VisibleFits d (flushed d interp state)
-VisibleFits-flushed d interp state lawful fits h =
-    VisibleFits-look d (flush d interp state) lawful (StateFits-flush_cycles d.flush d interp state lawful fits h)

@@ -135,7 +135,7 @@ mutual
   Same-values_of e f h no_exprs = tt
   Same-values_of e f h (expr t ts) = (SameValue-value_of e f h t, Same-values_of e f h ts)
 
--- the values of lets, behind those done
+-- the values of lets, after those done
 Same-let_values : (interp : List Table) (a b : List Value) (inputs : List Scalar) → Same a b → (ls : List LocalView) (done more : List Value) → Same done more
     → Same (grown (let_value interp a inputs) done ls) (grown (let_value interp b inputs) more ls)
 Same-let_values interp a b inputs h [] done more k = k

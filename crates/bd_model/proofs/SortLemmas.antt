@@ -1,6 +1,6 @@
--- Sorts are kept: by the value of an expression, by a cycle of either machine, by looking, and along a run.
-use Rattle.std.proofs.Common.{append-nil, append_assoc, ◌≡◌, ℕ, zero, suc, Bool, true, false, List, [], ◌∷◌, ◌++◌, map, sym, ◌∙◌, subst}
-use Rattle.std.specs.Prelude.{Some, slice_get, slice_index_or, if◌then◌else◌, nat_eq}
+-- Sorts are kept: by the value of an expression, by a cycle of either machine, and along a run.
+use Rattle.std.proofs.Common.{append-nil, append_assoc, ◌≡◌, ℕ, Bool, true, false, List, [], ◌∷◌, ◌++◌, map, sym, ◌∙◌}
+use Rattle.std.specs.Prelude.{Some, slice_get, if◌then◌else◌, nat_eq}
 use Rattle.std.specs.List.{AllZip, AllByRecursion}
 use lib.Pointwise.{pointwise}
 use Rattle.bd_list.specs.Grown.{grown}
@@ -8,8 +8,8 @@ use Rattle.bd_model.specs.ExprView.{ExprView, Truth, Entry, Input, Local, Not, A
 use Rattle.bd_model.specs.Table.{row_value, at}
 use Rattle.bd_model.specs.DesignView.{LocalView, MachineView, DesignView, PortView}
 use Rattle.bd_model.specs.Value.{Env, value_of, truth, table_of, no_table, let_value, env_of}
-use Rattle.bd_model.specs.Cycle.{step, look, spec_steps, after}
-use Rattle.bd_model.specs.Fits.{scalar_sort, value_sort, result_sort, RowFits, TableFits, InterpFits, ValuesFit, ScalarsFit, StateFits, VisibleFits, InputsFit}
+use Rattle.bd_model.specs.Cycle.{step, after}
+use Rattle.bd_model.specs.Fits.{scalar_sort, value_sort, result_sort, RowFits, TableFits, InterpFits, ValuesFit, ScalarsFit, StateFits, InputsFit}
 use Rattle.bd_model.specs.Lawful.{Context, HasSort, LetsHaveSorts, context_of, IsLawfulMachine, IsLawful}
 use Rattle.bd_model.specs.declared.table.Scalar.{Scalar}
 use Rattle.bd_model.specs.declared.table.Scalar.TheVariants as scalar
@@ -60,7 +60,7 @@ value_sort-value_of c e h (Write m a d) s p = sym p.0
 value_sort-value_of c e h (Apply f ts) s p =
     let (y, there, is, count) = p.0 in h.tables f y there _ ∙ sym is
 
--- the values of lets have the lets' sorts, behind those done
+-- the values of lets have the lets' sorts, after those done
 let_values-sort : (c : Context) (interp : List Table) (state : List Value) (inputs : List Scalar) → (ls : List LocalView) (sorts : List Sort) (done : List Value)
     → ((sorts : List Sort) (done : List Value) → AllZip (λ s v. value_sort v ≡ s) sorts done → EnvFits (record c { locals = sorts }) (record { interp = interp; state = state; inputs = inputs; locals = done }))
     → LetsHaveSorts (record c { locals = sorts }) ls → AllZip (λ s v. value_sort v ≡ s) sorts done
@@ -101,23 +101,6 @@ ValuesFit-step d m interp state inputs lawful fits state_fits inputs_fit =
 pub StateFits-step : (d : DesignView) (interp : List Table) (state : List Value) (inputs : List Scalar) → IsLawful d → InterpFits d interp → StateFits d state → InputsFit d inputs → StateFits d (step d.pipe interp state inputs)
 StateFits-step d interp state inputs lawful fits state_fits inputs_fit =
     ValuesFit-step d d.pipe interp state inputs lawful.pipe fits state_fits inputs_fit
-
--- steps of the specification take its fitting states to such states
-pub VisibleFits-spec_steps : (j : ℕ) (d : DesignView) (interp : List Table) (a : List Value) → IsLawful d → InterpFits d interp → VisibleFits d a → VisibleFits d (spec_steps j d interp a)
-VisibleFits-spec_steps zero d interp a lawful fits h = h
-VisibleFits-spec_steps (suc j) d interp a lawful fits h =
-    ValuesFit-step d d.spec interp _ [] lawful.spec fits (VisibleFits-spec_steps j d interp a lawful fits h)
-    (subst (λ ports. ScalarsFit ports []) (sym lawful.no_spec_inputs) tt)
-
-visible_fits : (entries : List entry.Entry) (places : List ℕ) (all : List entry.Entry) (state : List Value) → AllZip (λ (x : entry.Entry) i. slice_get all i ≡ Some x) entries places → ValuesFit all state
-    → ValuesFit entries (map (λ i. slice_index_or state i (truth false)) places)
-visible_fits entries places all state there h =
-    AllZip-map_right (λ (x : entry.Entry) i. slice_get all i ≡ Some x) (λ (x : entry.Entry) v. value_sort v ≡ x.sort) (λ i. slice_index_or state i (truth false))
-    (λ x i is. AllZip-at (λ (x : entry.Entry) v. value_sort v ≡ x.sort) all state (truth false) h i x is) entries places there
-
--- what is visible of a fitting state is a fitting state of the specification
-pub VisibleFits-look : (d : DesignView) (state : List Value) → IsLawful d → StateFits d state → VisibleFits d (look d state)
-VisibleFits-look d state lawful h = visible_fits d.spec.entries d.visible d.pipe.entries state lawful.visible h
 
 -- a run with fitting inputs stays at fitting states
 pub StateFits-after : (d : DesignView) (interp : List Table) → IsLawful d → InterpFits d interp → (inputs : List (List Scalar)) (state : List Value) → StateFits d state → AllByRecursion (InputsFit d) inputs → StateFits d (after d interp state inputs)

@@ -1,4 +1,4 @@
--- What one cycle of a pipeline has to keep, and what a case shows of it: flushing before a cycle and behind it
+-- What one cycle of a pipeline has to keep, and what a case shows of it: flushing before a cycle and after it
 -- gives states that steps of the specification join (Burch and Dill 1994), with an invariant, with forced
 -- numbers of steps, and with any abstraction in the place of flushing.
 use Rattle.std.specs.Prelude.{◌≡◌, ◌≤◌, ℕ, IsTrue, List}
@@ -32,7 +32,7 @@ IsAllowed d interp state inputs j =
     AllByRecursion (AllowsCount (env_of d.pipe.locals interp state inputs) j) d.exact
 
 -- the cycle stands for j steps of the specification: so many are allowed, and they lead from what the state
--- before the cycle stands for to what the state behind it stands for
+-- before the cycle stands for to what the state after it stands for
 abbrev pub StandsForBy :
     DesignView → Abstraction → List Table → List Value → List Scalar → ℕ → Type 0
 StandsForBy d abs interp state inputs j =
@@ -43,7 +43,7 @@ StandsForBy d abs interp state inputs j =
 abbrev pub MeetsInvariant : DesignView → List Table → List Value → Type 0
 MeetsInvariant d interp state = IsTrue (invariant d interp state)
 
--- the condition `invariant`: it is true behind the cycle
+-- the condition `invariant`: it is true after the cycle
 abbrev pub KeepsInvariant : DesignView → List Table → List Value → List Scalar → Type 0
 KeepsInvariant d interp state inputs = MeetsInvariant d interp (step d.pipe interp state inputs)
 
@@ -83,9 +83,6 @@ StandsFor d interp state inputs j = StandsForBy d (flushed d) interp state input
 
 abbrev pub Commutes : DesignView → List Table → List Value → List Scalar → Type 0
 Commutes d interp state inputs = CommutesBy d (flushed d) interp state inputs
-
-abbrev pub ConditionHolds : DesignView → Case → Condition → Type 0
-ConditionHolds d c which = ConditionHoldsBy d (flushed d) c which
 
 abbrev pub Breaks : DesignView → Case → Condition → Type 0
 Breaks d c which = BreaksBy d (flushed d) c which

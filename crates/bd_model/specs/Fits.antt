@@ -61,10 +61,6 @@ ScalarsFit ports scalars = AllZip (λ (p : PortView) x. scalar_sort x ≡ p.sort
 abbrev pub StateFits : DesignView → List Value → Type 0
 StateFits d state = ValuesFit d.pipe.entries state
 
--- a state of the specification
-abbrev pub VisibleFits : DesignView → List Value → Type 0
-VisibleFits d visible = ValuesFit d.spec.entries visible
-
 abbrev pub InputsFit : DesignView → List Scalar → Type 0
 InputsFit d inputs = ScalarsFit d.pipe.ports inputs
 

@@ -88,7 +88,7 @@ IsShort xs = length xs ≤ 2097152
 abbrev pub entry_sorts : MachineView → List Sort
 entry_sorts m = map (λ (x : entry.Entry). x.sort) m.entries
 
--- the sorts in force in a machine's expressions behind its lets
+-- the sorts in force in a machine's expressions after its lets
 abbrev pub context_of : DesignView → MachineView → Context
 context_of d m = record {
   symbols = d.symbols;

@@ -1,4 +1,4 @@
--- Names: a letter or `_`, then letters, digits, `_`, `.` and `-`, at most 64 bytes, and none of the words of
+-- Names: a letter or `_`, then letters, digits, `_`, `.` and `-`, at most 64 bytes, and none of the keywords of
 -- expressions.
 use Rattle.std.specs.Prelude.{◌≡◌, ◌≤◌, ◌==◌, ℕ, Bool, true, false, ◌&&◌, ◌||◌, List, [], ◌∷◌, length, nat_le, nat_eq, codes}
 use Rattle.std.specs.List.{list_all, list_any}
@@ -18,9 +18,9 @@ begins_name b = is_letter b || b == 95
 abbrev pub continues_name : ℕ → Bool
 continues_name b = ((begins_name b || is_digit b) || b == 46) || b == 45
 
--- the words that expressions are written with
-abbrev pub words : List (List ℕ)
-words =
+-- the keywords that expressions are written with
+abbrev pub keywords : List (List ℕ)
+keywords =
     codes "true" ∷ codes "false" ∷ codes "not" ∷ codes "and" ∷ codes "or" ∷ codes "implies"
     ∷ codes "iff" ∷ codes "ite" ∷ codes "read" ∷ codes "write" ∷ codes "let" ∷ []
 
@@ -31,4 +31,4 @@ spells_name (b ∷ bs) = begins_name b && list_all continues_name bs
 pub record IsName (name : List ℕ) : Type 0 where
   pub spelled : spells_name name ≡ true
   pub short : length name ≤ 64
-  pub no_word : list_any (pointwise nat_eq name) words ≡ false
+  pub no_keyword : list_any (pointwise nat_eq name) keywords ≡ false

@@ -11,7 +11,7 @@ use Rattle.bd_model.specs.declared.case.Case.{Case}
 use Rattle.bd_model.specs.declared.case.Trail.{Trail}
 
 -- A number of steps of the specification for each cycle of a trail follows it: each is at most the design's and
--- allowed in its cycle, and behind the first n cycles the pipeline's state stands for the one in which the
+-- allowed in its cycle, and after the first n cycles the pipeline's state stands for the one in which the
 -- specification is after the first n numbers of steps.
 pub record FollowsBy (d : DesignView) (abs : Abstraction) (t : Trail) (counts : List ℕ) :
     Type 0 where

@@ -23,6 +23,3 @@ pub use laws::{
     judged_once, trails_decide,
 };
 pub use table::{Memory, Row, Rows, Scalar, Slot, Slots, Table, Value, Words};
-
-#[cfg(test)]
-mod tests;

@@ -3,7 +3,7 @@
 //! The first row that matches counts, so a write is a row put in front, and a memory's rows may name one address more
 //! than once. Two memories read equal at every word exactly where their defaults are equal and they agree at the
 //! address of each of their rows: words have no bound, so some address is in no row. Rows that two memories have in
-//! common at their ends, as those of a memory and of what was written over it, need no comparison: behind an address
+//! common at their ends, as those of a memory and of what was written over it, need no comparison: past an address
 //! that no earlier row has, both read the same.
 ghost use Rattle.std.specs.Prelude.{◌≡◌, ◌≤◌, ◌-◌, length, drop};
 
@@ -184,7 +184,7 @@ impl Memory {
     }
 }
 
-// How many slots the two lists have in common at their ends.
+/// How many slots the two lists have in common at their ends.
 fn common_end(a: &[Slot], b: &[Slot]) -> usize
     ensures first { result ≤ length a.now }
     ensures second { result ≤ length b.now }
@@ -221,7 +221,9 @@ impl Clone for Value {
 }
 
 impl Value {
+    ghost use Rattle.std.specs.Prelude.{◌↔◌, IsTrue};
     ghost use Rattle.bd_model.specs.Fits.{value_sort};
+    ghost use Rattle.bd_model.specs.Same.{SameValue};
 
     /// Its sort.
     pub fn sort(&self) -> Sort
@@ -230,6 +232,17 @@ impl Value {
         match self {
             Value::Scalar(scalar) => scalar.sort(),
             Value::Memory(_) => Sort::Memory,
+        }
+    }
+
+    /// Whether the two can't be told apart: equal scalars, or memories that read equal at every address.
+    pub fn same(&self, other: &Value) -> bool
+        ensures { IsTrue result ↔ SameValue self.now other.now }
+    {
+        match (self, other) {
+            (Value::Scalar(x), Value::Scalar(y)) => x == y,
+            (Value::Memory(m), Value::Memory(n)) => m.same(n),
+            _ => false,
         }
     }
 }

@@ -58,7 +58,7 @@ counted_false env items i x counts new all within is before fails same =
     let done = counted_skip (AllowsCount env) counts (exact_view x) (map exact_view (drop (i + 1) items)) all here (λ j t. absurd (both_ways _ fails t)) in
     subst (λ ns. IsCounted (AllowsCount env) ns (map exact_view (drop (i + 1) items)) all) (sym same) done
 
--- behind the last item, the counts alone decide
+-- after the last item, the counts alone decide
 pub counted_end : (env : Env) (items : List Exact) (i : ℕ) (counts : List ℕ) (all : List ExactView) → length items ≤ i → IsCounted (AllowsCount env) counts (map exact_view (drop i items)) all
     → (j : ℕ) → AllByRecursion (λ n. n ≡ j) counts ↔ AllByRecursion (AllowsCount env j) all
 counted_end env items i counts all past before =

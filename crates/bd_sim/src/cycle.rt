@@ -98,7 +98,7 @@ pub fn flushed(
     look(alloc, design, &end)
 }
 
-// One cycle of a machine.
+/// One cycle of a machine.
 fn cycle(
     alloc: Global,
     machine: &Machine,
@@ -113,7 +113,7 @@ fn cycle(
     Ok(Sequence::from_vec(values(&env, &machine.nexts)?))
 }
 
-// The values of the flush expressions.
+/// The values of the flush expressions.
 fn idle_inputs(
     alloc: Global,
     machine: &Machine,

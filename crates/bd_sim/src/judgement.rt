@@ -1,7 +1,7 @@
 //! What a case shows.
 //!
 //! The conditions are tested by running both machines. For `commute` the pipeline is flushed once before the cycle
-//! and once behind it; then the specification is led on a step at a time, and each state that it reaches is compared,
+//! and once after it; then the specification is led on a step at a time, and each state that it reaches is compared,
 //! from no step to the design's most. Which numbers of steps are allowed rests on the cycle alone, so the counts of
 //! the exact items that are true are found once. Memories are compared by their rows and defaults, which decides
 //! whether they read equal at every word.
@@ -49,8 +49,8 @@ fn meets_invariant(
     truth(&env, &design.inv)
 }
 
-// Whether the flushed pipeline stands, after the cycle that ends in `next`, where some number of steps of the
-// specification, at most the design's and allowed, lead from where it stood before.
+/// Whether the flushed pipeline stands, after the cycle that ends in `next`, where some number of steps of the
+/// specification, at most the design's and allowed, lead from where it stood before.
 fn commutes(alloc: Global, design: &Design, case: &Case, next: &State) -> Result<bool, AllocError>
     requires { next.now
         ≡ step (design_view design.now).pipe case.now.interp case.now.state case.now.inputs }
@@ -69,7 +69,7 @@ fn commutes(alloc: Global, design: &Design, case: &Case, next: &State) -> Result
     Ok(stands(counts.as_slice(), design.steps, &after, &reached))
 }
 
-// The counts of the exact items whose condition is true: each must be the number of steps.
+/// The counts of the exact items whose condition is true: each must be the number of steps.
 fn exact_counts(alloc: Global, design: &Design, case: &Case) -> Result<Vec<u32>, AllocError>
     ensures { IfOk result (λ v. (j : ℕ) → AllByRecursion (λ n. n ≡ j) v.items
         ↔ IsAllowed (design_view design.now) case.now.interp case.now.state case.now.inputs j) }
@@ -101,7 +101,7 @@ fn stands(counts: &[u32], count: u32, after: &State, reached: &State) -> bool
     counts.iter().all(|n| *n == count) && same(after.as_slice(), reached.as_slice())
 }
 
-// Whether two states can't be told apart.
+/// Whether two states can't be told apart.
 fn same(first: &[Value], second: &[Value]) -> bool
     ensures { IsTrue result ↔ AllZip SameValue first.now second.now }
 {
@@ -109,19 +109,9 @@ fn same(first: &[Value], second: &[Value]) -> bool
         return false;
     }
     for (value, other) in first.iter().zip(second) {
-        if !same_value(value, other) {
+        if !value.same(other) {
             return false;
         }
     }
     true
-}
-
-fn same_value(value: &Value, other: &Value) -> bool
-    ensures { IsTrue result ↔ SameValue value.now other.now }
-{
-    match (value, other) {
-        (Value::Scalar(x), Value::Scalar(y)) => x == y,
-        (Value::Memory(m), Value::Memory(n)) => m.same(n),
-        _ => false,
-    }
 }

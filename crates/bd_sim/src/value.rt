@@ -2,13 +2,13 @@
 //!
 //! A value is found form by form. What gives a scalar is valued as a scalar, and a read goes down the writes of its
 //! memory to the first with its address, so no memory is copied but where one is the value. The lets of a machine are
-//! valued once, in order, and kept where the expressions behind them name them. What no lawful design has is false, 0
+//! valued once, in order, and kept where later expressions name them. What no lawful design has is false, 0
 //! or the memory of zeros, so no call has a condition on sorts. Recursion goes down the expression alone.
 ghost use Rattle.std.specs.Prelude.{◌≡◌, IfOk, map, slice_index_or};
 ghost use Rattle.std.specs.List.{list_all, list_any};
 ghost use Rattle.bd_model.specs.Table.{at, read, write};
 ghost use Rattle.bd_model.specs.ExprView.{expr_view, expr_views, list_of_views};
-ghost use Rattle.bd_model.specs.Value.{value_of, values_of, scalar_of, scalar_truth, scalar_word, memory_of, is_true, word_of, table_of, env_of, truth as truth_value};
+ghost use Rattle.bd_model.specs.Value.{value_of, values_of, scalar_of, memory_of, is_true, word_of, table_of, env_of, truth as truth_value};
 ghost use Rattle.bd_model.specs.DesignView.{local_view};
 ghost use Rattle.std.specs.Prelude.{false};
 ghost use Rattle.bd_sim.specs.inner.Env.{env_view};
@@ -30,7 +30,7 @@ pub struct Env<'a> {
 }
 
 impl<'a> Env<'a> {
-    /// What names stand for behind these lets, each of which is valued once.
+    /// What names stand for after these lets, each of which is valued once.
     pub fn new(
         alloc: Global,
         locals: &[Local],
@@ -156,19 +156,17 @@ pub fn scalar(env: &Env, expr: &Expr) -> Result<Scalar, AllocError>
 pub fn truth(env: &Env, expr: &Expr) -> Result<bool, AllocError>
     ensures { IfOk result (λ b. b ≡ is_true (value_of (env_view env.now) (expr_view expr.now))) }
 {
-    let value = scalar(env, expr)?;
-    Ok(truth_of(value))
+    Ok(scalar(env, expr)?.truth())
 }
 
 #[cycle(scalar)]
 fn word(env: &Env, expr: &Expr) -> Result<u64, AllocError>
     ensures { IfOk result (λ n. n ≡ word_of (value_of (env_view env.now) (expr_view expr.now))) }
 {
-    let value = scalar(env, expr)?;
-    Ok(word_in(value))
+    Ok(scalar(env, expr)?.word())
 }
 
-// What a memory has at an address, without copying the memory.
+/// What a memory has at an address, without copying the memory.
 #[cycle(scalar)]
 fn read_at(env: &Env, memory: &Expr, address: u64) -> Result<u64, AllocError>
     ensures { IfOk result (λ n. n
@@ -233,24 +231,6 @@ fn words(env: &Env, parts: &Exprs) -> Result<Vec<u64>, AllocError>
     Ok(words)
 }
 
-fn truth_of(scalar: Scalar) -> bool
-    ensures { result ≡ scalar_truth scalar }
-{
-    match scalar {
-        Scalar::Bool(b) => b,
-        Scalar::Word(_) => false,
-    }
-}
-
-fn word_in(scalar: Scalar) -> u64
-    ensures { result ≡ scalar_word scalar }
-{
-    match scalar {
-        Scalar::Bool(_) => 0,
-        Scalar::Word(n) => n,
-    }
-}
-
 pub fn value_at(values: &[Value], i: u32) -> Result<Value, AllocError>
     ensures { IfOk result (λ v. v ≡ slice_index_or values.now i (truth_value false)) }
 {
@@ -296,7 +276,7 @@ fn table_at(interp: &[Table], f: u32, args: &[u64]) -> Scalar
     }
 }
 
-// The memory with the word at the address; where the old value is no memory, that of zeros.
+/// The memory with the word at the address; where the old value is no memory, that of zeros.
 fn written(alloc: Global, old: Value, address: u64, word: u64) -> Result<Memory, AllocError>
     ensures { IfOk result (λ m. m ≡ write (memory_of old) address word) }
 {

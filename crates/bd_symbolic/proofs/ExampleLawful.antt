@@ -56,7 +56,7 @@ example_lawful = record {
   inv_limits = (omega arith, omega arith);
   exact = tt;
   distinct = tt;
-  names = (record { spelled = refl; short = omega arith; no_word = refl }, (record { spelled = refl; short = omega arith; no_word = refl }, (record { spelled = refl; short = omega arith; no_word = refl }, (record { spelled = refl; short = omega arith; no_word = refl }, (record { spelled = refl; short = omega arith; no_word = refl }, (record { spelled = refl; short = omega arith; no_word = refl }, (record { spelled = refl; short = omega arith; no_word = refl }, (record { spelled = refl; short = omega arith; no_word = refl }, tt))))))));
+  names = (record { spelled = refl; short = omega arith; no_keyword = refl }, (record { spelled = refl; short = omega arith; no_keyword = refl }, (record { spelled = refl; short = omega arith; no_keyword = refl }, (record { spelled = refl; short = omega arith; no_keyword = refl }, (record { spelled = refl; short = omega arith; no_keyword = refl }, (record { spelled = refl; short = omega arith; no_keyword = refl }, (record { spelled = refl; short = omega arith; no_keyword = refl }, (record { spelled = refl; short = omega arith; no_keyword = refl }, tt))))))));
   different_names = different_names;
   visible = (refl, (refl, tt));
   visible_once = AllPairs-different nat_eq unsigned_Decides (0 ∷ 1 ∷ []) refl;

@@ -11,7 +11,7 @@ use Rattle.bd_model.proofs.Compose.{follows, commutes-followed}
 use Rattle.bd_model.proofs.Settled.{Commutes-settled, settled_holds}
 use Rattle.bd_model.proofs.laws.trails_decide.Goals as goal
 
--- the cycle behind cycles that commute commutes, unless it is the first that doesn't
+-- the cycle after cycles that commute commutes, unless it is the first that doesn't
 commutes_next : (d : DesignView) (t : Trail) → ((n : ℕ) → ¬ BreaksFirst d t n) → (n : ℕ) → n < length t.inputs → ((m : ℕ) → m < n → CycleCommutes d t m) → (m : ℕ) → (m ≡ n) ⊎ (m < n) → CycleCommutes d t m
 commutes_next d t none n within earlier m (inr less) = earlier m less
 commutes_next d t none n within earlier m (inl same) =

@@ -97,7 +97,7 @@ lawful stale = record {
   inv_limits = (omega arith, omega arith);
   exact = tt;
   distinct = tt;
-  names = (record { spelled = refl; short = omega arith; no_word = refl }, (record { spelled = refl; short = omega arith; no_word = refl }, (record { spelled = refl; short = omega arith; no_word = refl }, (record { spelled = refl; short = omega arith; no_word = refl }, (record { spelled = refl; short = omega arith; no_word = refl }, (record { spelled = refl; short = omega arith; no_word = refl }, (record { spelled = refl; short = omega arith; no_word = refl }, (record { spelled = refl; short = omega arith; no_word = refl }, (record { spelled = refl; short = omega arith; no_word = refl }, (record { spelled = refl; short = omega arith; no_word = refl }, (record { spelled = refl; short = omega arith; no_word = refl }, (record { spelled = refl; short = omega arith; no_word = refl }, tt))))))))))));
+  names = (record { spelled = refl; short = omega arith; no_keyword = refl }, (record { spelled = refl; short = omega arith; no_keyword = refl }, (record { spelled = refl; short = omega arith; no_keyword = refl }, (record { spelled = refl; short = omega arith; no_keyword = refl }, (record { spelled = refl; short = omega arith; no_keyword = refl }, (record { spelled = refl; short = omega arith; no_keyword = refl }, (record { spelled = refl; short = omega arith; no_keyword = refl }, (record { spelled = refl; short = omega arith; no_keyword = refl }, (record { spelled = refl; short = omega arith; no_keyword = refl }, (record { spelled = refl; short = omega arith; no_keyword = refl }, (record { spelled = refl; short = omega arith; no_keyword = refl }, (record { spelled = refl; short = omega arith; no_keyword = refl }, tt))))))))))));
   different_names = different_names stale;
   visible = (refl, (refl, tt));
   visible_once = visible_once;
