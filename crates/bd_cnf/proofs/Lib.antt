@@ -6,3 +6,4 @@ pub mod Opens
 pub mod Trails
 pub mod Standings
 pub mod Closed
+pub mod ClausesPushed

@@ -21,7 +21,7 @@ open_is_below limit trail clause l low e =
     let P : Literal → Type 0 = λ m. m.var < limit in
     All-head P l [] (subst (λ ls. All P ls) e (All-filter (λ m. not (is_false trail m)) P clause low))
 
--- an open literal behind one makes two
+-- an open literal after another makes two
 pub two_open : (trail clause : List Literal) (i : ℕ) (l : Literal) (found : Option Literal) → i < length clause → l ≡ get_or clause i l → is_false trail l ≡ false → open_literals trail (take i clause) ≡ option_to_list found → is_some found ≡ true → 2 ≤ length (open_literals trail clause)
 two_open trail clause i l None h is not_false so some = absurd (false≢true some)
 two_open trail clause i l (Some x) h is not_false so some =

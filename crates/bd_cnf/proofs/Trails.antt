@@ -1,4 +1,4 @@
--- Values and trails, as they are trail and cleared.
+-- Values and trails, as they are set and cleared.
 use Rattle.std.proofs.Common.{◌≡◌, ℕ, zero, suc, ◌<◌, false, List, [], ◌∷◌, length, get_or, take, map, refl, arith}
 use Rattle.std.proofs.lemmas.Bool.{ne_eqb, and_left, or_from}
 use Rattle.bd_cnf.specs.Literal.{Literal, negate, literal_eq, has_literal}

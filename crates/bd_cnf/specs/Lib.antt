@@ -4,3 +4,6 @@ pub mod Assignment
 pub mod Problem
 pub mod Standing
 pub mod Trail
+pub mod Status
+pub mod Packed
+pub mod inner

@@ -32,6 +32,6 @@ has_variable ls var = list_any (λ l. l.var == var) ls
 abbrev pub literal_value : (ℕ → Bool) → Literal → Bool
 literal_value v l = if l.positive then v l.var else not (v l.var)
 
--- how DIMACS CNF and textual LRAT write a literal: its variable in decimal, behind a minus sign where it is negative
+-- how DIMACS CNF and textual LRAT write a literal: its variable in decimal, after a minus sign where it is negative
 abbrev pub literal_text : Literal → List ℕ
 literal_text l = if l.positive then decimal l.var else 45 ∷ decimal l.var

@@ -14,7 +14,7 @@ pub record Problem : Type 0 where
 abbrev pub problem : ℕ → List (List Literal) → Problem
 problem vars clauses = record { vars = vars; clauses = clauses }
 
--- the problem with one clause more, behind the others
+-- the problem with one clause more, after the others
 abbrev pub with_clause : Problem → List Literal → Problem
 with_clause p clause = problem p.vars (p.clauses ++ clause ∷ [])
 
@@ -38,6 +38,6 @@ problem_line vars clauses = codes "p cnf " ++ decimal vars ++ codes " " ++ decim
 abbrev pub dimacs : Problem → List ℕ
 dimacs p = problem_line p.vars (length p.clauses) ++ flat_map clause_line p.clauses
 
--- the new text is the old one with those bytes behind it
+-- the new text is the old one with those bytes after it
 abbrev pub Appends : {Z : Type 0} → String Z → String Z → List ℕ → Type 0
 Appends old new bytes = string_bytes new ≡ string_bytes old ++ bytes

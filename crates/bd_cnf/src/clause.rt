@@ -77,14 +77,6 @@ impl Clause {
         Clause { lits }
     }
 
-    /// Gives the literals back. Takes no memory.
-    pub fn into_lits(self) -> Vec<Lit>
-        ensures items { result.items ≡ self }
-        ensures rising { IsRising self }
-    {
-        self.lits
-    }
-
     pub fn lits(&self) -> &[Lit]
         ensures value { result.now ≡ self.now }
         ensures rising { IsRising self.now }

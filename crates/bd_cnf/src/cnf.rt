@@ -68,7 +68,7 @@ impl Cnf {
         self.clauses
     }
 
-    /// Puts a clause behind the others.
+    /// Puts a clause after the others.
     pub fn push(&mut self, clause: Clause) -> Result<(), AllocError>
         requires { IsWithin self.old.vars clause }
         ensures ok { OnOk result (self.new ≡ with_clause self.old clause) }

@@ -22,7 +22,7 @@ pub fn dimacs_text(alloc: Global, cnf: &Cnf) -> Result<Vec<u8>, AllocError>
     Ok(text.into_bytes())
 }
 
-/// Writes literals behind the text, each followed by a space.
+/// Writes literals after the text, each followed by a space.
 pub fn push_literals(text: &mut String, lits: &[Lit]) -> Result<(), AllocError>
     ensures { OnOk result (Appends text.old text.new (literals_text lits.now)) }
 {

@@ -7,13 +7,16 @@ mod cnf;
 mod dimacs;
 mod lists;
 mod lit;
+mod packed_clauses;
+mod packed_lit;
+mod status;
 
 pub use assignment::Assignment;
 pub use clause::Clause;
 pub use cnf::Cnf;
 pub use dimacs::{dimacs_text, push_literals};
-pub use lists::{Clauses, Words};
+pub use lists::Clauses;
 pub use lit::Lit;
-
-#[cfg(test)]
-mod tests;
+pub use packed_clauses::PackedClauses;
+pub use packed_lit::PackedLit;
+pub use status::ClauseStatus;

@@ -1,9 +1,6 @@
-//! The plural names of this crate.
+//! The plural name of this crate.
 use crate::clause::Clause;
 use bd_list::Sequence;
 
 /// A list of clauses.
 pub type Clauses = Sequence<Clause>;
-
-/// A list of whole numbers.
-pub type Words = Sequence<u64>;

@@ -14,25 +14,6 @@ use Rattle.bd_lrat.specs.declared.line.Hint.TheVariants as hint
 use Rattle.bd_lrat.specs.Propagation.{Outcome, Conflict, Reached, Stopped, unit_outcome, clause_outcome, hint_outcome, and_then, propagate, reaches}
 use Rattle.bd_lrat.specs.Log.{includes, others, NeverReaches, IsFreshClause}
 
--- hints behind others go on from where those came to
-pub propagate-append : (standing : Standing) (trail : List Literal) (xs ys : List Hint) → propagate standing trail (xs ++ ys) ≡ and_then (propagate standing trail xs) (λ more. propagate standing more ys)
-propagate-append standing trail [] ys = refl
-propagate-append standing trail (x ∷ xs) ys = step (hint_outcome standing trail x) (λ more. propagate-append standing more xs ys)
-  where
-    step : (o : Outcome) → ((more : List Literal) → propagate standing more (xs ++ ys) ≡ and_then (propagate standing more xs) (λ next. propagate standing next ys)) → and_then o (λ more. propagate standing more (xs ++ ys)) ≡ and_then (and_then o (λ more. propagate standing more xs)) (λ next. propagate standing next ys)
-    step Conflict rest = refl
-    step (Reached more) rest = rest more
-    step (Stopped r) rest = refl
-
--- one more hint
-pub propagate-push : (standing : Standing) (trail : List Literal) (xs : List Hint) (x : Hint) → propagate standing trail (xs ++ x ∷ []) ≡ and_then (propagate standing trail xs) (λ more. hint_outcome standing more x)
-propagate-push standing trail xs x = propagate-append standing trail xs (x ∷ []) ∙ ap (and_then (propagate standing trail xs)) (λ i more. last (hint_outcome standing more x) i)
-  where
-    last : (o : Outcome) → and_then o (λ more. Reached more) ≡ o
-    last Conflict = refl
-    last (Reached more) = refl
-    last (Stopped r) = refl
-
 -- no conflict, and no literal but those of the whole trail
 abbrev pub StaysWithin : List Literal → Outcome → Type 0
 StaysWithin whole Conflict = ⊥

@@ -1,4 +1,4 @@
--- Logs taken apart at their end: the definitions go down a log from its front, and a solver adds lines behind it.
+-- Logs taken apart at their end: the definitions go down a log from its front, and a solver adds lines after it.
 use Rattle.std.proofs.Common.{◌≡◌, ◌≢◌, ℕ, ◌+◌, true, cond, List, [], ◌∷◌, ◌++◌, refl, ◌∙◌}
 use Rattle.std.specs.List.{list_any}
 use Rattle.std.proofs.lemmas.List.Folds.{list_any-append}
@@ -26,23 +26,8 @@ pub accepted-append : (db : Database) (xs ys : List Line) → IsAcceptedLog db x
 accepted-append db [] ys front back = back
 accepted-append db (x ∷ xs) ys front back = (front.0, accepted-append (after db x) xs ys front.1 back)
 
-pub accepted_front : (db : Database) (xs ys : List Line) → IsAcceptedLog db (xs ++ ys) → IsAcceptedLog db xs
-accepted_front db [] ys all = tt
-accepted_front db (x ∷ xs) ys all = (all.0, accepted_front (after db x) xs ys all.1)
-
-pub accepted_back : (db : Database) (xs ys : List Line) → IsAcceptedLog db (xs ++ ys) → IsAcceptedLog (after_all db xs) ys
-accepted_back db [] ys all = all
-accepted_back db (x ∷ xs) ys all = accepted_back (after db x) xs ys all.1
-
 pub accepted-push : (db : Database) (xs : List Line) (line : Line) → IsAcceptedLog db xs → IsAccepted (after_all db xs) line → IsAcceptedLog db (xs ++ line ∷ [])
 accepted-push db xs line front last = accepted-append db xs (line ∷ []) front (last, tt)
-
--- an accepted log and behind it an accepted line that adds the empty clause are a refutation
-pub refutation-push : (p : Problem) (xs : List Line) (line : Line) → IsAcceptedLog (database_of p) xs → IsAccepted (after_all (database_of p) xs) line → adds_empty line ≡ true → IsRefutation p (xs ++ line ∷ [])
-refutation-push p xs line front last empty = (
-  accepted-push (database_of p) xs line front last,
-  list_any-append adds_empty xs (line ∷ []) ∙ or_right (list_any adds_empty xs) _ (or-false (adds_empty line) ∙ empty),
-)
 
 -- the clauses of two logs
 pub with_added-append : (earlier : List (List Literal)) (xs ys : List Line) → with_added earlier (xs ++ ys) ≡ with_added (with_added earlier xs) ys
@@ -56,21 +41,11 @@ fresh-append db earlier [] ys front back = back
 fresh-append db earlier ((Add id clause hints) ∷ xs) ys front back = (front.0, fresh-append (after db (Add id clause hints)) (clause ∷ earlier) xs ys front.1 back)
 fresh-append db earlier ((Delete id ids) ∷ xs) ys front back = fresh-append (after db (Delete id ids)) earlier xs ys front back
 
-pub fresh_front : (db : Database) (earlier : List (List Literal)) (xs ys : List Line) → AddsFresh db earlier (xs ++ ys) → AddsFresh db earlier xs
-fresh_front db earlier [] ys all = tt
-fresh_front db earlier ((Add id clause hints) ∷ xs) ys all = (all.0, fresh_front (after db (Add id clause hints)) (clause ∷ earlier) xs ys all.1)
-fresh_front db earlier ((Delete id ids) ∷ xs) ys all = fresh_front (after db (Delete id ids)) earlier xs ys all
-
-pub fresh_back : (db : Database) (earlier : List (List Literal)) (xs ys : List Line) → AddsFresh db earlier (xs ++ ys) → AddsFresh (after_all db xs) (with_added earlier xs) ys
-fresh_back db earlier [] ys all = all
-fresh_back db earlier ((Add id clause hints) ∷ xs) ys all = fresh_back (after db (Add id clause hints)) (clause ∷ earlier) xs ys all.1
-fresh_back db earlier ((Delete id ids) ∷ xs) ys all = fresh_back (after db (Delete id ids)) earlier xs ys all
-
--- an addition of a fresh clause behind a fresh log
+-- an addition of a fresh clause after a fresh log
 pub fresh-push_addition : (db : Database) (earlier : List (List Literal)) (xs : List Line) (id : ℕ) (clause : List Literal) (hints : List Hint) → AddsFresh db earlier xs → (clause ≢ [] → IsFreshClause (after_all db xs).clauses (with_added earlier xs) clause) → AddsFresh db earlier (xs ++ Add id clause hints ∷ [])
 fresh-push_addition db earlier xs id clause hints front last = fresh-append db earlier xs (Add id clause hints ∷ []) front (last, tt)
 
--- a deletion behind a fresh log
+-- a deletion after a fresh log
 pub fresh-push_deletion : (db : Database) (earlier : List (List Literal)) (xs : List Line) (id : ℕ) (ids : List ℕ) → AddsFresh db earlier xs → AddsFresh db earlier (xs ++ Delete id ids ∷ [])
 fresh-push_deletion db earlier xs id ids front = fresh-append db earlier xs (Delete id ids ∷ []) front tt
 
@@ -78,6 +53,6 @@ fresh-push_deletion db earlier xs id ids front = fresh-append db earlier xs (Del
 pub additions-append : (xs ys : List Line) → additions (xs ++ ys) ≡ additions xs + additions ys
 additions-append xs ys = sum_by-append (λ line. cond (adds_literals line) 1 0) xs ys
 
--- a line behind a log counts where it adds a clause of one literal or more
+-- a line after a log counts where it adds a clause of one literal or more
 pub additions-push : (xs : List Line) (line : Line) → additions (xs ++ line ∷ []) ≡ additions xs + cond (adds_literals line) 1 0
 additions-push xs line = sum_by_push (λ line. cond (adds_literals line) 1 0) xs line

@@ -18,50 +18,6 @@ use Rattle.bd_lrat.proofs.Keys.{tied}
 abbrev pub StandsUpTo : ℕ → Standing → Type 0
 StandsUpTo last standing = (id : ℕ) → IsSome (get standing id) → id ≤ last
 
-pub up_to_more : (last more : ℕ) (standing : Standing) → last ≤ more → StandsUpTo last standing → StandsUpTo more standing
-up_to_more last more standing h low id is = let here : id ≤ last = low id is in omega arith
-
-pub up_to_insert : (last : ℕ) (standing : Standing) (id : ℕ) (clause : List Literal) → last ≤ id → StandsUpTo last standing → StandsUpTo id (insert standing id clause)
-up_to_insert last standing id clause h low q is =
-    elim (cases_Bool (eq_by_cmp nat_cmp q id)) [
-      | inl e ↦ let same : q ≡ id = eqb-true q id (sym (tied q id) ∙ e) in omega arith
-      | inr e ↦
-          let kept : get (insert standing id clause) q ≡ get standing q = get-insert nat_cmp_total standing id clause q ∙ ap (λ b. cond b (Some clause) (get standing q)) e in
-          let here : q ≤ last = low q (sym (ap is_some kept) ∙ is) in
-          omega arith
-    ]
-
-pub up_to_remove : (last : ℕ) (standing : Standing) (id : ℕ) → StandsUpTo last standing → StandsUpTo last (remove standing id)
-up_to_remove last standing id low q is =
-    elim (cases_Bool (eq_by_cmp nat_cmp q id)) [
-      | inl e ↦ absurd (false≢true (sym (ap is_some (get-remove nat_cmp_total standing id q ∙ ap (λ b. cond b None (get standing q)) e)) ∙ is))
-      | inr e ↦ low q (sym (ap is_some (get-remove nat_cmp_total standing id q ∙ ap (λ b. cond b None (get standing q)) e)) ∙ is)
-    ]
-
-pub up_to_remove_all : (last : ℕ) (ids : List ℕ) (standing : Standing) → StandsUpTo last standing → StandsUpTo last (remove_all standing ids)
-up_to_remove_all last [] standing low = low
-up_to_remove_all last (id ∷ ids) standing low = up_to_remove_all last ids (remove standing id) (up_to_remove last standing id low)
-
--- an accepted line keeps it, and lowers no last id
-pub up_to_after : (db : Database) (line : Line) → IsAccepted db line → StandsUpTo db.last db.clauses → StandsUpTo (after db line).last (after db line).clauses
-up_to_after db (Add id clause hints) so low = let above : db.last < id = so.0 in up_to_insert db.last db.clauses id clause (omega arith) low
-up_to_after db (Delete id ids) so low = up_to_remove_all db.last ids db.clauses low
-
-pub last_after : (db : Database) (line : Line) → IsAccepted db line → db.last ≤ (after db line).last
-last_after db (Add id clause hints) so = let above : db.last < id = so.0 in omega arith
-last_after db (Delete id ids) so = omega arith
-
-pub up_to_after_all : (lines : List Line) (db : Database) → IsAcceptedLog db lines → StandsUpTo db.last db.clauses → StandsUpTo (after_all db lines).last (after_all db lines).clauses
-up_to_after_all [] db so low = low
-up_to_after_all (line ∷ lines) db so low = up_to_after_all lines (after db line) so.1 (up_to_after db line so.0 low)
-
-pub last_after_all : (lines : List Line) (db : Database) → IsAcceptedLog db lines → db.last ≤ (after_all db lines).last
-last_after_all [] db so = omega arith
-last_after_all (line ∷ lines) db so =
-    let first : db.last ≤ (after db line).last = last_after db line so.0 in
-    let rest : (after db line).last ≤ (after_all (after db line) lines).last = last_after_all lines (after db line) so.1 in
-    omega arith
-
 found_up_to : (n q : ℕ) (cs : List (List Literal)) → IsSome (find nat_cmp q (enumerate_from n cs)) → q < n + length cs
 found_up_to n q [] is = absurd (false≢true is)
 found_up_to n q (c ∷ cs) is =

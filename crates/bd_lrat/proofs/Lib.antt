@@ -1,13 +1,13 @@
 pub mod Keys
 pub mod Standings
-pub mod Answering
+pub mod AnswersAccepted
 pub mod Soundness
-pub mod Refuting
+pub mod AcceptedLogs
 pub mod Ends
 pub mod Ids
 pub mod Closed
 pub mod Examples
 pub mod Rising
-pub mod Codes
-pub mod Arenas
+pub mod Stored
 pub mod HintLists
+pub mod FreshLogs

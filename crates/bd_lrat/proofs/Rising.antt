@@ -38,7 +38,7 @@ none_below low high xs n so h = none_found xs n (λ k here e. let above : low �
 pub rises_same : (low low' high high' : ℕ) (xs : List ℕ) → low ≡ low' → high ≡ high' → RisesWithin low high xs → RisesWithin low' high' xs
 rises_same low low' high high' xs e f so = subst (λ l. RisesWithin l high' xs) e (subst (λ h. RisesWithin low h xs) f so)
 
--- one more behind the others
+-- one more after the others
 pub rises_push : (low high : ℕ) (xs : List ℕ) → RisesWithin low high xs → RisesWithin low (high + 1) (xs ++ high ∷ [])
 rises_push low high [] so = (so, omega arith)
 rises_push low high (x ∷ xs) so = (so.0, rises_push (x + 1) high xs so.1)

@@ -21,7 +21,7 @@ use Rattle.bd_lrat.specs.Log.{IsAcceptedLog, IsRefutation, after_all, adds_empty
 use Rattle.std.proofs.Common.{Result, Ok, Err, OnOk, is_ok}
 use Rattle.bd_lrat.specs.declared.refused.Refused.{Refused}
 use Rattle.bd_lrat.specs.Database.{line_answer}
-use Rattle.bd_lrat.proofs.Answering.{accepted_from_ok}
+use Rattle.bd_lrat.proofs.AnswersAccepted.{accepted_from_ok}
 use Rattle.bd_lrat.proofs.Standings.{each_remove_all, each_numbered}
 
 -- v makes each literal true
@@ -120,11 +120,6 @@ log_refutes (line ∷ lines) db so adds v holds =
       | inr e ↦ log_refutes lines (after db line) so.1 e v (accepted_sound db line so.0 v holds)
     ]
 
--- what stands after an accepted log is true where what stood before it is
-pub log_sound : (lines : List Line) (db : Database) → IsAcceptedLog db lines → (v : ℕ → Bool) → Models v db.clauses → Models v (after_all db lines).clauses
-log_sound [] db so v holds = holds
-log_sound (line ∷ lines) db so v holds = log_sound lines (after db line) so.1 v (accepted_sound db line so.0 v holds)
-
 all_true : (v : ℕ → Bool) (cs : List (List Literal)) → clauses_value v cs ≡ true → All (λ c. clause_value v c ≡ true) cs
 all_true v [] h = All-nil (λ c. clause_value v c ≡ true)
 all_true v (c ∷ cs) h =
@@ -140,7 +135,3 @@ refutation_sound p lines so v h = log_refutes lines (database_of p) so.0 so.1 v 
 pub ok_sound : (db : Database) (line : Line) (r : Result (Unit {0}) Refused) → r ≡ line_answer db line → OnOk r ((v : ℕ → Bool) → Models v db.clauses → Models v (after db line).clauses)
 ok_sound db line (Ok x) e = accepted_sound db line (accepted_from_ok db line (ap is_ok (sym e)))
 ok_sound db line (Err x) e = tt
-
--- each model of a formula is one of what stands after an accepted log
-pub models_after : (p : Problem) (lines : List Line) → IsAcceptedLog (database_of p) lines → (v : ℕ → Bool) → Satisfies v p.clauses → Models v (after_all (database_of p) lines).clauses
-models_after p lines so v h = log_sound lines (database_of p) so v (models_formula v p h)

@@ -1,20 +1,25 @@
 -- Logs: accepted, refuting, fresh, and what a log leaves unsettled (textual LRAT; unit propagation as in conflict-driven solvers).
-use Rattle.std.specs.Prelude.{◌≡◌, ◌≢◌, ℕ, Bool, true, false, List, [], ◌∷◌, ◌++◌, not, IsTrue, map, count_by}
+use Rattle.std.specs.Prelude.{◌≡◌, ◌≢◌, ◌<◌, ◌+◌, ◌^◌, ℕ, Bool, true, false, List, [], ◌∷◌, ◌++◌, Option, None, Some, is_ok, not, IsTrue, if◌then◌else◌, map, count_by}
 use Rattle.std.specs.List.{All, filter, list_any, list_all}
 use Rattle.bd_cnf.specs.Literal.{Literal, negate, literal_eq, has_literal, has_variable}
-use Rattle.bd_cnf.specs.Clause.{Satisfies}
+use Rattle.bd_cnf.specs.Clause.{Satisfies, IsRising}
 use Rattle.bd_cnf.specs.Problem.{Problem}
 use Rattle.bd_cnf.specs.Standing.{Standing}
 use Rattle.bd_lrat.specs.declared.line.Hint.{Hint}
 use Rattle.bd_lrat.specs.declared.line.Line.{Line}
 use Rattle.bd_lrat.specs.declared.line.Line.TheVariants.{Add, Delete}
 use Rattle.bd_lrat.specs.Propagation.{Conflict, propagate, reaches}
-use Rattle.bd_lrat.specs.Database.{Database, database_of, IsAccepted, after}
+use Rattle.bd_lrat.specs.Database.{Database, database_of, IsAccepted, after, line_answer}
 
 -- each line is accepted on what stands before it
 abbrev pub IsAcceptedLog : Database → List Line → Type 0
 IsAcceptedLog db [] = Unit {0}
 IsAcceptedLog db (line ∷ lines) = IsAccepted db line × IsAcceptedLog (after db line) lines
+
+-- the number of the first line, from n, that isn't accepted on what stands before it
+abbrev pub refused_from : ℕ → Database → List Line → Option ℕ
+refused_from n db [] = None
+refused_from n db (line ∷ lines) = if is_ok (line_answer db line) then refused_from (n + 1) (after db line) lines else Some n
 
 -- what stands after the lines
 abbrev pub after_all : Database → List Line → Database
@@ -94,3 +99,13 @@ pub record IsUnsettled (standing : Standing) : Type 0 where
   pub unreached : NeverReaches standing decisions last.var
   pub hints : List Hint
   pub conflict : propagate standing (decisions ++ last ∷ []) hints ≡ Conflict
+
+-- each clause that the lines add is by rising variable, so none stands twice in it
+abbrev pub AddsRising : List Line → Type 0
+AddsRising [] = Unit {0}
+AddsRising ((Add id clause hints) ∷ lines) = IsRising clause × AddsRising lines
+AddsRising ((Delete id ids) ∷ lines) = AddsRising lines
+
+-- a fresh log adds fewer clauses of one literal or more than 3 to the number of variables: a clause has a variable, or its negation, or neither, and none is added twice
+abbrev pub FreshLogsAreShort : Type 0
+FreshLogsAreShort = (p : Problem) (lines : List Line) → IsAcceptedLog (database_of p) lines → AddsRising lines → IsFresh p lines → additions lines < 3 ^ p.vars

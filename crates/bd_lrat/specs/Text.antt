@@ -8,7 +8,7 @@ use Rattle.bd_lrat.specs.declared.line.Hint.TheVariants.{Unit as UnitHint, Rat}
 use Rattle.bd_lrat.specs.declared.line.Line.{Line}
 use Rattle.bd_lrat.specs.declared.line.Line.TheVariants.{Add, Delete}
 
--- a hint in decimal, behind a minus sign where it is for a resolution on asymmetric tautologies (textual LRAT)
+-- a hint in decimal, after a minus sign where it is for a resolution on asymmetric tautologies (textual LRAT)
 abbrev pub hint_text : Hint → List ℕ
 hint_text (UnitHint id) = decimal id
 hint_text (Rat id) = 45 ∷ decimal id

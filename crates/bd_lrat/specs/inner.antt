@@ -2,5 +2,4 @@ pub mod Steps
 pub mod Ready
 pub mod Rising
 pub mod Hints
-pub mod Arena
-pub mod Codes
+pub mod Store

@@ -7,17 +7,17 @@ ghost use Rattle.std.specs.Prelude.{◌≡◌, ◌↔◌, IfOk, IfErr, OnOk, OnE
 ghost use Rattle.bd_cnf.specs.Clause.{IsRising};
 ghost use Rattle.bd_lrat.specs.Database.{database_of, addition_answer, line_answer, variable_past, after, IsAccepted, IsAddError, IsDeletion, KeepsModels};
 
-use crate::arena::Arena;
 use crate::hints::Hints;
 use crate::line::Line;
 use crate::propagation::propagate;
 use crate::refused::{AddError, Refused};
-use crate::trail::Trail;
+use crate::store::ClauseStore;
+use crate::trail::PropagationTrail;
 use bd_cnf::{Cnf, Lit};
 use std::alloc::{AllocError, Global};
 use std::marker::Model;
 
-/// As many variables as literals have codes for.
+/// As many variables as literals can be packed.
 const VARIABLES: u64 = 1 << 31;
 
 /// The clauses of a formula and of the lines that were added, by their ids, each of which follows
@@ -25,9 +25,9 @@ const VARIABLES: u64 = 1 << 31;
 #[derive(Debug, Drop)]
 pub struct Checker {
     vars: u64,
-    clauses: Arena,
+    clauses: ClauseStore,
     /// No literal between two calls.
-    trail: Trail,
+    trail: PropagationTrail,
 }
 
 impl Model for Checker {
@@ -53,8 +53,8 @@ impl Checker {
         if vars >= VARIABLES {
             return Err(AllocError);
         }
-        let trail = Trail::new(alloc, vars)?;
-        let mut clauses = Arena::new(alloc);
+        let trail = PropagationTrail::new(alloc, vars)?;
+        let mut clauses = ClauseStore::new(alloc);
         let mut last = 0;
         for clause in cnf.clauses() {
             last += 1;

@@ -62,7 +62,7 @@ impl Hints {
         }
     }
 
-    /// Puts a hint behind the others.
+    /// Puts a hint after the others.
     pub fn push(&mut self, hint: Hint) -> Result<(), AllocError>
         ensures ok { OnOk result (self.new ≡ self.old ++ hint ∷ []) }
         ensures err { OnErr result (self.new ≡ self.old) }

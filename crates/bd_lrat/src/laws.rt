@@ -4,13 +4,19 @@ ghost use Rattle.std.specs.Prelude.{List, [], ◌∷◌};
 ghost use Rattle.bd_cnf.specs.Problem.{Problem, problem};
 ghost use Rattle.bd_lrat.specs.declared.line.Line.{Line};
 ghost use Rattle.bd_lrat.specs.Database.{numbered};
-ghost use Rattle.bd_lrat.specs.Log.{IsRefutation, IsUnsatisfiable, IsFresh, IsUnsettled};
+ghost use Rattle.bd_lrat.specs.Log.{IsRefutation, IsUnsatisfiable, IsFresh, IsUnsettled, FreshLogsAreShort};
 ghost use Rattle.bd_lrat.specs.Examples.{square, square_line, weakened_line, forced_apart, not_both};
 
 /// Over a formula with an accepted log that adds the empty clause, no assignment makes every clause
 /// true.
 pub fn refutation_law()
     ensures { (p : Problem) (lines : List Line) → IsRefutation p lines → IsUnsatisfiable p }
+{}
+
+/// A log that is fresh over a formula adds fewer clauses of one literal or more than 3 to the number
+/// of its variables.
+pub fn fresh_logs_are_short()
+    ensures { FreshLogsAreShort }
 {}
 
 /// Propagation from nothing finds no conflict in the square, and one decision leads to one.

@@ -1,7 +1,8 @@
 ghost use Rattle.std.specs.Prelude.{◌≡◌};
 
 use crate::hints::Hints;
-use bd_cnf::{Clause, Words};
+use bd_cnf::Clause;
+use bd_list::Sequence;
 use std::alloc::AllocError;
 
 /// A hint of an addition.
@@ -12,6 +13,9 @@ pub enum Hint {
     /// The id of a clause that a resolution on asymmetric tautologies would read: always refused.
     Rat(u64),
 }
+
+/// A list of ids of clauses.
+pub type ClauseIds = Sequence<u64>;
 
 /// A line of a log.
 #[derive(Debug, Drop)]
@@ -25,7 +29,7 @@ pub enum Line {
     /// Takes the clauses of those ids out. Its own id says nothing.
     Delete {
         id: u64,
-        ids: Words,
+        ids: ClauseIds,
     },
 }
 

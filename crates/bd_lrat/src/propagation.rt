@@ -4,48 +4,42 @@
 //! clause by itself.
 ghost use Rattle.std.specs.Prelude.{◌≡◌};
 ghost use Rattle.bd_cnf.specs.Standing.{IsBelow, StandsBelow};
+ghost use Rattle.bd_cnf.specs.Status.{IsStatus};
 ghost use Rattle.bd_cnf.specs.Trail.{open_literals};
 ghost use Rattle.bd_lrat.specs.Database.{outcome_answer};
-ghost use Rattle.bd_lrat.specs.inner.Steps.{IsOpen, IsStep, step_of, reached_by};
+ghost use Rattle.bd_lrat.specs.inner.Steps.{IsStep, step_of, reached_by};
 
-use crate::arena::Arena;
-use crate::code::Code;
 use crate::hints::Hints;
 use crate::line::Hint;
 use crate::refused::Refused;
-use crate::trail::Trail;
-use bd_cnf::Lit;
+use crate::store::ClauseStore;
+use crate::trail::PropagationTrail;
+use bd_cnf::{ClauseStatus, Lit, PackedLit};
 
 /// How many literals of a clause aren't false.
-pub(crate) enum Open {
-    Falsified,
-    Unit(Lit),
-    Unresolved,
-}
-
-fn open_part(trail: &Trail, clause: &[Code]) -> Open
+fn status(trail: &PropagationTrail, clause: &[PackedLit]) -> ClauseStatus
     requires { IsBelow trail.now.limit clause.now }
-    ensures { IsOpen result (open_literals trail.now.literals clause.now) }
+    ensures { IsStatus result (open_literals trail.now.literals clause.now) }
 {
     let mut found: Option<Lit> = None;
-    for code in clause {
-        let lit = code.lit();
+    for packed in clause {
+        let lit = packed.lit();
         if trail.is_false(lit) {
             continue;
         }
         if found.is_some() {
-            return Open::Unresolved;
+            return ClauseStatus::Unresolved;
         }
         found = Some(lit);
     }
     match found {
-        None => Open::Falsified,
-        Some(lit) => Open::Unit(lit),
+        None => ClauseStatus::Falsified,
+        Some(lit) => ClauseStatus::Unit(lit),
     }
 }
 
 /// Follows one hint, and answers whether it is a conflict.
-fn step(clauses: &Arena, trail: &mut Trail, hint: Hint) -> Result<bool, Refused>
+fn step(clauses: &ClauseStore, trail: &mut PropagationTrail, hint: Hint) -> Result<bool, Refused>
     requires { StandsBelow trail.old.limit clauses.now.clauses }
     ensures limit { trail.new.limit ≡ trail.old.limit }
     ensures outcome { IsStep result (step_of clauses.now trail.old hint) trail.new.literals }
@@ -56,20 +50,24 @@ fn step(clauses: &Arena, trail: &mut Trail, hint: Hint) -> Result<bool, Refused>
     let Some(clause) = clauses.get(id) else {
         return Err(Refused::NoSuch(id));
     };
-    match open_part(trail, clause) {
-        Open::Falsified => Ok(true),
-        Open::Unit(lit) => {
+    match status(trail, clause) {
+        ClauseStatus::Falsified => Ok(true),
+        ClauseStatus::Unit(lit) => {
             if !trail.is_true(lit) {
                 trail.assign(lit);
             }
             Ok(false)
         }
-        Open::Unresolved => Err(Refused::NotUnit(id)),
+        ClauseStatus::Unresolved => Err(Refused::NotUnit(id)),
     }
 }
 
 /// Follows the hints in order, until one is a conflict.
-pub(crate) fn propagate(clauses: &Arena, trail: &mut Trail, hints: &Hints) -> Result<(), Refused>
+pub(crate) fn propagate(
+    clauses: &ClauseStore,
+    trail: &mut PropagationTrail,
+    hints: &Hints,
+) -> Result<(), Refused>
     requires { StandsBelow trail.old.limit clauses.now.clauses }
     ensures limit { trail.new.limit ≡ trail.old.limit }
     ensures answer { result ≡ outcome_answer (reached_by clauses.now trail.old hints.now) }

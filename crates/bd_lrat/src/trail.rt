@@ -13,14 +13,14 @@ use std::marker::Model;
 
 /// The literals that a check takes as true.
 #[derive(Debug, Drop)]
-pub(crate) struct Trail {
+pub(crate) struct PropagationTrail {
     /// By variable, its value where it has one.
     values: Vec<Option<bool>>,
     /// The literals, in the order in which they were taken as true.
     literals: Vec<Lit>,
 }
 
-impl Model for Trail {
+impl Model for PropagationTrail {
     ghost use Rattle.std.specs.Prelude.{length, vec_capacity};
     ghost use Rattle.bd_cnf.specs.Trail.{TrailView, IsTrail, trail_of};
 
@@ -31,15 +31,15 @@ impl Model for Trail {
     ghost invariant = { λ a. IsTrail a.values.items a.literals.items (vec_capacity a.literals) };
 }
 
-impl Trail {
+impl PropagationTrail {
     /// No literal, with room for those of the variables up to `vars`.
-    pub(crate) fn new(alloc: Global, vars: u64) -> Result<Trail, AllocError>
+    pub(crate) fn new(alloc: Global, vars: u64) -> Result<PropagationTrail, AllocError>
         ensures { IfOk result (λ t. t ≡ trail_of (vars + 1) []) }
     {
         let limit = vars.checked_add(1).ok_or(AllocError)? as usize;
         let values = vec![in alloc; None; limit]?;
         let literals = Vec::with_capacity(alloc, limit)?;
-        Ok(Trail { values, literals })
+        Ok(PropagationTrail { values, literals })
     }
 
     pub(crate) fn is_true(&self, lit: Lit) -> bool

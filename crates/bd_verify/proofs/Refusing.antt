@@ -3,7 +3,7 @@ use Rattle.std.proofs.Common.{◌≡◌, ℕ, ◌+◌, ◌<◌, ◌∷◌, List,
 use Rattle.std.proofs.lemmas.List.{drop_more}
 use Rattle.bd_lrat.specs.declared.line.Line.{Line}
 use Rattle.bd_lrat.specs.Database.{Database, IsAccepted, after}
-use Rattle.bd_lrat.proofs.Answering.{answer_from_accepted}
+use Rattle.bd_lrat.proofs.AnswersAccepted.{answer_from_accepted}
 use Rattle.bd_verify.specs.Settled.{refused_from}
 
 -- an accepted line is passed

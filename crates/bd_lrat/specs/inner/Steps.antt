@@ -1,19 +1,11 @@
 -- How the calls that propagate hints report what the definitions say.
-use Rattle.std.specs.Prelude.{◌≡◌, ◌≤◌, Bool, true, false, List, [], ◌∷◌, length, Result, Ok, Err}
+use Rattle.std.specs.Prelude.{◌≡◌, Bool, true, false, List, Result, Ok, Err}
 use Rattle.bd_cnf.specs.Literal.{Literal}
-use Rattle.bd_lrat.specs.declared.propagation.Open.{Open}
-use Rattle.bd_lrat.specs.declared.propagation.Open.TheVariants.{Falsified, Unit as UnitIn, Unresolved}
 use Rattle.bd_lrat.specs.declared.refused.Refused.{Refused}
 use Rattle.bd_cnf.specs.Trail.{TrailView}
 use Rattle.bd_lrat.specs.declared.line.Hint.{Hint}
-use Rattle.bd_lrat.specs.inner.Arena.{Store}
+use Rattle.bd_lrat.specs.inner.Store.{Store}
 use Rattle.bd_lrat.specs.Propagation.{Outcome, Conflict, Reached, Stopped, hint_outcome, propagate}
-
--- how many literals are open, and which where it is one
-abbrev pub IsOpen : Open → List Literal → Type 0
-IsOpen Falsified ls = ls ≡ []
-IsOpen (UnitIn l) ls = ls ≡ l ∷ []
-IsOpen Unresolved ls = 2 ≤ length ls
 
 -- whether a hint came to a conflict; if not, the trail afterwards
 abbrev pub IsStep : Result Bool Refused → Outcome → List Literal → Type 0

@@ -7,13 +7,13 @@ pub is_true-requires : goal.is_true-requires
 is_true-requires c =
     let limit = c.args.trail.now.limit in
     let low : IsBelow limit c.in-Some.clause.now = subst (λ o. IfSome o (IsBelow limit)) (sym c.in-Some.ensures) (c.requires c.in-Unit.id) in
-    open_is_below limit c.args.trail.now.literals c.in-Some.clause.now c.in-Unit-open_part.lit low c.in-Unit-open_part.ensures
+    open_is_below limit c.args.trail.now.literals c.in-Some.clause.now c.in-Unit-status.lit low c.in-Unit-status.ensures
 
 pub assign-requires-clause-within : goal.assign-requires-clause-within
 assign-requires-clause-within c =
     let limit = c.args.trail.now.limit in
     let low : IsBelow limit c.in-Some.clause.now = subst (λ o. IfSome o (IsBelow limit)) (sym c.in-Some.ensures) (c.requires c.in-Unit.id) in
-    open_is_below limit c.args.trail.now.literals c.in-Some.clause.now c.in-Unit-open_part.lit low c.in-Unit-open_part.ensures
+    open_is_below limit c.args.trail.now.literals c.in-Some.clause.now c.in-Unit-status.lit low c.in-Unit-status.ensures
 
 pub assign-requires-clause-not_false : goal.assign-requires-clause-not_false
-assign-requires-clause-not_false c = open_is_open c.args.trail.now.literals c.in-Some.clause.now c.in-Unit-open_part.lit c.in-Unit-open_part.ensures
+assign-requires-clause-not_false c = open_is_open c.args.trail.now.literals c.in-Some.clause.now c.in-Unit-status.lit c.in-Unit-status.ensures

@@ -2,10 +2,10 @@ use Rattle.std.proofs.Common.{◌≡◌, ◌+◌, sym, ap, ◌∙◌, subst, is_
 use Rattle.bd_lrat.specs.declared.line.Line.TheVariants.{Add}
 use Rattle.bd_cnf.specs.Standing.{IsBelow, StandsBelow}
 use Rattle.bd_lrat.specs.Database.{IsAccepted}
-use Rattle.bd_lrat.specs.inner.Arena.{Store}
+use Rattle.bd_lrat.specs.inner.Store.{Store}
 use Rattle.bd_cnf.proofs.Standings.{each_insert}
 use Rattle.bd_lrat.proofs.Standings.{each_remove_all}
-use Rattle.bd_lrat.proofs.Answering.{below_from_within}
+use Rattle.bd_lrat.proofs.AnswersAccepted.{below_from_within}
 use Rattle.bd_lrat.proofs.checker.Checker.add_line.Goals as goal
 
 pub invariant_of-self-in-Delete : goal.invariant_of-self-in-Delete

@@ -1,6 +1,6 @@
 use Rattle.std.proofs.Common.{◌+◌, sym, ap, subst}
 use Rattle.bd_cnf.specs.Standing.{IsBelow}
-use Rattle.bd_lrat.proofs.Answering.{within_from_past, below_from_within}
+use Rattle.bd_lrat.proofs.AnswersAccepted.{within_from_past, below_from_within}
 use Rattle.bd_lrat.proofs.checker.Checker.check_addition.Goals as goal
 
 pub assign_negations-requires-clause-within : goal.assign_negations-requires-clause-within

@@ -3,7 +3,7 @@ use Rattle.bd_lrat.specs.declared.line.Line.{Line}
 use Rattle.bd_lrat.specs.declared.line.Line.TheVariants.{Delete}
 use Rattle.bd_cnf.specs.Standing.{Models}
 use Rattle.bd_lrat.specs.Database.{after}
-use Rattle.bd_lrat.proofs.Answering.{addition_is_line, accepted_is_ok}
+use Rattle.bd_lrat.proofs.AnswersAccepted.{addition_is_line, accepted_is_ok}
 use Rattle.bd_lrat.proofs.Soundness.{ok_sound, accepted_sound}
 use Rattle.bd_lrat.proofs.checker.Checker.check_line.Goals as goal
 

@@ -5,11 +5,11 @@ use Rattle.std.proofs.lemmas.List.Elements.{All-weaker}
 use Rattle.std.specs.FinMap.{insert}
 use Rattle.bd_cnf.specs.Literal.{Literal}
 use Rattle.bd_cnf.specs.Clause.{IsWithin}
-use Rattle.bd_lrat.specs.inner.Arena.{Store, store}
+use Rattle.bd_lrat.specs.inner.Store.{Store, store}
 use Rattle.bd_cnf.specs.Standing.{IsBelow, StandsBelow}
 use Rattle.bd_lrat.specs.Database.{numbered}
 use Rattle.bd_lrat.proofs.Standings.{each_numbered, numbered_more}
-use Rattle.bd_lrat.proofs.Answering.{below_from_within, below_codes}
+use Rattle.bd_lrat.proofs.AnswersAccepted.{below_from_within, below_codes}
 use Rattle.bd_lrat.proofs.checker.Checker.new.Goals as goal
 
 pub insert-requires-clause-below : goal.insert-requires-clause-below

@@ -1,6 +1,6 @@
 use Rattle.std.proofs.Common.{◌≡◌, take}
 use Rattle.bd_lrat.specs.Database.{numbered}
-use Rattle.bd_lrat.specs.inner.Arena.{store}
+use Rattle.bd_lrat.specs.inner.Store.{store}
 use Rattle.bd_lrat.proofs.checker.Checker.new.Given as goal
 
 abbrev pub invariant-loop-clause : goal.invariant-loop-clause

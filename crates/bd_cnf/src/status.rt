@@ -1,0 +1,12 @@
+use crate::lit::Lit;
+
+/// How many literals of a clause aren't false.
+#[derive(Clone, Copy, Debug)]
+pub enum ClauseStatus {
+    /// None.
+    Falsified,
+    /// This one alone.
+    Unit(Lit),
+    /// Two or more.
+    Unresolved,
+}
