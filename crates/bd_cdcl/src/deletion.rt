@@ -11,8 +11,7 @@ ghost use Rattle.bd_watch.specs.Trails.{IsDecisionAt};
 ghost use Rattle.bd_watch.specs.Watch.{IsWatching};
 ghost use Rattle.bd_cdcl.specs.inner.Deletions.{IsSatisfied, MayDelete, Deletes};
 
-use bd_cnf::Words;
-use bd_lrat::{Line, Log};
+use bd_lrat::{ClauseIds, Line, Log};
 use bd_watch::{Code, Watch};
 use std::alloc::{AllocError, Global};
 
@@ -136,7 +135,7 @@ impl Deletion {
         }
         self.note(&ids, watch.len())?;
         let id = watch.len() as u64;
-        let ids = Words::from_vec(ids);
+        let ids = ClauseIds::from_vec(ids);
         log.push(Line::Delete { id, ids })
     }
 }

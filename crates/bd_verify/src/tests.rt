@@ -1,8 +1,8 @@
 //! Solvers that lie, and some that don't, over the four clauses of two variables.
 use crate::{Settled, settle};
 use bd_cdcl::{Found, Scripted};
-use bd_cnf::{Assignment, Clause, Clauses, Cnf, Lit, Words};
-use bd_lrat::{Hint, Hints, Line, Log};
+use bd_cnf::{Assignment, Clause, Clauses, Cnf, Lit};
+use bd_lrat::{ClauseIds, Hint, Hints, Line, Log};
 use std::alloc::AllocError;
 use std::process::Abort;
 use std::test::Fail;
@@ -155,7 +155,7 @@ fn line(
             Ok(Line::Add { id, clause, hints })
         }
         Text::Delete(id, ids) => {
-            let ids = Words::from_vec(Vec::from_slice(rt.alloc(), ids)?);
+            let ids = ClauseIds::from_vec(Vec::from_slice(rt.alloc(), ids)?);
             Ok(Line::Delete { id, ids })
         }
     }
