@@ -74,6 +74,6 @@ pub addition_is_line : (db : Database) (id : ℕ) (clause clause' : List Literal
 addition_is_line db id clause clause' hints hints' line e f g =
     ap (λ (c : List Literal). addition_answer db id c hints) e ∙ ap (addition_answer db id clause') f ∙ ap (line_answer db) (sym g)
 
--- where variables are few enough, each literal within them has a code
-pub below_codes : (vars : ℕ) (c : List Literal) → vars < 2 ^ 31 → IsWithin vars c → IsBelow (2 ^ 31) c
-below_codes vars c few h = All-weaker (λ (l : Literal). l.var ≤ vars) (λ l. l.var < 2 ^ 31) (λ l k. omega (arith, few)) c h
+-- where variables are few enough, each literal within them can be packed
+pub below_packable : (vars : ℕ) (c : List Literal) → vars < 2 ^ 31 → IsWithin vars c → IsBelow (2 ^ 31) c
+below_packable vars c few h = All-weaker (λ (l : Literal). l.var ≤ vars) (λ l. l.var < 2 ^ 31) (λ l k. omega (arith, few)) c h

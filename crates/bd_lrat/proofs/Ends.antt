@@ -1,17 +1,12 @@
 -- Logs taken apart at their end: the definitions go down a log from its front, and a solver adds lines after it.
-use Rattle.std.proofs.Common.{◌≡◌, ◌≢◌, ℕ, ◌+◌, true, cond, List, [], ◌∷◌, ◌++◌, refl, ◌∙◌}
-use Rattle.std.specs.List.{list_any}
-use Rattle.std.proofs.lemmas.List.Folds.{list_any-append}
-use Rattle.std.proofs.lemmas.Bool.{or_right}
+use Rattle.std.proofs.Common.{◌≡◌, ◌≢◌, ℕ, ◌+◌, cond, List, [], ◌∷◌, ◌++◌, refl}
 use Rattle.std.proofs.lemmas.List.Sums.{sum_by-append, sum_by_push}
-use Rattle.std.proofs.Math.Bool.{or-false}
 use Rattle.bd_cnf.specs.Literal.{Literal}
-use Rattle.bd_cnf.specs.Problem.{Problem}
 use Rattle.bd_lrat.specs.declared.line.Hint.{Hint}
 use Rattle.bd_lrat.specs.declared.line.Line.{Line}
 use Rattle.bd_lrat.specs.declared.line.Line.TheVariants.{Add, Delete}
-use Rattle.bd_lrat.specs.Database.{Database, database_of, IsAccepted, after}
-use Rattle.bd_lrat.specs.Log.{IsAcceptedLog, after_all, adds_empty, adds_literals, additions, IsRefutation, IsFreshClause, with_added, AddsFresh}
+use Rattle.bd_lrat.specs.Database.{Database, IsAccepted, after}
+use Rattle.bd_lrat.specs.Log.{IsAcceptedLog, after_all, adds_literals, additions, IsFreshClause, with_added, AddsFresh}
 
 -- what stands after two logs
 pub after_all-append : (db : Database) (xs ys : List Line) → after_all db (xs ++ ys) ≡ after_all (after_all db xs) ys

@@ -1,17 +1,14 @@
 -- The ids under which clauses stand are at most the last one.
-use Rattle.std.proofs.Common.{◌≡◌, ℕ, ◌+◌, ◌<◌, ◌≤◌, cond, List, [], ◌∷◌, None, Some, IsSome, is_some, length, sym, ap, ◌∙◌, inl, inr, arith}
+use Rattle.std.proofs.Common.{◌≡◌, ℕ, ◌+◌, ◌<◌, ◌≤◌, cond, List, [], ◌∷◌, Some, IsSome, is_some, length, sym, ap, ◌∙◌, inl, inr, arith}
 use Rattle.std.specs.List.{enumerate_from}
 use Rattle.std.specs.Ordering.{nat_cmp, eq_by_cmp}
 use Rattle.std.specs.Cmp.{nat_cmp_total}
-use Rattle.std.specs.FinMap.{get, insert, remove, find, get-from_entries, get-insert, get-remove}
+use Rattle.std.specs.FinMap.{get, find, get-from_entries}
 use Rattle.std.proofs.lemmas.Bool.{false≢true, cases_Bool, eqb-true}
 use Rattle.bd_cnf.specs.Literal.{Literal}
 use Rattle.bd_cnf.specs.Standing.{Standing}
-use Rattle.bd_lrat.specs.declared.line.Line.{Line}
-use Rattle.bd_lrat.specs.declared.line.Line.TheVariants.{Add, Delete}
 use Rattle.bd_cnf.specs.Problem.{Problem}
-use Rattle.bd_lrat.specs.Database.{Database, database_of, IsAccepted, after, remove_all}
-use Rattle.bd_lrat.specs.Log.{IsAcceptedLog, after_all}
+use Rattle.bd_lrat.specs.Database.{database_of}
 use Rattle.bd_lrat.proofs.Keys.{tied}
 
 -- no clause stands above an id

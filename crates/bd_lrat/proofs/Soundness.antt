@@ -17,7 +17,7 @@ use Rattle.bd_cnf.specs.Standing.{Standing, Models}
 use Rattle.bd_cnf.specs.Trail.{is_false, open_literals}
 use Rattle.bd_cnf.proofs.Standings.{each_insert}
 use Rattle.bd_lrat.specs.Database.{Database, database_of, IsAccepted, after}
-use Rattle.bd_lrat.specs.Log.{IsAcceptedLog, IsRefutation, after_all, adds_empty}
+use Rattle.bd_lrat.specs.Log.{IsAcceptedLog, IsRefutation, adds_empty}
 use Rattle.std.proofs.Common.{Result, Ok, Err, OnOk, is_ok}
 use Rattle.bd_lrat.specs.declared.refused.Refused.{Refused}
 use Rattle.bd_lrat.specs.Database.{line_answer}

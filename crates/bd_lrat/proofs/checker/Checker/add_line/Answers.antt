@@ -14,7 +14,7 @@ invariant_of-self-in-Delete c =
     record {
       none = c.self.invariant.none;
       below = subst (λ (s : Store). StandsBelow (inside.vars + 1) s.clauses) (sym c.remove_all.ensures) (each_remove_all (IsBelow (inside.vars + 1)) c.as_slice.result.now inside.clauses.clauses c.self.invariant.below);
-      coded = c.self.invariant.coded;
+      packable = c.self.invariant.packable;
     }
 
 pub invariant_of-self : goal.invariant_of-self
@@ -31,5 +31,5 @@ invariant_of-self c =
       below =
           subst (λ (s : Store). StandsBelow (inside.vars + 1) s.clauses) (sym c.in_ok-insert-in-Add.ensures.ok)
           (each_insert (IsBelow (inside.vars + 1)) inside.clauses.clauses c.in-Add.id c.lits.result.now here c.self.invariant.below);
-      coded = c.self.invariant.coded;
+      packable = c.self.invariant.packable;
     }

@@ -9,7 +9,7 @@ use Rattle.bd_lrat.specs.inner.Store.{Store, store}
 use Rattle.bd_cnf.specs.Standing.{IsBelow, StandsBelow}
 use Rattle.bd_lrat.specs.Database.{numbered}
 use Rattle.bd_lrat.proofs.Standings.{each_numbered, numbered_more}
-use Rattle.bd_lrat.proofs.AnswersAccepted.{below_from_within, below_codes}
+use Rattle.bd_lrat.proofs.AnswersAccepted.{below_from_within, below_packable}
 use Rattle.bd_lrat.proofs.checker.Checker.new.Goals as goal
 
 pub insert-requires-clause-below : goal.insert-requires-clause-below
@@ -18,7 +18,7 @@ insert-requires-clause-below c =
     let within : All (IsWithin c.args.cnf.now.vars) c.clauses-clause-items.result.now = subst (λ cs. All (IsWithin c.args.cnf.now.vars) cs) (sym c.clauses-clause-items.ensures.value) c.clauses-clause-items.ensures.within in
     let here : IsWithin c.args.cnf.now.vars c.clause-item.result = subst (IsWithin c.args.cnf.now.vars) (sym c.clause-item.is) (within c.loop-clause.clause-index c.clause-item.result (omega arith)) in
     let few : c.args.cnf.now.vars < 2 ^ 31 = omega (arith, c.vars-vars.ensures) in
-    subst (IsBelow (2 ^ 31)) (sym c.lits.ensures.value) (below_codes c.args.cnf.now.vars c.clause-item.result few here)
+    subst (IsBelow (2 ^ 31)) (sym c.lits.ensures.value) (below_packable c.args.cnf.now.vars c.clause-item.result few here)
 
 pub loop-clause-preserved : goal.loop-clause-preserved
 loop-clause-preserved c =
@@ -46,5 +46,5 @@ invariant_of-result c =
     record {
       none = c.in_ok-trail.ensures;
       below = subst (StandsBelow (vars + 1)) (sym (ap (λ (s : Store). s.clauses) c.loop-clause.invariant.clauses ∙ all)) (each_numbered (IsBelow (vars + 1)) clauses low);
-      coded = omega arith;
+      packable = omega arith;
     }
