@@ -1,0 +1,260 @@
+//! The values that drafts stand for.
+use crate::draft::{CaseDraft, DesignDraft, Draft, Held, MachineDraft, SymbolDraft, TableDraft};
+use bd_model::{
+    Case, Design, Distinct, Entries, Entry, Exact, Exacts, Expr, Exprs, Inputs, Interp, Local,
+    Locals, Machine, Memory, Name, Places, Port, Ports, Row, Rows, Scalar, Sequence, Slot, Slots,
+    Sort, State, Symbol, Symbols, Table, Value, Words,
+};
+use std::alloc::{AllocError, Global};
+
+/// The expression.
+#[cycle(draft)]
+pub fn expr(alloc: Global, draft: &Draft) -> Result<Expr, AllocError> {
+    match draft {
+        Draft::Truth(b) => Ok(Expr::Bool(*b)),
+        Draft::Entry(i) => Ok(Expr::Entry(*i)),
+        Draft::Input(i) => Ok(Expr::Input(*i)),
+        Draft::Local(i) => Ok(Expr::Local(*i)),
+        Draft::Not(a) => Ok(Expr::Not(boxed(alloc, a)?)),
+        Draft::And(parts) => Ok(Expr::And(exprs(alloc, parts)?)),
+        Draft::Or(parts) => Ok(Expr::Or(exprs(alloc, parts)?)),
+        Draft::Implies(a, b) => Ok(Expr::Implies(boxed(alloc, a)?, boxed(alloc, b)?)),
+        Draft::Iff(a, b) => Ok(Expr::Iff(boxed(alloc, a)?, boxed(alloc, b)?)),
+        Draft::Equal(a, b) => Ok(Expr::Equal(boxed(alloc, a)?, boxed(alloc, b)?)),
+        Draft::Ite(p, a, b) => {
+            let p = boxed(alloc, p)?;
+            let a = boxed(alloc, a)?;
+            Ok(Expr::Ite(p, a, boxed(alloc, b)?))
+        }
+        Draft::Read(m, a) => Ok(Expr::Read(boxed(alloc, m)?, boxed(alloc, a)?)),
+        Draft::Write(m, a, d) => {
+            let m = boxed(alloc, m)?;
+            let a = boxed(alloc, a)?;
+            Ok(Expr::Write(m, a, boxed(alloc, d)?))
+        }
+        Draft::Apply(f, args) => Ok(Expr::Apply(*f, exprs(alloc, args)?)),
+    }
+}
+
+#[cycle(draft)]
+fn boxed(alloc: Global, draft: &Draft) -> Result<Box<Expr>, AllocError> {
+    Ok(Box::new(alloc, expr(alloc, draft)?)?)
+}
+
+#[cycle(draft)]
+fn exprs(alloc: Global, drafts: &[Draft]) -> Result<Exprs, AllocError> {
+    let mut items = Vec::new(alloc);
+    for draft in drafts {
+        items.push(expr(alloc, draft)?)?;
+    }
+    Ok(Exprs { items })
+}
+
+fn name(alloc: Global, text: &str) -> Result<Name, AllocError> {
+    Ok(Sequence::from_vec(text.as_bytes().to_vec(alloc)?))
+}
+
+fn symbol(alloc: Global, draft: &SymbolDraft) -> Result<Symbol, AllocError> {
+    let (text, arity, predicate) = match draft {
+        SymbolDraft::Function(text, arity) => (*text, *arity, false),
+        SymbolDraft::Predicate(text, arity) => (*text, *arity, true),
+    };
+    Ok(Symbol {
+        name: name(alloc, text)?,
+        arity,
+        predicate,
+    })
+}
+
+fn symbols(alloc: Global, drafts: &[SymbolDraft]) -> Result<Symbols, AllocError> {
+    let mut symbols = Symbols::new(alloc);
+    for draft in drafts {
+        symbols.push(symbol(alloc, draft)?)?;
+    }
+    Ok(symbols)
+}
+
+fn entries(alloc: Global, drafts: &[(&str, Sort)]) -> Result<Entries, AllocError> {
+    let mut entries = Entries::new(alloc);
+    for (text, sort) in drafts {
+        entries.push(Entry {
+            name: name(alloc, text)?,
+            sort: *sort,
+        })?;
+    }
+    Ok(entries)
+}
+
+fn ports(alloc: Global, drafts: &[(&str, Sort, Draft)]) -> Result<Ports, AllocError> {
+    let mut ports = Ports::new(alloc);
+    for (text, sort, idle) in drafts {
+        let name = name(alloc, text)?;
+        let idle = expr(alloc, idle)?;
+        ports.push(Port {
+            name,
+            sort: *sort,
+            idle,
+        })?;
+    }
+    Ok(ports)
+}
+
+fn locals(alloc: Global, drafts: &[(Sort, Draft)]) -> Result<Locals, AllocError> {
+    let mut locals = Locals::new(alloc);
+    for (sort, value) in drafts {
+        locals.push(Local {
+            sort: *sort,
+            value: expr(alloc, value)?,
+        })?;
+    }
+    Ok(locals)
+}
+
+fn exacts(alloc: Global, drafts: &[(u32, Draft)]) -> Result<Exacts, AllocError> {
+    let mut exacts = Exacts::new(alloc);
+    for (count, when) in drafts {
+        exacts.push(Exact {
+            count: *count,
+            when: expr(alloc, when)?,
+        })?;
+    }
+    Ok(exacts)
+}
+
+fn distinct(alloc: Global, drafts: &[&[u32]]) -> Result<Distinct, AllocError> {
+    let mut groups = Distinct::new(alloc);
+    for places in drafts {
+        groups.push(Places::from_vec(places.to_vec(alloc)?))?;
+    }
+    Ok(groups)
+}
+
+fn machine(alloc: Global, draft: &MachineDraft) -> Result<Machine, AllocError> {
+    Ok(Machine {
+        entries: entries(alloc, draft.entries)?,
+        ports: ports(alloc, draft.inputs)?,
+        locals: locals(alloc, draft.locals)?,
+        nexts: exprs(alloc, draft.nexts)?,
+    })
+}
+
+/// The design.
+pub fn design(alloc: Global, draft: &DesignDraft) -> Result<Design, AllocError> {
+    Ok(Design {
+        pipe: machine(alloc, &draft.pipe)?,
+        spec: machine(alloc, &draft.spec)?,
+        symbols: symbols(alloc, draft.symbols)?,
+        visible: Places::from_vec(draft.visible.to_vec(alloc)?),
+        flush: draft.flush,
+        steps: draft.steps,
+        inv_locals: locals(alloc, draft.inv_locals)?,
+        inv: expr(alloc, &draft.inv)?,
+        exact: exacts(alloc, draft.exact)?,
+        distinct: distinct(alloc, draft.distinct)?,
+    })
+}
+
+fn slots(alloc: Global, drafts: &[(u64, u64)]) -> Result<Slots, AllocError> {
+    let mut slots = Slots::new(alloc);
+    for (address, value) in drafts {
+        slots.push(Slot {
+            address: *address,
+            value: *value,
+        })?;
+    }
+    Ok(slots)
+}
+
+/// The memory with this default and these rows.
+pub fn memory(alloc: Global, default: u64, rows: &[(u64, u64)]) -> Result<Memory, AllocError> {
+    Ok(Memory {
+        default,
+        rows: slots(alloc, rows)?,
+    })
+}
+
+/// What an entry holds.
+pub fn value(alloc: Global, held: &Held) -> Result<Value, AllocError> {
+    match held {
+        Held::Bit(b) => Ok(Value::Scalar(Scalar::Bool(*b))),
+        Held::Word(n) => Ok(Value::Scalar(Scalar::Word(*n))),
+        Held::Memory(default, rows) => Ok(Value::Memory(memory(alloc, *default, rows)?)),
+    }
+}
+
+/// The state in which the entries hold these values.
+pub fn state(alloc: Global, drafts: &[Held]) -> Result<State, AllocError> {
+    let mut state = State::new(alloc);
+    for held in drafts {
+        state.push(value(alloc, held)?)?;
+    }
+    Ok(state)
+}
+
+fn words(alloc: Global, drafts: &[(&[u64], u64)]) -> Result<Rows, AllocError> {
+    let mut rows = Rows::new(alloc);
+    for (args, word) in drafts {
+        rows.push(Row {
+            args: Words::from_vec(args.to_vec(alloc)?),
+            value: Scalar::Word(*word),
+        })?;
+    }
+    Ok(rows)
+}
+
+fn truths(alloc: Global, drafts: &[(&[u64], bool)]) -> Result<Rows, AllocError> {
+    let mut rows = Rows::new(alloc);
+    for (args, truth) in drafts {
+        rows.push(Row {
+            args: Words::from_vec(args.to_vec(alloc)?),
+            value: Scalar::Bool(*truth),
+        })?;
+    }
+    Ok(rows)
+}
+
+/// The table.
+pub fn table(alloc: Global, draft: &TableDraft) -> Result<Table, AllocError> {
+    match draft {
+        TableDraft::Words(default, rows) => Ok(Table {
+            default: Scalar::Word(*default),
+            rows: words(alloc, rows)?,
+        }),
+        TableDraft::Truths(default, rows) => Ok(Table {
+            default: Scalar::Bool(*default),
+            rows: truths(alloc, rows)?,
+        }),
+    }
+}
+
+fn interp(alloc: Global, drafts: &[TableDraft]) -> Result<Interp, AllocError> {
+    let mut interp = Interp::new(alloc);
+    for draft in drafts {
+        interp.push(table(alloc, draft)?)?;
+    }
+    Ok(interp)
+}
+
+/// The case.
+pub fn case(alloc: Global, draft: &CaseDraft) -> Result<Case, AllocError> {
+    Ok(Case {
+        interp: interp(alloc, draft.interp)?,
+        state: state(alloc, draft.state)?,
+        inputs: Inputs::from_vec(draft.inputs.to_vec(alloc)?),
+    })
+}
+
+/// Whether a design is this one.
+pub fn is_design(alloc: Global, found: &Design, draft: &DesignDraft) -> Result<bool, AllocError> {
+    Ok(*found == design(alloc, draft)?)
+}
+
+/// Whether a case is this one, row by row.
+pub fn is_case(alloc: Global, found: &Case, draft: &CaseDraft) -> Result<bool, AllocError> {
+    Ok(*found == case(alloc, draft)?)
+}
+
+/// Whether a state is this one, row by row.
+pub fn is_state(alloc: Global, found: &State, drafts: &[Held]) -> Result<bool, AllocError> {
+    Ok(*found == state(alloc, drafts)?)
+}
