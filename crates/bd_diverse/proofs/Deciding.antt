@@ -5,7 +5,7 @@ use Rattle.bd_terms.specs.declared.node.Node.{Node}
 use Rattle.bd_terms.specs.Graph.{IsGraph}
 use Rattle.bd_terms.specs.Denotation.{World, truth}
 use Rattle.bd_function.specs.Flat.{ReachesNoMemory}
-use Rattle.bd_goal.specs.Claims.{IsValid, KeepsConstantsApart}
+use Rattle.bd_terms.specs.Valid.{IsValid, KeepsConstantsApart}
 use Rattle.bd_diverse.specs.Laws.{DiverseDecides, IsDiverselyValid}
 use Rattle.bd_diverse.proofs.Existing.{diverse-world}
 

@@ -19,7 +19,7 @@ use Rattle.bd_function.specs.Flat.{ReachesNoMemory}
 use Rattle.bd_function.specs.inner.Scalars.{as_denoted, scalar_at, word_at}
 use Rattle.bd_function.specs.inner.Taken.{IsPlain}
 use Rattle.bd_function.proofs.Flattening.{plain_reached}
-use Rattle.bd_goal.specs.Claims.{KeepsConstantsApart}
+use Rattle.bd_terms.specs.Valid.{KeepsConstantsApart}
 use Rattle.bd_diverse.specs.declared.ways.Ways.{Ways}
 use Rattle.bd_diverse.specs.Positive.{IsPositive, Walks, Way}
 use Rattle.bd_diverse.specs.Diverse.{IsDiverse}

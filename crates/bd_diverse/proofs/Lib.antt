@@ -1,6 +1,5 @@
 pub mod Walking
 pub mod Passing
-pub mod Inserting
 pub mod Applying
 pub mod Marking
 pub mod Reading

@@ -32,37 +32,9 @@ module _ (old new : List ℕ) (var : ℕ) (is : (v : ℕ) → is_marked new v �
 abbrev pub Marks : List ℕ → List ℕ → (ℕ → Type 0) → Type 0
 Marks old new P = (x : ℕ) → (is_marked new x ≡ true) ↔ ((is_marked old x ≡ true) ⊎ P x)
 
-pub Marks-none : (old : List ℕ) → Marks old old (HasVariable [])
-Marks-none old x = (λ h. inl h, λ h. elim h [ inl q ↦ q | inr v ↦ absurd (Contains-none v.row v.has) ])
-
-pub Marks-row : (old now new : List ℕ) (rows : List FlatRow) (i : ℕ) (d : FlatRow) → i < length rows → Marks old now (HasVariable (take i rows))
-    → ((v : ℕ) → is_marked new v ≡ (if (get_or rows i d).var == v then true else is_marked now v)) → Marks old new (HasVariable (take (i + 1) rows))
-Marks-row old now new rows i d inside h is x =
-    let r = get_or rows i d in
-    let more : take (i + 1) rows ≡ take i rows ++ r ∷ [] = take_more rows i d inside in
-    let one = inserted_variable now new r.var is x in (
-      λ k. elim (one.0 k) [
-        | inl q ↦ elim ((h x).0 q) [
-          | inl p ↦ inl p
-          | inr v ↦ inr (record { row = v.row; has = subst (λ l. Contains l v.row) (sym more) (Contains-append_left (take i rows) (r ∷ []) v.row v.has); same = v.same })
-        ]
-        | inr e ↦ inr (record { row = r; has = subst (λ l. Contains l r) (sym more) (Contains-push (take i rows) r); same = e })
-      ],
-      λ k. one.1 (elim k [
-        | inl p ↦ inl ((h x).1 (inl p))
-        | inr v ↦ elim (Contains-push_cases (take i rows) r v.row (subst (λ l. Contains l v.row) more v.has)) [
-          | inl q ↦ inl ((h x).1 (inr (record { row = v.row; has = q; same = v.same })))
-          | inr e ↦ inr (ap (λ (y : FlatRow). y.var) e ∙ v.same)
-        ]
-      ]),
-    )
-
 -- the set has the variables of the rows of positive symbols so far
 abbrev pub MarksSymbols : List Sym → List FlatSym → List ℕ → Type 0
 MarksSymbols positive syms marked = (x : ℕ) → (is_marked marked x ≡ true) ↔ HasMarkedRow positive syms x
-
-pub MarksSymbols-none : (positive : List Sym) → MarksSymbols positive [] []
-MarksSymbols-none positive x = (λ h. absurd (true≢false (sym h)), λ h. absurd (Contains-none h.holder h.listed))
 
 module _ (positive : List Sym) (now : List ℕ) (syms : List FlatSym) (i : ℕ) (d : FlatSym) (inside : i < length syms) (h : MarksSymbols positive (take i syms) now) where
   more : take (i + 1) syms ≡ take i syms ++ get_or syms i d ∷ []

@@ -22,7 +22,7 @@ use Rattle.bd_function.specs.Tables.{is_symbol}
 use Rattle.bd_function.specs.inner.Scalars.{as_denoted, scalar_at, word_at}
 use Rattle.bd_function.specs.inner.Taken.{IsPlain}
 use Rattle.bd_function.proofs.Applying.{pointwise-same}
-use Rattle.bd_function.proofs.Realizing.{pointwise-equal}
+use Rattle.bd_function.proofs.LaterVariables.{pointwise-equal}
 use Rattle.bd_function.proofs.Tabling.{is_symbol-same, is_symbol-self}
 use Rattle.bd_diverse.specs.inner.Spread.{IsUse, OwnRow, Placed, RowOf, Spreading, is_among, read_as, spread_value, start, symbol_args, with_row}
 use Rattle.bd_diverse.proofs.Walking.{Contains-cons, Contains-none, first, second, third}
@@ -321,7 +321,7 @@ module _ (positive : List Sym) (bound : ℕ) (old : World) (nodes : List Node) (
       inl (c.2 ∙ ap (λ (q : Row). q.value) e ∙ ap (λ z. if z then scalar.Word (suc (bound + place)) else at (old s) old_args) among
       ∙ ap (at (old s)) (old_is ∙ ap (words old nodes) none) ∙ ap (λ k. at (old k) []) c.0)
 
-  -- a term that applies a symbol: its row goes behind the others, and its value is that of the first row with its arguments
+  -- a term that applies a symbol: its row goes after the others, and its value is that of the first row with its arguments
   pub Spreading-use : (r : Row) (x : Scalar) → r ≡ row_for positive bound old place done s args old_args → x ≡ read_as here (at (with_row new s r s) (map (word_at done) args))
       → Spreading positive bound old nodes root (suc place) (done ++ x ∷ []) (with_row new s r)
   Spreading-use r x e value =

@@ -7,7 +7,7 @@ ghost use Rattle.bd_function.specs.inner.Scalars.{word_at};
 ghost use Rattle.bd_diverse.specs.inner.Rows.{AddsTerm, AddsUse, place_of, row_pushed, start_table};
 
 use crate::old::Old;
-use crate::scalars::{connective, truth_of, value_at, word_of, words};
+use crate::scalars::{connective, value_at, words};
 use bd_function::SymTable;
 use bd_model::{Row, Rows, Scalar, Table, Words};
 use bd_terms::{Id, Node, Sym};
@@ -55,18 +55,18 @@ pub(crate) fn spread_term(
         Node::App(sym, args) => {
             let args = args.as_slice();
             let value = spread_use(alloc, tables, old, done, spread, *sym, args)?;
-            Ok(Scalar::Word(word_of(value)))
+            Ok(Scalar::Word(value.word()))
         }
         Node::Pred(sym, args) => {
             let args = args.as_slice();
             let value = spread_use(alloc, tables, old, done, spread, *sym, args)?;
-            Ok(Scalar::Bool(truth_of(value)))
+            Ok(Scalar::Bool(value.truth()))
         }
         _ => Ok(connective(done, node)),
     }
 }
 
-// The value of an application in the new world, after its row has been put behind the others.
+// The value of an application in the new world, after its row has been put after the others.
 fn spread_use(
     alloc: Global,
     tables: &[SymTable],
@@ -121,7 +121,7 @@ fn own(bound: u64, place: usize) -> Result<u64, AllocError>
     next.checked_add(place as u64).ok_or(AllocError)
 }
 
-// Puts a row behind those of the symbol.
+// Puts a row after those of the symbol.
 fn add_row(alloc: Global, tables: &mut Vec<SymTable>, sym: Sym, row: Row) -> Result<(), AllocError>
     ensures { OnOk result ((s : TheSym) →
         world_of_tables tables.new.items s
@@ -134,7 +134,7 @@ fn add_row(alloc: Global, tables: &mut Vec<SymTable>, sym: Sym, row: Row) -> Res
     push_row(tables, place, row)
 }
 
-// The place of the symbol's table, or behind all.
+// The place of the symbol's table, or after all.
 fn place(tables: &[SymTable], sym: Sym) -> usize
     ensures place { result ≡ place_of tables.now sym }
     ensures inside { result ≤ length tables.now }
@@ -147,7 +147,7 @@ fn place(tables: &[SymTable], sym: Sym) -> usize
     tables.len()
 }
 
-// Puts a row behind those of the table at the place.
+// Puts a row after those of the table at the place.
 fn push_row(tables: &mut Vec<SymTable>, place: usize, row: Row) -> Result<(), AllocError>
     requires { place < length tables.old.items }
     ensures { OnOk result (tables.new.items ≡ row_pushed tables.old.items place row) }

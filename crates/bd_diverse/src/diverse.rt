@@ -1,5 +1,5 @@
 //! A diverse world from one that makes the root false: one pass in rising order.
-ghost use Rattle.std.specs.Prelude.{◌<◌, IsTrue, length, IfOk};
+ghost use Rattle.std.specs.Prelude.{◌≡◌, ◌<◌, IsTrue, length, IfOk};
 ghost use Rattle.bd_terms.specs.Denotation.{truth};
 ghost use Rattle.bd_function.specs.Flat.{ReachesNoMemory};
 ghost use Rattle.bd_function.specs.Tables.{world_of_tables};
@@ -8,6 +8,7 @@ ghost use Rattle.bd_diverse.specs.inner.Rows.{IsOld, SpreadsAll};
 
 use crate::adding::{spread_term, start};
 use crate::old::{Old, known};
+use crate::scalars::scalars;
 use bd_function::{FlatTables, SymTable};
 use bd_model::Scalar;
 use bd_terms::{Graph, Id, reached};
@@ -34,6 +35,25 @@ pub fn diversify(
     let old = known(alloc, graph, root, tables.as_slice())?;
     let spread = spread(alloc, graph, root, tables.as_slice(), &old)?;
     Ok(FlatTables::from_vec(spread))
+}
+
+/// Whether the root is true in the world of the tables.
+pub fn is_true(
+    alloc: Global,
+    graph: &Graph,
+    root: Id,
+    tables: &FlatTables,
+) -> Result<bool, AllocError>
+    requires root { root < length graph.now }
+    requires memory { ReachesNoMemory graph.now root }
+    ensures { IfOk result (λ b. b ≡ truth (world_of_tables tables.now) graph.now root) }
+{
+    let scalars = scalars(alloc, graph, tables.as_slice())?;
+    let scalar = scalars
+        .get(root.index())
+        .copied()
+        .unwrap_or(Scalar::Bool(false));
+    Ok(scalar.truth())
 }
 
 // The tables of the world in which positive applications have values of their own.

@@ -11,10 +11,7 @@ mod scalars;
 mod symbols;
 mod ways;
 
-pub use diverse::diversify;
+pub use diverse::{diversify, is_true};
 pub use finding::{marked, positive};
 pub use laws::diverse_decides;
 pub use symbols::Positive;
-
-#[cfg(test)]
-mod tests;

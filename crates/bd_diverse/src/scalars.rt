@@ -42,11 +42,11 @@ fn evaluate(
     match node {
         Node::App(sym, args) => {
             let args = words(alloc, done, args.as_slice())?;
-            Ok(Scalar::Word(word_of(value_at(tables, *sym, &args))))
+            Ok(Scalar::Word(value_at(tables, *sym, &args).word()))
         }
         Node::Pred(sym, args) => {
             let args = words(alloc, done, args.as_slice())?;
-            Ok(Scalar::Bool(truth_of(value_at(tables, *sym, &args))))
+            Ok(Scalar::Bool(value_at(tables, *sym, &args).truth()))
         }
         _ => Ok(connective(done, node)),
     }
@@ -99,7 +99,7 @@ pub(crate) fn greatest_word(scalars: &[Scalar]) -> u64
 {
     let mut most = 0;
     for scalar in scalars {
-        most = most.max(word_of(*scalar));
+        most = most.max(scalar.word());
     }
     most
 }
@@ -110,7 +110,7 @@ pub(crate) fn greatest_constant(tables: &[SymTable]) -> u64
 {
     let mut most = 0;
     for table in tables {
-        most = most.max(word_of(table.table.at(&[])));
+        most = most.max(table.table.at(&[]).word());
     }
     most
 }
@@ -124,29 +124,11 @@ fn scalar_at(done: &[Scalar], id: Id) -> Scalar
 fn truth_at(done: &[Scalar], id: Id) -> bool
     ensures { result ≡ truth_at done.now id }
 {
-    truth_of(scalar_at(done, id))
+    scalar_at(done, id).truth()
 }
 
 fn word_at(done: &[Scalar], id: Id) -> u64
     ensures { result ≡ word_at done.now id }
 {
-    word_of(scalar_at(done, id))
-}
-
-pub(crate) fn truth_of(scalar: Scalar) -> bool
-    ensures { result ≡ scalar_truth scalar }
-{
-    match scalar {
-        Scalar::Bool(truth) => truth,
-        Scalar::Word(_) => false,
-    }
-}
-
-pub(crate) fn word_of(scalar: Scalar) -> u64
-    ensures { result ≡ scalar_word scalar }
-{
-    match scalar {
-        Scalar::Bool(_) => 0,
-        Scalar::Word(word) => word,
-    }
+    scalar_at(done, id).word()
 }

@@ -1,4 +1,4 @@
--- What holds of rows and of the first ones when an application is put behind the others.
+-- What holds of rows and of the first ones when an application is put after the others.
 use Rattle.std.proofs.Common.{◌≡◌, ℕ, zero, suc, ◌<◌, ◌≤◌, ◌⊎◌, inl, inr, Bool, true, false, ◌&&◌, if◌then◌else◌, List, [], ◌∷◌, ◌++◌, length, map, slice_get, Some, Contains, nat_eq, refl, ap, sym, ◌∙◌, subst, arith, eq-eqb, length-append}
 use Rattle.std.specs.List.{All}
 use Rattle.std.proofs.lemmas.Option.{none-some, same_Some}
@@ -19,7 +19,8 @@ use Rattle.bd_terms.proofs.Growth.{All-HasSort-Extends, denoted-Extends, inside-
 use Rattle.bd_function.specs.declared.flat.FlatRow.{FlatRow}
 use Rattle.bd_function.specs.declared.flat.FlatSym.{FlatSym}
 use Rattle.bd_function.specs.Flat.{arguments, first_value, row_of, under}
-use Rattle.bd_function.specs.inner.Nested.{chosen, id_at}
+use Rattle.bd_terms.specs.Renamed.{id_at}
+use Rattle.bd_function.specs.inner.Nested.{chosen}
 use Rattle.bd_function.specs.inner.Taken.{IsRow, as_sort, row_sort, use_of, with_row}
 use Rattle.bd_function.proofs.Nesting.{words-Extends}
 
@@ -44,7 +45,7 @@ if-true false x y z h = absurd (true_is h)
     true_is : false ≡ true → ⊥
     true_is e = cc
 
--- a row behind the others changes nothing for those before it
+-- a row after the others changes nothing for those before it
 pub first_value-front : (v : ℕ → Scalar) (nodes : List Node) (rows more : List FlatRow) (r : FlatRow) → Contains rows r
     → first_value v nodes (rows ++ more) (arguments v nodes r) ≡ first_value v nodes rows (arguments v nodes r)
 first_value-front v nodes [] more r p = absurd (Contains-none r p)

@@ -22,7 +22,7 @@ use Rattle.bd_function.specs.Flat.{IsChosen, IsFirst, IsFirstVariable, applicati
 use Rattle.bd_function.specs.inner.Taken.{Chooses, IsApplied, IsVariableBelow, use_of, with_row}
 use Rattle.bd_function.proofs.Applying.{Contains-later, Contains-none, Contains-one, KeepsValues, KeepsValues-Extends, first_value-front, pointwise-same, rows-same, uses-Extends, with_row-cases, with_row-later, with_row-there}
 use Rattle.bd_function.proofs.Nesting.{words-Extends}
-use Rattle.bd_function.proofs.Realizing.{pointwise-equal, with_value, with_value-agree, with_value-other, with_value-same, words-agree}
+use Rattle.bd_function.proofs.LaterVariables.{pointwise-equal, with_value, with_value-agree, with_value-other, with_value-same, words-agree}
 
 -- the first rows of the symbol are kept
 abbrev pub KeepsRows : World → (ℕ → Scalar) → List Node → FlatSym → Type 0
@@ -88,7 +88,7 @@ find_equal v nodes (q ∷ rows) args = tested (pointwise nat_eq (arguments v nod
     tested false h (inl e) = inl (record { row = e.row; has = Contains-later q rows e.row e.has; same = e.same })
     tested false h (inr n) = inr (none h n)
 
--- where there is none, a row behind the others is the first with its arguments
+-- where there is none, a row after the others is the first with its arguments
 first_value-own : (v : ℕ → Scalar) (nodes : List Node) (rows : List FlatRow) (new : FlatRow) → HasNone v nodes rows (arguments v nodes new)
     → first_value v nodes (rows ++ new ∷ []) (arguments v nodes new) ≡ v new.var
 first_value-own v nodes [] new h = ap (λ t. if t then v new.var else scalar.Bool false) (pointwise-same (arguments v nodes new))
@@ -146,7 +146,7 @@ Chooses-symbol old root nodes ss k w choice v c = record {
   ];
 }
 
--- a row is put behind those of the symbol at the place, with a later variable
+-- a row is put after those of the symbol at the place, with a later variable
 pub record AddsRow (before after : List Node) (ss : List FlatSym) (place : ℕ) (h : FlatSym) (new : FlatRow) (s : Sort) : Type 0 where
   pub extends : Extends before after
   pub there : slice_get ss place ≡ Some h
@@ -155,7 +155,7 @@ pub record AddsRow (before after : List Node) (ss : List FlatSym) (place : ℕ) 
   pub words : All (λ a. HasSort before a sort.Word) new.args
   pub variable : Contains (uses after) (use_of (Var new.var) 0 s)
 
--- the symbol with a row behind its others
+-- the symbol with a row after its others
 abbrev with_last : FlatSym → FlatRow → FlatSym
 with_last h new = record { sym = h.sym; rows = h.rows ++ new ∷ [] }
 

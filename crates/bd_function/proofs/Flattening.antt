@@ -25,12 +25,11 @@ use Rattle.bd_terms.proofs.Symbols.{uses-get}
 use Rattle.bd_function.specs.declared.flat.FlatRow.{FlatRow}
 use Rattle.bd_function.specs.declared.flat.FlatSym.{FlatSym}
 use Rattle.bd_function.specs.declared.eliminate.Taken.{Taken}
-use Rattle.bd_function.specs.Flat.{AreApplications, Flattens, GivesSorts, HasAllApplications, HaveSorts, IsChosen, IsFlat, IsRealized, KeepsFirst, ReachesNoMemory, Realizes, is_variable, under}
-use Rattle.bd_function.specs.inner.Nested.{id_at, renamed}
+use Rattle.bd_function.specs.Flat.{AreApplications, Flattens, HasAllApplications, IsChosen, IsFlat, KeepsFirst, ReachesNoMemory, is_variable, under}
+use Rattle.bd_terms.specs.Renamed.{id_at, renamed}
 use Rattle.bd_function.specs.inner.Taken.{AreAlike, HasRow, HasUse, IsApplied, IsPlain, KeepsRow, IsTaken, row_sort, use_of}
 use Rattle.bd_function.proofs.Applying.{Contains-later, Contains-none, Contains-one}
-use Rattle.bd_function.proofs.Realizing.{Realizes-KeepsFirst}
-use Rattle.bd_function.proofs.Stepping.{All-of}
+use Rattle.bd_terms.proofs.Places.{All-of}
 use Rattle.bd_function.proofs.Taking.{StepsNode}
 
 first : {X : Type 0} (x : X) (xs : List X) → Contains (x ∷ xs) x
@@ -50,18 +49,11 @@ pub record IsKnown (old : List Node) (root : ℕ) (t : Taken) (symbol : Sym) (r 
   pub arity : length r.args ≡ applied.arity
   pub sorted : row_sort t.graph t.variables.items r ≡ applied.sort
 
--- values of the variables so far that are those of the applications in the world
-pub record Realizing (old : List Node) (root : ℕ) (t : Taken) (w : World) : Type 0 where
-  pub values : ℕ → Scalar
-  pub realizes : Realizes w values t.graph t.rows.items
-  pub sorted : GivesSorts old root w → HaveSorts values t.graph
-
 -- the terms that the root reaches have been taken as far as there are Ids
 pub record IsFlattened (old : List Node) (root : ℕ) (ids : List ℕ) (t : Taken) : Type 0 where
   pub taken : IsTaken t
   pub known : (symbol : Sym) (r : FlatRow) → HasRow t.rows.items symbol r → IsKnown old root t symbol r
   pub all : (k : ℕ) → k < length ids → Reaches old root k → (node : Node) → slice_get old k ≡ Some node → (u : Use) → Contains (node_uses node) u → HasUse t u
-  pub realized : (w : World) → Realizing old root t w
   pub chosen : (w : World) (choice : ℕ → Scalar) → IsChosen old root t.graph t.rows.items w choice
   pub sorted : (k : ℕ) → k < length ids → Reaches old root k → HasSort t.graph (id_at ids k) (sort_at old k)
   pub means : (w : World) (v : ℕ → Scalar) → KeepsFirst w v t.graph t.rows.items → (k : ℕ) → k < length ids → Reaches old root k
@@ -194,11 +186,6 @@ IsFlattened-start old root t g r s = record {
   };
   known = λ symbol x h. absurd (Contains-none h.holder (subst (λ l. Contains l h.holder) r h.listed));
   all = λ k h. absurd (omega (arith, h));
-  realized = λ w. record {
-    values = λ x. scalar.Bool false;
-    realizes = record { applied = λ x p. absurd (Contains-none x (subst (λ l. Contains l x) r p)) };
-    sorted = λ gives. record { sorted = λ x k p. absurd (Contains-none (use_of (Var x) 0 k) (subst (λ l. Contains (uses l) (use_of (Var x) 0 k)) g p)) };
-  };
   chosen = λ w choice. record {
     values = choice;
     keeps = record { first = λ x p. absurd (Contains-none x (subst (λ l. Contains l x) r p)) };
@@ -217,7 +204,6 @@ IsFlattened-pass old root ids t id f none = record {
     | inl p ↦ f.all k p r
     | inr e ↦ absurd (none (subst (Reaches old root) e r))
   ];
-  realized = f.realized;
   chosen = f.chosen;
   sorted = λ k h r. elim (below_last k (length ids) (omega (arith, h, length-append ids (id ∷ [])))) [
     | inl p ↦ subst (λ j. HasSort t.graph j (sort_at old k)) (sym (get_or_append_left ids (id ∷ []) 0 k p)) (f.sorted k p r)
@@ -270,16 +256,6 @@ IsFlattened-take old g root none ids t t' id node f r at st =
         | inl q ↦ HasUse-kept t t' u (f.all k q s m there u p) (st.kept u.symbol)
         | inr e ↦ st.all u (subst (λ x. Contains (node_uses x) u) (same_Some m node (sym there ∙ ap (slice_get old) e ∙ at)) p)
       ];
-      realized = λ w.
-          let before = f.realized w in
-          let next = st.further w before.values before.realizes in
-          record {
-            values = next.values;
-            realizes = next.realizes;
-            sorted = λ gives. next.sorted
-                (record { sorted = λ u p. gives.sorted u (record { id = n; node = node; reached = r; there = at; applies = p }) })
-                (before.sorted gives);
-          };
       chosen = λ w choice.
           let c = f.chosen w choice in
           st.chosen old root w choice c.values (record { keeps = c.keeps; each = c.each })
@@ -336,12 +312,6 @@ IsFlattened-all old root ids t g f inside = record {
         variable = subst (λ s. Contains (uses t.graph) (use_of (Var h.row.var) 0 s)) h.sorted (f.taken.rows h.has.holder h.has.listed h.row h.has.has).applied;
       };
 }
-
--- each world is realized
-pub IsFlattened-realized : (old : List Node) (root : ℕ) (ids : List ℕ) (t : Taken) → IsFlattened old root ids t → (w : World) → IsRealized old root t.graph t.rows.items w
-IsFlattened-realized old root ids t f w =
-    let r = f.realized w in
-    record { values = r.values; realizes = r.realizes; first = Realizes-KeepsFirst w r.values t.graph t.rows.items r.realizes; sorted = r.sorted }
 
 get-named : (ss : List FlatSym) (i : ℕ) (x : FlatSym) → slice_get ss i ≡ Some x → slice_get (map (λ (s : FlatSym). s.sym) ss) i ≡ Some x.sym
 get-named [] i x h = absurd (none-some x h)

@@ -2,7 +2,7 @@ pub mod Rows
 pub mod Nesting
 pub mod Terms
 pub mod Applying
-pub mod Realizing
+pub mod LaterVariables
 pub mod Choosing
 pub mod Stepping
 pub mod Taking

@@ -12,7 +12,8 @@ use Rattle.bd_terms.specs.Denotation.{World, Denotes, Truth, denoted, truth, tru
 use Rattle.bd_terms.proofs.Growth.{AddsUses-self, AddsUses-trans, Extends-self, Extends-trans, denoted-Extends}
 use Rattle.bd_terms.proofs.Places.{Contains-get}
 use Rattle.bd_function.specs.declared.flat.FlatRow.{FlatRow}
-use Rattle.bd_function.specs.inner.Nested.{AreEarlier, IsEarlier, chosen, id_at}
+use Rattle.bd_terms.specs.Renamed.{id_at}
+use Rattle.bd_function.specs.inner.Nested.{AreEarlier, IsEarlier, chosen}
 
 pub drop-get : {X : Type 0} → (xs : List X) (k : ℕ) (x : X) → slice_get xs k ≡ Some x → drop k xs ≡ x ∷ drop (suc k) xs
 drop-get [] k x h = absurd (none-some x h)

@@ -1,4 +1,4 @@
--- An application that is put behind the others keeps what holds of those before it.
+-- An application that is put after the others keeps what holds of those before it.
 use Rattle.std.proofs.Common.{◌≡◌, ℕ, suc, ◌<◌, ◌⊎◌, inl, inr, false, List, [], ◌∷◌, ◌++◌, length, map, slice_get, Some, Contains, get_or, refl, ap, sym, ◌∙◌, subst, arith, length-append}
 use Rattle.std.specs.List.{All}
 use Rattle.std.proofs.lemmas.List.{get_or_default}
@@ -14,21 +14,18 @@ use Rattle.bd_terms.specs.declared.node.Sym.TheVariants.{Var}
 use Rattle.bd_terms.specs.declared.node.Node.{Node}
 use Rattle.bd_terms.specs.Graph.{AddsUses, Extends, HasSort, IsGraph, Use, sort_at, uses}
 use Rattle.bd_terms.specs.Denotation.{World, Denotes, denoted, words}
-use Rattle.bd_terms.proofs.Places.{Contains-get}
+use Rattle.bd_terms.proofs.Places.{All-of, Contains-get}
 use Rattle.bd_terms.proofs.Growth.{All-HasSort-Extends, Extends-trans, HasSort-Extends, denoted-Extends}
 use Rattle.bd_function.specs.declared.flat.FlatRow.{FlatRow}
 use Rattle.bd_function.specs.declared.flat.FlatSym.{FlatSym}
 use Rattle.bd_function.specs.declared.eliminate.Taken.{Taken}
-use Rattle.bd_function.specs.Flat.{IsChosen, KeepsFirst, Realizes, arguments, first_value, under}
-use Rattle.bd_function.specs.inner.Nested.{AreEarlier, IsEarlier, chosen, id_at}
-use Rattle.bd_function.specs.inner.Taken.{AddsSymbol, AddsVariable, AreAlike, Chooses, Further, HasRow, HasUse, IsApplied, IsRow, IsTaken, IsVariableBelow, Steps, as_sort, row_sort, use_of, with_row}
+use Rattle.bd_function.specs.Flat.{IsChosen, KeepsFirst, arguments, first_value, under}
+use Rattle.bd_terms.specs.Renamed.{id_at}
+use Rattle.bd_function.specs.inner.Nested.{AreEarlier, IsEarlier, chosen}
+use Rattle.bd_function.specs.inner.Taken.{AddsSymbol, AddsVariable, AreAlike, Chooses, HasRow, HasUse, IsApplied, IsRow, IsTaken, IsVariableBelow, Steps, as_sort, row_sort, use_of, with_row}
 use Rattle.bd_function.proofs.Nesting.{words-Extends}
 use Rattle.bd_function.proofs.Choosing.{AddsRow-IsChosen, Chooses-symbol}
-use Rattle.bd_function.proofs.Realizing.{HaveSorts-more, HaveSorts-none, with_value, with_value-agree, with_value-other, with_value-same, words-agree}
 use Rattle.bd_function.proofs.Applying.{Contains-none, Contains-one, IsRow-later, Later, chosen-first, first_value-front, row_sort-later, rows_of-Extends, uses-Extends, with_row-cases, with_row-later, with_row-named, with_row-there}
-
-pub All-of : {X : Type 0} → (P : X → Type 0) (xs : List X) → ((x : X) → Contains xs x → P x) → All P xs
-All-of P xs f = λ k d h. f (get_or xs k d) (k, h, get_or_default xs k (get_or xs k d) d h)
 
 HasRow-empty : (ss : List FlatSym) (k symbol : Sym) (r : FlatRow) → HasRow (ss ++ (record { sym = k; rows = [] }) ∷ []) symbol r → HasRow ss symbol r
 HasRow-empty ss k symbol r h = elim (Contains-append_cases ss ((record { sym = k; rows = [] }) ∷ []) h.holder h.listed) [
@@ -130,47 +127,12 @@ first_before w v old new e before after n h later keeps = record {
       ∙ k ∙ (λ i. at (w (l.same i)) (args i));
 }
 
--- a row is still there when one is put behind the others
+-- a row is still there when one is put after the others
 HasRow-later : (t t1 t2 : Taken) (own : ℕ) (s : Sort) (k : Sym) (place : ℕ) (new : FlatRow) → AddsVariable t t1 own s → AddsSymbol t1 t2 k place
     → (symbol : Sym) (r : FlatRow) → HasRow t.rows.items symbol r → HasRow (with_row t2.rows.items place new) symbol r
 HasRow-later t t1 t2 own s k place new v a symbol r h =
     let l = with_row-later t2.rows.items place new h.holder (Contains-old t t1 t2 own s k place v a h.holder h.listed) in
     record { holder = l.later; listed = l.listed; same = l.same ∙ h.same; has = subst (λ rs. Contains rs r) (sym l.grows) (Contains-append_left h.holder.rows l.more r h.has) }
-
--- a further variable has the value of the application
-Applies-Further : (t t1 t2 t4 : Taken) (own id place : ℕ) (args : List ℕ) (s : Sort) (k : Sym) → IsTaken t → All (λ a. HasSort t.graph a sort.Word) args → AddsVariable t t1 own s
-    → (a : AddsSymbol t1 t2 k place) → Applies t2 t4 own id place (length t.variables.items) args a.holder → (w : World) (v : ℕ → Scalar) → Realizes w v t.graph t.rows.items
-    → Further t t4 (use_of k (length args) s ∷ []) w v
-Applies-Further t t1 t2 t4 own id place args s k taken inside v a ap4 w b h =
-    let n : ℕ = length t.variables.items in
-    let new : FlatRow = record { args = args; var = n } in
-    let e04 = Extends-trans t.graph t2.graph t4.graph (extends_two t t1 t2 own s k place v a) ap4.extends in
-    let x : Scalar = at (w k) (words (under b) t.graph args) in
-    let more : ℕ → Scalar = with_value b n x in
-    let agree = with_value-agree b n x (uses t.graph) taken.applied in
-    let own_words : arguments more t4.graph new ≡ words (under b) t.graph args =
-    words-Extends (under more) t.graph t4.graph e04 args inside ∙ words-agree (under more) (under b) t.graph args agree in
-    record {
-      values = more;
-      realizes = record {
-        applied = λ y p r q. elim (HasRow-cases t t1 t2 own s k place new v a y.sym r (record { holder = y; listed = subst (λ l. Contains l y) ap4.rows p; same = refl; has = q })) [
-          | inl old ↦
-              let row = taken.rows old.holder old.listed r old.has in
-              let args_old : arguments more t4.graph r ≡ arguments b t.graph r = words-Extends (under more) t.graph t4.graph e04 r.args row.words ∙ words-agree (under more) (under b) t.graph r.args agree in
-              with_value-other b n x r.var row.known ∙ h.applied old.holder old.listed r old.has ∙ (λ i. at (w (old.same i)) (sym args_old i))
-          | inr here ↦
-              ap (λ (z : FlatRow). more z.var) here.1 ∙ with_value-same b n x
-              ∙ (λ i. at (w (sym here.0 i)) (sym own_words i)) ∙ ap (λ (z : FlatRow). at (w y.sym) (arguments more t4.graph z)) (sym here.1)
-        ];
-      };
-      sorted = λ gives sorts. HaveSorts-none more t1.graph t4.graph
-          (record { within = λ u p. subst (λ l. Contains (uses l ++ []) u) a.graph (ap4.adds.within u p) })
-          (HaveSorts-more b t.graph t1.graph n s x taken.applied v.term.adds (gives.sorted (use_of k (length args) s) (0, omega arith, refl) (words (under b) t.graph args) (length-words (under b) t.graph args)) sorts);
-    }
-  where
-    length-words : (u : World) (nodes : List Node) (xs : List ℕ) → length (words u nodes xs) ≡ length xs
-    length-words u nodes [] = refl
-    length-words u nodes (y ∷ ys) = ap suc (length-words u nodes ys)
 
 -- values that are chosen are so with a symbol more
 Chooses-old : (t t1 t2 : Taken) (own : ℕ) (s : Sort) (k : Sym) (place : ℕ) → AddsVariable t t1 own s → AddsSymbol t1 t2 k place → (old : List Node) (root : ℕ) (w : World) (choice v : ℕ → Scalar)
@@ -281,7 +243,6 @@ Applies-Steps t t1 t2 t4 own id place args s k taken alike inside v a ap4 =
             arity = refl;
             sorted = ap (λ l. row_sort t4.graph l new) vars ∙ kind;
           });
-      further = Applies-Further t t1 t2 t4 own id place args s k taken inside v a ap4;
       chosen = Applies-chosen t t1 t2 t4 own id place args s k taken inside v a ap4;
       first = λ w b keeps. first_before w b t.graph t4.graph e04 t.rows.items (with_row t2.rows.items place new) n
           (λ x p r q. (taken.rows x p r q).words)

@@ -16,13 +16,12 @@ use Rattle.bd_terms.proofs.Growth.{All-HasSort-Extends, denoted-Extends, inside-
 use Rattle.bd_function.specs.declared.flat.FlatRow.{FlatRow}
 use Rattle.bd_function.specs.declared.flat.FlatSym.{FlatSym}
 use Rattle.bd_function.specs.declared.eliminate.Taken.{Taken}
-use Rattle.bd_function.specs.Flat.{Realizes, under}
-use Rattle.bd_function.specs.inner.Nested.{id_at, renamed}
-use Rattle.bd_function.specs.inner.Taken.{AreAlike, Chooses, Further, HasRow, IsPlain, IsRow, IsTaken, IsVariableBelow, Steps, as_sort, row_sort, use_of}
+use Rattle.bd_function.specs.Flat.{under}
+use Rattle.bd_terms.specs.Renamed.{id_at, renamed}
+use Rattle.bd_function.specs.inner.Taken.{AreAlike, Chooses, HasRow, IsPlain, IsRow, IsTaken, IsVariableBelow, Steps, as_sort, row_sort, use_of}
 use Rattle.bd_function.proofs.Applying.{Contains-none, Later-same, uses-Extends}
 use Rattle.bd_function.proofs.Choosing.{Chooses-Extends}
 use Rattle.bd_function.proofs.Nesting.{words-Extends}
-use Rattle.bd_function.proofs.Realizing.{HaveSorts-none}
 use Rattle.bd_function.proofs.Stepping.{first_before}
 
 pub same-length : {X Y : Type 0} → (f : X → Y) (xs : List X) → length (map f xs) ≡ length xs
@@ -30,18 +29,46 @@ same-length f [] = refl
 same-length f (x ∷ xs) = ap suc (same-length f xs)
 
 -- a node that applies no symbol denotes the same in each world
-pub node_value-none : (v w : World) (done : List Denoted) (ids : List ℕ) (node : Node) → IsPlain node → node_uses node ≡ [] → node_value v done (renamed ids node) ≡ node_value w done (renamed ids node)
-node_value-none v w done ids True p h = refl
-node_value-none v w done ids (Not a) p h = refl
-node_value-none v w done ids (And a b) p h = refl
-node_value-none v w done ids (Or a b) p h = refl
-node_value-none v w done ids (Ite c a b) p h = refl
-node_value-none v w done ids (Eq a b) p h = refl
-node_value-none v w done ids (App s args) p h = absurd (Contains-none (use_of s (length args) sort.Word) (subst (λ l. Contains l (use_of s (length args) sort.Word)) h (0, omega arith, refl)))
-node_value-none v w done ids (Pred s args) p h = absurd (Contains-none (use_of s (length args) sort.Bool) (subst (λ l. Contains l (use_of s (length args) sort.Bool)) h (0, omega arith, refl)))
-node_value-none v w done ids (Read m a) p h = refl
-node_value-none v w done ids (Write m a d) p h = refl
-node_value-none v w done ids (Init e) p h = absurd p
+node_value-none : (v w : World) (done : List Denoted) (node : Node) → IsPlain node → node_uses node ≡ [] → node_value v done node ≡ node_value w done node
+node_value-none v w done True p h = refl
+node_value-none v w done (Not a) p h = refl
+node_value-none v w done (And a b) p h = refl
+node_value-none v w done (Or a b) p h = refl
+node_value-none v w done (Ite c a b) p h = refl
+node_value-none v w done (Eq a b) p h = refl
+node_value-none v w done (App s args) p h = absurd (Contains-none (use_of s (length args) sort.Word) (subst (λ l. Contains l (use_of s (length args) sort.Word)) h (0, omega arith, refl)))
+node_value-none v w done (Pred s args) p h = absurd (Contains-none (use_of s (length args) sort.Bool) (subst (λ l. Contains l (use_of s (length args) sort.Bool)) h (0, omega arith, refl)))
+node_value-none v w done (Read m a) p h = refl
+node_value-none v w done (Write m a d) p h = refl
+node_value-none v w done (Init e) p h = absurd p
+
+-- a renamed node is of no memory where the node is
+pub IsPlain-renamed : (ids : List ℕ) (node : Node) → IsPlain node → IsPlain (renamed ids node)
+IsPlain-renamed ids True p = tt
+IsPlain-renamed ids (Not a) p = tt
+IsPlain-renamed ids (And a b) p = tt
+IsPlain-renamed ids (Or a b) p = tt
+IsPlain-renamed ids (Ite c a b) p = tt
+IsPlain-renamed ids (Eq a b) p = tt
+IsPlain-renamed ids (App s args) p = tt
+IsPlain-renamed ids (Pred s args) p = tt
+IsPlain-renamed ids (Read m a) p = absurd p
+IsPlain-renamed ids (Write m a d) p = absurd p
+IsPlain-renamed ids (Init e) p = absurd p
+
+-- and applies the same symbol
+pub node_uses-renamed : (ids : List ℕ) (node : Node) → node_uses (renamed ids node) ≡ node_uses node
+node_uses-renamed ids True = refl
+node_uses-renamed ids (Not a) = refl
+node_uses-renamed ids (And a b) = refl
+node_uses-renamed ids (Or a b) = refl
+node_uses-renamed ids (Ite c a b) = refl
+node_uses-renamed ids (Eq a b) = refl
+node_uses-renamed ids (App s args) = ap (λ n. use_of s n sort.Word ∷ []) (same-length (id_at ids) args)
+node_uses-renamed ids (Pred s args) = ap (λ n. use_of s n sort.Bool ∷ []) (same-length (id_at ids) args)
+node_uses-renamed ids (Read m a) = refl
+node_uses-renamed ids (Write m a d) = refl
+node_uses-renamed ids (Init e) = refl
 
 -- a node of no memory that is no application applies no symbol
 pub node_uses-none : (node : Node) → IsPlain node → ((s : Sym) (args : List ℕ) → node ≡ App s args → ⊥) → ((s : Sym) (args : List ℕ) → node ≡ Pred s args → ⊥) → node_uses node ≡ []
@@ -71,21 +98,8 @@ IsRow-Extends old new e variables r h =
       value = λ v. denoted-Extends (under v) old new e (id_at variables r.var) h.inside ∙ h.value v ∙ ap (λ s. as_sort s (v r.var)) (sym kind);
     }
 
--- the same values serve where no row is added
-Further-none : (t t' : Taken) (us : List Use) → IsTaken t → Extends t.graph t'.graph → AddsUses t.graph t'.graph [] → t'.rows.items ≡ t.rows.items
-    → (w : World) (v : ℕ → Scalar) → Realizes w v t.graph t.rows.items → Further t t' us w v
-Further-none t t' us taken e u rows w v h = record {
-  values = v;
-  realizes = record {
-    applied = λ x p r q.
-        let there = subst (λ l. Contains l x) rows p in
-        h.applied x there r q ∙ ap (at (w x.sym)) (sym (words-Extends (under v) t.graph t'.graph e r.args (taken.rows x there r q).words));
-  };
-  sorted = λ gives sorts. HaveSorts-none v t.graph t'.graph u sorts;
-}
-
 -- a term that applies no symbol is a step
-pub Steps-none : (t t' : Taken) (us : List Use) (args : List ℕ) (id : ℕ) (s : Sort) (value : World → (ℕ → Scalar) → Denoted) → IsTaken t → us ≡ [] → IsGraph t'.graph
+Steps-none : (t t' : Taken) (us : List Use) (args : List ℕ) (id : ℕ) (s : Sort) (value : World → (ℕ → Scalar) → Denoted) → IsTaken t → us ≡ [] → IsGraph t'.graph
     → Extends t.graph t'.graph → AddsUses t.graph t'.graph [] → HasSort t'.graph id s → ((w : World) (v : ℕ → Scalar) → denoted (under v) t'.graph id ≡ value w v)
     → t'.variables.items ≡ t.variables.items → t'.symbols.keys ≡ t.symbols.keys → t'.rows.items ≡ t.rows.items → Steps t t' us args id s value
 Steps-none t t' us args id s value taken none g e u has means vars keys rows = record {
@@ -105,7 +119,6 @@ Steps-none t t' us args id s value taken none g e u has means vars keys rows = r
     sorted = ap (λ l. row_sort t'.graph l r) vars ∙ row_sort-Extends t.graph t'.graph e t.variables.items r (taken.rows h.holder h.listed r h.has);
   };
   all = λ x p. absurd (Contains-none x (subst (λ l. Contains l x) none p));
-  further = Further-none t t' us taken e u rows;
   chosen = λ old root w choice v c terms. let k = later old root w choice v c in record { values = v; keeps = k.keeps; each = k.each };
   first = λ w v keeps. first_before w v t.graph t'.graph e t.rows.items t'.rows.items 0 (λ x p r q. (taken.rows x p r q).words)
       (λ x p. Later-same t'.rows.items 0 x (subst (λ l. Contains l x) (sym rows) p)) keeps;
@@ -117,40 +130,29 @@ Steps-none t t' us args id s value taken none g e u has means vars keys rows = r
     later old root w choice v c =
         subst (λ l. Chooses old root t'.graph l w choice v) (sym rows) (Chooses-Extends old root t.graph t'.graph t.rows.items w choice v e (λ x p r q. (taken.rows x p r q).words) c)
 
--- the step of an application, by the node
+-- the step of a node over terms of the graph
+abbrev pub StepsTerm : Taken → Taken → Node → ℕ → Type 0
+StepsTerm t t' n id = Steps t t' (node_uses n) (children n) id (node_sort (sorts t.graph) n) (λ w v. node_value w (values (under v) t.graph) n)
+
+-- the step of a node of the old graph
 abbrev pub StepsNode : Taken → Taken → List ℕ → Node → ℕ → Type 0
 StepsNode t t' ids node id = Steps t t' (node_uses node) (children (renamed ids node)) id (node_sort (sorts t.graph) (renamed ids node)) (λ w v. node_value w (values (under v) t.graph) (renamed ids node))
 
-pub Steps-App : (t t' : Taken) (ids : List ℕ) (node : Node) (k : Sym) (args xs : List ℕ) (r : Result ℕ AllocError) → node ≡ App k args → xs ≡ map (id_at ids) args
-    → IfOk r (λ id. Steps t t' (use_of k (length xs) sort.Word ∷ []) xs id sort.Word (λ w v. as_sort sort.Word (at (w k) (words (under v) t.graph xs))))
-    → IfOk r (λ id. StepsNode t t' ids node id)
-Steps-App t t' ids node k args xs (Err x) e f h = tt
-Steps-App t t' ids node k args xs (Ok id) e f h =
-    subst (λ n. StepsNode t t' ids n id) (sym e)
-    (subst (λ n. Steps t t' (use_of k n sort.Word ∷ []) (map (id_at ids) args) id sort.Word (λ w v. as_sort sort.Word (at (w k) (words (under v) t.graph (map (id_at ids) args))))) (same-length (id_at ids) args)
-    (subst (λ l. Steps t t' (use_of k (length l) sort.Word ∷ []) l id sort.Word (λ w v. as_sort sort.Word (at (w k) (words (under v) t.graph l)))) f h))
+-- it is that of the renamed node
+pub Steps-renamed : (t t' : Taken) (ids : List ℕ) (node n : Node) (r : Result ℕ AllocError) → n ≡ renamed ids node → IfOk r (λ id. StepsTerm t t' n id) → IfOk r (λ id. StepsNode t t' ids node id)
+Steps-renamed t t' ids node n (Err x) e h = tt
+Steps-renamed t t' ids node n (Ok id) e h =
+    subst (λ us. Steps t t' us (children (renamed ids node)) id (node_sort (sorts t.graph) (renamed ids node)) (λ w v. node_value w (values (under v) t.graph) (renamed ids node))) (node_uses-renamed ids node)
+    (subst (λ x. StepsTerm t t' x id) e h)
 
-pub Steps-Pred : (t t' : Taken) (ids : List ℕ) (node : Node) (k : Sym) (args xs : List ℕ) (r : Result ℕ AllocError) → node ≡ Pred k args → xs ≡ map (id_at ids) args
-    → IfOk r (λ id. Steps t t' (use_of k (length xs) sort.Bool ∷ []) xs id sort.Bool (λ w v. as_sort sort.Bool (at (w k) (words (under v) t.graph xs))))
-    → IfOk r (λ id. StepsNode t t' ids node id)
-Steps-Pred t t' ids node k args xs (Err x) e f h = tt
-Steps-Pred t t' ids node k args xs (Ok id) e f h =
-    subst (λ n. StepsNode t t' ids n id) (sym e)
-    (subst (λ n. Steps t t' (use_of k n sort.Bool ∷ []) (map (id_at ids) args) id sort.Bool (λ w v. as_sort sort.Bool (at (w k) (words (under v) t.graph (map (id_at ids) args))))) (same-length (id_at ids) args)
-    (subst (λ l. Steps t t' (use_of k (length l) sort.Bool ∷ []) l id sort.Bool (λ w v. as_sort sort.Bool (at (w k) (words (under v) t.graph l)))) f h))
-
--- the rows are alike for the arguments in the new graph
-pub alike_renamed : (t : Taken) (ids : List ℕ) (k : Sym) (args xs : List ℕ) (s : Sort) → xs ≡ map (id_at ids) args → AreAlike t (use_of k (length args) s ∷ []) → AreAlike t (use_of k (length xs) s ∷ [])
-alike_renamed t ids k args xs s e h = subst (λ n. AreAlike t (use_of k n s ∷ [])) (sym (ap length e ∙ same-length (id_at ids) args)) h
-
--- a copied term is a step
-pub Steps-copy : (t t' : Taken) (ids : List ℕ) (node : Node) (r : Result ℕ AllocError) → IsTaken t → IsPlain node → node_uses node ≡ []
-    → IfOk r (λ id. Denotes t'.graph id (λ w. node_value w (values w t.graph) (renamed ids node)))
-    → IfOk r (λ id. HasSort t'.graph id (node_sort (sorts t.graph) (renamed ids node)))
-    → IfOk r (λ id. IsGraph t'.graph) → IfOk r (λ id. Extends t.graph t'.graph) → IfOk r (λ id. AddsUses t.graph t'.graph [])
+-- a built term that applies no symbol is a step
+pub Steps-built : (t t' : Taken) (n : Node) (r : Result ℕ AllocError) → IsTaken t → IsPlain n → node_uses n ≡ []
+    → IfOk r (λ id. Denotes t'.graph id (λ w. node_value w (values w t.graph) n))
+    → IfOk r (λ id. HasSort t'.graph id (node_sort (sorts t.graph) n))
+    → IsGraph t'.graph → Extends t.graph t'.graph → AddsUses t.graph t'.graph (node_uses n)
     → t'.variables.items ≡ t.variables.items → t'.symbols.keys ≡ t.symbols.keys → t'.rows.items ≡ t.rows.items
-    → IfOk r (λ id. StepsNode t t' ids node id)
-Steps-copy t t' ids node (Err x) taken plain none d s g e u vars keys rows = tt
-Steps-copy t t' ids node (Ok id) taken plain none d s g e u vars keys rows =
-    Steps-none t t' (node_uses node) (children (renamed ids node)) id (node_sort (sorts t.graph) (renamed ids node)) (λ w v. node_value w (values (under v) t.graph) (renamed ids node)) taken none g e u s
-    (λ w v. d.is (under v) ∙ node_value-none (under v) w (values (under v) t.graph) ids node plain none) vars keys rows
+    → IfOk r (λ id. StepsTerm t t' n id)
+Steps-built t t' n (Err x) taken plain none d s g e u vars keys rows = tt
+Steps-built t t' n (Ok id) taken plain none d s g e u vars keys rows =
+    Steps-none t t' (node_uses n) (children n) id (node_sort (sorts t.graph) n) (λ w v. node_value w (values (under v) t.graph) n) taken none g e (subst (AddsUses t.graph t'.graph) none u) s
+    (λ w v. d.is (under v) ∙ node_value-none (under v) w (values (under v) t.graph) n plain none) vars keys rows

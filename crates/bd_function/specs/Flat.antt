@@ -83,24 +83,9 @@ pub record HasApplication (nodes : List Node) (syms : List FlatSym) (u : Use) : 
 pub record HasAllApplications (old : List Node) (old_root : ℕ) (nodes : List Node) (syms : List FlatSym) : Type 0 where
   pub each : (u : Use) → ReachesUse old old_root u → HasApplication nodes syms u
 
--- the world gives each symbol that the root reaches values of its sort
-pub record GivesSorts (nodes : List Node) (root : ℕ) (w : World) : Type 0 where
-  pub sorted : (u : Use) → ReachesUse nodes root u → (args : List ℕ) → length args ≡ u.arity → scalar_sort (at (w u.symbol) args) ≡ u.sort
-
 -- the graph's variables have values of their sorts
 pub record HaveSorts (v : ℕ → Scalar) (nodes : List Node) : Type 0 where
   pub sorted : (x : ℕ) (s : Sort) → Contains (uses nodes) (record { symbol = Var x; arity = 0; sort = s }) → scalar_sort (v x) ≡ s
-
--- each row's variable has the value of its application in the world
-pub record Realizes (w : World) (v : ℕ → Scalar) (nodes : List Node) (syms : List FlatSym) : Type 0 where
-  pub applied : (s : FlatSym) → Contains syms s → (r : FlatRow) → Contains s.rows r → v r.var ≡ at (w s.sym) (arguments v nodes r)
-
--- values of the variables that are those of the applications in the world, so they keep the first ones
-pub record IsRealized (old : List Node) (old_root : ℕ) (nodes : List Node) (syms : List FlatSym) (w : World) : Type 0 where
-  pub values : ℕ → Scalar
-  pub realizes : Realizes w values nodes syms
-  pub first : KeepsFirst w values nodes syms
-  pub sorted : GivesSorts old old_root w → HaveSorts values nodes
 
 -- a term that applies the symbol, as a word or as a truth value
 abbrev pub application : Sort → Sym → List ℕ → Node

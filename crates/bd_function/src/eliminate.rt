@@ -9,8 +9,8 @@ ghost use Rattle.bd_model.specs.declared.design.Sort.TheVariants as kind;
 ghost use Rattle.bd_terms.specs.declared.node.Sym.TheVariants as symbol;
 ghost use Rattle.bd_terms.specs.Graph.{AddsUses, Extends, FitsSorts, HasSort, IsGraph, KeepsSymbol, children, node_sort, node_uses, sorts};
 ghost use Rattle.bd_terms.specs.Denotation.{Denotes, World, node_value, values, words};
-ghost use Rattle.bd_function.specs.Flat.{AreApplications, Flattens, HasAllApplications, IsChosen, IsRealized, ReachesNoMemory, under};
-ghost use Rattle.bd_function.specs.inner.Nested.{id_at, renamed};
+ghost use Rattle.bd_function.specs.Flat.{AreApplications, Flattens, HasAllApplications, IsChosen, ReachesNoMemory, under};
+ghost use Rattle.bd_terms.specs.Renamed.{renamed};
 ghost use Rattle.bd_function.specs.inner.Taken.{AddsSymbol, AddsTerm, AddsVariable, AreAlike, IsPlain, IsTaken, Steps, as_sort, is_scalar, use_of, with_row};
 
 use crate::flat::{Flat, FlatRow, FlatRows, FlatSym, FlatSyms};
@@ -38,8 +38,6 @@ pub fn flatten(alloc: Global, graph: &Graph, root: Id) -> Result<Flat, AllocErro
     ensures flattens { IfOk result (λ f. Flattens graph.now root f.graph f.root f.syms) }
     ensures rows { IfOk result (λ f. AreApplications graph.now root f.graph f.syms) }
     ensures all_rows { IfOk result (λ f. HasAllApplications graph.now root f.graph f.syms) }
-    ensures realized { IfOk result (λ f. (w : World) →
-        IsRealized graph.now root f.graph f.syms w) }
     ensures chosen { IfOk result (λ f. (w : World) (choice : ℕ → Scalar) →
         IsChosen graph.now root f.graph f.syms w choice) }
     ensures graph { IfOk result (λ f. IsGraph f.graph) }
@@ -63,7 +61,7 @@ pub fn flatten(alloc: Global, graph: &Graph, root: Id) -> Result<Flat, AllocErro
     }
     Ok(Flat {
         graph: taken.graph,
-        root: id_of(&ids, root),
+        root: ids[root.index()],
         syms: FlatSyms::from_vec(taken.rows),
     })
 }
@@ -80,60 +78,11 @@ fn take(alloc: Global, taken: &mut Taken, ids: &[Id], node: &Node) -> Result<Id,
         (node_sort (sorts taken.old.graph) (renamed ids.now node.now))
         (λ w v. node_value w (values (under v) taken.old.graph) (renamed ids.now node.now))) }
 {
-    match node {
-        Node::App(sym, args) => {
-            let args = rename(alloc, ids, args.as_slice())?;
-            apply(alloc, taken, *sym, &args, Sort::Word)
-        }
-        Node::Pred(sym, args) => {
-            let args = rename(alloc, ids, args.as_slice())?;
-            apply(alloc, taken, *sym, &args, Sort::Bool)
-        }
-        _ => copy(&mut taken.graph, ids, node),
-    }
-}
-
-// The Ids in the new graph.
-fn rename(alloc: Global, ids: &[Id], args: &[Id]) -> Result<Vec<Id>, AllocError>
-    requires { All (λ c. c < length ids.now) args.now }
-    ensures { IfOk result (λ v. v.items ≡ map (id_at ids.now) args.now) }
-{
-    let mut renamed = Vec::with_capacity(alloc, args.len())?;
-    for arg in args.iter() {
-        renamed.push(id_of(ids, *arg))?;
-    }
-    Ok(renamed)
-}
-
-// The Id in the new graph.
-fn id_of(ids: &[Id], old: Id) -> Id
-    requires { old < length ids.now }
-    ensures { result ≡ id_at ids.now old }
-{
-    ids[old.index()]
-}
-
-// A term that applies no symbol, over the new Ids.
-fn copy(graph: &mut Graph, ids: &[Id], node: &Node) -> Result<Id, AllocError>
-    requires inside { All (λ c. c < length ids.now) (children node.now) }
-    requires fits { FitsSorts graph.old (renamed ids.now node.now) }
-    requires plain { IsPlain node.now }
-    requires uses { node_uses node.now ≡ [] }
-    ensures denotes { IfOk result (λ id. Denotes graph.new id
-        (λ w. node_value w (values w graph.old) (renamed ids.now node.now))) }
-    ensures sorted { IfOk result (λ id.
-        HasSort graph.new id (node_sort (sorts graph.old) (renamed ids.now node.now))) }
-    ensures graph { OnOk result (IsGraph graph.new) }
-    ensures extends { OnOk result (Extends graph.old graph.new) }
-    ensures uses { OnOk result (AddsUses graph.old graph.new []) }
-{
-    match node {
-        Node::Not(a) => graph.mk_not(id_of(ids, *a)),
-        Node::And(a, b) => graph.mk_and(id_of(ids, *a), id_of(ids, *b)),
-        Node::Or(a, b) => graph.mk_or(id_of(ids, *a), id_of(ids, *b)),
-        Node::Ite(c, a, b) => graph.mk_ite(id_of(ids, *c), id_of(ids, *a), id_of(ids, *b)),
-        Node::Eq(a, b) => graph.mk_eq(id_of(ids, *a), id_of(ids, *b)),
-        _ => graph.mk_true(),
+    let renamed = node.renamed(ids)?;
+    match renamed {
+        Node::App(sym, args) => apply(alloc, taken, sym, args.as_slice(), Sort::Word),
+        Node::Pred(sym, args) => apply(alloc, taken, sym, args.as_slice(), Sort::Bool),
+        other => taken.graph.build(other),
     }
 }
 
@@ -175,7 +124,7 @@ fn place(alloc: Global, taken: &mut Taken, sym: Sym) -> Result<usize, AllocError
     Ok(place)
 }
 
-// Puts a row behind the others of its symbol.
+// Puts a row after the others of its symbol.
 fn push(rows: &mut Vec<FlatSym>, place: usize, row: FlatRow) -> Result<(), AllocError>
     requires { place < length rows.old.items }
     ensures { OnOk result (rows.new.items ≡ with_row rows.old.items place row) }
@@ -184,7 +133,7 @@ fn push(rows: &mut Vec<FlatSym>, place: usize, row: FlatRow) -> Result<(), Alloc
     Ok(())
 }
 
-// The application of the symbol, with a row behind its others.
+// The application of the symbol, with a row after its others.
 fn apply(
     alloc: Global,
     taken: &mut Taken,

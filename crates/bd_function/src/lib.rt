@@ -12,6 +12,3 @@ pub use eliminate::flatten;
 pub use flat::{Flat, FlatRow, FlatRows, FlatSym, FlatSyms};
 pub use symbol_tables::{FlatTables, SymTable, tables};
 pub use values::{Marked, Values};
-
-#[cfg(test)]
-mod tests;

@@ -70,8 +70,8 @@ fn evaluate(values: &Values, done: &[Scalar], node: &Node) -> Scalar
             scalar_at(done, *term)
         }
         Node::Eq(a, b) => Scalar::Bool(word_at(done, *a) == word_at(done, *b)),
-        Node::App(sym, _) => Scalar::Word(word_of(symbol_value(values, *sym))),
-        Node::Pred(sym, _) => Scalar::Bool(truth_of(symbol_value(values, *sym))),
+        Node::App(sym, _) => Scalar::Word(symbol_value(values, *sym).word()),
+        Node::Pred(sym, _) => Scalar::Bool(symbol_value(values, *sym).truth()),
         Node::Read(..) | Node::Write(..) | Node::Init(_) => Scalar::Bool(false),
     }
 }
@@ -94,31 +94,13 @@ fn scalar_at(done: &[Scalar], id: Id) -> Scalar
 fn truth_at(done: &[Scalar], id: Id) -> bool
     ensures { result ≡ truth_at done.now id }
 {
-    truth_of(scalar_at(done, id))
+    scalar_at(done, id).truth()
 }
 
 fn word_at(done: &[Scalar], id: Id) -> u64
     ensures { result ≡ word_at done.now id }
 {
-    word_of(scalar_at(done, id))
-}
-
-fn truth_of(scalar: Scalar) -> bool
-    ensures { result ≡ scalar_truth scalar }
-{
-    match scalar {
-        Scalar::Bool(truth) => truth,
-        Scalar::Word(_) => false,
-    }
-}
-
-fn word_of(scalar: Scalar) -> u64
-    ensures { result ≡ scalar_word scalar }
-{
-    match scalar {
-        Scalar::Bool(_) => 0,
-        Scalar::Word(word) => word,
-    }
+    scalar_at(done, id).word()
 }
 
 // The table of a symbol's rows.

@@ -54,18 +54,6 @@ pub Gives-HasSort : (old new : List Node) → IsGraph old → IsGraph new → (i
     → HasSort new id (node_sort (sorts old) node)
 Gives-HasSort old new g g' id node fits h = Gives-HasSort_form old new g' id node (simplified old node) (simplified-fits old g node fits) h
 
--- a graph is as long as itself
-pub Extends-same : (old new : List Node) → new ≡ old → Extends old new
-Extends-same old new e = record { more = []; grows = e ∙ sym (append-nil old) }
-
-Gives-Extends_form : (old new : List Node) (id : ℕ) (f : Outcome) → Gives old new id f → Extends old new
-Gives-Extends_form old new id (Same a) h = Extends-same old new h.0
-Gives-Extends_form old new id (Built n) h = elim h.adds [ inl e ↦ Extends-same old new e | inr e ↦ record { more = n ∷ []; grows = e } ]
-
--- the graph that a term is kept in has the older nodes
-pub Gives-Extends : (old new : List Node) (id : ℕ) (node : Node) → Gives old new id (simplified old node) → Extends old new
-Gives-Extends old new id node h = Gives-Extends_form old new id (simplified old node) h
-
 -- a graph applies what it applies
 pub AddsUses-same : (old new : List Node) (more : List Use) → new ≡ old → AddsUses old new more
 AddsUses-same old new more e = record { within = λ u p. Contains-append_left (uses old) more u (subst (λ l. Contains (uses l) u) e p) }

@@ -64,21 +64,6 @@ AddsUses-trans a b c more p q = record {
   ];
 }
 
--- a symbol keeps its arity and sort where what is added does
-pub KeepsSymbol-AddsUses : (old new : List Node) (more : List Use) → AddsUses old new more → (symbol : Sym) (arity : ℕ) (s : Sort)
-    → ((u : Use) → Contains more u → u.symbol ≡ symbol → (u.arity ≡ arity) × (u.sort ≡ s))
-    → KeepsSymbol old symbol arity s → KeepsSymbol new symbol arity s
-KeepsSymbol-AddsUses old new more a symbol arity s h k = record {
-  keeps = λ u p e. elim (Contains-append_cases (uses old) more u (a.within u p)) [
-    | inl q ↦ k.keeps u q e
-    | inr q ↦ h u q e
-  ];
-}
-
--- so it does where nothing is added
-pub KeepsSymbol-none : (old new : List Node) → AddsUses old new [] → (symbol : Sym) (arity : ℕ) (s : Sort) → KeepsSymbol old symbol arity s → KeepsSymbol new symbol arity s
-KeepsSymbol-none old new a symbol arity s k = KeepsSymbol-AddsUses old new [] a symbol arity s (λ u p e. absurd (omega (arith, p.1))) k
-
 -- no symbol is applied where there is no term
 pub KeepsSymbol-empty : (symbol : Sym) (arity : ℕ) (s : Sort) → KeepsSymbol [] symbol arity s
 KeepsSymbol-empty symbol arity s = record { keeps = λ u p e. absurd (omega (arith, p.1)) }

@@ -8,3 +8,4 @@ pub mod Reaching
 pub mod Resting
 pub mod Symbols
 pub mod Older
+pub mod InsertedKeys

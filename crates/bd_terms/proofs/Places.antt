@@ -1,8 +1,9 @@
 -- Items of lists by their places.
 use Rattle.std.proofs.Common.{◌≡◌, ℕ, zero, suc, ◌+◌, ◌<◌, ◌⊎◌, inl, inr, Bool, true, false, List, [], ◌∷◌, ◌++◌, length, slice_get, slice_index_or, take, drop, Some, Contains, refl, ap, sym, ◌∙◌, subst, arith, true≢false}
-use Rattle.std.specs.List.{AllByRecursion, IsDistinct}
+use Rattle.std.specs.List.{All, AllByRecursion, IsDistinct}
 use Rattle.std.proofs.lemmas.Option.{none-some, same_Some, slice_get_within, get_or_from_slice_get}
 use Rattle.std.proofs.lemmas.List.{length-take-le}
+use Rattle.std.proofs.lemmas.List.Elements.{All-contains_itself, All-weaker, Contains-append_right}
 use Rattle.bd_list.specs.Grown.{grown}
 use Rattle.bd_list.proofs.Grown.{get-grown_at}
 
@@ -30,11 +31,19 @@ around (y ∷ xs) (suc i) x h = let e : suc i + 1 ≡ suc (i + 1) = omega arith 
 pub Contains-get : {X : Type 0} → (xs : List X) (i : ℕ) (x : X) → slice_get xs i ≡ Some x → Contains xs x
 Contains-get xs i x h = (i, slice_get_within xs i x h, get_or_from_slice_get xs i x x h)
 
+-- what holds of what a list contains holds of all
+pub All-of : {X : Type 0} → (P : X → Type 0) (xs : List X) → ((x : X) → Contains xs x → P x) → All P xs
+All-of P xs h = All-weaker (Contains xs) P h xs (All-contains_itself xs)
+
 -- and what holds of each item holds of it
 pub AllByRecursion-get : {X : Type 0} → (P : X → Type 0) (xs : List X) (i : ℕ) (x : X) → AllByRecursion P xs → slice_get xs i ≡ Some x → P x
 AllByRecursion-get P [] i x a h = absurd (none-some x h)
 AllByRecursion-get P (y ∷ xs) zero x a h = subst P (same_Some y x h) a.0
 AllByRecursion-get P (y ∷ xs) (suc i) x a h = AllByRecursion-get P xs i x a.1 h
+
+pub AllByRecursion-of : {X : Type 0} → (P : X → Type 0) (xs : List X) → ((x : X) → Contains xs x → P x) → AllByRecursion P xs
+AllByRecursion-of P [] h = tt
+AllByRecursion-of P (x ∷ xs) h = (h x (0, omega arith, refl), AllByRecursion-of P xs (λ y p. h y (Contains-append_right (x ∷ []) xs y p)))
 
 -- the value of an item is the one that its front gives
 pub grown-get : {X Y : Type 0} → (f : List Y → X → Y) (xs : List X) (i : ℕ) (x : X) (d : Y) → slice_get xs i ≡ Some x → slice_index_or (grown f [] xs) i d ≡ f (grown f [] (take i xs)) x

@@ -56,7 +56,7 @@ set-cases_by marks c k false e h =
     let other : k ≢ c = λ same. true≢false (sym (eq-eqb c k (sym same)) ∙ e) in
     inl (sym (get_or-set_other marks c k true false other) ∙ h)
 
-set-cases : (marks : List Bool) (c k : ℕ) → mark_at (slice_set marks c true) k ≡ true → (mark_at marks k ≡ true) ⊎ (c ≡ k)
+pub set-cases : (marks : List Bool) (c k : ℕ) → mark_at (slice_set marks c true) k ≡ true → (mark_at marks k ≡ true) ⊎ (c ≡ k)
 set-cases marks c k h = set-cases_by marks c k (c == k) refl h
 
 set-stays_by : (marks : List Bool) (c k : ℕ) (b : Bool) → (c == k) ≡ b → k < length marks → mark_at marks k ≡ true → mark_at (slice_set marks c true) k ≡ true
@@ -71,7 +71,7 @@ mark_inside [] k h = absurd (true≢false (sym h))
 mark_inside (m ∷ marks) zero h = omega arith
 mark_inside (m ∷ marks) (suc k) h = let below = mark_inside marks k h in omega (arith, below)
 
-set-stays : (marks : List Bool) (c k : ℕ) → mark_at marks k ≡ true → mark_at (slice_set marks c true) k ≡ true
+pub set-stays : (marks : List Bool) (c k : ℕ) → mark_at marks k ≡ true → mark_at (slice_set marks c true) k ≡ true
 set-stays marks c k h = set-stays_by marks c k (c == k) refl (mark_inside marks k h) h
 
 -- marks stay
@@ -106,7 +106,7 @@ pub record IsMarked (nodes : List Node) (root place : ℕ) (marks : List Bool) :
   pub sound : (k : ℕ) → mark_at marks k ≡ true → Reaches nodes root k
   pub closed : (k : ℕ) (node : Node) → place ≤ k → mark_at marks k ≡ true → slice_get nodes k ≡ Some node → (c : ℕ) → Contains (children node) c → mark_at marks c ≡ true
 
-unmarked : (n k : ℕ) → mark_at (replicate n false) k ≡ true → ⊥
+pub unmarked : (n k : ℕ) → mark_at (replicate n false) k ≡ true → ⊥
 unmarked zero k h = true≢false (sym h)
 unmarked (suc n) zero h = true≢false (sym h)
 unmarked (suc n) (suc k) h = unmarked n k h
@@ -128,18 +128,6 @@ le-cases zero zero h = inr refl
 le-cases zero (suc b) h = inl (omega arith)
 le-cases (suc a) zero h = absurd (omega arith)
 le-cases (suc a) (suc b) h = elim (le-cases a b (omega arith)) [ inl p ↦ inl (omega arith) | inr e ↦ inr (ap suc e) ]
-
--- a place without a mark is passed
-pub IsMarked-pass : (nodes : List Node) (root place : ℕ) (marks : List Bool) → IsMarked nodes root (suc place) marks → mark_at marks place ≡ false → IsMarked nodes root place marks
-IsMarked-pass nodes root place marks m none = record {
-  size = m.size;
-  rooted = m.rooted;
-  sound = m.sound;
-  closed = λ k node le h there c p. elim (le-cases place k le) [
-    | inl lt ↦ m.closed k node lt h there c p
-    | inr e ↦ absurd (true≢false (sym h ∙ ap (mark_at marks) (sym e) ∙ none))
-  ];
-}
 
 -- at a place with a mark what its node stands over is marked
 pub IsMarked-mark : (nodes : List Node) → IsGraph nodes → (root place : ℕ) (marks : List Bool) (node : Node) → IsMarked nodes root (suc place) marks → mark_at marks place ≡ true

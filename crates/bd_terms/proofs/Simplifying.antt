@@ -64,20 +64,12 @@ is_word (Truth b) h = cc
 is_word (Word n) h = refl
 is_word (Contents m) h = cc
 
-is_contents : (d : Denoted) → denoted_sort d ≡ sort.Memory → d ≡ Contents (contents_of d)
-is_contents (Truth b) h = cc
-is_contents (Word n) h = cc
-is_contents (Contents m) h = refl
-
 -- a node of truth values denotes one, and so on
 pub denoted-truth : (w : World) (nodes : List Node) → IsGraph nodes → (i : ℕ) → HasSort nodes i sort.Bool → denoted w nodes i ≡ Truth (truth w nodes i)
 denoted-truth w nodes g i h = is_truth (denoted w nodes i) (denoted-sort w nodes g i h.inside ∙ h.sorted)
 
 pub denoted-word : (w : World) (nodes : List Node) → IsGraph nodes → (i : ℕ) → HasSort nodes i sort.Word → denoted w nodes i ≡ Word (word w nodes i)
 denoted-word w nodes g i h = is_word (denoted w nodes i) (denoted-sort w nodes g i h.inside ∙ h.sorted)
-
-pub denoted-contents : (w : World) (nodes : List Node) → IsGraph nodes → (i : ℕ) → HasSort nodes i sort.Memory → denoted w nodes i ≡ Contents (contents w nodes i)
-denoted-contents w nodes g i h = is_contents (denoted w nodes i) (denoted-sort w nodes g i h.inside ∙ h.sorted)
 
 -- the node there is true
 found_true : (o : Option Node) → node_is_true o ≡ true → o ≡ Some True

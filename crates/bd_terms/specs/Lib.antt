@@ -4,3 +4,4 @@ pub mod Simplified
 pub mod inner
 pub mod Reaches
 pub mod Renamed
+pub mod Valid

@@ -12,6 +12,3 @@ pub use graph::Graph;
 pub use id::{Id, Ids};
 pub use node::{Node, Sym};
 pub use reach::{ReachedTerms, reached};
-
-#[cfg(test)]
-mod tests;

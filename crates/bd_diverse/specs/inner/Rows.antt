@@ -22,7 +22,7 @@ use Rattle.bd_diverse.specs.inner.Valued.{IsValued, connective}
 abbrev pub start_table : SymTable → SymTable
 start_table t = record { sym = t.sym; table = record { default = at t.table []; rows = [] } }
 
--- the place of the symbol's table, or behind all
+-- the place of the symbol's table, or after all
 abbrev pub place_of : List SymTable → Sym → ℕ
 place_of [] s = 0
 place_of (t ∷ ts) s = if is_symbol t.sym s then 0 else suc (place_of ts s)
@@ -43,7 +43,7 @@ pub record IsOld (w : World) (nodes : List Node) (root : ℕ) (old : Old) : Type
   pub small : (k : ℕ) → word_at old.scalars.items k ≤ old.bound
   pub constants : (s : Sym) → applied w s [] ≤ old.bound
 
--- the application's row is put behind the others, and its value is that of the first row with its arguments
+-- the application's row is put after the others, and its value is that of the first row with its arguments
 pub record AddsUse (w : World) (old : Old) (done : List Scalar) (s : Sym) (args : List ℕ) (before after : World) (x : Scalar) : Type 0 where
   pub row : Row
   pub is : row ≡ record { args = map (word_at done) args; value = spread_value old.positive old.bound w (length done) s (map (word_at old.scalars.items) args) }

@@ -1,5 +1,5 @@
 -- A world in which positive applications have values of their own, made by one pass over the terms in rising order: each
--- application that is met puts a row behind those of its symbol, and the first row with its arguments counts.
+-- application that is met puts a row after those of its symbol, and the first row with its arguments counts.
 use Rattle.std.specs.Prelude.{◌≡◌, ℕ, suc, ◌+◌, ◌<◌, ◌≤◌, ◌⊎◌, Bool, true, List, [], ◌∷◌, ◌++◌, Contains, Option, Some, None, length, map, slice_get, if◌then◌else◌}
 use Rattle.std.specs.List.{list_any}
 use Rattle.bd_model.specs.declared.table.Scalar.{Scalar}
@@ -34,7 +34,7 @@ abbrev pub read_as : Node → Scalar → Scalar
 read_as (App s args) x = scalar.Word (scalar_word x)
 read_as node x = scalar.Bool (scalar_truth x)
 
--- the world with a row behind those of the symbol
+-- the world with a row after those of the symbol
 abbrev pub with_row : World → Sym → Row → World
 with_row w s r t = if is_symbol s t then record { default = (w t).default; rows = (w t).rows ++ r ∷ [] } else w t
 

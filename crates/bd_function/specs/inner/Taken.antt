@@ -17,8 +17,8 @@ use Rattle.bd_terms.specs.Reaches.{Reaches}
 use Rattle.bd_function.specs.declared.flat.FlatRow.{FlatRow}
 use Rattle.bd_function.specs.declared.flat.FlatSym.{FlatSym}
 use Rattle.bd_function.specs.declared.eliminate.Taken.{Taken}
-use Rattle.bd_function.specs.Flat.{HaveSorts, IsChosen, IsFirstVariable, KeepsFirst, Realizes, application, under}
-use Rattle.bd_function.specs.inner.Nested.{id_at}
+use Rattle.bd_function.specs.Flat.{IsChosen, IsFirstVariable, KeepsFirst, application, under}
+use Rattle.bd_terms.specs.Renamed.{id_at}
 
 -- the node is of no memory
 abbrev pub IsPlain : Node → Type 0
@@ -105,16 +105,6 @@ pub record KeepsRow (t t' : Taken) (symbol : Sym) (r : FlatRow) : Type 0 where
   pub has : HasRow t'.rows.items symbol r
   pub sorted : row_sort t'.graph t'.variables.items r ≡ row_sort t.graph t.variables.items r
 
--- the world gives these uses values of their sorts
-pub record GivesUses (w : World) (us : List Use) : Type 0 where
-  pub sorted : (u : Use) → Contains us u → (args : List ℕ) → length args ≡ u.arity → scalar_sort (at (w u.symbol) args) ≡ u.sort
-
--- values for the new variables too, of their sorts where the world gives these uses their sorts
-pub record Further (t t' : Taken) (us : List Use) (w : World) (v : ℕ → Scalar) : Type 0 where
-  pub values : ℕ → Scalar
-  pub realizes : Realizes w values t'.graph t'.rows.items
-  pub sorted : GivesUses w us → HaveSorts v t.graph → HaveSorts values t'.graph
-
 -- these values are chosen
 pub record Chooses (old : List Node) (old_root : ℕ) (nodes : List Node) (syms : List FlatSym) (w : World) (choice v : ℕ → Scalar) : Type 0 where
   pub keeps : KeepsFirst w v nodes syms
@@ -135,7 +125,6 @@ pub record Steps (t t' : Taken) (us : List Use) (args : List ℕ) (id : ℕ) (s 
   pub rows : (symbol : Sym) (r : FlatRow) → HasRow t'.rows.items symbol r → StepsRow t t' us symbol r
   pub kept : (symbol : Sym) (r : FlatRow) → HasRow t.rows.items symbol r → KeepsRow t t' symbol r
   pub all : (u : Use) → Contains us u → HasUse t' u
-  pub further : (w : World) (v : ℕ → Scalar) → Realizes w v t.graph t.rows.items → Further t t' us w v
   pub chosen : (old : List Node) (root : ℕ) (w : World) (choice v : ℕ → Scalar) → Chooses old root t.graph t.rows.items w choice v
       → ((u : Use) → Contains us u → IsApplied old root w u (words (under v) t.graph args)) → IsChosen old root t'.graph t'.rows.items w choice
   pub first : (w : World) (v : ℕ → Scalar) → KeepsFirst w v t'.graph t'.rows.items → KeepsFirst w v t.graph t.rows.items
@@ -169,7 +158,7 @@ pub record AddsSymbol (t t' : Taken) (symbol : Sym) (place : ℕ) : Type 0 where
   pub same : holder.sym ≡ symbol
   pub adds : (t'.rows.items ≡ t.rows.items) ⊎ (t'.rows.items ≡ t.rows.items ++ (record { sym = symbol; rows = [] }) ∷ [])
 
--- a row behind those of the symbol at the place
+-- a row after those of the symbol at the place
 abbrev pub with_row : List FlatSym → ℕ → FlatRow → List FlatSym
 with_row [] place r = []
 with_row (s ∷ ss) zero r = record { sym = s.sym; rows = s.rows ++ r ∷ [] } ∷ ss

@@ -3,7 +3,7 @@ use Rattle.bd_terms.specs.declared.node.Node.{Node}
 use Rattle.bd_function.proofs.Rows.{sym_same}
 use Rattle.bd_diverse.specs.inner.Applied.{AppliesSymbol}
 use Rattle.bd_diverse.proofs.Applying.{adds_symbol, sym_eq}
-use Rattle.bd_diverse.proofs.Inserting.{inserted}
+use Rattle.bd_terms.proofs.InsertedKeys.{inserted}
 use Rattle.bd_diverse.proofs.finding.add.Goals as goal
 
 pub returns-in_ok-insert-in-App : goal.returns-in_ok-insert-in-App

@@ -1,7 +1,7 @@
 use Rattle.std.proofs.Common.{◌≡◌, ◌⊎◌, ◌↔◌, ◌∙◌, sym, Contains, false, true, true≢false}
 use Rattle.bd_function.proofs.Rows.{sym_same}
 use Rattle.bd_diverse.proofs.Applying.{adds_symbol_unless, keeps_symbols, list_any-exact, sym_eq}
-use Rattle.bd_diverse.proofs.Inserting.{inserted}
+use Rattle.bd_terms.proofs.InsertedKeys.{inserted}
 use Rattle.bd_diverse.proofs.finding.add_unless.Goals as goal
 
 pub returns-in_ok-insert-in-App : goal.returns-in_ok-insert-in-App

@@ -19,9 +19,9 @@ loop-table-preserved c s =
     let inside : i < length ts = omega arith in
     let whole : take (i + 1) ts ≡ take i ts ++ get_or ts i d ∷ [] = take_more ts i d inside in
     let before = c.loop-table.invariant s in
-    let item : scalar_word (at (get_or ts i d).table []) ≡ c.word_of.result = ap (λ (t : SymTable). scalar_word (at t.table [])) (sym c.table-item.is) ∙ ap scalar_word (sym c.at.ensures) ∙ sym c.word_of.ensures in
+    let item : scalar_word (at (get_or ts i d).table []) ≡ c.word.result = ap (λ (t : SymTable). scalar_word (at t.table [])) (sym c.table-item.is) ∙ ap scalar_word (sym c.at.ensures) ∙ sym c.word.ensures in
     let grows : c.loop-table.most ≤ c.max-most.result = grind (arith, nat_tests, common_steps) in
-    let covers : c.word_of.result ≤ c.max-most.result = grind (arith, nat_tests, common_steps) in
+    let covers : c.word.result ≤ c.max-most.result = grind (arith, nat_tests, common_steps) in
     subst (λ (l : List SymTable). applied (world_of_tables l) s [] ≤ c.max-most.result) (sym whole)
     (elim (world-push (take i ts) (get_or ts i d) s) [
       | inl e ↦ let k = ap (λ (t : Table). scalar_word (at t [])) e in omega (arith, k, before, grows)

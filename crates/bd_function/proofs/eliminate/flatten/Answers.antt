@@ -5,9 +5,9 @@ use Rattle.std.specs.List.{All}
 use Rattle.bd_terms.specs.Graph.{FitsSorts, children}
 use Rattle.bd_terms.specs.Reaches.{Reaches}
 use Rattle.bd_terms.proofs.Graphs.{FitsSorts-get}
-use Rattle.bd_function.specs.Flat.{AreApplications, Flattens, HasAllApplications, IsChosen, IsFlat, IsRealized}
-use Rattle.bd_function.specs.inner.Nested.{id_at, renamed}
-use Rattle.bd_function.proofs.Flattening.{IsFlattened, IsFlattened-Flattens, IsFlattened-IsFlat, IsFlattened-pass, IsFlattened-rows, IsFlattened-all, IsFlattened-realized, IsFlattened-start, IsFlattened-take, alike_node, children_inside, children_taken, fits_renamed, plain_reached}
+use Rattle.bd_function.specs.Flat.{AreApplications, Flattens, HasAllApplications, IsChosen, IsFlat}
+use Rattle.bd_terms.specs.Renamed.{id_at, renamed}
+use Rattle.bd_function.proofs.Flattening.{IsFlattened, IsFlattened-Flattens, IsFlattened-IsFlat, IsFlattened-pass, IsFlattened-rows, IsFlattened-all, IsFlattened-start, IsFlattened-take, alike_node, children_inside, children_taken, fits_renamed, plain_reached}
 use Rattle.bd_function.proofs.Taking.{StepsNode}
 use Rattle.bd_function.proofs.eliminate.flatten.Goals as goal
 use Rattle.bd_function.proofs.eliminate.flatten.Goals.{then-has+in_ok-id, else-has}
@@ -67,8 +67,8 @@ pub returns-clause-flattens : goal.returns-clause-flattens
 returns-clause-flattens c =
     let ids = c.loop-index.ids.items in
     let inside : c.args.root < length ids = omega (arith, c.requires.sorted.inside, c.loop-index.invariant.0, c.loop-index-test.false, c.len-index-end.ensures.len) in
-    let root : c.id_of.result ≡ id_at ids c.args.root = c.id_of.ensures ∙ ap (λ l. id_at l c.args.root) c.deref-2.ensures.value in
-    subst (λ l. Flattens c.args.graph.now c.args.root c.loop-index.taken.graph c.id_of.result l) (sym c.from_vec.ensures)
+    let root : c.index-2.result.now ≡ id_at ids c.args.root = grind (arith, common_steps) in
+    subst (λ l. Flattens c.args.graph.now c.args.root c.loop-index.taken.graph c.index-2.result.now l) (sym c.from_vec.ensures)
     (subst (λ i. Flattens c.args.graph.now c.args.root c.loop-index.taken.graph i c.loop-index.taken.rows.items) (sym root)
     (IsFlattened-Flattens c.args.graph.now c.args.root ids c.loop-index.taken c.loop-index.invariant.1 inside))
 
@@ -84,11 +84,6 @@ returns-clause-all_rows c =
     subst (HasAllApplications c.args.graph.now c.args.root c.loop-index.taken.graph) (sym c.from_vec.ensures)
     (IsFlattened-all c.args.graph.now c.args.root ids c.loop-index.taken c.len-index-end.ensures.graph c.loop-index.invariant.1 inside)
 
-pub returns-clause-realized : goal.returns-clause-realized
-returns-clause-realized c = λ w.
-    subst (λ l. IsRealized c.args.graph.now c.args.root c.loop-index.taken.graph l w) (sym c.from_vec.ensures)
-    (IsFlattened-realized c.args.graph.now c.args.root c.loop-index.ids.items c.loop-index.taken c.loop-index.invariant.1 w)
-
 pub returns-clause-chosen : goal.returns-clause-chosen
 returns-clause-chosen c = λ w choice.
     subst (λ l. IsChosen c.args.graph.now c.args.root c.loop-index.taken.graph l w choice) (sym c.from_vec.ensures)
@@ -101,9 +96,9 @@ pub invariant_of-result : goal.invariant_of-result
 invariant_of-result c =
     let ids = c.loop-index.ids.items in
     let inside : c.args.root < length ids = omega (arith, c.requires.sorted.inside, c.loop-index.invariant.0, c.loop-index-test.false, c.len-index-end.ensures.len) in
-    let root : c.id_of.result ≡ id_at ids c.args.root = c.id_of.ensures ∙ ap (λ l. id_at l c.args.root) c.deref-2.ensures.value in
+    let root : c.index-2.result.now ≡ id_at ids c.args.root = grind (arith, common_steps) in
     record {
-      flat = subst (IsFlat c.loop-index.taken.graph c.id_of.result) (sym c.from_vec.ensures)
+      flat = subst (IsFlat c.loop-index.taken.graph c.index-2.result.now) (sym c.from_vec.ensures)
           (subst (λ i. IsFlat c.loop-index.taken.graph i c.loop-index.taken.rows.items) (sym root)
           (IsFlattened-IsFlat c.args.graph.now c.args.root ids c.loop-index.taken c.loop-index.invariant.1 inside c.requires.sorted));
     }

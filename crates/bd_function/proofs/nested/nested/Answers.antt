@@ -9,7 +9,7 @@ use Rattle.std.proofs.lemmas.List.{get_or_default}
 use Rattle.bd_terms.specs.Denotation.{Denotes, Truth, denoted, truth, words}
 use Rattle.bd_terms.specs.Graph.{HasSort, sort_at}
 use Rattle.bd_terms.proofs.Growth.{All-HasSort-Extends, Extends-trans, HasSort-Extends}
-use Rattle.bd_function.specs.inner.Nested.{id_at}
+use Rattle.bd_terms.specs.Renamed.{id_at}
 use Rattle.bd_function.proofs.Nesting.{IsNested, IsNested-start, IsNested-step, row-get, HasSort-known}
 use Rattle.bd_function.proofs.nested.nested.Goals as goal
 

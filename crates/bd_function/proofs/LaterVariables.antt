@@ -1,4 +1,4 @@
--- Values of variables that are those of the applications in a world: a new variable changes no older denotation.
+-- A later variable changes no older denotation.
 use Rattle.std.proofs.Common.{◌≡◌, ℕ, zero, suc, ◌<◌, ◌==◌, inl, inr, Bool, true, false, List, [], ◌∷◌, ◌++◌, map, Contains, nat_eq, refl, ap, sym, ◌∙◌, arith, eq-eqb, if◌then◌else◌}
 use Rattle.std.specs.Cmp.{unsigned_Decides}
 use Rattle.std.proofs.lemmas.Bool.{ne_eqb}
@@ -19,7 +19,7 @@ use Rattle.bd_terms.specs.Graph.{AddsUses, Use, node_uses, uses}
 use Rattle.bd_terms.specs.Denotation.{World, Denoted, Contents, Truth, Word, at_place, node_value, values, word_of, words}
 use Rattle.bd_function.specs.declared.flat.FlatRow.{FlatRow}
 use Rattle.bd_function.specs.declared.flat.FlatSym.{FlatSym}
-use Rattle.bd_function.specs.Flat.{HaveSorts, KeepsFirst, Realizes, arguments, first_value, under}
+use Rattle.bd_function.specs.Flat.{under}
 use Rattle.bd_function.specs.inner.Taken.{IsVariableBelow, use_of}
 use Rattle.bd_function.proofs.Applying.{Contains-later, Contains-none, Contains-one, pointwise-same}
 use Rattle.bd_function.proofs.Rows.{same-number}
@@ -77,47 +77,5 @@ with_value-agree v n x us h = λ u p args.
     let b = h u p in
     ap (λ s. at (under (with_value v n x) s) args) b.same ∙ with_value-other v n x b.number b.below ∙ sym (ap (λ s. at (under v s) args) b.same)
 
--- values of the graph's variables keep their sorts with a variable more
-pub HaveSorts-more : (v : ℕ → Scalar) (old new : List Node) (n : ℕ) (s : Sort) (x : Scalar) → ((u : Use) → Contains (uses old) u → IsVariableBelow n u)
-    → AddsUses old new (use_of (Var n) 0 s ∷ []) → scalar_sort x ≡ s → HaveSorts v old → HaveSorts (with_value v n x) new
-HaveSorts-more v old new n s x below adds kind h = record {
-  sorted = λ m k p. elim (Contains-append_cases (uses old) (use_of (Var n) 0 s ∷ []) _ (adds.within _ p)) [
-    | inl q ↦
-        let b = below _ q in
-        let is : m ≡ b.number = same-number m b.number b.same in
-        ap scalar_sort (with_value-other v n x m (omega (arith, is, b.below))) ∙ h.sorted m k q
-    | inr q ↦
-        let e = Contains-one _ _ q in
-        let is : n ≡ m = same-number n m (ap (λ (u : Use). u.symbol) e) in
-        ap (λ y. scalar_sort (with_value v n x y)) (sym is) ∙ ap scalar_sort (with_value-same v n x) ∙ kind ∙ ap (λ (u : Use). u.sort) e
-  ];
-}
-
-pub HaveSorts-none : (v : ℕ → Scalar) (old new : List Node) → AddsUses old new [] → HaveSorts v old → HaveSorts v new
-HaveSorts-none v old new adds h = record {
-  sorted = λ m k p. elim (Contains-append_cases (uses old) [] _ (adds.within _ p)) [ inl q ↦ h.sorted m k q | inr q ↦ absurd (Contains-none _ q) ];
-}
-
-if-both : (t : Bool) (x y z : Scalar) → (t ≡ true → x ≡ z) → y ≡ z → (if t then x else y) ≡ z
-if-both true x y z h k = h refl
-if-both false x y z h k = k
-
 pub pointwise-equal : (xs ys : List ℕ) → pointwise nat_eq xs ys ≡ true → xs ≡ ys
 pointwise-equal xs ys h = (slice_eq-Decides unsigned_Decides xs ys (pointwise nat_eq xs ys) refl).0 h
-
--- among rows whose variables have the values of their applications, the first with these arguments has it too
-first_value-applied : (w : World) (v : ℕ → Scalar) (nodes : List Node) (k : Sym) (rows : List FlatRow) (args : List ℕ) → ((r : FlatRow) → Contains rows r → v r.var ≡ at (w k) (arguments v nodes r))
-    → (r : FlatRow) → Contains rows r → arguments v nodes r ≡ args → first_value v nodes rows args ≡ at (w k) args
-first_value-applied w v nodes k [] args h r p e = absurd (Contains-none r p)
-first_value-applied w v nodes k (q ∷ rows) args h r (zero, b, x) e =
-    let here : arguments v nodes q ≡ args = ap (arguments v nodes) x ∙ e in
-    let test : pointwise nat_eq (arguments v nodes q) args ≡ true = ap (λ l. pointwise nat_eq l args) here ∙ pointwise-same args in
-    ap (λ t. if t then v q.var else first_value v nodes rows args) test ∙ h q (0, omega arith, refl) ∙ ap (at (w k)) here
-first_value-applied w v nodes k (q ∷ rows) args h r (suc i, b, x) e =
-    if-both (pointwise nat_eq (arguments v nodes q) args) (v q.var) (first_value v nodes rows args) (at (w k) args)
-    (λ y. h q (0, omega arith, refl) ∙ ap (at (w k)) (pointwise-equal (arguments v nodes q) args y))
-    (first_value-applied w v nodes k rows args (λ z m. h z (Contains-later q rows z m)) r (i, omega arith, x) e)
-
--- values that realize a world keep the first ones
-pub Realizes-KeepsFirst : (w : World) (v : ℕ → Scalar) (nodes : List Node) (syms : List FlatSym) → Realizes w v nodes syms → KeepsFirst w v nodes syms
-Realizes-KeepsFirst w v nodes syms h = record { first = λ s p r q. first_value-applied w v nodes s.sym s.rows (arguments v nodes r) (h.applied s p) r q refl }
