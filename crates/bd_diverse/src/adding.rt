@@ -13,7 +13,7 @@ use bd_model::{Row, Rows, Scalar, Table, Words};
 use bd_terms::{Id, Node, Sym};
 use std::alloc::{AllocError, Global};
 
-/// The tables without rows, whose values are those at no arguments.
+// The tables without rows, whose values are those at no arguments.
 pub(crate) fn start(alloc: Global, tables: &[SymTable]) -> Result<Vec<SymTable>, AllocError>
     ensures { IfOk result (λ ts. ts.items ≡ map start_table tables.now) }
 {
@@ -37,8 +37,8 @@ fn empty(alloc: Global, sym: Sym, default: Scalar) -> SymTable
     }
 }
 
-/// What a term denotes in the new world, from what those before it do there. A symbol's application puts a row into its
-/// table.
+// What a term denotes in the new world, from what those before it do there. A symbol's application puts a row into its
+// table.
 pub(crate) fn spread_term(
     alloc: Global,
     tables: &[SymTable],

@@ -11,17 +11,17 @@ use bd_model::Scalar;
 use bd_terms::{Graph, Id};
 use std::alloc::{AllocError, Global};
 
-/// What is known of the world that makes the root false.
+// What is known of the world that makes the root false.
 #[derive(Drop)]
 pub(crate) struct Old {
-    /// What the terms denote there.
+    // What the terms denote there.
     pub(crate) scalars: Vec<Scalar>,
     pub(crate) positive: Positive,
-    /// No word there that counts exceeds it.
+    // No word there that counts exceeds it.
     pub(crate) bound: u64,
 }
 
-/// What is known of the world of the tables.
+// What is known of the world of the tables.
 pub(crate) fn known(
     alloc: Global,
     graph: &Graph,

@@ -8,18 +8,18 @@ ghost use Rattle.bd_diverse.specs.inner.Walked.{flows, freely, has_way, is_any, 
 use bd_terms::{Graph, Id, Node};
 use std::alloc::{AllocError, Global};
 
-/// A set of ways in which walks come to a term.
+// A set of ways in which walks come to a term.
 #[derive(Clone, Copy)]
 pub(crate) struct Ways {
-    /// To a truth value, under an even number of negations.
+    // To a truth value, under an even number of negations.
     pub(crate) even: bool,
-    /// To a truth value, under an odd number of negations.
+    // To a truth value, under an odd number of negations.
     pub(crate) odd: bool,
-    /// To a truth value, inside the control of an ite.
+    // To a truth value, inside the control of an ite.
     pub(crate) control: bool,
-    /// To a leaf of a side of an equation that is reached negatively or inside a control.
+    // To a leaf of a side of an equation that is reached negatively or inside a control.
     pub(crate) compared: bool,
-    /// To any other word.
+    // To any other word.
     pub(crate) free: bool,
 }
 
@@ -56,7 +56,7 @@ impl Ways {
         free: true,
     };
 
-    /// Whether some walk comes to the term.
+    // Whether some walk comes to the term.
     pub(crate) fn is_any(self) -> bool
         ensures { result ≡ is_any self }
     {
@@ -102,7 +102,7 @@ impl Ways {
     }
 }
 
-/// The ways in which walks from the root come to each term.
+// The ways in which walks from the root come to each term.
 pub(crate) fn walked(alloc: Global, graph: &Graph, root: Id) -> Result<Vec<Ways>, AllocError>
     requires { root < length graph.now }
     ensures length { IfOk result (λ marks. length marks.items ≡ length graph.now) }

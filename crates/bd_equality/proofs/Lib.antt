@@ -5,7 +5,6 @@ pub mod Asking
 pub mod Leaves
 pub mod Stepping
 pub mod Truths
-pub mod Inserting
 pub mod Known
 pub mod Following
 pub mod PairEq

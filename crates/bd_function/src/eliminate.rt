@@ -20,13 +20,13 @@ use bd_terms::{Graph, Id, Ids, Node, Sym, reached};
 use indexmap::IndexSet;
 use std::alloc::{AllocError, Global};
 
-/// What has been taken so far.
+// What has been taken so far.
 #[derive(Drop)]
 struct Taken {
     graph: Graph,
-    /// The term of each variable.
+    // The term of each variable.
     variables: Vec<Id>,
-    /// The symbols, in the order of their rows.
+    // The symbols, in the order of their rows.
     symbols: IndexSet<Sym>,
     rows: Vec<FlatSym>,
 }

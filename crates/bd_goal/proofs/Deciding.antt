@@ -23,7 +23,8 @@ use Rattle.bd_model.proofs.Settled.{Settled, IsTrue-settled, Commutes-settled}
 use Rattle.bd_terms.specs.Denotation.{truth, truth_of}
 use Rattle.bd_terms.proofs.Resting.{denoted-alike}
 use Rattle.bd_goal.specs.Formula.{Corresponds, IsOutside, AgreesAt}
-use Rattle.bd_goal.specs.Claims.{IsValid, KeepsConstantsApart, case_world}
+use Rattle.bd_terms.specs.Valid.{IsValid, KeepsConstantsApart}
+use Rattle.bd_goal.specs.Claims.{case_world}
 use Rattle.bd_goal.specs.Laws.{BreaksSome, Differs, ClaimDecides}
 use Rattle.bd_goal.proofs.Alike.{denoted-same}
 use Rattle.bd_goal.proofs.Realized.{case_of, case_of-fits, each-at, known-gives, words_of}

@@ -211,16 +211,6 @@ equalled-all d old cur ours theirs first stride i all address so st past h a b h
       (λ t. both.0 (t, ends), λ e. (both.1 e).0);
 }
 
--- that two words are equal
-pub equal_words : (old new : List Node) (a b address : ℕ) (r : Result ℕ AllocError) → IfOk r (λ id. Denotes new id (λ w. Truth (word w old a == word w old b))) → IfOk r (λ id. TermHasSort new id sort.Bool)
-    → Extends old new → AddsUses old new [] → EqualTerms old new sort.Word a b address r
-equal_words old new a b address r t s e u = record {
-  sorted = s;
-  denotes = IfOk-weaker r _ _ (λ id d w. ap truth_of (d.is w)) t;
-  extends = e;
-  uses = u;
-}
-
 -- that two truth values are equal
 pub equal_bits : (old mid new : List Node) (a b n address : ℕ) (r : Result ℕ AllocError) → IsGraph mid → TermHasSort old a sort.Bool → TermHasSort old b sort.Bool → Extends old mid → AddsUses old mid []
     → Denotes mid n (λ v. Truth (not (truth v old b))) → IfOk r (λ id. Denotes new id (λ w. if truth w mid a then denoted w mid b else denoted w mid n)) → IfOk r (λ id. TermHasSort new id (sort_at mid b))
@@ -231,9 +221,6 @@ equal_bits old mid new a b n address r g ha hb e u d t s e' u' = record {
   extends = Extends-trans old mid new e e';
   uses = AddsUses-trans old mid new [] u u';
 }
-
-contents-later : (w : World) (old new : List Node) → Extends old new → (id : ℕ) → TermHasSort old id sort.Memory → contents w new id ≡ contents w old id
-contents-later w old new e id h = ap contents_of (denoted-Extends w old new e id h.inside)
 
 word-later : (w : World) (old new : List Node) → Extends old new → (id : ℕ) → TermHasSort old id sort.Word → word w new id ≡ word w old id
 word-later w old new e id h = ap word_of (denoted-Extends w old new e id h.inside)

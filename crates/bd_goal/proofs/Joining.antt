@@ -43,14 +43,6 @@ pub record Allows (d : DesignView) (old cur : List Node) (j i all : ℕ) : Type 
   pub sorted : TermHasSort cur all sort.Bool
   pub claims : (c : Case) (q : List ℕ) → Fits d c → (IsTrue (truth (case_world c q) cur all) × AllByRecursion (AllowsCount (env_before d c) j) (drop i d.exact)) ↔ AllByRecursion (AllowsCount (env_before d c) j) d.exact
 
-pub allows-none : (d : DesignView) (old cur : List Node) (j all : ℕ) → Extends old cur → AddsUses old cur [] → TermHasSort cur all sort.Bool → Denotes cur all (λ w. Truth true) → Allows d old cur j 0 all
-allows-none d old cur j all e u s is = record {
-  extends = e;
-  uses = u;
-  sorted = s;
-  claims = λ c q fits. (λ h. h.1, λ h. (ap truth_of (is.is (case_world c q)), h));
-}
-
 -- an item of this count, or one whose condition is false
 one-allows : (count j : ℕ) (is_free when : Bool) → IsTrue is_free ↔ (count ≡ j) → IsTrue (is_free || not when) ↔ (IsTrue when → count ≡ j)
 one-allows count j true when h = (λ t w. h.0 refl, λ f. refl)

@@ -11,4 +11,3 @@ pub mod Equalling
 pub mod Joining
 pub mod Standing
 pub mod Starting
-pub mod ExampleLawful

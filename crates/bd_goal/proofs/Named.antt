@@ -30,7 +30,7 @@ use Rattle.bd_goal.specs.inner.Shown.{ShowsState}
 use Rattle.bd_goal.proofs.Lists.{map-push, take-next, zip-length}
 use Rattle.bd_goal.proofs.Showing.{HaveSorts-later, inside_sorts}
 
--- the sorts in force over a state with inputs of these sorts, behind lets
+-- the sorts in force over a state with inputs of these sorts, after lets
 abbrev pub named_context : DesignView → List Sort → List LocalView → Context
 named_context d ports locals = record { symbols = d.symbols; entries = entry_sorts d.pipe; inputs = ports; locals = local_sorts locals }
 

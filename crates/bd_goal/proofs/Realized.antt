@@ -31,7 +31,8 @@ use Rattle.bd_terms.specs.Denotation.{World, applied}
 use Rattle.bd_symbolic.specs.World.{constant, slot_row, value_table}
 use Rattle.bd_symbolic.specs.DesignSymbols.{declared_use, function_use, entry_use, port_use, sort_use}
 use Rattle.bd_goal.specs.Symbols.{IsKnown}
-use Rattle.bd_goal.specs.Claims.{KeepsConstantsApart, case_world}
+use Rattle.bd_terms.specs.Valid.{KeepsConstantsApart}
+use Rattle.bd_goal.specs.Claims.{case_world}
 use Rattle.bd_goal.proofs.Alike.{as_sort, GivesSame}
 use Rattle.bd_goal.proofs.Telling.{listed, get-listed}
 

@@ -31,7 +31,7 @@ use Rattle.bd_goal.proofs.Joining.{Commuting, commuting-next, commuting-none, co
 pub first-shows : (d : DesignView) (nodes : List Node) (state : SymState) → DenotesCases d nodes state → ShowsState d nodes state (λ c. c.state)
 first-shows d nodes state h = record { shows = λ c q fits. h.denotes c q fits }
 
--- and the one behind the cycle the state after a step
+-- and the one after the cycle the state after a step
 pub next-shows : (d : DesignView) (old new : List Node) (state next : SymState) → Extends old new → StateHasSorts d.pipe old state → ShowsState d old state (λ c. c.state) → DenotesStep d old new state next → next.inputs ≡ state.inputs
     → ShowsState d new next (λ c. step d.pipe c.interp c.state c.inputs)
 next-shows d old new state next e sorted h t inputs = record {
@@ -44,7 +44,7 @@ next-shows d old new state next e sorted h t inputs = record {
       };
 }
 
--- terms of the states before and behind the cycle
+-- terms of the states before and after the cycle
 pub record ShowsCycle (d : DesignView) (nodes : List Node) (state next : SymState) : Type 0 where
   pub state_sorted : StateHasSorts d.pipe nodes state
   pub next_sorted : StateHasSorts d.pipe nodes next

@@ -116,7 +116,7 @@ get-listed f zero i h = absurd (omega (arith, h))
 get-listed f (suc n) zero h = refl
 get-listed f (suc n) (suc i) h = get-listed (λ i. f (suc i)) n i (omega (arith, h))
 
--- the state behind a case's cycle, by an abstraction
+-- the state after a case's cycle, by an abstraction
 abbrev behind : DesignView → Abstraction → Case → List Value
 behind d abs c = abs c.interp (step d.pipe c.interp c.state c.inputs)
 

@@ -12,7 +12,7 @@ use Rattle.bd_model.specs.declared.design.Entry as entry
 use Rattle.bd_goal.specs.declared.abstraction.Abstraction.{Abstraction}
 use Rattle.bd_goal.specs.declared.abstraction.Abstraction.TheVariants as abstraction
 
--- the values of expressions behind lets, with no input
+-- the values of expressions after lets, with no input
 abbrev pub values_by : List LocalView → List ExprView → conditions.Abstraction
 values_by lets parts interp state = map (value_of (env_of lets interp state [])) parts
 
@@ -21,7 +21,7 @@ abstraction_of d abstraction.Flushing = flushed d
 abstraction_of d (abstraction.Given lets parts) =
     values_by (map local_view lets) (list_of_views (expr_views parts))
 
--- the sorts in force in an invariant's place, behind these lets
+-- the sorts in force in an invariant's place, after these lets
 abbrev pub context_behind : DesignView → List LocalView → Context
 context_behind d lets =
     record (inv_context d) { locals = map (λ (l : LocalView). l.sort) lets }

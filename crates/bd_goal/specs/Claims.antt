@@ -1,14 +1,12 @@
--- What a root says of cases, and what it means that it is valid: true under every interpretation (Burch and Dill 1994),
--- here one that keeps the design's constants apart.
-use Rattle.std.specs.Prelude.{◌≢◌, ◌↔◌, ℕ, List, [], IsTrue}
-use Rattle.std.specs.List.{AllByRecursion, AllPairs}
+-- What a root says of cases (Burch and Dill 1994).
+use Rattle.std.specs.Prelude.{◌↔◌, ℕ, List, IsTrue}
 use Rattle.bd_model.specs.DesignView.{DesignView}
 use Rattle.bd_model.specs.Fits.{Fits}
 use Rattle.bd_model.specs.declared.case.Case.{Case}
-use Rattle.bd_terms.specs.declared.node.Sym.TheVariants as symbol
 use Rattle.bd_terms.specs.declared.node.Node.{Node}
-use Rattle.bd_terms.specs.Denotation.{World, applied, truth}
+use Rattle.bd_terms.specs.Denotation.{World, truth}
 use Rattle.bd_terms.specs.Reaches.{AgreeBelow}
+use Rattle.bd_terms.specs.Valid.{IsValid, KeepsConstantsApart}
 use Rattle.bd_symbolic.specs.World.{world_of}
 
 -- the world of a case with words for the fresh addresses
@@ -19,15 +17,6 @@ case_world c q = world_of c.interp c.state c.inputs q
 pub record Claims (d : DesignView) (claim : Case → List ℕ → Type 0) (nodes : List Node) (root : ℕ) :
     Type 0 where
   pub means : (c : Case) (q : List ℕ) → Fits d c → IsTrue (truth (case_world c q) nodes root) ↔ claim c q
-
--- the constants of each group have different values in the world
-abbrev pub KeepsConstantsApart : DesignView → World → Type 0
-KeepsConstantsApart d w =
-    AllByRecursion (AllPairs (λ f g. applied w (symbol.Function f) [] ≢ applied w (symbol.Function g) [])) d.distinct
-
--- valid: true in every world that keeps the design's constants apart
-abbrev pub IsValid : DesignView → List Node → ℕ → Type 0
-IsValid d nodes root = (w : World) → KeepsConstantsApart d w → IsTrue (truth w nodes root)
 
 -- The root decides whether some fitting case is such. Where a case is, the root is false in its world with some
 -- addresses; where the root is false in a world that agrees with that of a fitting case, the case is such; so the root

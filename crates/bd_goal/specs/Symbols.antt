@@ -13,11 +13,6 @@ use Rattle.bd_symbolic.specs.DesignSymbols.{IsDeclared, KeepsDesign}
 pub record KeepsAddresses (nodes : List Node) : Type 0 where
   pub keeps : (i : ℕ) → KeepsSymbol nodes (symbol.Address i) 0 sort.Word
 
--- the graph holds the design's symbols and addresses with their arity and sort
-pub record IsReadyFor (d : DesignView) (nodes : List Node) : Type 0 where
-  pub design : KeepsDesign d nodes
-  pub addresses : KeepsAddresses nodes
-
 abbrev pub address_use : ℕ → Use
 address_use i = record { symbol = symbol.Address i; arity = 0; sort = sort.Word }
 

@@ -41,7 +41,7 @@ pub(crate) fn abstracted(
     }
 }
 
-// The terms of given expressions behind their lets.
+// The terms of given expressions after their lets.
 fn given(
     alloc: Global,
     graph: &mut Graph,

@@ -23,7 +23,7 @@ use crate::abstraction::Abstraction;
 use crate::equal::equal;
 use bd_list::Sequence;
 use bd_model::Design;
-use bd_symbolic::{Ids, SymState, sym_eval, sym_lets, sym_spec_step};
+use bd_symbolic::{SymState, TermIds, sym_eval, sym_lets, sym_spec_step};
 use bd_terms::{Graph, Id};
 use std::alloc::{AllocError, Global};
 
@@ -75,9 +75,9 @@ pub(crate) fn commutes(
 fn stands(
     graph: &mut Graph,
     design: &Design,
-    whens: &Ids,
-    behind: &Ids,
-    joined: &Ids,
+    whens: &TermIds,
+    behind: &TermIds,
+    joined: &TermIds,
     j: u32,
 ) -> Result<Id, AllocError>
     requires lawful { IsLawful (design_view design.now) }
@@ -108,7 +108,7 @@ fn conditions(
     graph: &mut Graph,
     design: &Design,
     state: &SymState,
-) -> Result<Ids, AllocError>
+) -> Result<TermIds, AllocError>
     requires lawful { IsLawful (design_view design.now) }
     requires keeps { KeepsDesign (design_view design.now) graph.old }
     requires sorted { StateHasSorts (design_view design.now).pipe graph.old state.now }
@@ -125,7 +125,7 @@ fn conditions(
 }
 
 // That j steps are allowed: no exact item of another count has its condition true.
-fn allowed(graph: &mut Graph, design: &Design, whens: &Ids, j: u32) -> Result<Id, AllocError>
+fn allowed(graph: &mut Graph, design: &Design, whens: &TermIds, j: u32) -> Result<Id, AllocError>
     requires { AreConditions (design_view design.now) graph.old whens.now }
     ensures sorted { IfOk result (λ id. HasSort graph.new id sort.Bool) }
     ensures denotes { IfOk result (λ id. Claims (design_view design.now)

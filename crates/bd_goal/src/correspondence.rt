@@ -43,7 +43,7 @@ pub fn goal(alloc: Global, graph: &mut Graph, design: &Design) -> Result<Goal, A
     goal_by(alloc, graph, design, &Abstraction::Flushing)
 }
 
-/// The correspondence formula by an abstraction: the invariant in the state implies that it is true behind the cycle,
+/// The correspondence formula by an abstraction: the invariant in the state implies that it is true after the cycle,
 /// and that the cycle stands for some allowed number of steps. Refused for want of memory, the graph may keep further
 /// nodes.
 pub fn goal_by(
@@ -74,7 +74,7 @@ pub fn goal_by(
     let kept = invariant(alloc, graph, design, &next)?;
     let commutes = commutes(alloc, graph, design, abs, &state, &next)?;
     let holds = graph.mk_and(kept, commutes)?;
-    let root = implies(graph, inside, holds)?;
+    let root = graph.mk_implies(inside, holds)?;
     Ok(Goal {
         root,
         addresses: memory_count(design) * (design.steps + 1),
@@ -111,23 +111,9 @@ pub fn agree_goal(
     let given = abstracted(alloc, graph, design, abs, &state)?;
     let flushed = abstracted(alloc, graph, design, &Abstraction::Flushing, &state)?;
     let same = equal(graph, design, &given.entries, &flushed.entries, 0, 1)?;
-    let root = implies(graph, inside, same)?;
+    let root = graph.mk_implies(inside, same)?;
     Ok(Goal {
         root,
         addresses: memory_count(design),
     })
-}
-
-// The implication, as the disjunction with the negation.
-fn implies(graph: &mut Graph, a: Id, b: Id) -> Result<Id, AllocError>
-    requires first { HasSort graph.old a sort.Bool }
-    requires second { HasSort graph.old b sort.Bool }
-    ensures denotes { IfOk result (λ id. Denotes graph.new id
-        (λ w. Truth (not (truth w graph.old a) || truth w graph.old b))) }
-    ensures sorted { IfOk result (λ id. HasSort graph.new id sort.Bool) }
-    ensures extends { Extends graph.old graph.new }
-    ensures uses { AddsUses graph.old graph.new [] }
-{
-    let denied = graph.mk_not(a)?;
-    graph.mk_or(denied, b)
 }

@@ -14,7 +14,7 @@ ghost use Rattle.bd_goal.specs.Symbols.{GrowsKnown, KeepsAddresses};
 ghost use Rattle.bd_goal.specs.inner.Shown.{EqualTerms, ShowsValues};
 
 use bd_model::{Design, Sort};
-use bd_symbolic::Ids;
+use bd_symbolic::TermIds;
 use bd_terms::{Graph, Id, Sym};
 use std::alloc::AllocError;
 
@@ -36,8 +36,8 @@ pub(crate) fn memory_count(design: &Design) -> u32
 pub(crate) fn equal(
     graph: &mut Graph,
     design: &Design,
-    ours: &Ids,
-    theirs: &Ids,
+    ours: &TermIds,
+    theirs: &TermIds,
     first: u32,
     stride: u32,
 ) -> Result<Id, AllocError>

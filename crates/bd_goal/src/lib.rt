@@ -1,7 +1,7 @@
 //! The questions about a design as one term each, for all cases at once.
 //!
 //! The correspondence formula says that no case breaks a condition (Burch and Dill 1994): the invariant in a state
-//! implies that it holds behind the cycle, and that for some allowed number of steps the specification joins what the
+//! implies that it holds after the cycle, and that for some allowed number of steps the specification joins what the
 //! two states stand for. Where memories are compared, each is read at a fresh address. A formula with fresh addresses
 //! is true for all of them exactly where the memories read equal at every word.
 #![tactic(auto)]
@@ -18,6 +18,3 @@ pub use abstraction::{Abstraction, Goal};
 pub use correspondence::{agree_goal, goal, goal_by};
 pub use invariant::meets;
 pub use laws::{agree_decides, goal_decides, meets_decides};
-
-#[cfg(test)]
-mod tests;

@@ -34,9 +34,6 @@ IfOk-sort r nodes s t e h = subst (λ u. IfOk r (λ id. TermHasSort nodes id u))
 pub sort_is : (nodes : List Node) (id : ℕ) (t s : Sort) → s ≡ t → TermHasSort nodes id s → TermHasSort nodes id t
 sort_is nodes id t s e h = subst (TermHasSort nodes id) e h
 
-pub truth-is : (w : World) (nodes : List Node) (id : ℕ) (f : World → Denoted) → Denotes nodes id f → truth w nodes id ≡ truth_of (f w)
-truth-is w nodes id f d = ap truth_of (d.is w)
-
 pub truth-Extends : (w : World) (old new : List Node) → Extends old new → (id : ℕ) (s : Sort) → TermHasSort old id s → truth w new id ≡ truth w old id
 truth-Extends w old new e id s h = ap truth_of (denoted-Extends w old new e id h.inside)
 
@@ -55,17 +52,12 @@ iff_ite w old new g e a b n ha hb d =
     let third : denoted w new n ≡ Truth (not (truth w old b)) = d.is w in
     rw (first, second, third) (iff_if (truth w old a) (truth w old b))
 
-pub implies_or : (old mid new : List Node) (a b n : ℕ) (r : Result ℕ AllocError) → Extends old mid → TermHasSort old b sort.Bool → Denotes mid n (λ v. Truth (not (truth v old a)))
-    → IfOk r (λ id. Denotes new id (λ w. Truth (truth w mid n || truth w mid b))) → IfOk r (λ id. Denotes new id (λ w. Truth (not (truth w old a) || truth w old b)))
-implies_or old mid new a b n r e h d = IfOk-same r new (λ w. Truth (truth w mid n || truth w mid b)) (λ w. Truth (not (truth w old a) || truth w old b))
-    (λ w. ap₂ (λ x y. Truth (x || y)) (truth-is w mid n _ d) (truth-Extends w old mid e b sort.Bool h))
-
 pub iff_ites : (old mid new : List Node) (a b n : ℕ) (r : Result ℕ AllocError) → IsGraph mid → Extends old mid → TermHasSort old a sort.Bool → TermHasSort old b sort.Bool → Denotes mid n (λ v. Truth (not (truth v old b)))
     → IfOk r (λ id. Denotes new id (λ w. if truth w mid a then denoted w mid b else denoted w mid n)) → IfOk r (λ id. Denotes new id (λ w. Truth (beq (truth w old a) (truth w old b))))
 iff_ites old mid new a b n r g e ha hb d = IfOk-same r new (λ w. if truth w mid a then denoted w mid b else denoted w mid n) (λ w. Truth (beq (truth w old a) (truth w old b)))
     (λ w. iff_ite w old mid g e a b n ha hb d)
 
--- a term with its sort and denotation, built behind the others
+-- a term with its sort and denotation, built after the others
 pub finish : (t : Terms) (e : ExprView) (s : Sort) (old mid new : List Node) (r : Result ℕ AllocError) (f : World → Denoted)
     → GrowsWithin t.design old mid → GrowsWithin t.design mid new → IfOk r (λ id. Denotes new id f) → IfOk r (λ id. TermHasSort new id s)
     → ((u : Sort) → HasSort (context_in old t) e u → s ≡ u) → ((w : World) (env : Env) → DenoteEnv w old t env → f w ≡ denotes_value (value_of env e))

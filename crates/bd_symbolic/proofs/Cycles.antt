@@ -50,7 +50,7 @@ lets_sorted d m nodes state lawful h =
     let same : context_in nodes (terms_of d state []) ≡ without_lets (context_of d m) = cc in
     subst (λ c. LetsHaveSorts c m.locals) (sym same) lawful.locals
 
--- the terms behind a machine's lets
+-- the terms after a machine's lets
 pub behind_lets : (d : DesignView) (m : MachineView) (old mid : List Node) (state : SymState) (lets : List ℕ) → KeepsDesign d old → StateHasSorts m old state → GrowsWithin d old mid → DenoteLets d old mid state m.locals lets → AreTerms mid (terms_of d state lets)
 behind_lets d m old mid state lets k h g l =
     AreTerms-state d m mid state lets (KeepsDesign-Grows d old mid g k) (StateHasSorts-Extends m old mid state g.extends h) (HaveSorts-inside mid lets (local_sorts m.locals) l.sorted)
@@ -68,7 +68,7 @@ some_sorts c (s ∷ sorts) (e ∷ es) h = ((s, h.0), some_sorts c sorts es h.1)
 next_sorts : (d : DesignView) (m : MachineView) → IsLawfulMachine d m → AllZip (λ s e. HasSort (context_of d m) e s) (entry_sorts m) m.nexts
 next_sorts d m lawful = (AllZip-map_first (λ s e. HasSort (context_of d m) e s) (λ (x : entry.Entry). x.sort) m.entries m.nexts).1 lawful.nexts
 
--- each next expression has a sort behind the lets
+-- each next expression has a sort after the lets
 pub nexts_sorted : (d : DesignView) (m : MachineView) (old mid : List Node) (state : SymState) (lets : List ℕ) → IsLawfulMachine d m → StateHasSorts m old state → GrowsWithin d old mid → DenoteLets d old mid state m.locals lets
     → AllByRecursion (HasSomeSort (context_in mid (terms_of d state lets))) m.nexts
 nexts_sorted d m old mid state lets lawful h g l =
@@ -80,7 +80,7 @@ cycle_sorted d m old mid new state lets ids lawful h g l x =
     exprs_sorted mid new (terms_of d state lets) m.nexts ids (entry_sorts m) x
     (subst (λ c. AllZip (λ s e. HasSort c e s) (entry_sorts m) m.nexts) (sym (context_behind d m old mid state lets h g l)) (next_sorts d m lawful))
 
--- the terms of the next expressions denote the values behind the cycle
+-- the terms of the next expressions denote the values after the cycle
 pub cycle_denotes : (d : DesignView) (m : MachineView) (old mid new : List Node) (state : SymState) (lets ids : List ℕ) → StateHasSorts m old state → GrowsWithin d old mid → DenoteLets d old mid state m.locals lets
     → DenoteExprs mid new (terms_of d state lets) m.nexts ids → DenotesCycle d m old new state ids
 cycle_denotes d m old mid new state lets ids h g l x = record {
@@ -95,12 +95,6 @@ spec_denotes d old new visible next none h = record {
   denotes = λ w interp values is k. h.denotes w interp values [] (record { world = is; entries = k; inputs = subst (λ ids. DenoteScalars w old ids []) (sym none) tt });
 }
 
-pub spec_sorted : (d : DesignView) (nodes : List Node) (visible : SymState) → IsLawful d → HaveSorts nodes visible.entries (entry_sorts d.spec) → visible.inputs ≡ [] → StateHasSorts d.spec nodes visible
-spec_sorted d nodes visible lawful h none = record {
-  entries = h;
-  inputs = rw (none, lawful.no_spec_inputs) tt;
-}
-
 abbrev pub idles : List PortView → List ExprView
 idles ports = map (λ (p : PortView). p.idle) ports
 
@@ -108,7 +102,7 @@ idle_sorts : (d : DesignView) (ports : List PortView) → AllByRecursion (IsLawf
 idle_sorts d [] h = tt
 idle_sorts d (p ∷ ports) h = (h.0.idle, idle_sorts d ports h.1)
 
--- each flush expression has a sort behind the lets
+-- each flush expression has a sort after the lets
 pub idles_sorted : (d : DesignView) (old mid : List Node) (state : SymState) (lets : List ℕ) → IsLawful d → StateHasSorts d.pipe old state → GrowsWithin d old mid → DenoteLets d old mid state d.pipe.locals lets
     → AllByRecursion (HasSomeSort (context_in mid (terms_of d state lets))) (idles d.pipe.ports)
 idles_sorted d old mid state lets lawful h g l =
@@ -158,7 +152,7 @@ flush_sorted d mid new idle next h g s same = record {
   inputs = subst (λ ids. HaveSorts new ids (port_sorts d.pipe)) (sym same) (HaveSorts-Extends mid new g.extends idle.inputs (port_sorts d.pipe) h.inputs);
 }
 
--- the state behind the flush cycle, and its inputs
+-- the state after the flush cycle, and its inputs
 pub flush_denotes : (d : DesignView) (old mid new : List Node) (state idle next : SymState) → StateHasSorts d.pipe old state → GrowsWithin d old mid → DenotesIdle d old mid state idle.inputs → idle.entries ≡ state.entries → StateHasSorts d.pipe mid idle
     → GrowsWithin d mid new → DenotesCycle d d.pipe mid new idle next.entries → next.inputs ≡ idle.inputs → DenotesFlushCycle d old new state next
 flush_denotes d old mid new state idle next h g i same s p c kept = record {
@@ -198,12 +192,4 @@ flushes_step d old mid new state now next left less is h g s c = record {
         c.denotes w interp one.0 one.1 one.2,
         subst (λ n. flush_cycles n d.pipe interp one.0 ≡ flush d interp values) is one.3,
       );
-}
-
-pub flushes_done : (d : DesignView) (old new : List Node) (state now flushed : SymState) (left : ℕ) → left ≡ 0 → flushed.entries ≡ now.entries → FlushesSo d old new state now left → DenotesFlush d old new state flushed
-flushes_done d old new state now flushed left is same h = record {
-  denotes = λ w interp values inputs k.
-      let one = h.denotes w interp values inputs k in
-      let last : one.0 ≡ flush d interp values = subst (λ n. flush_cycles n d.pipe interp one.0 ≡ flush d interp values) is one.3 in
-      subst (λ ids. DenoteValues w new ids (flush d interp values)) (sym same) (subst (DenoteValues w new now.entries) last one.2.entries);
 }

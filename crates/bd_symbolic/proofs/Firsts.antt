@@ -36,24 +36,6 @@ use Rattle.bd_symbolic.proofs.Growing.{Grows-self, Grows-trans, KeepsDesign-Grow
 use Rattle.bd_symbolic.proofs.Applying.{Grows-one}
 use Rattle.bd_symbolic.proofs.Worlds.{IsWorldOf-world_of}
 
--- a predicate symbol of arity 0, in a world in which its table is that of a truth value
-pub first_bool : (nodes : List Node) (s : Sym) (r : Result ℕ AllocError) → IfOk r (λ id. Denotes nodes id (λ w. Truth (holds w s []))) → IfOk r (λ id. TermHasSort nodes id sort.Bool) → IfOk r (IsFirstTerm nodes s sort.Bool)
-first_bool nodes s (Err e) d h = tt
-first_bool nodes s (Ok id) d h = record { sorted = h; denotes = λ w v k is. d.is w ∙ ap (λ t. Truth (scalar_truth (at t []))) is ∙ same v k } where
-  same : (v : Value) → value_sort v ≡ sort.Bool → Truth (scalar_truth (at (value_table v) [])) ≡ denotes_value v
-  same (value.Scalar (scalar.Bool b)) k = refl
-  same (value.Scalar (scalar.Word n)) k = absurd (cc k)
-  same (value.Memory m) k = absurd (cc k)
-
--- a function symbol of arity 0, where its table is that of a word
-pub first_word : (nodes : List Node) (s : Sym) (r : Result ℕ AllocError) → IfOk r (λ id. Denotes nodes id (λ w. Word (applied w s []))) → IfOk r (λ id. TermHasSort nodes id sort.Word) → IfOk r (IsFirstTerm nodes s sort.Word)
-first_word nodes s (Err e) d h = tt
-first_word nodes s (Ok id) d h = record { sorted = h; denotes = λ w v k is. d.is w ∙ ap (λ t. Word (scalar_word (at t []))) is ∙ same v k } where
-  same : (v : Value) → value_sort v ≡ sort.Word → Word (scalar_word (at (value_table v) [])) ≡ denotes_value v
-  same (value.Scalar (scalar.Word n)) k = refl
-  same (value.Scalar (scalar.Bool b)) k = absurd (cc k)
-  same (value.Memory m) k = absurd (cc k)
-
 -- the table of a memory has at an address what the memory reads there
 slots_read : (rows : List Slot) (a default : ℕ) → scalar_word (row_value (map slot_row rows) (a ∷ []) (scalar.Word default)) ≡ slot_value rows a default
 slots_read [] a default = refl

@@ -30,9 +30,6 @@ Grows-by d old new more e a h = record {
 pub Grows-none : (d : DesignView) (old new : List Node) → Extends old new → AddsUses old new [] → GrowsWithin d old new
 Grows-none d old new e a = Grows-by d old new [] e a (λ u p. absurd (omega (arith, p.1)))
 
-same_use : (u v : Use) → Some u ≡ Some v → u ≡ v
-same_use u v h = cc
-
 pub KeepsDesign-Grows : (d : DesignView) (old new : List Node) → GrowsWithin d old new → KeepsDesign d old → KeepsDesign d new
 KeepsDesign-Grows d old new g k = record {
   keeps = λ u is. record {

@@ -11,4 +11,3 @@ pub mod Gathering
 pub mod Firsts
 pub mod Cycles
 pub mod Forms
-pub mod ExampleLawful

@@ -56,6 +56,6 @@ sorts_in_places nodes ids all h (x ∷ entries) (i ∷ places) k = (sort_in_plac
 pub look_sorted : (d : DesignView) (ids visible : List ℕ) → IsLawful d → visible ≡ map (λ i. slice_index_or ids i 0) d.visible → (nodes : List Node) → HaveSorts nodes ids (entry_sorts d.pipe) → HaveSorts nodes visible (entry_sorts d.spec)
 look_sorted d ids visible lawful is nodes h = subst (λ l. HaveSorts nodes l (entry_sorts d.spec)) (sym is) (sorts_in_places nodes ids d.pipe.entries h d.spec.entries d.visible lawful.visible)
 
--- behind the last item nothing is left
+-- after the last item nothing is left
 pub none_left : {X Y : Type 0} (f : X → Y) (front : List Y) (items : List X) (i : ℕ) (whole : List Y) → length items ≤ i → front ++ map f (drop i items) ≡ whole → front ≡ whole
 none_left f front items i whole past h = sym (append-nil front) ∙ subst (λ l. front ++ map f l ≡ whole) (drop_all i items past) h

@@ -220,16 +220,6 @@ gathered_step old mid next t es items i ids y x k within is h g d =
           ∙ subst (λ l. words w mid ids ++ map word_in (map (λ (a : Expr). value_of env (expr_view a)) l) ≡ map word_in (values_of env es)) front (h.denotes w env p);
     }
 
-pub gathered_done : (old new : List Node) (t : Terms) (es : ExprViews) (items : List Expr) (i : ℕ) (ids : List ℕ) → length items ≤ i → Gathered old new t es (drop i items) ids → DenoteWords old new t es ids
-gathered_done old new t es items i ids past h =
-    let none : drop i items ≡ [] = drop_all i items past in
-    record {
-      sorted = All-from_recursion _ ids h.sorted;
-      count = omega (arith, ap length none, h.count);
-      denotes = λ w env p.
-          sym (append-nil (words w new ids)) ∙ subst (λ l. words w new ids ++ map word_in (map (λ (a : Expr). value_of env (expr_view a)) l) ≡ map word_in (values_of env es)) none (h.denotes w env p);
-    }
-
 -- as many words as the symbol takes
 pub applies_to : (nodes new : List Node) (t : Terms) (e : ExprView) (f : ℕ) (es : ExprViews) (ids : List ℕ) → e ≡ Apply f es → IsReady nodes t e → DenoteWords nodes new t es ids → TakesArguments t.design f (length ids)
 applies_to nodes new t e f es ids is h d =

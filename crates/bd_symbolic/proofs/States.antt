@@ -70,19 +70,7 @@ DenotesState-Extends d m w old new state interp values inputs e h k = record {
   inputs = Denote-Extends (λ x. denotes_value (value.Scalar x)) w old new e state.inputs inputs (HaveSorts-inside old state.inputs (port_sorts m) h.inputs) k.inputs;
 }
 
--- the state behind a cycle, with the inputs as they are
-pub DenotesState-step : (d : DesignView) (w : World) (old new : List Node) (state next : SymState) (interp : List Table) (values : List Value) (inputs : List Scalar)
-    → Extends old new → StateHasSorts d.pipe old state → next.inputs ≡ state.inputs → DenotesStep d old new state next → DenotesState d w old state interp values inputs
-    → DenotesState d w new next interp (step d.pipe interp values inputs) inputs
-DenotesState-step d w old new state next interp values inputs e h same s k =
-    let later : DenotesState d w new state interp values inputs = DenotesState-Extends d d.pipe w old new state interp values inputs e h k in
-    record {
-      world = k.world;
-      entries = s.denotes w interp values inputs k;
-      inputs = subst (λ ids. DenoteScalars w new ids inputs) (sym same) later.inputs;
-    }
-
--- the terms that names stand for in a state behind lets
+-- the terms that names stand for in a state after lets
 pub AreTerms-state : (d : DesignView) (m : MachineView) (nodes : List Node) (state : SymState) (lets : List ℕ) → KeepsDesign d nodes → StateHasSorts m nodes state → AreInside nodes lets → AreTerms nodes (terms_of d state lets)
 AreTerms-state d m nodes state lets k h inside = record {
   keeps = k;

@@ -1,5 +1,5 @@
 //! The connectives that terms lack.
-ghost use Rattle.std.specs.Prelude.{◌≡◌, ◌||◌, not, IfOk};
+ghost use Rattle.std.specs.Prelude.{◌≡◌, IfOk};
 ghost use mathlib.Core.Bool.{beq};
 ghost use Rattle.bd_model.specs.declared.design.Sort.TheVariants as sort;
 ghost use Rattle.bd_terms.specs.Graph.{AddsUses, Extends, HasSort};
@@ -24,20 +24,6 @@ pub(crate) fn constant(graph: &mut Graph, value: bool) -> Result<Id, AllocError>
 {
     let yes = graph.mk_true()?;
     if value { Ok(yes) } else { graph.mk_not(yes) }
-}
-
-// The implication, as the disjunction with the negation.
-pub(crate) fn implies(graph: &mut Graph, a: Id, b: Id) -> Result<Id, AllocError>
-    requires first { HasSort graph.old a sort.Bool }
-    requires second { HasSort graph.old b sort.Bool }
-    ensures denotes { IfOk result (λ id. Denotes graph.new id
-        (λ w. Truth (not (truth w graph.old a) || truth w graph.old b))) }
-    ensures sorted { IfOk result (λ id. HasSort graph.new id sort.Bool) }
-    ensures extends { Extends graph.old graph.new }
-    ensures uses { AddsUses graph.old graph.new [] }
-{
-    let denied = graph.mk_not(a)?;
-    graph.mk_or(denied, b)
 }
 
 // The equality of truth values: the second where the first is true, else its negation.

@@ -14,13 +14,13 @@ ghost use Rattle.bd_symbolic.specs.inner.Evaluates.{DenoteExprs, HasSomeSort};
 
 use crate::eval::sym_eval;
 use crate::lets::sym_lets;
-use crate::state::{Ids, SymState, copy_of};
+use crate::state::{SymState, TermIds, copy_of};
 use bd_list::Sequence;
 use bd_model::{Design, Exprs, Machine};
 use bd_terms::Graph;
 use std::alloc::{AllocError, Global};
 
-/// The state behind one cycle of the pipeline: the terms of the next expressions in this state, and its inputs. Refused
+/// The state after one cycle of the pipeline: the terms of the next expressions in this state, and its inputs. Refused
 /// for want of memory, the graph may keep further nodes.
 pub fn sym_step(
     alloc: Global,
@@ -42,7 +42,7 @@ pub fn sym_step(
     Ok(SymState { entries, inputs })
 }
 
-/// The visible entries behind one step of the specification, which has no inputs. Refused for want of memory, the graph
+/// The visible entries after one step of the specification, which has no inputs. Refused for want of memory, the graph
 /// may keep further nodes.
 pub fn sym_spec_step(
     alloc: Global,
@@ -74,7 +74,7 @@ pub(crate) fn next_entries(
     design: &Design,
     machine: &Machine,
     state: &SymState,
-) -> Result<Ids, AllocError>
+) -> Result<TermIds, AllocError>
     requires lawful { IsLawfulMachine (design_view design.now) (machine_view machine.now) }
     requires keeps { KeepsDesign (design_view design.now) graph.old }
     requires sorted { StateHasSorts (machine_view machine.now) graph.old state.now }
@@ -95,8 +95,8 @@ fn next_terms(
     design: &Design,
     nexts: &Exprs,
     state: &SymState,
-    lets: &Ids,
-) -> Result<Ids, AllocError>
+    lets: &TermIds,
+) -> Result<TermIds, AllocError>
     requires terms { AreTerms graph.old (terms_of (design_view design.now) state.now lets.now) }
     requires sorted { AllByRecursion (HasSomeSort (context_in graph.old
         (terms_of (design_view design.now) state.now lets.now)))

@@ -11,15 +11,15 @@ ghost use Rattle.bd_symbolic.specs.Symbolic.{AreTerms, DenotesExpr, context_in, 
 ghost use Rattle.bd_symbolic.specs.inner.Names.{names_view};
 ghost use Rattle.bd_symbolic.specs.inner.Evaluates.{IsReady, AreReady, Evaluates, EvaluatesWords};
 
-use crate::build::{apply, constant, iff, implies};
-use crate::state::{Ids, SymState};
+use crate::build::{apply, constant, iff};
+use crate::state::{SymState, TermIds};
 use bd_model::{Design, Expr, Exprs};
 use bd_terms::{Graph, Id};
 use std::alloc::{AllocError, Global};
 
 // What names stand for where an expression is built.
 #[derive(Drop)]
-pub(crate) struct Names<'a> {
+pub(crate) struct Context<'a> {
     pub(crate) alloc: Global,
     pub(crate) design: &'a Design,
     pub(crate) entries: &'a [Id],
@@ -35,7 +35,7 @@ pub fn sym_eval(
     design: &Design,
     expr: &Expr,
     state: &SymState,
-    lets: &Ids,
+    lets: &TermIds,
 ) -> Result<Id, AllocError>
     requires terms { AreTerms graph.old (terms_of (design_view design.now) state.now lets.now) }
     requires sorted { (s : Sort) × HasSort (context_in graph.old
@@ -44,7 +44,7 @@ pub fn sym_eval(
         (terms_of (design_view design.now) state.now lets.now) (expr_view expr.now) id) }
     ensures grows { GrowsWithin (design_view design.now) graph.old graph.new }
 {
-    let names = Names {
+    let names = Context {
         alloc,
         design,
         entries: state.entries.as_slice(),
@@ -56,7 +56,7 @@ pub fn sym_eval(
 
 // The term of an expression.
 #[cycle(eval)]
-pub(crate) fn eval(graph: &mut Graph, names: &Names, expr: &Expr) -> Result<Id, AllocError>
+pub(crate) fn eval(graph: &mut Graph, names: &Context, expr: &Expr) -> Result<Id, AllocError>
     requires { IsReady graph.old (names_view names.now) (expr_view expr.now) }
     ensures { Evaluates graph.old graph.new (names_view names.now) (expr_view expr.now) result }
 {
@@ -74,7 +74,7 @@ pub(crate) fn eval(graph: &mut Graph, names: &Names, expr: &Expr) -> Result<Id, 
         Expr::Implies(a, b) => {
             let first = eval(graph, names, a)?;
             let second = eval(graph, names, b)?;
-            implies(graph, first, second)
+            graph.mk_implies(first, second)
         }
         Expr::Iff(a, b) => {
             let first = eval(graph, names, a)?;
@@ -112,7 +112,7 @@ pub(crate) fn eval(graph: &mut Graph, names: &Names, expr: &Expr) -> Result<Id, 
 
 // The conjunction of the terms of expressions.
 #[cycle(eval)]
-fn all_of(graph: &mut Graph, names: &Names, parts: &Exprs) -> Result<Id, AllocError>
+fn all_of(graph: &mut Graph, names: &Context, parts: &Exprs) -> Result<Id, AllocError>
     requires { AreReady graph.old (names_view names.now) (expr_views parts.now) sort.Bool }
     ensures { Evaluates graph.old graph.new
         (names_view names.now) (And (expr_views parts.now)) result }
@@ -127,7 +127,7 @@ fn all_of(graph: &mut Graph, names: &Names, parts: &Exprs) -> Result<Id, AllocEr
 
 // The disjunction of the terms of expressions.
 #[cycle(eval)]
-fn any_of(graph: &mut Graph, names: &Names, parts: &Exprs) -> Result<Id, AllocError>
+fn any_of(graph: &mut Graph, names: &Context, parts: &Exprs) -> Result<Id, AllocError>
     requires { AreReady graph.old (names_view names.now) (expr_views parts.now) sort.Bool }
     ensures { Evaluates graph.old graph.new
         (names_view names.now) (Or (expr_views parts.now)) result }
@@ -142,7 +142,7 @@ fn any_of(graph: &mut Graph, names: &Names, parts: &Exprs) -> Result<Id, AllocEr
 
 // The terms of words.
 #[cycle(eval)]
-fn words_of(graph: &mut Graph, names: &Names, parts: &Exprs) -> Result<Vec<Id>, AllocError>
+fn words_of(graph: &mut Graph, names: &Context, parts: &Exprs) -> Result<Vec<Id>, AllocError>
     requires { AreReady graph.old (names_view names.now) (expr_views parts.now) sort.Word }
     ensures { EvaluatesWords graph.old graph.new
         (names_view names.now) (expr_views parts.now) result }

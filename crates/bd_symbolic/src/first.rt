@@ -9,7 +9,7 @@ ghost use Rattle.bd_symbolic.specs.DesignSymbols.{GrowsWithin, KeepsDesign, sort
 ghost use Rattle.bd_symbolic.specs.States.{DenotesCases, StateHasSorts, port_sorts};
 ghost use Rattle.bd_symbolic.specs.inner.First.{FirstTerms, IsFirstTerm, KeepsUse};
 
-use crate::state::{Ids, SymState};
+use crate::state::{SymState, TermIds};
 use bd_list::Sequence;
 use bd_model::{Design, Sort};
 use bd_terms::{Graph, Id, Sym};
@@ -30,7 +30,7 @@ pub fn sym_state(alloc: Global, graph: &mut Graph, design: &Design) -> Result<Sy
 }
 
 // A term for each entry.
-fn first_entries(alloc: Global, graph: &mut Graph, design: &Design) -> Result<Ids, AllocError>
+fn first_entries(alloc: Global, graph: &mut Graph, design: &Design) -> Result<TermIds, AllocError>
     requires lawful { IsLawful (design_view design.now) }
     requires keeps { KeepsDesign (design_view design.now) graph.old }
     ensures terms { IfOk result (λ ids.
@@ -46,7 +46,7 @@ fn first_entries(alloc: Global, graph: &mut Graph, design: &Design) -> Result<Id
 }
 
 // A term for each input.
-fn first_inputs(alloc: Global, graph: &mut Graph, design: &Design) -> Result<Ids, AllocError>
+fn first_inputs(alloc: Global, graph: &mut Graph, design: &Design) -> Result<TermIds, AllocError>
     requires lawful { IsLawful (design_view design.now) }
     requires keeps { KeepsDesign (design_view design.now) graph.old }
     ensures terms { IfOk result (λ ids.

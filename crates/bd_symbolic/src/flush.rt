@@ -16,13 +16,13 @@ ghost use Rattle.bd_symbolic.specs.inner.Evaluates.{DenoteExprs, HasSomeSort};
 use crate::cycle::next_entries;
 use crate::eval::sym_eval;
 use crate::lets::sym_lets;
-use crate::state::{Ids, SymState, copy_of};
+use crate::state::{SymState, TermIds, copy_of};
 use bd_list::Sequence;
 use bd_model::{Design, Ports};
 use bd_terms::Graph;
 use std::alloc::{AllocError, Global};
 
-/// The state behind the flush cycles, and the inputs of this state. Refused for want of memory, the graph may keep further
+/// The state after the flush cycles, and the inputs of this state. Refused for want of memory, the graph may keep further
 /// nodes.
 pub fn sym_flush(
     alloc: Global,
@@ -53,7 +53,7 @@ pub fn sym_flush(
     })
 }
 
-// The state behind one flush cycle, and the cycle's inputs.
+// The state after one flush cycle, and the cycle's inputs.
 fn flush_cycle(
     alloc: Global,
     graph: &mut Graph,
@@ -86,7 +86,7 @@ fn idle_inputs(
     graph: &mut Graph,
     design: &Design,
     state: &SymState,
-) -> Result<Ids, AllocError>
+) -> Result<TermIds, AllocError>
     requires lawful { IsLawful (design_view design.now) }
     requires keeps { KeepsDesign (design_view design.now) graph.old }
     requires sorted { StateHasSorts (design_view design.now).pipe graph.old state.now }
@@ -108,8 +108,8 @@ fn idle_terms(
     design: &Design,
     ports: &Ports,
     state: &SymState,
-    lets: &Ids,
-) -> Result<Ids, AllocError>
+    lets: &TermIds,
+) -> Result<TermIds, AllocError>
     requires terms { AreTerms graph.old (terms_of (design_view design.now) state.now lets.now) }
     requires sorted { AllByRecursion (HasSomeSort (context_in graph.old
         (terms_of (design_view design.now) state.now lets.now)))

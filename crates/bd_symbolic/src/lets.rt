@@ -7,7 +7,7 @@ ghost use Rattle.bd_symbolic.specs.Symbolic.{AreTerms, context_in, terms_of};
 ghost use Rattle.bd_symbolic.specs.States.{DenoteLets};
 
 use crate::eval::sym_eval;
-use crate::state::{Ids, SymState};
+use crate::state::{SymState, TermIds};
 use bd_list::Sequence;
 use bd_model::{Design, Locals};
 use bd_terms::Graph;
@@ -21,7 +21,7 @@ pub fn sym_lets(
     design: &Design,
     locals: &Locals,
     state: &SymState,
-) -> Result<Ids, AllocError>
+) -> Result<TermIds, AllocError>
     requires terms { AreTerms graph.old (terms_of (design_view design.now) state.now []) }
     requires sorted { LetsHaveSorts
         (context_in graph.old (terms_of (design_view design.now) state.now []))

@@ -19,8 +19,5 @@ pub use eval::sym_eval;
 pub use first::sym_state;
 pub use flush::sym_flush;
 pub use lets::sym_lets;
-pub use state::{Ids, SymState};
+pub use state::{SymState, TermIds};
 pub use visible::project;
-
-#[cfg(test)]
-mod tests;

@@ -6,17 +6,17 @@ use bd_terms::Id;
 use std::alloc::AllocError;
 
 /// A list of terms.
-pub type Ids = Sequence<Id>;
+pub type TermIds = Sequence<Id>;
 
 /// A term for each entry and each input, in the order of declaration.
 #[derive(Drop)]
 pub struct SymState {
-    pub entries: Ids,
-    pub inputs: Ids,
+    pub entries: TermIds,
+    pub inputs: TermIds,
 }
 
 // The same terms.
-pub(crate) fn copy_of(ids: &Ids) -> Result<Ids, AllocError>
+pub(crate) fn copy_of(ids: &TermIds) -> Result<TermIds, AllocError>
     ensures { IfOk result (λ copy. copy ≡ ids.now) }
 {
     ids.clone()

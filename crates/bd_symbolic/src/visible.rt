@@ -8,7 +8,7 @@ ghost use Rattle.bd_terms.specs.Denotation.{World};
 ghost use Rattle.bd_terms.specs.declared.node.Node.{Node};
 ghost use Rattle.bd_symbolic.specs.Symbolic.{DenoteValues, HaveSorts};
 
-use crate::state::{Ids, SymState};
+use crate::state::{SymState, TermIds};
 use bd_list::Sequence;
 use bd_model::Design;
 use bd_terms::Id;
@@ -39,7 +39,7 @@ pub fn project(alloc: Global, design: &Design, state: &SymState) -> Result<SymSt
 }
 
 // The term at a place, from 0.
-fn term_at(ids: &Ids, place: u32) -> Id
+fn term_at(ids: &TermIds, place: u32) -> Id
     ensures { result ≡ slice_index_or ids.now place 0 }
 {
     match ids.as_slice().get(place as usize) {

@@ -29,7 +29,7 @@ impl Model for Id {
 }
 
 impl Id {
-    /// The name of the node at this place.
+    // The name of the node at this place.
     pub(crate) fn new(index: usize) -> Id
         ensures { result ≡ index }
     {

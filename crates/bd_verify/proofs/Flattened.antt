@@ -24,7 +24,8 @@ use Rattle.bd_function.specs.Flat.{AreApplications, Flattens, HasAllApplications
 use Rattle.bd_diverse.proofs.Existing.{AtLeast, DiverseWorld, at_least-below, diverse-world}
 use Rattle.bd_transitive.specs.declared.graph.Edge.{Edge}
 use Rattle.bd_equality.specs.Edges.{IsApart, IsConstant}
-use Rattle.bd_goal.specs.Claims.{KeepsConstantsApart, case_world}
+use Rattle.bd_terms.specs.Valid.{KeepsConstantsApart}
+use Rattle.bd_goal.specs.Claims.{case_world}
 use Rattle.bd_goal.specs.Symbols.{IsKnown as IsKnownOf}
 use Rattle.bd_lift.specs.Lifted.{AreKnown, IsKnown}
 use Rattle.bd_lift.proofs.Denoting.{lifted-denotes}

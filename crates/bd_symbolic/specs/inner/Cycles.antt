@@ -11,7 +11,7 @@ use Rattle.bd_symbolic.specs.declared.state.SymState.{SymState}
 use Rattle.bd_symbolic.specs.Symbolic.{HaveSorts, DenoteValues, DenoteScalars}
 use Rattle.bd_symbolic.specs.States.{DenotesState, port_sorts}
 
--- the terms denote the values behind a cycle of the machine
+-- the terms denote the values after a cycle of the machine
 pub record DenotesCycle (d : DesignView) (m : MachineView) (old new : List Node) (state : SymState) (ids : List ℕ) : Type 0 where
   pub denotes : (w : World) (interp : List Table) (values : List Value) (inputs : List Scalar)
       → DenotesState d w old state interp values inputs → DenoteValues w new ids (step m interp values inputs)
@@ -22,7 +22,7 @@ pub record DenotesIdle (d : DesignView) (old new : List Node) (state : SymState)
   pub denotes : (w : World) (interp : List Table) (values : List Value) (inputs : List Scalar)
       → DenotesState d w old state interp values inputs → DenoteScalars w new ids (idle_inputs d.pipe interp values)
 
--- the terms denote the state behind a flush cycle, and its inputs
+-- the terms denote the state after a flush cycle, and its inputs
 pub record DenotesFlushCycle (d : DesignView) (old new : List Node) (state next : SymState) : Type 0 where
   pub denotes : (w : World) (interp : List Table) (values : List Value) (inputs : List Scalar)
       → DenotesState d w old state interp values inputs

@@ -50,8 +50,8 @@ equal-requires-clause-ours c = HaveSorts-later _ _ c.abstracted-2.ensures.grows.
 pub equal-requires-clause-theirs : goal.equal-requires-clause-theirs
 equal-requires-clause-theirs c = c.in_ok-flushed.ensures.shown.sorted.sorted
 
-pub implies-requires-clause-first : goal.implies-requires-clause-first
-implies-requires-clause-first c =
+pub mk_implies-requires-clause-first : goal.mk_implies-requires-clause-first
+mk_implies-requires-clause-first c =
     HasSort-Extends _ _ (Extends-trans _ _ _ (Extends-trans _ _ _ c.abstracted.ensures.grows.extends c.abstracted-2.ensures.grows.extends) c.equal.ensures.grows.extends) _ sort.Bool c.in_ok-inside.ensures.sorted
 
 pub returns-clause-denotes : goal.returns-clause-denotes
@@ -75,7 +75,7 @@ returns-clause-symbols c =
     let front : GrowsWithin d c.args.graph.now c.abstracted-2.new.graph = Grows-trans d _ _ _ (Grows-trans d _ _ _ (Grows-trans d _ _ _ c.sym_state.ensures.grows c.invariant.ensures.grows) c.abstracted.ensures.grows) c.abstracted-2.ensures.grows in
     let n = memory_count d in
     let compared : GrowsKnown d n c.abstracted-2.new.graph c.equal.new.graph = subst (λ k. GrowsKnown d k c.abstracted-2.new.graph c.equal.new.graph) (once n) c.equal.ensures.grows in
-    let grows : GrowsKnown d n c.args.graph.now c.implies.new.graph = Known-trans d n _ _ _ (Known-within d n _ _ front) (Known-trans d n _ _ _ compared (Known-none d n _ _ c.implies.ensures.extends c.implies.ensures.uses)) in
+    let grows : GrowsKnown d n c.args.graph.now c.mk_implies.new.self = Known-trans d n _ _ _ (Known-within d n _ _ front) (Known-trans d n _ _ _ compared (Known-none d n _ _ c.mk_implies.ensures.extends c.mk_implies.ensures.uses)) in
     rw c.memory_count.ensures.count (λ known. Reaches-Known d n _ _ _ grows known)
 
 pub returns-clause-grows : goal.returns-clause-grows
@@ -84,7 +84,7 @@ returns-clause-grows c =
     let front : GrowsWithin d c.args.graph.now c.abstracted-2.new.graph = Grows-trans d _ _ _ (Grows-trans d _ _ _ (Grows-trans d _ _ _ c.sym_state.ensures.grows c.invariant.ensures.grows) c.abstracted.ensures.grows) c.abstracted-2.ensures.grows in
     let n = memory_count d in
     let compared : GrowsKnown d n c.abstracted-2.new.graph c.equal.new.graph = subst (λ k. GrowsKnown d k c.abstracted-2.new.graph c.equal.new.graph) (once n) c.equal.ensures.grows in
-    let grows : GrowsKnown d n c.args.graph.now c.implies.new.graph = Known-trans d n _ _ _ (Known-within d n _ _ front) (Known-trans d n _ _ _ compared (Known-none d n _ _ c.implies.ensures.extends c.implies.ensures.uses)) in
+    let grows : GrowsKnown d n c.args.graph.now c.mk_implies.new.self = Known-trans d n _ _ _ (Known-within d n _ _ front) (Known-trans d n _ _ _ compared (Known-none d n _ _ c.mk_implies.ensures.extends c.mk_implies.ensures.uses)) in
     grows
 
 pub returns-in_err-state-clause-grows : goal.returns-in_err-state-clause-grows
@@ -103,4 +103,4 @@ pub returns-in_err-same-clause-grows : goal.returns-in_err-same-clause-grows
 returns-in_err-same-clause-grows c = Known-trans (design_view c.args.design.now) (memory_count (design_view c.args.design.now)) _ _ _ (Known-within (design_view c.args.design.now) (memory_count (design_view c.args.design.now)) _ _ (Grows-trans (design_view c.args.design.now) _ _ _ (Grows-trans (design_view c.args.design.now) _ _ _ (Grows-trans (design_view c.args.design.now) _ _ _ c.sym_state.ensures.grows c.invariant.ensures.grows) c.abstracted.ensures.grows) c.abstracted-2.ensures.grows)) (subst (λ k. GrowsKnown (design_view c.args.design.now) k c.abstracted-2.new.graph c.equal.new.graph) (once (memory_count (design_view c.args.design.now))) c.equal.ensures.grows)
 
 pub returns-in_err-root-clause-grows : goal.returns-in_err-root-clause-grows
-returns-in_err-root-clause-grows c = Known-trans (design_view c.args.design.now) (memory_count (design_view c.args.design.now)) _ _ _ (Known-within (design_view c.args.design.now) (memory_count (design_view c.args.design.now)) _ _ (Grows-trans (design_view c.args.design.now) _ _ _ (Grows-trans (design_view c.args.design.now) _ _ _ (Grows-trans (design_view c.args.design.now) _ _ _ c.sym_state.ensures.grows c.invariant.ensures.grows) c.abstracted.ensures.grows) c.abstracted-2.ensures.grows)) (Known-trans (design_view c.args.design.now) (memory_count (design_view c.args.design.now)) _ _ _ (subst (λ k. GrowsKnown (design_view c.args.design.now) k c.abstracted-2.new.graph c.equal.new.graph) (once (memory_count (design_view c.args.design.now))) c.equal.ensures.grows) (Known-none (design_view c.args.design.now) (memory_count (design_view c.args.design.now)) _ _ c.implies.ensures.extends c.implies.ensures.uses))
+returns-in_err-root-clause-grows c = Known-trans (design_view c.args.design.now) (memory_count (design_view c.args.design.now)) _ _ _ (Known-within (design_view c.args.design.now) (memory_count (design_view c.args.design.now)) _ _ (Grows-trans (design_view c.args.design.now) _ _ _ (Grows-trans (design_view c.args.design.now) _ _ _ (Grows-trans (design_view c.args.design.now) _ _ _ c.sym_state.ensures.grows c.invariant.ensures.grows) c.abstracted.ensures.grows) c.abstracted-2.ensures.grows)) (Known-trans (design_view c.args.design.now) (memory_count (design_view c.args.design.now)) _ _ _ (subst (λ k. GrowsKnown (design_view c.args.design.now) k c.abstracted-2.new.graph c.equal.new.graph) (once (memory_count (design_view c.args.design.now))) c.equal.ensures.grows) (Known-none (design_view c.args.design.now) (memory_count (design_view c.args.design.now)) _ _ c.mk_implies.ensures.extends c.mk_implies.ensures.uses))

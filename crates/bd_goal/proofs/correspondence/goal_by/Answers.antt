@@ -80,8 +80,8 @@ commutes-requires-clause-behind c =
 pub mk_and-requires-clause-first : goal.mk_and-requires-clause-first
 mk_and-requires-clause-first c = HasSort-Extends _ _ c.commutes.ensures.grows.extends _ sort.Bool c.in_ok-kept.ensures.sorted
 
-pub implies-requires-clause-first : goal.implies-requires-clause-first
-implies-requires-clause-first c =
+pub mk_implies-requires-clause-first : goal.mk_implies-requires-clause-first
+mk_implies-requires-clause-first c =
     HasSort-Extends _ _ (Extends-trans _ _ _ (Extends-trans _ _ _ c.invariant-2.ensures.grows.extends c.commutes.ensures.grows.extends) c.mk_and.ensures.extends) _ sort.Bool c.in_ok-inside.ensures.sorted
 
 pub returns-clause-denotes : goal.returns-clause-denotes
@@ -103,9 +103,9 @@ returns-clause-symbols c =
     let d = design_view c.args.design.now in
     let front : GrowsWithin d c.args.graph.now c.invariant-2.new.graph = Grows-trans d _ _ _ (Grows-trans d _ _ _ (Grows-trans d _ _ _ c.sym_state.ensures.grows c.sym_step.ensures.grows) c.invariant.ensures.grows) c.invariant-2.ensures.grows in
     let n = address_count d in
-    let grows : GrowsKnown d n c.args.graph.now c.implies.new.graph =
+    let grows : GrowsKnown d n c.args.graph.now c.mk_implies.new.self =
     Known-trans d n _ _ _ (Known-within d n _ _ front)
-    (Known-trans d n _ _ _ c.commutes.ensures.grows (Known-trans d n _ _ _ (Known-none d n _ _ c.mk_and.ensures.extends c.mk_and.ensures.uses) (Known-none d n _ _ c.implies.ensures.extends c.implies.ensures.uses))) in
+    (Known-trans d n _ _ _ c.commutes.ensures.grows (Known-trans d n _ _ _ (Known-none d n _ _ c.mk_and.ensures.extends c.mk_and.ensures.uses) (Known-none d n _ _ c.mk_implies.ensures.extends c.mk_implies.ensures.uses))) in
     rw c.memory_count.ensures.count (λ known. Reaches-Known d n _ _ _ grows known)
 
 pub returns-clause-grows : goal.returns-clause-grows
@@ -113,9 +113,9 @@ returns-clause-grows c =
     let d = design_view c.args.design.now in
     let front : GrowsWithin d c.args.graph.now c.invariant-2.new.graph = Grows-trans d _ _ _ (Grows-trans d _ _ _ (Grows-trans d _ _ _ c.sym_state.ensures.grows c.sym_step.ensures.grows) c.invariant.ensures.grows) c.invariant-2.ensures.grows in
     let n = address_count d in
-    let grows : GrowsKnown d n c.args.graph.now c.implies.new.graph =
+    let grows : GrowsKnown d n c.args.graph.now c.mk_implies.new.self =
     Known-trans d n _ _ _ (Known-within d n _ _ front)
-    (Known-trans d n _ _ _ c.commutes.ensures.grows (Known-trans d n _ _ _ (Known-none d n _ _ c.mk_and.ensures.extends c.mk_and.ensures.uses) (Known-none d n _ _ c.implies.ensures.extends c.implies.ensures.uses))) in
+    (Known-trans d n _ _ _ c.commutes.ensures.grows (Known-trans d n _ _ _ (Known-none d n _ _ c.mk_and.ensures.extends c.mk_and.ensures.uses) (Known-none d n _ _ c.mk_implies.ensures.extends c.mk_implies.ensures.uses))) in
     grows
 
 pub returns-clause-addresses : goal.returns-clause-addresses
@@ -140,4 +140,4 @@ pub returns-in_err-holds-clause-grows : goal.returns-in_err-holds-clause-grows
 returns-in_err-holds-clause-grows c = Known-trans (design_view c.args.design.now) (address_count (design_view c.args.design.now)) _ _ _ (Known-within (design_view c.args.design.now) (address_count (design_view c.args.design.now)) _ _ (Grows-trans (design_view c.args.design.now) _ _ _ (Grows-trans (design_view c.args.design.now) _ _ _ (Grows-trans (design_view c.args.design.now) _ _ _ c.sym_state.ensures.grows c.sym_step.ensures.grows) c.invariant.ensures.grows) c.invariant-2.ensures.grows)) (Known-trans (design_view c.args.design.now) (address_count (design_view c.args.design.now)) _ _ _ c.commutes.ensures.grows (Known-none (design_view c.args.design.now) (address_count (design_view c.args.design.now)) _ _ c.mk_and.ensures.extends c.mk_and.ensures.uses))
 
 pub returns-in_err-root-clause-grows : goal.returns-in_err-root-clause-grows
-returns-in_err-root-clause-grows c = Known-trans (design_view c.args.design.now) (address_count (design_view c.args.design.now)) _ _ _ (Known-within (design_view c.args.design.now) (address_count (design_view c.args.design.now)) _ _ (Grows-trans (design_view c.args.design.now) _ _ _ (Grows-trans (design_view c.args.design.now) _ _ _ (Grows-trans (design_view c.args.design.now) _ _ _ c.sym_state.ensures.grows c.sym_step.ensures.grows) c.invariant.ensures.grows) c.invariant-2.ensures.grows)) (Known-trans (design_view c.args.design.now) (address_count (design_view c.args.design.now)) _ _ _ c.commutes.ensures.grows (Known-trans (design_view c.args.design.now) (address_count (design_view c.args.design.now)) _ _ _ (Known-none (design_view c.args.design.now) (address_count (design_view c.args.design.now)) _ _ c.mk_and.ensures.extends c.mk_and.ensures.uses) (Known-none (design_view c.args.design.now) (address_count (design_view c.args.design.now)) _ _ c.implies.ensures.extends c.implies.ensures.uses)))
+returns-in_err-root-clause-grows c = Known-trans (design_view c.args.design.now) (address_count (design_view c.args.design.now)) _ _ _ (Known-within (design_view c.args.design.now) (address_count (design_view c.args.design.now)) _ _ (Grows-trans (design_view c.args.design.now) _ _ _ (Grows-trans (design_view c.args.design.now) _ _ _ (Grows-trans (design_view c.args.design.now) _ _ _ c.sym_state.ensures.grows c.sym_step.ensures.grows) c.invariant.ensures.grows) c.invariant-2.ensures.grows)) (Known-trans (design_view c.args.design.now) (address_count (design_view c.args.design.now)) _ _ _ c.commutes.ensures.grows (Known-trans (design_view c.args.design.now) (address_count (design_view c.args.design.now)) _ _ _ (Known-none (design_view c.args.design.now) (address_count (design_view c.args.design.now)) _ _ c.mk_and.ensures.extends c.mk_and.ensures.uses) (Known-none (design_view c.args.design.now) (address_count (design_view c.args.design.now)) _ _ c.mk_implies.ensures.extends c.mk_implies.ensures.uses)))

@@ -179,15 +179,15 @@ eval-returns-in_err-second-in-Implies t c =
     let g : GrowsWithin (design_view c.args.names.now.design.now) c.args.graph.now c.eval-in-Implies-2.new.graph = Grows-trans (design_view c.args.names.now.design.now) _ _ _ c.eval-in-Implies.ensures.grows c.eval-in-Implies-2.ensures.grows in
     search (rules, g)
 
-pub eval-implies-requires-clause-first : goal.eval-implies-requires-clause-first
-eval-implies-requires-clause-first t c =
+pub eval-mk_implies-requires-clause-first : goal.eval-mk_implies-requires-clause-first
+eval-mk_implies-requires-clause-first t c =
     let is : (expr_view c.args.expr.now) ≡ Implies (expr_view c.deref-in-Implies.result.now) (expr_view c.deref-in-Implies-2.result.now) = cc (expr_view-Implies c.in-Implies.a c.in-Implies.b) in
     let h = sorted_as c.args.graph.now (names_view c.args.names.now) (expr_view c.args.expr.now) (Implies (expr_view c.deref-in-Implies.result.now) (expr_view c.deref-in-Implies-2.result.now)) is c.requires in
     let p = both c.args.graph.now c.eval-in-Implies.new.graph c.eval-in-Implies-2.new.graph (names_view c.args.names.now) (expr_view c.deref-in-Implies.result.now) (expr_view c.deref-in-Implies-2.result.now) _ _ c.requires.terms c.eval-in-Implies.ensures.grows c.eval-in-Implies-2.ensures.grows c.in_ok-first-in-Implies.ensures.term c.in_ok-second-in-Implies.ensures.term in
     p.terms.0.sorted sort.Bool h.1
 
-pub eval-implies-requires-clause-second : goal.eval-implies-requires-clause-second
-eval-implies-requires-clause-second t c =
+pub eval-mk_implies-requires-clause-second : goal.eval-mk_implies-requires-clause-second
+eval-mk_implies-requires-clause-second t c =
     let is : (expr_view c.args.expr.now) ≡ Implies (expr_view c.deref-in-Implies.result.now) (expr_view c.deref-in-Implies-2.result.now) = cc (expr_view-Implies c.in-Implies.a c.in-Implies.b) in
     let h = sorted_as c.args.graph.now (names_view c.args.names.now) (expr_view c.args.expr.now) (Implies (expr_view c.deref-in-Implies.result.now) (expr_view c.deref-in-Implies-2.result.now)) is c.requires in
     let p = both c.args.graph.now c.eval-in-Implies.new.graph c.eval-in-Implies-2.new.graph (names_view c.args.names.now) (expr_view c.deref-in-Implies.result.now) (expr_view c.deref-in-Implies-2.result.now) _ _ c.requires.terms c.eval-in-Implies.ensures.grows c.eval-in-Implies-2.ensures.grows c.in_ok-first-in-Implies.ensures.term c.in_ok-second-in-Implies.ensures.term in
@@ -197,7 +197,7 @@ pub eval-returns-in_ok-second-in-Implies : goal.eval-returns-in_ok-second-in-Imp
 eval-returns-in_ok-second-in-Implies t c =
     let is : (expr_view c.args.expr.now) ≡ Implies (expr_view c.deref-in-Implies.result.now) (expr_view c.deref-in-Implies-2.result.now) = cc (expr_view-Implies c.in-Implies.a c.in-Implies.b) in
     let p = both c.args.graph.now c.eval-in-Implies.new.graph c.eval-in-Implies-2.new.graph (names_view c.args.names.now) (expr_view c.deref-in-Implies.result.now) (expr_view c.deref-in-Implies-2.result.now) _ _ c.requires.terms c.eval-in-Implies.ensures.grows c.eval-in-Implies-2.ensures.grows c.in_ok-first-in-Implies.ensures.term c.in_ok-second-in-Implies.ensures.term in
-    as_form _ _ (names_view c.args.names.now) _ _ _ is (implies_arm (names_view c.args.names.now) (expr_view c.deref-in-Implies.result.now) (expr_view c.deref-in-Implies-2.result.now) _ _ c.args.graph.now c.eval-in-Implies-2.new.graph _ _ p.grows c.implies.ensures.extends c.implies.ensures.uses p.terms.0 p.terms.1 c.implies.ensures.denotes c.implies.ensures.sorted)
+    as_form _ _ (names_view c.args.names.now) _ _ _ is (implies_arm (names_view c.args.names.now) (expr_view c.deref-in-Implies.result.now) (expr_view c.deref-in-Implies-2.result.now) _ _ c.args.graph.now c.eval-in-Implies-2.new.graph _ _ p.grows c.mk_implies.ensures.extends c.mk_implies.ensures.uses p.terms.0 p.terms.1 c.mk_implies.ensures.denotes c.mk_implies.ensures.sorted)
 
 pub eval-eval-requires-in-Iff-2 : goal.eval-eval-requires-in-Iff-2
 eval-eval-requires-in-Iff-2 t c =

@@ -1,5 +1,5 @@
 use Rattle.std.proofs.Common.{◌↔◌, ◌⊎◌, ◌≡◌, Contains, eqb, eqb-true, subst}
-use Rattle.bd_equality.proofs.Inserting.{inserted}
+use Rattle.bd_terms.proofs.InsertedKeys.{inserted}
 use Rattle.bd_equality.proofs.asked.Partners.insert.Goals as goal
 
 pub returns : goal.returns

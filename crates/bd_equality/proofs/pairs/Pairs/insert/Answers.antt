@@ -1,7 +1,7 @@
 use Rattle.std.proofs.Common.{◌≡◌, ◌⊎◌, ◌↔◌, Contains, map, subst}
 use Rattle.bd_equality.specs.inner.Sets.{edge_of}
 use Rattle.bd_equality.specs.inner.Means.{edge}
-use Rattle.bd_equality.proofs.Inserting.{inserted}
+use Rattle.bd_terms.proofs.InsertedKeys.{inserted}
 use Rattle.bd_equality.proofs.PairEq.{edges_with, pair, pair_eq, pair_same}
 use Rattle.bd_equality.proofs.pairs.Pairs.insert.Goals as goal
 
