@@ -25,7 +25,7 @@ use Rattle.bd_watch.proofs.Numbered.{id_within, clause_of_id}
 use Rattle.bd_cdcl.specs.declared.analysis.Analysis.{Analysis}
 use Rattle.bd_cdcl.specs.inner.Analysis.{marked, AreUnmarked, IsMarkedIn, IsAnalyzing, Marks, AreAssigned}
 use Rattle.bd_cdcl.specs.inner.Analyses.{IsClear, Analyzes, Keeps, Resolves}
-use Rattle.bd_cdcl.proofs.Analyzing.{placed_at, analysis_passes, analysis_keeps, analysis_resolves, analysis_begins}
+use Rattle.bd_cdcl.proofs.AnalysisSteps.{placed_at, analysis_passes, analysis_keeps, analysis_resolves, analysis_begins}
 
 -- what a reason or a conflict names
 pub named : (standing : Standing) (id : ℕ) (P : List Literal → Type 0) → IsSomeAnd (get standing id) P → (clause : List Literal) × (get standing id ≡ Some clause) × P clause
@@ -163,6 +163,3 @@ module _ (watch : Watch) (place : ℕ) (entry : Assigned) (watching : IsWatching
 -- the clause that a conflict names is false
 pub conflict_false : (standing : Standing) (trail : List Assigned) (id : ℕ) (clause : List Literal) → IsConflict standing trail id → get standing id ≡ Some clause → open_literals (literals trail) clause ≡ []
 conflict_false standing trail id clause at stands = subst (λ o. IsSomeAnd o (λ c. open_literals (literals trail) c ≡ [])) stands at
-
-pub conflict_stands : (standing : Standing) (trail : List Assigned) (id : ℕ) → IsConflict standing trail id → IsSome (get standing id)
-conflict_stands standing trail id at = let so = named standing id _ at in ap is_some so.1

@@ -15,7 +15,7 @@ use Rattle.bd_lrat.proofs.Closed.{fresh_from_closed}
 use Rattle.bd_watch.specs.Levels.{Assigned, assigned, literals, decided, decisions, reasons, IsPlaced, IsComplete}
 use Rattle.bd_watch.specs.Trails.{IsLastDecision}
 use Rattle.bd_watch.specs.Watching.{IsAsserting}
-use Rattle.bd_watch.proofs.Asserting.{two_free_closed}
+use Rattle.bd_watch.proofs.AssertedLiterals.{two_free_closed}
 use Rattle.bd_watch.proofs.Parts.{has_here, has_left, has_right, has_either, has_single, negate_twice, has_negated, negated_has}
 use Rattle.bd_watch.proofs.Placed.{literals-append, decisions-append, decisions_part, complete_front, complete_at, IsClosedAtDecisions}
 use Rattle.bd_cdcl.proofs.Replay.{replay_conflict}
@@ -46,12 +46,6 @@ before_last (x ∷ xs) a ys (y ∷ front) d rest e no_reason implied l h =
       | inl here ↦ or_left _ _ (subst (λ (z : Assigned). literal_eq l z.literal ≡ true) same here)
       | inr there ↦ or_right (literal_eq l y.literal) _ (before_last xs a ys front d rest tail no_reason implied l there)
     ]
-
--- a clause is neither unit nor false at any decision where two of its literals have no value at the end of the level before the last: so a learned clause, at the levels below the one that the solver goes back to
-pub two_free_at_decisions : (trail front : List Assigned) (d : Literal) (rest : List Assigned) (clause : List Literal) (u w : Literal) → IsLastDecision trail front d rest → has_literal clause u ≡ true → has_literal clause w ≡ true → (u ≡ w → ⊥) → has_variable (literals front) u.var ≡ false → has_variable (literals front) w.var ≡ false → IsClosedAtDecisions trail clause
-two_free_at_decisions trail front d rest clause u w at here there apart free also xs a ys e no_reason =
-    let part : IsPartOf (literals xs) (literals front) = before_last xs a ys front d rest (sym e ∙ at.whole) no_reason at.implied in
-    two_free_closed (literals xs) clause u w here there apart (part_variable (literals xs) (literals front) u.var part free) (part_variable (literals xs) (literals front) w.var part also)
 
 pub decisions_at : (trail front : List Assigned) (d : Literal) (rest : List Assigned) → IsLastDecision trail front d rest → decisions trail ≡ decisions front ++ d ∷ []
 decisions_at trail front d rest is = ap decisions is.whole ∙ decisions-append front (assigned d None ∷ rest) ∙ ap (λ ds. decisions front ++ d ∷ ds) is.implied

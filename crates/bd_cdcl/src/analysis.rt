@@ -17,8 +17,9 @@ ghost use Rattle.bd_cdcl.specs.inner.Analysis.{AreAssigned, Marks, IsMarkedIn, A
 ghost use Rattle.bd_cdcl.specs.inner.Analyses.{IsClear, Analyzes, Keeps, Resolves, Analyzed};
 
 use crate::guide::Guide;
+use bd_cnf::PackedLit;
 use bd_lrat::Hints;
-use bd_watch::{Code, Watch};
+use bd_watch::Watch;
 use std::alloc::{AllocError, Global};
 use std::mem::replace;
 
@@ -28,21 +29,21 @@ pub(crate) struct Analysis {
     /// By place in the trail, whether the literal is still to be looked at.
     marks: Vec<bool>,
     /// The literals of the learned clause, that of the last level first.
-    pub(crate) kept: Vec<Code>,
+    pub(crate) kept: Vec<PackedLit>,
     /// The ids of the reasons of what was resolved, that of the last literal of the trail first.
     pub(crate) ids: Vec<u64>,
 }
 
 /// Marks the places of a clause's literals.
-fn mark(marks: &mut Vec<bool>, watch: &Watch, clause: &[Code])
+fn mark(marks: &mut Vec<bool>, watch: &Watch, clause: &[PackedLit])
     requires watching { IsWatching watch.now }
     requires assigned { AreAssigned watch.now.trail.entries clause.now }
     requires room { watch.now.trail.limit ≤ length marks.old.items }
     ensures { Marks watch.now.trail.entries clause.now marks.old.items marks.new.items }
 {
     let trail = watch.trail();
-    for &code in clause {
-        let place = trail.place(code);
+    for &packed in clause {
+        let place = trail.place(packed);
         marks[place] = true;
     }
 }
@@ -76,12 +77,12 @@ impl Analysis {
         })
     }
 
-    fn keep(&mut self, place: usize, code: Code) -> Result<(), AllocError>
+    fn keep(&mut self, place: usize, packed: PackedLit) -> Result<(), AllocError>
         requires { place < length self.old.marks.items }
-        ensures { OnOk result (Keeps self.old self.new place code) }
+        ensures { OnOk result (Keeps self.old self.new place packed) }
     {
         self.marks[place] = false;
-        self.kept.push(code)?;
+        self.kept.push(packed)?;
         Ok(())
     }
 
@@ -122,7 +123,7 @@ impl Analysis {
         Ok(any_marked(marks, start, place))
     }
 
-    /// Looks at a place of the trail, behind which nothing is marked.
+    /// Looks at a place of the trail, after which nothing is marked.
     fn step(
         &mut self,
         watch: &Watch,
@@ -143,7 +144,7 @@ impl Analysis {
             return Ok(());
         }
         let entry = watch.trail().as_slice()[place];
-        let negated = entry.code().negated();
+        let negated = entry.literal().negated();
         guide.order.see(negated)?;
         let Some(id) = entry.reason() else {
             return self.keep(place, negated);

@@ -11,8 +11,9 @@ ghost use Rattle.bd_watch.specs.Trails.{IsDecisionAt};
 ghost use Rattle.bd_watch.specs.Watch.{IsWatching};
 ghost use Rattle.bd_cdcl.specs.inner.Deletions.{IsSatisfied, MayDelete, Deletes};
 
+use bd_cnf::PackedLit;
 use bd_lrat::{ClauseIds, Line, Log};
-use bd_watch::{Code, Watch};
+use bd_watch::Watch;
 use std::alloc::{AllocError, Global};
 
 /// What was deleted so far.
@@ -36,16 +37,16 @@ fn level_zero(watch: &Watch) -> usize
 }
 
 /// Whether a literal in front of that place makes the clause true, whose reason it isn't.
-fn is_satisfied(watch: &Watch, clause: &[Code], id: u64, zero: usize) -> bool
+fn is_satisfied(watch: &Watch, clause: &[PackedLit], id: u64, zero: usize) -> bool
     requires watching { IsWatching watch.now }
     requires below { IsBelow watch.now.trail.limit clause.now }
     requires zero { (place : ℕ) → IsDecisionAt watch.now.trail.entries place → zero ≤ place }
     ensures { OnTrue result (IsSatisfied watch.now.trail.entries id clause.now) }
 {
     let trail = watch.trail();
-    for &code in clause {
-        if trail.has(code) {
-            let place = trail.place(code);
+    for &packed in clause {
+        if trail.has(packed) {
+            let place = trail.place(packed);
             let entry = trail.as_slice()[place];
             if place < zero && entry.reason() != Some(id) {
                 return true;

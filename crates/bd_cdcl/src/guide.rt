@@ -1,13 +1,13 @@
 //! What a search is guided by, and no proof rests on: which variable is decided next, when the trail
 //! is taken back to level 0, and which literals of a learned clause the others imply.
-use crate::order::Order;
+use crate::order::VariableQueue;
 use crate::reach::Reach;
 use crate::restarts::Restarts;
 use std::alloc::{AllocError, Global};
 
 #[derive(Drop)]
 pub(crate) struct Guide {
-    pub(crate) order: Order,
+    pub(crate) order: VariableQueue,
     pub(crate) reach: Reach,
     pub(crate) restarts: Restarts,
 }
@@ -15,7 +15,7 @@ pub(crate) struct Guide {
 impl Guide {
     /// For the variables up to `vars`.
     pub(crate) fn new(alloc: Global, vars: u64) -> Result<Guide, AllocError> {
-        let order = Order::new(alloc, vars)?;
+        let order = VariableQueue::new(alloc, vars)?;
         let reach = Reach::new(alloc, vars)?;
         let restarts = Restarts::new();
         Ok(Guide {

@@ -13,14 +13,14 @@ ghost use Rattle.bd_cdcl.specs.inner.Analyses.{IsClear, IsSecond, IsLesson};
 
 use crate::analysis::Analysis;
 use crate::guide::Guide;
-use bd_cnf::{Clause, Lit};
+use bd_cnf::{Clause, Lit, PackedLit};
 use bd_lrat::Hints;
-use bd_watch::{Code, Watch};
+use bd_watch::Watch;
 use std::alloc::{AllocError, Global};
 
-/// A literal of a clause, and the place behind it on the trail.
+/// A literal of a clause, and the place after it on the trail.
 pub(crate) struct Second {
-    code: Code,
+    literal: PackedLit,
     floor: usize,
 }
 
@@ -30,43 +30,43 @@ pub(crate) struct Second {
 pub(crate) struct Lesson {
     pub(crate) clause: Clause,
     pub(crate) hints: Hints,
-    pub(crate) first: Code,
-    pub(crate) second: Code,
+    pub(crate) first: PackedLit,
+    pub(crate) second: PackedLit,
     pub(crate) cut: usize,
     pub(crate) levels: u64,
 }
 
 /// Of some literals the one that became false last, or the first where there is none.
-fn last_falsified(watch: &Watch, first: Code, rest: &[Code]) -> Second
+fn last_falsified(watch: &Watch, first: PackedLit, rest: &[PackedLit]) -> Second
     requires watching { IsWatching watch.now }
     requires falsified { (l : Literal) → has_literal rest.now l ≡ true →
         is_false (literals watch.now.trail.entries) l ≡ true }
     ensures { IsSecond watch.now.trail.entries rest.now result }
 {
     let trail = watch.trail();
-    let mut code = first;
+    let mut literal = first;
     let mut floor = 0;
     for &other in rest {
         let place = trail.place(other);
         if place >= floor {
-            code = other;
+            literal = other;
             floor = place + 1;
         }
     }
-    Second { code, floor }
+    Second { literal, floor }
 }
 
 /// How many levels some literals have that stand from the end of the trail to its front.
-fn levels(watch: &Watch, codes: &[Code]) -> u64
+fn levels(watch: &Watch, lits: &[PackedLit]) -> u64
     requires watching { IsWatching watch.now }
-    requires falsified { (l : Literal) → has_literal codes.now l ≡ true →
+    requires falsified { (l : Literal) → has_literal lits.now l ≡ true →
         is_false (literals watch.now.trail.entries) l ≡ true }
 {
     let trail = watch.trail();
     let mut count: u64 = 0;
     let mut above = None;
-    for &code in codes {
-        let next = trail.start_from(trail.place(code) + 1);
+    for &packed in lits {
+        let next = trail.start_from(trail.place(packed) + 1);
         if count == 0 || next != above {
             count = count.saturating_add(1);
             above = next;
@@ -76,7 +76,7 @@ fn levels(watch: &Watch, codes: &[Code]) -> u64
 }
 
 /// The clause of some literals.
-fn clause_of(alloc: Global, kept: &[Code]) -> Result<Clause, AllocError>
+fn clause_of(alloc: Global, kept: &[PackedLit]) -> Result<Clause, AllocError>
     requires { IsTautology kept.now → ⊥ }
     ensures same { IfOk result (λ clause. SameLiterals clause kept.now) }
     ensures rising { IfOk result IsRising }
@@ -87,10 +87,10 @@ fn clause_of(alloc: Global, kept: &[Code]) -> Result<Clause, AllocError>
     }
 }
 
-fn lits_of(alloc: Global, kept: &[Code]) -> Result<Vec<Lit>, AllocError>
+fn lits_of(alloc: Global, kept: &[PackedLit]) -> Result<Vec<Lit>, AllocError>
     ensures { IfOk result (λ lits. lits.items ≡ kept.now) }
 {
-    kept.iter().map(|code| code.lit()).collect(alloc)
+    kept.iter().map(|packed| packed.lit()).collect(alloc)
 }
 
 /// What the conflict of that id teaches, whose level begins at that place.
@@ -113,7 +113,7 @@ pub(crate) fn learned_from(
     let kept = analysis.kept.as_slice();
     let clause = clause_of(alloc, kept)?;
     let first = kept[0];
-    let Second { code, floor } = last_falsified(watch, first, &kept[1..]);
+    let Second { literal, floor } = last_falsified(watch, first, &kept[1..]);
     let levels = levels(watch, &kept[1..]).saturating_add(1);
     let cut = watch.trail().start_from(floor).unwrap_or(start);
     let hints = analysis.hints(alloc, conflict)?;
@@ -121,7 +121,7 @@ pub(crate) fn learned_from(
         clause,
         hints,
         first,
-        second: code,
+        second: literal,
         cut,
         levels,
     })

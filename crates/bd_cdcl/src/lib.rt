@@ -6,6 +6,7 @@ mod cdcl;
 mod deletion;
 mod descent;
 mod guide;
+mod laws;
 mod lesson;
 mod order;
 mod plain;
@@ -17,9 +18,7 @@ mod search;
 mod solver;
 
 pub use cdcl::Cdcl;
+pub use laws::spent_budgets_are_short;
 pub use plain::Plain;
 pub use scripted::Scripted;
 pub use solver::{Found, HonestSolver, Solver};
-
-#[cfg(test)]
-mod tests;

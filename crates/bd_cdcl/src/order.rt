@@ -2,7 +2,8 @@
 //! was seen in a conflict last (variable move to front: Ryan, 2004; Biere and Fröhlich, 2015), with the
 //! sign that it had last (Pipatsrisawat and Darwiche, 2007). It only proposes: whether a variable is
 //! one, and has no value, is tested by whoever asks.
-use bd_watch::{Assigned, Code, Trail};
+use bd_cnf::PackedLit;
+use bd_watch::{Assigned, AssignmentTrail};
 use std::alloc::{AllocError, Global};
 
 /// What is known of a variable. The variables stand in a queue; 0 is none.
@@ -10,8 +11,8 @@ use std::alloc::{AllocError, Global};
 struct Candidate {
     /// The one in front of it.
     before: usize,
-    /// The one behind it.
-    behind: usize,
+    /// The one after it.
+    after: usize,
     /// When it was put at the end of the queue.
     moved: u64,
     /// The sign that it had last.
@@ -27,11 +28,11 @@ struct Seen {
 
 /// All variables, in a queue by when they were seen last.
 #[derive(Drop)]
-pub(crate) struct Order {
+pub(crate) struct VariableQueue {
     candidates: Vec<Candidate>,
     /// The one at the end of the queue.
     last: usize,
-    /// Those behind it have values.
+    /// Those after it have values.
     next: usize,
     /// How often a variable was put at the end.
     moves: u64,
@@ -39,17 +40,17 @@ pub(crate) struct Order {
     seen: Vec<Seen>,
 }
 
-impl Order {
+impl VariableQueue {
     /// All variables up to `vars`, the greatest at the end.
-    pub(crate) fn new(alloc: Global, vars: u64) -> Result<Order, AllocError> {
+    pub(crate) fn new(alloc: Global, vars: u64) -> Result<VariableQueue, AllocError> {
         let count = vars.checked_add(1).ok_or(AllocError)? as usize;
         let alone = Candidate {
             before: 0,
-            behind: 0,
+            after: 0,
             moved: 0,
             positive: false,
         };
-        let mut order = Order {
+        let mut order = VariableQueue {
             candidates: vec![in alloc; alone; count]?,
             last: 0,
             next: 0,
@@ -71,12 +72,12 @@ impl Order {
     fn append(&mut self, var: usize) {
         let last = self.last;
         if let Some(candidate) = self.candidates.get_mut(last) {
-            candidate.behind = var;
+            candidate.after = var;
         }
         self.moves = self.moves.wrapping_add(1);
         if let Some(candidate) = self.candidates.get_mut(var) {
             candidate.before = last;
-            candidate.behind = 0;
+            candidate.after = 0;
             candidate.moved = self.moves;
         }
         self.last = var;
@@ -84,11 +85,11 @@ impl Order {
 
     /// Takes a variable out of the queue that isn't at its end.
     fn unlink(&mut self, candidate: Candidate) {
-        let Candidate { before, behind, .. } = candidate;
+        let Candidate { before, after, .. } = candidate;
         if let Some(neighbour) = self.candidates.get_mut(before) {
-            neighbour.behind = behind;
+            neighbour.after = after;
         }
-        if let Some(neighbour) = self.candidates.get_mut(behind) {
+        if let Some(neighbour) = self.candidates.get_mut(after) {
             neighbour.before = before;
         }
     }
@@ -105,7 +106,7 @@ impl Order {
             self.next = if candidate.before > 0 {
                 candidate.before
             } else {
-                candidate.behind
+                candidate.after
             };
         }
         self.unlink(candidate);
@@ -113,8 +114,8 @@ impl Order {
     }
 
     /// Takes note that a variable was seen in a conflict.
-    pub(crate) fn see(&mut self, code: Code) -> Result<(), AllocError> {
-        let var = code.variable();
+    pub(crate) fn see(&mut self, packed: PackedLit) -> Result<(), AllocError> {
+        let var = packed.variable();
         if let Some(candidate) = self.candidate(var) {
             let moved = candidate.moved;
             self.seen.push(Seen { var, moved })?;
@@ -136,11 +137,11 @@ impl Order {
     /// Takes note of literals that are taken back.
     pub(crate) fn release(&mut self, entries: &[Assigned]) {
         for entry in entries {
-            let code = entry.code();
-            let var = code.variable();
+            let packed = entry.literal();
+            let var = packed.variable();
             let latest = self.candidate(self.next).map_or(0, |c| c.moved);
             if let Some(candidate) = self.candidates.get_mut(var) {
-                candidate.positive = code.lit().is_positive();
+                candidate.positive = packed.lit().is_positive();
                 if candidate.moved > latest {
                     self.next = var;
                 }
@@ -149,7 +150,7 @@ impl Order {
     }
 
     /// A variable that may have no value, and a sign for it.
-    pub(crate) fn propose(&mut self, trail: &Trail) -> Option<(u64, bool)> {
+    pub(crate) fn propose(&mut self, trail: &AssignmentTrail) -> Option<(u64, bool)> {
         for _ in 0..self.candidates.len() {
             let candidate = self.candidate(self.next)?;
             let var = self.next as u64;

@@ -9,7 +9,7 @@ use crate::search::{Search, copied};
 use crate::solver::{Found, HonestSolver, Solver};
 use bd_cnf::Cnf;
 use bd_lrat::Log;
-use bd_watch::Trail;
+use bd_watch::AssignmentTrail;
 use std::alloc::{AllocError, Global};
 
 /// A solver by decisions and decision clauses, which it never deletes.
@@ -37,7 +37,7 @@ impl Solver for Plain {
         let mut search = Search {
             clauses: copied(alloc, cnf)?,
             learned: 0,
-            trail: Trail::new(alloc, cnf.vars())?,
+            trail: AssignmentTrail::new(alloc, cnf.vars())?,
         };
         loop {
             match propagate(&search.clauses, &mut search.trail) {

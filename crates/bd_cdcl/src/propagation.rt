@@ -2,25 +2,20 @@
 ghost use Rattle.std.specs.Prelude.{◌≡◌, ◌≤◌, length, IfSome, IfNone};
 ghost use Rattle.std.specs.List.{All};
 ghost use Rattle.bd_cnf.specs.Standing.{IsBelow};
+ghost use Rattle.bd_cnf.specs.Status.{IsStatus};
 ghost use Rattle.bd_cnf.specs.Trail.{open_literals};
 ghost use Rattle.bd_lrat.specs.Database.{numbered};
 ghost use Rattle.bd_watch.specs.Levels.{literals, IsComplete};
-ghost use Rattle.bd_cdcl.specs.inner.Passes.{IsOpen, IsPassed, AllClosed};
+ghost use Rattle.bd_cdcl.specs.inner.Passes.{IsPassed, AllClosed};
 ghost use Rattle.bd_watch.specs.Watching.{IsConflict};
 
-use bd_cnf::{Clause, Lit};
-use bd_watch::Trail;
+use bd_cnf::{Clause, ClauseStatus, Lit};
+use bd_watch::AssignmentTrail;
 
 /// How many literals of a clause aren't false.
-enum Open {
-    Falsified,
-    Unit(Lit),
-    Unresolved,
-}
-
-fn open_part(trail: &Trail, clause: &[Lit]) -> Open
+fn status(trail: &AssignmentTrail, clause: &[Lit]) -> ClauseStatus
     requires { IsBelow trail.now.limit clause.now }
-    ensures { IsOpen result (open_literals (literals trail.now.entries) clause.now) }
+    ensures { IsStatus result (open_literals (literals trail.now.entries) clause.now) }
 {
     let mut found: Option<Lit> = None;
     for &lit in clause {
@@ -28,13 +23,13 @@ fn open_part(trail: &Trail, clause: &[Lit]) -> Open
             continue;
         }
         if found.is_some() {
-            return Open::Unresolved;
+            return ClauseStatus::Unresolved;
         }
         found = Some(lit);
     }
     match found {
-        None => Open::Falsified,
-        Some(lit) => Open::Unit(lit),
+        None => ClauseStatus::Falsified,
+        Some(lit) => ClauseStatus::Unit(lit),
     }
 }
 
@@ -50,7 +45,7 @@ enum Passed {
 
 /// Assigns the literal of each clause that is unit where the pass comes to it. The clauses have the
 /// ids from 1.
-fn pass(clauses: &[Clause], trail: &mut Trail) -> Passed
+fn pass(clauses: &[Clause], trail: &mut AssignmentTrail) -> Passed
     requires below { All (IsBelow trail.old.limit) clauses.now }
     requires complete { IsComplete (numbered clauses.now) trail.old.entries }
     ensures limit { trail.new.limit ≡ trail.old.limit }
@@ -60,16 +55,16 @@ fn pass(clauses: &[Clause], trail: &mut Trail) -> Passed
     let mut extended = false;
     for (place, clause) in clauses.iter().enumerate() {
         let id = place as u64 + 1;
-        match open_part(trail, clause.lits()) {
-            Open::Falsified => return Passed::Conflict(id),
-            Open::Unit(lit) => {
+        match status(trail, clause.lits()) {
+            ClauseStatus::Falsified => return Passed::Conflict(id),
+            ClauseStatus::Unit(lit) => {
                 if !trail.is_true(lit) {
-                    let code = trail.code(lit);
-                    trail.imply(code, id);
+                    let packed = trail.pack(lit);
+                    trail.imply(packed, id);
                     extended = true;
                 }
             }
-            Open::Unresolved => {}
+            ClauseStatus::Unresolved => {}
         }
     }
     if extended {
@@ -80,7 +75,7 @@ fn pass(clauses: &[Clause], trail: &mut Trail) -> Passed
 }
 
 /// Propagates until a clause is false, and answers its id, or until no clause is false or unit.
-pub(crate) fn propagate(clauses: &[Clause], trail: &mut Trail) -> Option<u64>
+pub(crate) fn propagate(clauses: &[Clause], trail: &mut AssignmentTrail) -> Option<u64>
     requires below { All (IsBelow trail.old.limit) clauses.now }
     requires complete { IsComplete (numbered clauses.now) trail.old.entries }
     ensures limit { trail.new.limit ≡ trail.old.limit }

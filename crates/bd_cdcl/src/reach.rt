@@ -5,7 +5,8 @@ ghost use Rattle.std.specs.Prelude.{◌<◌, length};
 ghost use Rattle.bd_watch.specs.Watch.{IsWatching};
 ghost use Rattle.bd_cdcl.specs.inner.Analysis.{AreAssigned};
 
-use bd_watch::{Code, Watch};
+use bd_cnf::PackedLit;
+use bd_watch::Watch;
 use std::alloc::{AllocError, Global};
 
 /// A search back through reasons.
@@ -52,14 +53,14 @@ impl Reach {
         &mut self,
         marks: &[bool],
         watch: &Watch,
-        reason: &[Code],
+        reason: &[PackedLit],
         zero: usize,
     ) -> Result<(), AllocError>
         requires { AreAssigned watch.now.trail.entries reason.now }
     {
         let trail = watch.trail();
-        for &code in reason {
-            let place = trail.place(code);
+        for &packed in reason {
+            let place = trail.place(packed);
             let ends = place < zero || marks.get(place) == Some(&true);
             if !ends && self.comes_to(place) {
                 self.open.push(place)?;

@@ -18,7 +18,7 @@ ghost use Rattle.bd_cdcl.specs.inner.Search.{conflict_hints, Resolves};
 use crate::solver::Found;
 use bd_cnf::{Clause, Cnf, Lit};
 use bd_lrat::{Hint, Hints, Line, Log};
-use bd_watch::Trail;
+use bd_watch::AssignmentTrail;
 use std::alloc::{AllocError, Global};
 
 /// The clauses so far, with the ids from 1 and the formula's first, how many were learned, and the
@@ -27,7 +27,7 @@ use std::alloc::{AllocError, Global};
 pub(crate) struct Search {
     pub(crate) clauses: Vec<Clause>,
     pub(crate) learned: u32,
-    pub(crate) trail: Trail,
+    pub(crate) trail: AssignmentTrail,
 }
 
 /// The clauses of a formula.
@@ -52,7 +52,11 @@ fn copy_of(alloc: Global, clause: &Clause) -> Result<Clause, AllocError>
 }
 
 /// The reasons of the trail, and then the clause that it makes false.
-pub(crate) fn hints(alloc: Global, trail: &Trail, conflict: u64) -> Result<Hints, AllocError>
+pub(crate) fn hints(
+    alloc: Global,
+    trail: &AssignmentTrail,
+    conflict: u64,
+) -> Result<Hints, AllocError>
     ensures { IfOk result (λ hints. hints ≡ conflict_hints trail.now.entries conflict) }
 {
     let mut hints = Hints::new(alloc);
@@ -131,7 +135,7 @@ impl Search {
         self.clauses.push(copy_of(alloc, &clause)?)?;
         log.push(Line::Add { id, clause, hints })?;
         self.learned += 1;
-        let asserted = self.trail.code(last.negated());
+        let asserted = self.trail.pack(last.negated());
         self.trail.imply(asserted, id);
         Ok(None)
     }

@@ -136,7 +136,7 @@ last_start_is starts trail s e last =
           omega (arith, here.is, at);
     }
 
--- where all from an index on are behind a place, and those before it aren't
+-- where all from an index on are after a place, and those before it aren't
 pub start_from_is : (starts : List ℕ) (trail : List Assigned) (place count s : ℕ) → starts ≡ decision_places trail → ((i : ℕ) → count ≤ i → i < length starts → place ≤ get_or starts i 0) → (0 < count → get_or starts (count - 1) 0 < place) → count < length starts → get_or starts count 0 ≡ s → IsStartFrom trail place s
 start_from_is starts trail place count s e behind before low at =
     record {

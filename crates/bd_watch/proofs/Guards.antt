@@ -9,7 +9,7 @@ use Rattle.bd_cnf.specs.Clause.{IsRising}
 use Rattle.bd_cnf.specs.Trail.{is_false, open_literals, IsClosed, IsPartOf}
 use Rattle.bd_cnf.proofs.Literals.{any_has, any_from_has, has-push, literal_eq-true, literal_eq-refl}
 use Rattle.bd_cnf.proofs.Closed.{part_not_false}
-use Rattle.bd_watch.specs.declared.watcher.Pair.{Pair}
+use Rattle.bd_watch.specs.declared.watcher.WatchedPair.{WatchedPair}
 use Rattle.bd_watch.specs.Levels.{Assigned, literals}
 use Rattle.bd_watch.specs.Watching.{IsPair, IsGuarded, front}
 use Rattle.bd_watch.proofs.Parts.{has_left, open_from, open_has, two_of, negate_twice, rises_filter, rising_alone, has_here}
@@ -35,7 +35,7 @@ true_grown trail more clause h =
     let found = any_has (has_literal trail) clause h in
     any_from_has (has_literal (trail ++ more)) clause found.0 found.1 (has_left trail more found.0 found.2)
 
-pub guarded_grown : (done trail more clause : List Literal) (p : Pair) → IsGuarded done trail clause p → IsGuarded done (trail ++ more) clause p
+pub guarded_grown : (done trail more clause : List Literal) (p : WatchedPair) → IsGuarded done trail clause p → IsGuarded done (trail ++ more) clause p
 guarded_grown done trail more clause p (inl holds) = inl (true_grown trail more clause holds)
 guarded_grown done trail more clause p (inr opens) = inr opens
 
@@ -44,14 +44,14 @@ pub front_open : (trail : List Assigned) (place : ℕ) (l : Literal) → is_fals
 front_open trail place l h = part_not_false (front trail place) (literals trail) l (front_part trail place) h
 
 -- a clause that is guarded by the whole trail is neither unit nor false
-pub guarded_closed : (trail clause : List Literal) (p : Pair) → (2 ≤ length clause → IsPair clause p) → IsGuarded trail trail clause p → IsClosed trail clause
+pub guarded_closed : (trail clause : List Literal) (p : WatchedPair) → (2 ≤ length clause → IsPair clause p) → IsGuarded trail trail clause p → IsClosed trail clause
 guarded_closed trail clause p pair (inl holds) = inl holds
 guarded_closed trail clause p pair (inr opens) =
     let two = pair opens.long in
     inr (two_of (open_literals trail clause) p.first p.second (open_from trail clause p.first two.first opens.first) (open_from trail clause p.second two.second opens.second) two.apart)
 
 -- one more literal is done, which makes no watched literal of a clause false that isn't true
-pub guarded_more : (done trail clause : List Literal) (l : Literal) (p : Pair) → (2 ≤ length clause → (p.first ≡ negate l) ⊎ (p.second ≡ negate l) → list_any (has_literal trail) clause ≡ true) → IsGuarded done trail clause p → IsGuarded (done ++ l ∷ []) trail clause p
+pub guarded_more : (done trail clause : List Literal) (l : Literal) (p : WatchedPair) → (2 ≤ length clause → (p.first ≡ negate l) ⊎ (p.second ≡ negate l) → list_any (has_literal trail) clause ≡ true) → IsGuarded done trail clause p → IsGuarded (done ++ l ∷ []) trail clause p
 guarded_more done trail clause l p settled (inl holds) = inl holds
 guarded_more done trail clause l p settled (inr opens) =
     elim (cases_Bool (literal_eq (negate p.first) l)) [

@@ -1,4 +1,4 @@
--- Clauses under the ids from 1: what stands at a place, behind the last, and everywhere.
+-- Clauses under the ids from 1: what stands at a place, after the last, and everywhere.
 use Rattle.std.proofs.Common.{◌≡◌, ℕ, zero, suc, ◌+◌, ◌-◌, ◌<◌, ◌≤◌, cond, List, [], ◌∷◌, Option, None, Some, IsSome, IfSome, length, get_or, refl, ap, ◌∙◌, subst, arith}
 use Rattle.std.specs.List.{All, enumerate_from}
 use Rattle.std.specs.Ordering.{nat_cmp}
@@ -30,7 +30,7 @@ numbered_at cs i d h =
     ∙ ap (λ k. find nat_cmp k (enumerate_from 1 cs)) (let same : i + 1 ≡ 1 + i = omega arith in same)
     ∙ found_at 1 i cs d h
 
--- nothing stands under the number behind the last
+-- nothing stands under the number after the last
 pub numbered_past : (cs : List (List Literal)) → get (numbered cs) (length cs + 1) ≡ None
 numbered_past cs = none (get (numbered cs) (length cs + 1)) (up_to_formula (problem 0 cs) (length cs + 1))
   where

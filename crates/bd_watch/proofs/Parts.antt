@@ -34,12 +34,6 @@ has_pushed xs l = has_right xs (l ∷ []) l (has_here l [])
 pub has_either : {C : Type 0} → (xs ys : List Literal) (l : Literal) → has_literal (xs ++ ys) l ≡ true → (has_literal xs l ≡ true → C) → (has_literal ys l ≡ true → C) → C
 has_either xs ys l h f g = elim (or_cases _ _ (sym (has-append xs ys l) ∙ h)) [ inl e ↦ f e | inr e ↦ g e ]
 
-pub part_append : (xs ys zs : List Literal) → IsPartOf xs zs → IsPartOf ys zs → IsPartOf (xs ++ ys) zs
-part_append xs ys zs f g l h = has_either xs ys l h (f l) (g l)
-
-pub part_single : (l : Literal) (zs : List Literal) → has_literal zs l ≡ true → IsPartOf (l ∷ []) zs
-part_single l zs h m k = subst (λ (n : Literal). has_literal zs n ≡ true) (sym (has_single m l k)) h
-
 -- some literal of the list has a variable of it
 pub literal_of : (ls : List Literal) (var : ℕ) → has_variable ls var ≡ true → (l : Literal) × (has_literal ls l ≡ true) × (l.var ≡ var)
 literal_of ls var h = let found = any_has (λ l. eqb l.var var) ls h in (found.0, found.1, eqb-true found.0.var var found.2)

@@ -44,7 +44,7 @@ module _ (standing : Standing) where
   placed_back before [] ys all = subst (λ ls. ArePlaced standing ls ys) (sym (append-nil before)) all
   placed_back before (x ∷ xs) ys all = subst (λ ls. ArePlaced standing ls ys) (append_assoc before (x.literal ∷ []) (literals xs)) (placed_back (before ++ x.literal ∷ []) xs ys all.1)
 
-  -- one more literal behind a complete trail
+  -- one more literal after a complete trail
   pub complete_push : (trail : List Assigned) (a : Assigned) → IsComplete standing trail → IsPlaced standing (literals trail) a → IsComplete standing (trail ++ a ∷ [])
   complete_push trail a front last = placed_append [] trail (a ∷ []) front (last, tt)
 

@@ -18,10 +18,10 @@ use Rattle.bd_watch.specs.inner.Visits.{ArePending, IsAt, IsStale, IsNext, Visit
 use Rattle.bd_watch.proofs.Parts.{has_left, negate_twice}
 use Rattle.bd_watch.proofs.Placed.{literals-append}
 use Rattle.bd_watch.proofs.Numbered.{numbered_at}
-use Rattle.bd_watch.proofs.Sweeping.{pending_kept, pending_moved, pending_none}
+use Rattle.bd_watch.proofs.PendingWatchers.{pending_kept, pending_moved}
 use Rattle.bd_watch.proofs.Values.{literal_at}
 use Rattle.bd_cnf.proofs.Literals.{has_at}
-use Rattle.bd_watch.proofs.Watching.{swept, all_closed}
+use Rattle.bd_watch.proofs.WatchedClauses.{swept, all_closed}
 
 pub extends_more : (a b c : Watch) → Extends a b → Extends b c → Extends a c
 extends_more a b c first second = record {
@@ -37,10 +37,6 @@ pub falsified_still : (a b : Watch) (l : Literal) → Extends a b → is_false (
 falsified_still a b l more bad =
     subst (λ ls. has_literal ls (negate l) ≡ true) (sym (ap literals more.grown ∙ literals-append a.trail.entries more.more)) (has_left (literals a.trail.entries) (literals more.more) (negate l) bad)
 
--- all watchers are still to be looked at
-pub sweep_begins : (w : Watch) (l : Literal) → IsWatching w → ArePending w.clauses w.pairs.items (list_at w.lists.items l) w.trail.entries l 0
-sweep_begins w l is i d h long one = inr (is.watched.listed i d l h long one)
-
 -- one was looked at, whose clause is true
 pub sweep_kept : (w new : Watch) (l : Literal) (place : ℕ) (entry : Watcher) → ArePending w.clauses w.pairs.items (list_at w.lists.items l) w.trail.entries l place → IsAt (list_at w.lists.items l) place entry → Visits w new l entry.clause Kept → ArePending new.clauses new.pairs.items (list_at new.lists.items l) new.trail.entries l (place + 1)
 sweep_kept w new l place entry is at visits =
@@ -53,11 +49,6 @@ sweep_kept w new l place entry is at visits =
     (subst (λ (x : Watcher). list_any (has_literal (literals (w.trail.entries ++ visits.extends.more))) (clause_at w.clauses x.clause) ≡ true) (sym (at.is entry))
     (subst (λ es. list_any (has_literal (literals es)) (clause_at w.clauses entry.clause) ≡ true) visits.extends.grown
     (subst (λ cs. list_any (has_literal (literals new.trail.entries)) (clause_at cs entry.clause) ≡ true) visits.extends.clauses visits.outcome))))))
-
--- the watcher of a clause that doesn't watch the literal any more
-pub sweep_stale : (w new : Watch) (l : Literal) (place : ℕ) (entry : Watcher) → IsAt (list_at w.lists.items l) place entry → Visits w new l entry.clause Moved → IsStale new l place
-sweep_stale w new l place entry at visits p d one =
-    visits.outcome p (subst (λ n. IsOneOf (get_or new.pairs.items n p) l) (ap (λ (x : Watcher). x.clause) (ap (λ xs. get_or xs place d) visits.list ∙ at.is d)) one)
 
 -- one was looked at, and taken out
 pub sweep_moved : (w new newer : Watch) (l : Literal) (place : ℕ) (entry : Watcher) → ArePending w.clauses w.pairs.items (list_at w.lists.items l) w.trail.entries l place → IsAt (list_at w.lists.items l) place entry → Visits w new l entry.clause Moved → Unwatches new newer l place → ArePending newer.clauses newer.pairs.items (list_at newer.lists.items l) newer.trail.entries l place
@@ -80,10 +71,6 @@ extends_unwatched a b c l place first gone = record {
   more = first.more;
   grown = ap (λ (t : LeveledTrail). t.entries) gone.trail ∙ first.grown;
 }
-
--- none is left
-pub sweep_ends : (w new : Watch) (l : Literal) (place : ℕ) → IsWatching new → Extends w new → ArePending new.clauses new.pairs.items (list_at new.lists.items l) new.trail.entries l place → length (list_at new.lists.items l) ≤ place → Sweeps w new l None
-sweep_ends w new l place is more pending past = record { watching = is; extends = more; swept = pending_none new.clauses new.pairs.items (list_at new.lists.items l) new.trail.entries l place past pending }
 
 -- one is of a clause that is false
 pub sweep_conflicts : (w now new : Watch) (l : Literal) (i id : ℕ) → Extends w now → Visits now new l i Conflict → i < length now.clauses → id ≡ i + 1 → Sweeps w new l (Some id)
@@ -128,13 +115,3 @@ sweep_keeps w new l r n low sweeps = ap (take n) sweeps.extends.grown ∙ take-a
 -- propagation has come to an end
 pub propagates_all : (w new : Watch) → IsWatching new → new.clauses ≡ w.clauses → new.trail.limit ≡ w.trail.limit → length w.trail.entries ≤ length new.trail.entries → take (length w.trail.entries) new.trail.entries ≡ w.trail.entries → IsPropagated new → Propagates w new None
 propagates_all w new is clauses limit longer kept end = record { watching = is; clauses = clauses; limit = limit; longer = longer; kept = kept; end = (end, all_closed new.clauses new.pairs.items new.lists.items new.trail new.head is end) }
-
-pub propagates_conflict : (w now new : Watch) (l : Literal) (id : ℕ) → now.clauses ≡ w.clauses → now.trail.limit ≡ w.trail.limit → length w.trail.entries ≤ length now.trail.entries → take (length w.trail.entries) now.trail.entries ≡ w.trail.entries → Sweeps now new l (Some id) → Propagates w new (Some id)
-propagates_conflict w now new l id clauses limit longer kept sweeps = record {
-  watching = sweeps.watching;
-  clauses = sweeps.extends.clauses ∙ clauses;
-  limit = sweeps.extends.limit ∙ limit;
-  longer = omega (arith, sweep_longer now new l (Some id) sweeps);
-  kept = sweep_keeps now new l (Some id) (length w.trail.entries) longer sweeps ∙ kept;
-  end = sweeps.swept;
-}

@@ -18,7 +18,7 @@ use Rattle.bd_watch.specs.inner.Loading.{IsStarting, StartsUnit}
 use Rattle.bd_watch.proofs.Parts.{has_here, has_pushed, unassigned_from}
 use Rattle.bd_watch.proofs.Placed.{literals-append, decisions-append, complete_push}
 use Rattle.bd_watch.proofs.Numbered.{numbered_at}
-use Rattle.bd_watch.proofs.Visiting.{with_trail}
+use Rattle.bd_watch.proofs.VisitedClauses.{with_trail}
 use Rattle.bd_watch.proofs.Guards.{true_grown}
 
 -- a clause of fewer than two literals that has a first one
@@ -47,24 +47,6 @@ more_units w trail i before here k h short =
       | inl e ↦ subst (λ n. list_any (has_literal trail) (clause_at w.clauses n) ≡ true) (sym e) (here (subst (λ n. length (clause_at w.clauses n) ≤ 1) e short))
       | inr apart ↦ before k (omega (arith, apart)) short
     ]
-
--- a clause that is no unit, or one that is true
-pub unit_passes : (w : Watch) (i : ℕ) → IsStarting w i → (length (clause_at w.clauses i) ≤ 1 → list_any (has_literal (literals w.trail.entries)) (clause_at w.clauses i) ≡ true) → StartsUnit w w i false
-unit_passes w i is here = record {
-  clauses = refl;
-  limit = refl;
-  complete = is.complete;
-  level_zero = is.level_zero;
-  started = record {
-    watched = is.watched;
-    complete = is.complete;
-    room = is.room;
-    below = is.below;
-    level_zero = is.level_zero;
-    head = is.head;
-    units = more_units w (literals w.trail.entries) i is.units here;
-  };
-}
 
 -- a unit is implied
 pub unit_implied : (w : Watch) (t : LeveledTrail) (i id : ℕ) (l : Literal) → IsStarting w i → i < length w.clauses → clause_at w.clauses i ≡ l ∷ [] → has_literal (literals w.trail.entries) l ≡ false → is_false (literals w.trail.entries) l ≡ false → id ≡ i + 1 → t ≡ extended w.trail (assigned l (Some id)) → length t.entries ≤ t.limit → l.var < w.trail.limit → StartsUnit w (with_trail w t) i false
@@ -114,18 +96,6 @@ unit_implied w t i id l is h single not_true not_false same new room low =
 -- a unit whose negation is true is false
 pub unit_false : (trail clause : List Literal) (l : Literal) → clause ≡ l ∷ [] → is_false trail l ≡ true → open_literals trail clause ≡ []
 unit_false trail clause l single bad = ap (open_literals trail) single ∙ ap (λ b. cond (not b) (l ∷ []) []) bad
-
--- all begins with no literal
-pub units_begin : (limit : ℕ) (clauses : List (List Literal)) (w : Watch) → IsLoaded limit clauses w → IsStarting w 0
-units_begin limit clauses w is = record {
-  watched = subst (λ (t : LeveledTrail). AreWatched t.limit w.clauses w.pairs.items w.lists.items) (sym is.trail) is.watched;
-  complete = subst (λ (t : LeveledTrail). IsComplete (numbered w.clauses) t.entries) (sym is.trail) tt;
-  room = subst (λ (t : LeveledTrail). length t.entries ≤ t.limit) (sym is.trail) (omega arith);
-  below = subst (λ (t : LeveledTrail). IsBelow t.limit (literals t.entries)) (sym is.trail) (All-nil (λ (l : Literal). l.var < limit));
-  level_zero = ap (λ (t : LeveledTrail). decisions t.entries) is.trail;
-  head = is.head;
-  units = λ i h short. absurd (omega arith);
-}
 
 pub unit_below : (w : Watch) (i : ℕ) (l : Literal) → IsStarting w i → i < length w.clauses → clause_at w.clauses i ≡ l ∷ [] → l.var < w.trail.limit
 unit_below w i l is h single =

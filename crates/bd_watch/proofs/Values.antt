@@ -14,16 +14,16 @@ use Rattle.bd_cnf.specs.Standing.{IsBelow}
 use Rattle.bd_cnf.proofs.Literals.{has-push, literal_eq-true, has_at}
 use Rattle.bd_cnf.proofs.Closed.{has_variable_of}
 use Rattle.bd_lrat.specs.Log.{HaveDifferentVariables}
-use Rattle.bd_watch.specs.Codes.{code_of}
+use Rattle.bd_cnf.specs.Packed.{literal_index}
 use Rattle.bd_watch.specs.Levels.{Assigned, literals}
 use Rattle.bd_watch.specs.Trails.{LeveledTrail, leveled, IsLeveled, decision_places, place_of_decision}
 use Rattle.bd_watch.proofs.Placed.{literals-append}
 use Rattle.bd_watch.proofs.Different.{different_push, different_front, different_room}
 use Rattle.bd_watch.proofs.Parts.{not_true, unassigned_from, has_pushed}
 
--- a code says its literal
-pub same_code : (l m : Literal) → code_of l ≡ code_of m → l ≡ m
-same_code l m e = let both = parts l.var m.var l.positive m.positive e in λ i. record { var = both.0 i; positive = both.1 i }
+-- an index says its literal
+pub same_index : (l m : Literal) → literal_index l ≡ literal_index m → l ≡ m
+same_index l m e = let both = parts l.var m.var l.positive m.positive e in λ i. record { var = both.0 i; positive = both.1 i }
   where
     parts : (v w : ℕ) (p q : Bool) → 2 * v + cond p 0 1 ≡ 2 * w + cond q 0 1 → (v ≡ w) × (p ≡ q)
     parts v w true true e = (omega arith, refl)
@@ -31,12 +31,12 @@ same_code l m e = let both = parts l.var m.var l.positive m.positive e in λ i. 
     parts v w false true e = absurd (omega arith)
     parts v w false false e = (omega arith, refl)
 
-pub other_code : (l m : Literal) → code_of l ≢ code_of m → literal_eq l m ≡ false
-other_code l m apart = false_from_ne_true _ (λ e. apart (ap code_of (literal_eq-true l m e)))
+pub other_index : (l m : Literal) → literal_index l ≢ literal_index m → literal_eq l m ≡ false
+other_index l m apart = false_from_ne_true _ (λ e. apart (ap literal_index (literal_eq-true l m e)))
 
 -- a variable below the limit has its codes below twice the limit
-pub code_below : (l : Literal) (n : ℕ) → l.var < n → code_of l < 2 * n
-code_below l n h = go l.positive
+pub index_below : (l : Literal) (n : ℕ) → l.var < n → literal_index l < 2 * n
+index_below l n h = go l.positive
   where
     go : (p : Bool) → 2 * l.var + cond p 0 1 < 2 * n
     go true = omega arith
@@ -69,15 +69,15 @@ variable_at entries p d h =
 
 module _ (holds : List Bool) (places starts : List ℕ) (entries : List Assigned) (room starts_room : ℕ) where
   -- one entry more
-  pub leveled_push : (a : Assigned) (new : List ℕ) → IsLeveled holds places starts entries room starts_room → a.literal.var < length places → has_variable (literals entries) a.literal.var ≡ false → new ≡ decision_places (entries ++ a ∷ []) → IsLeveled (set holds (code_of a.literal) true) (set places a.literal.var (length entries)) new (entries ++ a ∷ []) room starts_room
+  pub leveled_push : (a : Assigned) (new : List ℕ) → IsLeveled holds places starts entries room starts_room → a.literal.var < length places → has_variable (literals entries) a.literal.var ≡ false → new ≡ decision_places (entries ++ a ∷ []) → IsLeveled (set holds (literal_index a.literal) true) (set places a.literal.var (length entries)) new (entries ++ a ∷ []) room starts_room
   leveled_push a new is low free started = record {
     agrees = agrees;
-    twice = length-set holds (code_of a.literal) true ∙ is.twice ∙ ap (λ n. 2 * n) (sym size);
+    twice = length-set holds (literal_index a.literal) true ∙ is.twice ∙ ap (λ n. 2 * n) (sym size);
     within = subst (λ n. IsBelow n (literals (entries ++ a ∷ []))) (sym size) (subst (IsBelow (length places)) (sym whole) (All-push (λ (l : Literal). l.var < length places) (literals entries) a.literal is.within low));
     different = subst HaveDifferentVariables (sym whole) (different_push (literals entries) a.literal is.different free);
     placed = placed;
     started = started;
-    coded = omega (arith, is.coded, size);
+    packable = omega (arith, is.packable, size);
     room = omega (arith, is.room, size);
     starts_room = omega (arith, is.starts_room, size);
   }
@@ -91,20 +91,20 @@ module _ (holds : List Bool) (places starts : List ℕ) (entries : List Assigned
       whole : literals (entries ++ a ∷ []) ≡ literals entries ++ l ∷ []
       whole = literals-append entries (a ∷ [])
 
-      here : code_of l < length holds
-      here = omega (arith, code_below l (length places) low, is.twice)
+      here : literal_index l < length holds
+      here = omega (arith, index_below l (length places) low, is.twice)
 
-      agrees : (m : Literal) → code_of m < length (set holds (code_of l) true) → get_or (set holds (code_of l) true) (code_of m) false ≡ has_literal (literals (entries ++ a ∷ [])) m
+      agrees : (m : Literal) → literal_index m < length (set holds (literal_index l) true) → get_or (set holds (literal_index l) true) (literal_index m) false ≡ has_literal (literals (entries ++ a ∷ [])) m
       agrees m h =
-          elim (cases_eq (code_of m) (code_of l)) [
+          elim (cases_eq (literal_index m) (literal_index l)) [
             | inl e ↦
-                let same : m ≡ l = same_code m l e in
-                ap (λ n. get_or (set holds (code_of l) true) n false) e ∙ get_or-set_same holds (code_of l) true false here
+                let same : m ≡ l = same_index m l e in
+                ap (λ n. get_or (set holds (literal_index l) true) n false) e ∙ get_or-set_same holds (literal_index l) true false here
                 ∙ sym (ap (λ ls. has_literal ls m) whole ∙ ap (has_literal (literals entries ++ l ∷ [])) same ∙ has_pushed (literals entries) l)
             | inr apart ↦
-                get_or-set_other holds (code_of l) (code_of m) true false apart
-                ∙ is.agrees m (omega (arith, length-set holds (code_of l) true))
-                ∙ sym (ap (λ ls. has_literal ls m) whole ∙ has-push (literals entries) l m ∙ ap (λ b. has_literal (literals entries) m || b) (other_code m l apart) ∙ or-false (has_literal (literals entries) m))
+                get_or-set_other holds (literal_index l) (literal_index m) true false apart
+                ∙ is.agrees m (omega (arith, length-set holds (literal_index l) true))
+                ∙ sym (ap (λ ls. has_literal ls m) whole ∙ has-push (literals entries) l m ∙ ap (λ b. has_literal (literals entries) m || b) (other_index m l apart) ∙ or-false (has_literal (literals entries) m))
           ]
 
       placed : (p : ℕ) (d : Assigned) → p < length (entries ++ a ∷ []) → get_or (set places l.var (length entries)) (get_or (entries ++ a ∷ []) p d).literal.var 0 ≡ p
@@ -130,23 +130,16 @@ module _ (holds : List Bool) (places starts : List ℕ) (entries : List Assigned
       let under : length (literals entries) < length places = different_room (length places) (literals entries) l is.different is.within free low in
       omega arith
 
-  -- a literal is true where the table says so
-  pub leveled_has : (now : LeveledTrail) (l : Literal) → IsLeveled holds places starts entries room starts_room → leveled (length places) entries ≡ now → l.var < now.limit → (code_of l < length holds) × (get_or holds (code_of l) false ≡ has_literal (literals now.entries) l)
-  leveled_has now l is seen low =
-      let under : l.var < length places = subst (λ (t : LeveledTrail). l.var < t.limit) (sym seen) low in
-      let here : code_of l < length holds = omega (arith, code_below l (length places) under, is.twice) in
-      (here, is.agrees l here ∙ ap (λ (t : LeveledTrail). has_literal (literals t.entries) l) seen)
-
 -- the last entry taken back
-pub leveled_pop : (holds : List Bool) (places starts new : List ℕ) (entries : List Assigned) (a : Assigned) (room starts_room : ℕ) → IsLeveled holds places starts (entries ++ a ∷ []) room starts_room → new ≡ decision_places entries → IsLeveled (set holds (code_of a.literal) false) places new entries room starts_room
+pub leveled_pop : (holds : List Bool) (places starts new : List ℕ) (entries : List Assigned) (a : Assigned) (room starts_room : ℕ) → IsLeveled holds places starts (entries ++ a ∷ []) room starts_room → new ≡ decision_places entries → IsLeveled (set holds (literal_index a.literal) false) places new entries room starts_room
 leveled_pop holds places starts new entries a room starts_room is started = record {
   agrees = agrees;
-  twice = length-set holds (code_of l) false ∙ is.twice;
+  twice = length-set holds (literal_index l) false ∙ is.twice;
   within = λ k d h. subst (λ (m : Literal). m.var < length places) (get_or_append_left (literals entries) (l ∷ []) d k h) (below k d (omega (arith, length_push (literals entries) l)));
   different = front.0;
   placed = λ p d h. ap (λ (x : Assigned). get_or places x.literal.var 0) (sym (get_or_append_left entries (a ∷ []) d p h)) ∙ is.placed p d (omega (arith, length_push entries a));
   started = started;
-  coded = is.coded;
+  packable = is.packable;
   room = is.room;
   starts_room = is.starts_room;
 }
@@ -166,48 +159,48 @@ leveled_pop holds places starts new entries a room starts_room is started = reco
     low : l.var < length places
     low = subst (λ (m : Literal). m.var < length places) (get_or_push (literals entries) l l (length (literals entries)) refl) (below (length (literals entries)) l (omega (arith, length_push (literals entries) l)))
 
-    here : code_of l < length holds
-    here = omega (arith, code_below l (length places) low, is.twice)
+    here : literal_index l < length holds
+    here = omega (arith, index_below l (length places) low, is.twice)
 
-    agrees : (m : Literal) → code_of m < length (set holds (code_of l) false) → get_or (set holds (code_of l) false) (code_of m) false ≡ has_literal (literals entries) m
+    agrees : (m : Literal) → literal_index m < length (set holds (literal_index l) false) → get_or (set holds (literal_index l) false) (literal_index m) false ≡ has_literal (literals entries) m
     agrees m h =
-        elim (cases_eq (code_of m) (code_of l)) [
+        elim (cases_eq (literal_index m) (literal_index l)) [
           | inl e ↦
-              let same : m ≡ l = same_code m l e in
-              ap (λ n. get_or (set holds (code_of l) false) n false) e ∙ get_or-set_same holds (code_of l) false false here
+              let same : m ≡ l = same_index m l e in
+              ap (λ n. get_or (set holds (literal_index l) false) n false) e ∙ get_or-set_same holds (literal_index l) false false here
               ∙ sym (ap (has_literal (literals entries)) same ∙ not_true (literals entries) l front.1)
           | inr apart ↦
-              get_or-set_other holds (code_of l) (code_of m) false false apart
-              ∙ is.agrees m (omega (arith, length-set holds (code_of l) false))
-              ∙ ap (λ ls. has_literal ls m) whole ∙ has-push (literals entries) l m ∙ ap (λ b. has_literal (literals entries) m || b) (other_code m l apart) ∙ or-false (has_literal (literals entries) m)
+              get_or-set_other holds (literal_index l) (literal_index m) false false apart
+              ∙ is.agrees m (omega (arith, length-set holds (literal_index l) false))
+              ∙ ap (λ ls. has_literal ls m) whole ∙ has-push (literals entries) l m ∙ ap (λ b. has_literal (literals entries) m || b) (other_index m l apart) ∙ or-false (has_literal (literals entries) m)
         ]
 
 -- the fields after an assignment
-pub leveled_pushed : (holds : List Bool) (places starts new : List ℕ) (entries after : List Assigned) (a : Assigned) (room starts_room now_room now_starts_room index variable count : ℕ) → IsLeveled holds places starts entries room starts_room → (a.literal.var < length places) × (has_variable (literals entries) a.literal.var ≡ false) → index ≡ code_of a.literal → variable ≡ a.literal.var → count ≡ length entries → after ≡ entries ++ a ∷ [] → new ≡ decision_places after → now_room ≡ room → now_starts_room ≡ starts_room → IsLeveled (set holds index true) (set places variable count) new after now_room now_starts_room
+pub leveled_pushed : (holds : List Bool) (places starts new : List ℕ) (entries after : List Assigned) (a : Assigned) (room starts_room now_room now_starts_room index variable count : ℕ) → IsLeveled holds places starts entries room starts_room → (a.literal.var < length places) × (has_variable (literals entries) a.literal.var ≡ false) → index ≡ literal_index a.literal → variable ≡ a.literal.var → count ≡ length entries → after ≡ entries ++ a ∷ [] → new ≡ decision_places after → now_room ≡ room → now_starts_room ≡ starts_room → IsLeveled (set holds index true) (set places variable count) new after now_room now_starts_room
 leveled_pushed holds places starts new entries after a room starts_room now_room now_starts_room index variable count is free same_index same_variable same_count pushed started same_room same_starts_room =
     subst (λ n. IsLeveled (set holds n true) (set places variable count) new after now_room now_starts_room) (sym same_index)
-    (subst (λ n. IsLeveled (set holds (code_of a.literal) true) (set places n count) new after now_room now_starts_room) (sym same_variable)
-    (subst (λ n. IsLeveled (set holds (code_of a.literal) true) (set places a.literal.var n) new after now_room now_starts_room) (sym same_count)
-    (subst (λ n. IsLeveled (set holds (code_of a.literal) true) (set places a.literal.var (length entries)) new after n now_starts_room) (sym same_room)
-    (subst (λ n. IsLeveled (set holds (code_of a.literal) true) (set places a.literal.var (length entries)) new after room n) (sym same_starts_room)
-    (subst (λ es. IsLeveled (set holds (code_of a.literal) true) (set places a.literal.var (length entries)) new es room starts_room) (sym pushed)
+    (subst (λ n. IsLeveled (set holds (literal_index a.literal) true) (set places n count) new after now_room now_starts_room) (sym same_variable)
+    (subst (λ n. IsLeveled (set holds (literal_index a.literal) true) (set places a.literal.var n) new after now_room now_starts_room) (sym same_count)
+    (subst (λ n. IsLeveled (set holds (literal_index a.literal) true) (set places a.literal.var (length entries)) new after n now_starts_room) (sym same_room)
+    (subst (λ n. IsLeveled (set holds (literal_index a.literal) true) (set places a.literal.var (length entries)) new after room n) (sym same_starts_room)
+    (subst (λ es. IsLeveled (set holds (literal_index a.literal) true) (set places a.literal.var (length entries)) new es room starts_room) (sym pushed)
     (leveled_push holds places starts entries room starts_room a new is free.0 free.1 (started ∙ ap decision_places pushed)))))))
 
 -- and after it is taken back
-pub leveled_popped : (holds : List Bool) (places starts new : List ℕ) (before entries : List Assigned) (a : Assigned) (room starts_room now_room now_starts_room index : ℕ) → IsLeveled holds places starts before room starts_room → before ≡ entries ++ a ∷ [] → index ≡ code_of a.literal → new ≡ decision_places entries → now_room ≡ room → now_starts_room ≡ starts_room → IsLeveled (set holds index false) places new entries now_room now_starts_room
+pub leveled_popped : (holds : List Bool) (places starts new : List ℕ) (before entries : List Assigned) (a : Assigned) (room starts_room now_room now_starts_room index : ℕ) → IsLeveled holds places starts before room starts_room → before ≡ entries ++ a ∷ [] → index ≡ literal_index a.literal → new ≡ decision_places entries → now_room ≡ room → now_starts_room ≡ starts_room → IsLeveled (set holds index false) places new entries now_room now_starts_room
 leveled_popped holds places starts new before entries a room starts_room now_room now_starts_room index is popped same_index started same_room same_starts_room =
     subst (λ n. IsLeveled (set holds n false) places new entries now_room now_starts_room) (sym same_index)
-    (subst (λ n. IsLeveled (set holds (code_of a.literal) false) places new entries n now_starts_room) (sym same_room)
-    (subst (λ n. IsLeveled (set holds (code_of a.literal) false) places new entries room n) (sym same_starts_room)
+    (subst (λ n. IsLeveled (set holds (literal_index a.literal) false) places new entries n now_starts_room) (sym same_room)
+    (subst (λ n. IsLeveled (set holds (literal_index a.literal) false) places new entries room n) (sym same_starts_room)
     (leveled_pop holds places starts new entries a room starts_room (subst (λ es. IsLeveled holds places starts es room starts_room) popped is) started)))
 
 -- the last entry's literal has room
-pub leveled_last : (holds : List Bool) (places starts : List ℕ) (before entries : List Assigned) (a : Assigned) (room starts_room : ℕ) → IsLeveled holds places starts before room starts_room → before ≡ entries ++ a ∷ [] → (a.literal.var < length places) × (code_of a.literal < length holds)
+pub leveled_last : (holds : List Bool) (places starts : List ℕ) (before entries : List Assigned) (a : Assigned) (room starts_room : ℕ) → IsLeveled holds places starts before room starts_room → before ≡ entries ++ a ∷ [] → (a.literal.var < length places) × (literal_index a.literal < length holds)
 leveled_last holds places starts before entries a room starts_room is popped =
     let whole : literals before ≡ literals entries ++ a.literal ∷ [] = ap literals popped ∙ literals-append entries (a ∷ []) in
     let below : IsBelow (length places) (literals entries ++ a.literal ∷ []) = subst (IsBelow (length places)) whole is.within in
     let low : a.literal.var < length places = subst (λ (m : Literal). m.var < length places) (get_or_push (literals entries) a.literal a.literal (length (literals entries)) refl) (below (length (literals entries)) a.literal (omega (arith, length_push (literals entries) a.literal))) in
-    (low, omega (arith, code_below a.literal (length places) low, is.twice))
+    (low, omega (arith, index_below a.literal (length places) low, is.twice))
 
 -- what a free variable of the trail that is seen says of the fields
 pub leveled_free : (places : List ℕ) (entries : List Assigned) (now : LeveledTrail) (l m : Literal) → leveled (length places) entries ≡ now → l.var < now.limit → has_variable (literals now.entries) l.var ≡ false → m ≡ l → (m.var < length places) × (has_variable (literals entries) m.var ≡ false)
@@ -256,23 +249,6 @@ unimplied_places starts before entries a r is popped same some =
     nothing None h = absurd (false≢true h)
     nothing (Some id) h = append-nil (decision_places entries)
 
--- no entry at all
-pub leveled_empty : (limit room starts_room : ℕ) → limit ≤ 2147483648 → limit ≤ room → limit ≤ starts_room → IsLeveled (replicate (2 * limit) false) (replicate limit 0) [] [] room starts_room
-leveled_empty limit room starts_room coded big bigger = record {
-  agrees = λ l h. get_or-replicate (2 * limit) (code_of l) false false (omega (arith, length-replicate (2 * limit) false));
-  twice = length-replicate (2 * limit) false ∙ ap (λ n. 2 * n) (sym size);
-  within = All-nil (λ (l : Literal). l.var < length {A = ℕ} (replicate limit 0));
-  different = tt;
-  placed = λ p d h. absurd (omega arith);
-  started = refl;
-  coded = omega (arith, size);
-  room = omega (arith, size);
-  starts_room = omega (arith, size);
-}
-  where
-    size : length {A = ℕ} (replicate limit 0) ≡ limit
-    size = length-replicate {A = ℕ} limit 0
-
 -- a variable is free where neither of its literals is true
 pub free_test : (ls : List Literal) (var : ℕ) (l : Literal) (a b : Bool) → l ≡ literal var true → a ≡ has_literal ls l → b ≡ has_literal ls (negate l) → a ≡ false → not b ≡ not (has_variable ls var)
 free_test ls var l a b same on off none = ap not (first b refl)
@@ -286,11 +262,6 @@ free_test ls var l a b same on off none = ap not (first b refl)
 
 pub taken_test : (ls : List Literal) (var : ℕ) (l : Literal) (a : Bool) → l ≡ literal var true → a ≡ has_literal ls l → a ≡ true → not a ≡ not (has_variable ls var)
 taken_test ls var l a same on some = ap not (some ∙ sym (subst (λ v. has_variable ls v ≡ true) (ap (λ (k : Literal). k.var) same) (has_variable_of ls l (sym on ∙ some))))
-
--- one entry fewer
-pub popped_shorter : (old new : List Assigned) (r : Option Assigned) (n : ℕ) → old ≡ new ++ option_to_list r → IfNone r (old ≡ []) → n < length old → length new + 1 ≡ length old
-popped_shorter old new None n popped none h = absurd (omega (arith, ap length none))
-popped_shorter old new (Some a) n popped none h = omega (arith, ap length popped, length_push new a)
 
 -- an entry more where there is room
 pub pushed_room : (places : List ℕ) (entries after : List Assigned) (a : Assigned) (var place : ℕ) → length entries < length places → after ≡ entries ++ a ∷ [] → length after ≤ length (set places var place)

@@ -34,17 +34,17 @@ decisions trail = filter_map (λ a. decided a.literal a.reason) trail
 abbrev pub reasons : List Assigned → List Hint
 reasons trail = filter_map (λ a. option_map hint.Unit a.reason) trail
 
--- behind the literals `before` it may be decided only where no clause that stands is unit or false, and implied only by a clause of which it is the one open literal
+-- after the literals `before` it may be decided only where no clause that stands is unit or false, and implied only by a clause of which it is the one open literal
 abbrev pub IsReason : Standing → List Literal → Literal → Option ℕ → Type 0
 IsReason standing before l None = AreClosed standing before
 IsReason standing before l (Some id) = IsSomeAnd (get standing id) (λ clause. open_literals before clause ≡ l ∷ [])
 
--- a literal whose variable had no value, and that stands behind `before` with a right reason
+-- a literal whose variable had no value, and that stands after `before` with a right reason
 pub record IsPlaced (standing : Standing) (before : List Literal) (a : Assigned) : Type 0 where
   pub unassigned : has_variable before a.literal.var ≡ false
   pub reason : IsReason standing before a.literal a.reason
 
--- each is, behind `before` and those in front of it
+-- each is, after `before` and those in front of it
 abbrev pub ArePlaced : Standing → List Literal → List Assigned → Type 0
 ArePlaced standing before [] = Unit {0}
 ArePlaced standing before (a ∷ rest) = IsPlaced standing before a × ArePlaced standing (before ++ a.literal ∷ []) rest

@@ -1,4 +1,3 @@
-pub mod Codes
 pub mod Levels
 pub mod Trails
 pub mod Watching

@@ -4,7 +4,7 @@ use Rattle.std.specs.List.{enumerate_from, filter_map}
 use Rattle.bd_cnf.specs.Literal.{Literal, has_literal, has_variable, literal_value}
 use Rattle.bd_cnf.specs.Standing.{IsBelow}
 use Rattle.bd_lrat.specs.Log.{HaveDifferentVariables}
-use Rattle.bd_watch.specs.Codes.{code_of}
+use Rattle.bd_cnf.specs.Packed.{literal_index}
 use Rattle.bd_watch.specs.Levels.{Assigned, assigned, literals, decisions}
 
 -- how many variables there is room for, 0 among them, and the literals in the order in which they were assigned
@@ -30,13 +30,13 @@ decision_places trail = filter_map (λ p. place_of_decision p.0 p.1.reason) (enu
 
 -- the tables and the trail say the same: which literals are true, and where each variable's literal stands
 pub record IsLeveled (holds : List Bool) (places starts : List ℕ) (entries : List Assigned) (capacity starts_capacity : ℕ) : Type 0 where
-  pub agrees : (l : Literal) → code_of l < length holds → slice_index_or holds (code_of l) false ≡ has_literal (literals entries) l
+  pub agrees : (l : Literal) → literal_index l < length holds → slice_index_or holds (literal_index l) false ≡ has_literal (literals entries) l
   pub twice : length holds ≡ 2 * length places
   pub within : IsBelow (length places) (literals entries)
   pub different : HaveDifferentVariables (literals entries)
   pub placed : (p : ℕ) (d : Assigned) → p < length entries → slice_index places (slice_index_or entries p d).literal.var ≡ p
   pub started : starts ≡ decision_places entries
-  pub coded : length places ≤ 2 ^ 31
+  pub packable : length places ≤ 2 ^ 31
   pub room : length places ≤ capacity
   pub starts_room : length places ≤ starts_capacity
 

@@ -8,8 +8,8 @@ use Rattle.bd_cnf.specs.Standing.{Standing, IsBelow}
 use Rattle.bd_cnf.specs.Trail.{is_false, open_literals}
 use Rattle.bd_lrat.specs.Database.{numbered}
 use Rattle.bd_watch.specs.declared.watcher.Watcher.{Watcher}
-use Rattle.bd_watch.specs.declared.watcher.Pair.{Pair}
-use Rattle.bd_watch.specs.Codes.{code_of}
+use Rattle.bd_watch.specs.declared.watcher.WatchedPair.{WatchedPair}
+use Rattle.bd_cnf.specs.Packed.{literal_index}
 use Rattle.bd_watch.specs.Levels.{Assigned, literals, IsComplete}
 use Rattle.bd_watch.specs.Trails.{LeveledTrail, IsDecisionAt}
 
@@ -18,18 +18,18 @@ abbrev pub clause_at : List (List Literal) → ℕ → List Literal
 clause_at clauses place = slice_index_or clauses place []
 
 abbrev pub list_at : List (List Watcher) → Literal → List Watcher
-list_at lists l = slice_index_or lists (code_of l) []
+list_at lists l = slice_index_or lists (literal_index l) []
 
 -- a pair of watched literals
-abbrev pub pair_of : Literal → Literal → Pair
+abbrev pub pair_of : Literal → Literal → WatchedPair
 pair_of first second = record { first = first; second = second }
 
 -- the literal is one of the two
-abbrev pub IsOneOf : Pair → Literal → Type 0
+abbrev pub IsOneOf : WatchedPair → Literal → Type 0
 IsOneOf p l = (l ≡ p.first) ⊎ (l ≡ p.second)
 
 -- two literals of the clause
-pub record IsPair (clause : List Literal) (p : Pair) : Type 0 where
+pub record IsPair (clause : List Literal) (p : WatchedPair) : Type 0 where
   pub first : has_literal clause p.first ≡ true
   pub second : has_literal clause p.second ≡ true
   pub apart : p.first ≢ p.second
@@ -48,35 +48,35 @@ pub record IsWatcher (clauses : List (List Literal)) (w : Watcher) : Type 0 wher
   pub blocker : has_literal (clause_at clauses w.clause) w.blocker ≡ true
 
 -- each clause of two or more literals watches two of them
-pub record AreWatched (limit : ℕ) (clauses : List (List Literal)) (pairs : List Pair) (lists : List (List Watcher)) : Type 0 where
-  pub coded : limit ≤ 2 ^ 31
+pub record AreWatched (limit : ℕ) (clauses : List (List Literal)) (pairs : List WatchedPair) (lists : List (List Watcher)) : Type 0 where
+  pub packable : limit ≤ 2 ^ 31
   pub paired : length pairs ≡ length clauses
   pub sized : length lists ≡ 2 * limit
   pub rising : All IsRising clauses
   pub below : All (IsBelow limit) clauses
-  pub two : (i : ℕ) (d : Pair) → i < length clauses → 2 ≤ length (clause_at clauses i) → IsPair (clause_at clauses i) (slice_index_or pairs i d)
-  pub listed : (i : ℕ) (d : Pair) (l : Literal) → i < length clauses → 2 ≤ length (clause_at clauses i) → IsOneOf (slice_index_or pairs i d) l → IsListed (list_at lists l) 0 i
-  pub watchers : (code : ℕ) → All (IsWatcher clauses) (slice_index_or lists code [])
+  pub two : (i : ℕ) (d : WatchedPair) → i < length clauses → 2 ≤ length (clause_at clauses i) → IsPair (clause_at clauses i) (slice_index_or pairs i d)
+  pub listed : (i : ℕ) (d : WatchedPair) (l : Literal) → i < length clauses → 2 ≤ length (clause_at clauses i) → IsOneOf (slice_index_or pairs i d) l → IsListed (list_at lists l) 0 i
+  pub watchers : (index : ℕ) → All (IsWatcher clauses) (slice_index_or lists index [])
 
 -- a clause has two literals or more, and neither of the two that it watches is false
-pub record AreOpen (done clause : List Literal) (p : Pair) : Type 0 where
+pub record AreOpen (done clause : List Literal) (p : WatchedPair) : Type 0 where
   pub long : 2 ≤ length clause
   pub first : is_false done p.first ≡ false
   pub second : is_false done p.second ≡ false
 
 -- a clause is true, or what is done of the trail makes neither of its watched literals false
-abbrev pub IsGuarded : List Literal → List Literal → List Literal → Pair → Type 0
+abbrev pub IsGuarded : List Literal → List Literal → List Literal → WatchedPair → Type 0
 IsGuarded done trail clause p = (list_any (has_literal trail) clause ≡ true) ⊎ AreOpen done clause p
 
-abbrev pub AreGuarded : List (List Literal) → List Pair → List Literal → List Literal → Type 0
-AreGuarded clauses pairs done trail = (i : ℕ) (d : Pair) → i < length clauses → IsGuarded done trail (clause_at clauses i) (slice_index_or pairs i d)
+abbrev pub AreGuarded : List (List Literal) → List WatchedPair → List Literal → List Literal → Type 0
+AreGuarded clauses pairs done trail = (i : ℕ) (d : WatchedPair) → i < length clauses → IsGuarded done trail (clause_at clauses i) (slice_index_or pairs i d)
 
 -- the literals in front of a place
 abbrev pub front : List Assigned → ℕ → List Literal
 front trail place = literals (take place trail)
 
 -- a complete trail over watched clauses, of which so many literals are done
-pub record AreWatching (clauses : List (List Literal)) (pairs : List Pair) (lists : List (List Watcher)) (trail : LeveledTrail) (head : ℕ) : Type 0 where
+pub record AreWatching (clauses : List (List Literal)) (pairs : List WatchedPair) (lists : List (List Watcher)) (trail : LeveledTrail) (head : ℕ) : Type 0 where
   pub watched : AreWatched trail.limit clauses pairs lists
   pub complete : IsComplete (numbered clauses) trail.entries
   pub room : length trail.entries ≤ trail.limit

@@ -1,5 +1,3 @@
-pub mod Numbers
-pub mod Spans
 pub mod Watchers
 pub mod Visits
 pub mod Loading

@@ -2,35 +2,33 @@
 ghost use Rattle.std.specs.Prelude.{◌≡◌, ◌≤◌, ◌<◌, ◌+◌, ◌^◌, [], length, replicate, IfOk, OnOk};
 ghost use Rattle.bd_cnf.specs.Clause.{IsRising};
 ghost use Rattle.bd_cnf.specs.Standing.{IsBelow};
-ghost use Rattle.bd_watch.specs.Codes.{code_of};
+ghost use Rattle.bd_cnf.specs.Packed.{literal_index};
 ghost use Rattle.bd_watch.specs.Watching.{IsPair, AreWatched, pair_of};
 ghost use Rattle.bd_watch.specs.Watch.{IsLoaded, Starts};
 ghost use Rattle.bd_watch.specs.inner.Loading.{Lists, Adds, IsStarting, StartsUnit};
 
-use crate::arena::Arena;
-use crate::code::Code;
-use crate::trail::Trail;
+use crate::trail::AssignmentTrail;
 use crate::watch::Watch;
-use crate::watcher::{Pair, WatchList, Watcher};
-use bd_cnf::{Cnf, Lit};
+use crate::watcher::{WatchList, WatchedPair, Watcher};
+use bd_cnf::{Cnf, Lit, PackedClauses, PackedLit};
 use std::alloc::{AllocError, Global};
 
 /// The first two literals, if there are two.
-fn first_pair(lits: &[Lit]) -> Pair
+fn first_pair(lits: &[Lit]) -> WatchedPair
     requires rising { IsRising lits.now }
-    requires coded { IsBelow (2 ^ 31) lits.now }
+    requires packable { IsBelow (2 ^ 31) lits.now }
     ensures { 2 ≤ length lits.now → IsPair lits.now result }
 {
     if lits.len() < 2 {
-        let unused = Code::of(Lit::new(1, true));
-        return Pair {
+        let unused = PackedLit::of(Lit::new(1, true));
+        return WatchedPair {
             first: unused,
             second: unused,
         };
     }
-    Pair {
-        first: Code::of(lits[0]),
-        second: Code::of(lits[1]),
+    WatchedPair {
+        first: PackedLit::of(lits[0]),
+        second: PackedLit::of(lits[1]),
     }
 }
 
@@ -49,10 +47,10 @@ impl Watch {
     fn empty(alloc: Global, vars: u64) -> Result<Watch, AllocError>
         ensures { IfOk result (IsLoaded (vars + 1) []) }
     {
-        let trail = Trail::new(alloc, vars)?;
+        let trail = AssignmentTrail::new(alloc, vars)?;
         let lists = empty_lists(alloc, 2 * (vars as usize + 1))?;
         Ok(Watch {
-            clauses: Arena::new(alloc),
+            clauses: PackedClauses::new(alloc),
             pairs: Vec::new(alloc),
             lists,
             trail,
@@ -60,16 +58,21 @@ impl Watch {
         })
     }
 
-    /// Puts a watcher behind the others of the literal.
-    fn list(&mut self, code: Code, watcher: Watcher) -> Result<(), AllocError>
-        requires { code_of code < length self.old.lists.items }
-        ensures { OnOk result (Lists self.old self.new code watcher) }
+    /// Puts a watcher after the others of the literal.
+    fn list(&mut self, packed: PackedLit, watcher: Watcher) -> Result<(), AllocError>
+        requires { literal_index packed < length self.old.lists.items }
+        ensures { OnOk result (Lists self.old self.new packed watcher) }
     {
-        self.lists[code.index()].push(watcher)
+        self.lists[packed.index()].push(watcher)
     }
 
-    /// Puts a clause behind the others, which watches those two literals if it has two or more.
-    pub(crate) fn add(&mut self, lits: &[Lit], first: Code, second: Code) -> Result<(), AllocError>
+    /// Puts a clause after the others, which watches those two literals if it has two or more.
+    pub(crate) fn add(
+        &mut self,
+        lits: &[Lit],
+        first: PackedLit,
+        second: PackedLit,
+    ) -> Result<(), AllocError>
         requires watched { AreWatched self.old.trail.limit self.old.clauses
             self.old.pairs.items self.old.lists.items }
         requires rising { IsRising lits.now }
@@ -83,7 +86,7 @@ impl Watch {
         }
         let clause = place as u32;
         self.clauses.push(lits)?;
-        self.pairs.push(Pair { first, second })?;
+        self.pairs.push(WatchedPair { first, second })?;
         if lits.len() < 2 {
             return Ok(());
         }
@@ -100,7 +103,7 @@ impl Watch {
     {
         for clause in cnf.clauses() {
             let lits = clause.lits();
-            let Pair { first, second } = first_pair(lits);
+            let WatchedPair { first, second } = first_pair(lits);
             self.add(lits, first, second)?;
         }
         Ok(())
@@ -127,14 +130,14 @@ impl Watch {
         if clause.len() >= 2 {
             return false;
         }
-        let Some(&code) = clause.first() else {
+        let Some(&packed) = clause.first() else {
             return true;
         };
-        if self.trail.has(code.negated()) {
+        if self.trail.has(packed.negated()) {
             return true;
         }
-        if !self.trail.has(code) {
-            self.trail.imply(code, place as u64 + 1);
+        if !self.trail.has(packed) {
+            self.trail.imply(packed, place as u64 + 1);
         }
         false
     }

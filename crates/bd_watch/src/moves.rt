@@ -8,15 +8,14 @@ ghost use Rattle.bd_watch.specs.Trails.{IsDecisionAt};
 ghost use Rattle.bd_watch.specs.Watching.{clause_at};
 ghost use Rattle.bd_watch.specs.Watch.{IsWatching, IsPropagated, DecidesIn, TakesBack, MayLearn, Learns};
 
-use crate::code::Code;
-use crate::trail::Trail;
+use crate::trail::AssignmentTrail;
 use crate::watch::Watch;
-use bd_cnf::Lit;
+use bd_cnf::{Lit, PackedLit};
 use std::alloc::AllocError;
 
 impl Watch {
     /// The literals that are taken as true.
-    pub fn trail(&self) -> &Trail
+    pub fn trail(&self) -> &AssignmentTrail
         ensures { result.now ≡ self.now.trail }
     {
         &self.trail
@@ -31,7 +30,7 @@ impl Watch {
     }
 
     /// The clause of that id.
-    pub fn clause(&self, id: u64) -> &[Code]
+    pub fn clause(&self, id: u64) -> &[PackedLit]
         requires { IsSome (get (numbered self.now.clauses) id) }
         ensures { get (numbered self.now.clauses) id ≡ Some result.now }
     {
@@ -49,7 +48,7 @@ impl Watch {
         self.trail.decide(lit);
     }
 
-    /// Takes back a decision, and all that came behind it.
+    /// Takes back a decision, and all that came after it.
     pub fn go_back_to(&mut self, place: usize)
         requires watching { IsWatching self.old }
         requires decision { IsDecisionAt self.old.trail.entries place }
@@ -59,9 +58,14 @@ impl Watch {
         self.head = place;
     }
 
-    /// Puts a clause behind the others, whose first literal it implies. After an error nothing is
+    /// Puts a clause after the others, whose first literal it implies. After an error nothing is
     /// said of the clauses.
-    pub fn learn(&mut self, clause: &[Lit], first: Code, second: Code) -> Result<(), AllocError>
+    pub fn learn(
+        &mut self,
+        clause: &[Lit],
+        first: PackedLit,
+        second: PackedLit,
+    ) -> Result<(), AllocError>
         requires watching { IsWatching self.old }
         requires learned { MayLearn self.old clause.now first second }
         ensures { OnOk result (Learns self.old self.new clause.now first) }

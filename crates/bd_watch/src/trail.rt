@@ -11,15 +11,14 @@ ghost use Rattle.bd_cnf.specs.Trail.{is_false};
 ghost use Rattle.bd_watch.specs.Levels.{assigned, literals, decisions};
 ghost use Rattle.bd_watch.specs.Trails.{leveled, extended, IsPlaceOf, IsLastStart, IsStartFrom, IsDecisionAt, GoesBack, MakesTrue, AllAssigned};
 
-use crate::code::Code;
-use bd_cnf::{Assignment, Lit};
+use bd_cnf::{Assignment, Lit, PackedLit};
 use std::alloc::{AllocError, Global};
 use std::marker::Model;
 
 /// A literal on a trail: a decision where it has no reason.
 #[derive(Clone, Copy, Debug)]
 pub struct Assigned {
-    code: Code,
+    literal: PackedLit,
     /// The id of the clause that implied it.
     reason: Option<u64>,
 }
@@ -29,17 +28,17 @@ impl Model for Assigned {
 
     ghost Value = { Entry };
 
-    ghost view = { λ a. assigned a.code a.reason };
+    ghost view = { λ a. assigned a.literal a.reason };
 
-    ghost inverse = { λ a. record { code = a.literal; reason = a.reason } };
+    ghost inverse = { λ a. record { literal = a.literal; reason = a.reason } };
 }
 
 impl Assigned {
     /// The literal.
-    pub fn code(self) -> Code
+    pub fn literal(self) -> PackedLit
         ensures { result ≡ self.literal }
     {
-        self.code
+        self.literal
     }
 
     /// The id of the clause that implied it, if it is no decision.
@@ -52,8 +51,8 @@ impl Assigned {
 
 /// The literals that a solver takes as true, with what implied each.
 #[derive(Debug, Drop)]
-pub struct Trail {
-    /// By code, whether the literal is on the trail.
+pub struct AssignmentTrail {
+    /// By literal, whether it is on the trail.
     holds: Vec<bool>,
     /// By variable, where its literal stands, if it has one.
     places: Vec<usize>,
@@ -62,7 +61,7 @@ pub struct Trail {
     entries: Vec<Assigned>,
 }
 
-impl Model for Trail {
+impl Model for AssignmentTrail {
     ghost use Rattle.std.specs.Prelude.{length, vec_capacity};
     ghost use Rattle.bd_watch.specs.Trails.{LeveledTrail, IsLeveled, leveled};
 
@@ -74,18 +73,18 @@ impl Model for Trail {
         (vec_capacity a.entries) (vec_capacity a.starts) };
 }
 
-impl Trail {
+impl AssignmentTrail {
     /// No literal, with room for those of the variables up to `vars`. More than 2^31 - 1 of them
     /// end as want of memory.
-    pub fn new(alloc: Global, vars: u64) -> Result<Trail, AllocError>
+    pub fn new(alloc: Global, vars: u64) -> Result<AssignmentTrail, AllocError>
         ensures empty { IfOk result (λ t. t ≡ leveled (vars + 1) []) }
-        ensures coded { OnOk result (vars < 2 ^ 31) }
+        ensures packable { OnOk result (vars < 2 ^ 31) }
     {
         if vars >= 1 << 31 {
             return Err(AllocError);
         }
         let limit = vars as usize + 1;
-        Ok(Trail {
+        Ok(AssignmentTrail {
             holds: vec![in alloc; false; 2 * limit]?,
             places: vec![in alloc; 0; limit]?,
             starts: Vec::with_capacity(alloc, limit)?,
@@ -94,11 +93,11 @@ impl Trail {
     }
 
     /// Whether the literal is true.
-    pub fn has(&self, code: Code) -> bool
-        requires { code.var < self.now.limit }
-        ensures { result ≡ has_literal (literals self.now.entries) code }
+    pub fn has(&self, packed: PackedLit) -> bool
+        requires { packed.var < self.now.limit }
+        ensures { result ≡ has_literal (literals self.now.entries) packed }
     {
-        self.holds[code.index()]
+        self.holds[packed.index()]
     }
 
     /// How many variables there is room for, 0 among them.
@@ -108,13 +107,13 @@ impl Trail {
         self.places.len() as u64
     }
 
-    /// The code of a literal.
-    pub fn code(&self, lit: Lit) -> Code
+    /// The literal, packed.
+    pub fn pack(&self, lit: Lit) -> PackedLit
         requires { lit.var < self.now.limit }
         ensures { result ≡ lit }
     {
         let _coded = &self.places;
-        Code::of(lit)
+        PackedLit::of(lit)
     }
 
     /// Whether the literal is true.
@@ -122,7 +121,7 @@ impl Trail {
         requires { lit.var < self.now.limit }
         ensures { result ≡ has_literal (literals self.now.entries) lit }
     {
-        self.has(self.code(lit))
+        self.has(self.pack(lit))
     }
 
     /// Whether the literal is false.
@@ -142,11 +141,11 @@ impl Trail {
     }
 
     /// Where the literal of a variable stands that has a value.
-    pub fn place(&self, code: Code) -> usize
-        requires { has_variable (literals self.now.entries) code.var ≡ true }
-        ensures { IsPlaceOf self.now.entries code.var result }
+    pub fn place(&self, packed: PackedLit) -> usize
+        requires { has_variable (literals self.now.entries) packed.var ≡ true }
+        ensures { IsPlaceOf self.now.entries packed.var result }
     {
-        self.places[code.variable()]
+        self.places[packed.variable()]
     }
 
     /// Where the current level begins, if it is above level 0.
@@ -181,24 +180,27 @@ impl Trail {
         ensures room { length self.new.entries ≤ self.new.limit }
     {
         self.starts.push_reserved(self.entries.len());
-        let code = Code::of(lit);
-        self.holds[code.index()] = true;
-        self.places[code.variable()] = self.entries.len();
-        self.entries.push_reserved(Assigned { code, reason: None });
+        let literal = PackedLit::of(lit);
+        self.holds[literal.index()] = true;
+        self.places[literal.variable()] = self.entries.len();
+        self.entries.push_reserved(Assigned {
+            literal,
+            reason: None,
+        });
     }
 
     /// Takes a literal whose variable has no value yet as implied by the clause of that id. Takes
     /// no memory.
-    pub fn imply(&mut self, code: Code, id: u64)
-        requires within { code.var < self.old.limit }
-        requires unassigned { has_variable (literals self.old.entries) code.var ≡ false }
-        ensures implied { self.new ≡ extended self.old (assigned code (Some id)) }
+    pub fn imply(&mut self, literal: PackedLit, id: u64)
+        requires within { literal.var < self.old.limit }
+        requires unassigned { has_variable (literals self.old.entries) literal.var ≡ false }
+        ensures implied { self.new ≡ extended self.old (assigned literal (Some id)) }
         ensures room { length self.new.entries ≤ self.new.limit }
     {
         let reason = Some(id);
-        self.holds[code.index()] = true;
-        self.places[code.variable()] = self.entries.len();
-        self.entries.push_reserved(Assigned { code, reason });
+        self.holds[literal.index()] = true;
+        self.places[literal.variable()] = self.entries.len();
+        self.entries.push_reserved(Assigned { literal, reason });
     }
 
     /// Takes the last literal back.
@@ -209,14 +211,14 @@ impl Trail {
         ensures none { IfNone result (self.old.entries ≡ []) }
     {
         let last = self.entries.pop()?;
-        self.holds[last.code.index()] = false;
+        self.holds[last.literal.index()] = false;
         if last.reason.is_none() {
             self.starts.pop();
         }
         Some(last)
     }
 
-    /// Takes the last decision back, and all that came behind it: what it led to.
+    /// Takes the last decision back, and all that came after it: what it led to.
     pub fn go_back(&mut self) -> Option<Lit>
         ensures limit { self.new.limit ≡ self.old.limit }
         ensures decision { IfSome result (GoesBack self.old.entries self.new.entries) }
@@ -225,7 +227,7 @@ impl Trail {
     {
         while let Some(last) = self.pop() {
             if last.reason.is_none() {
-                return Some(last.code.lit());
+                return Some(last.literal.lit());
             }
         }
         None
@@ -249,7 +251,7 @@ impl Trail {
         let mut found = Vec::new(alloc);
         for entry in &self.entries {
             if entry.reason.is_none() {
-                found.push(entry.code.lit())?;
+                found.push(entry.literal.lit())?;
             }
         }
         Ok(found)
@@ -286,7 +288,7 @@ impl Trail {
     {
         let mut assignment = Assignment::new(alloc);
         for entry in &self.entries {
-            let lit = entry.code.lit();
+            let lit = entry.literal.lit();
             assignment.set(lit.var(), lit.is_positive())?;
         }
         Ok(assignment)

@@ -12,21 +12,20 @@ ghost use Rattle.bd_watch.specs.Watching.{list_at, IsOneOf, IsWatcher};
 ghost use Rattle.bd_watch.specs.Watch.{IsWatching, IsPropagated, Propagates};
 ghost use Rattle.bd_watch.specs.inner.Visits.{IsReplacement, AreFalseBesides, IsLong, MayWatch, IsLeft, IsAt, IsStale, IsNext, Visits, Unwatches, Sweeps};
 
-use crate::arena::Arena;
-use crate::code::Code;
-use crate::trail::Trail;
-use crate::watcher::{Pair, WatchList, Watcher};
+use crate::trail::AssignmentTrail;
+use crate::watcher::{WatchList, WatchedPair, Watcher};
+use bd_cnf::{PackedClauses, PackedLit};
 use std::alloc::AllocError;
 
 /// Clauses and a trail.
 #[derive(Drop)]
 pub struct Watch {
-    pub(crate) clauses: Arena,
+    pub(crate) clauses: PackedClauses,
     /// By the place of a clause, the literals that it watches, if it has two or more.
-    pub(crate) pairs: Vec<Pair>,
-    /// By code, the clauses that watch the literal.
+    pub(crate) pairs: Vec<WatchedPair>,
+    /// By literal, the clauses that watch it.
     pub(crate) lists: Vec<WatchList>,
-    pub(crate) trail: Trail,
+    pub(crate) trail: AssignmentTrail,
     /// How many literals of the trail were propagated.
     pub(crate) head: usize,
 }
@@ -42,16 +41,16 @@ enum Visited {
 }
 
 /// Some literal of the clause besides the other that isn't false.
-fn replacement(trail: &Trail, clause: &[Code], other: Code) -> Option<Code>
+fn replacement(trail: &AssignmentTrail, clause: &[PackedLit], other: PackedLit) -> Option<PackedLit>
     requires { IsBelow trail.now.limit clause.now }
     ensures some { IfSome result
         (IsReplacement (literals trail.now.entries) clause.now other) }
     ensures none { IfNone result
         (AreFalseBesides (literals trail.now.entries) clause.now other) }
 {
-    for &code in clause {
-        if !code.is(other) && !trail.has(code.negated()) {
-            return Some(code);
+    for &packed in clause {
+        if !packed.is(other) && !trail.has(packed.negated()) {
+            return Some(packed);
         }
     }
     None
@@ -59,7 +58,7 @@ fn replacement(trail: &Trail, clause: &[Code], other: Code) -> Option<Code>
 
 impl Watch {
     /// Lets a clause watch another literal, the first of the pair.
-    fn replace(&mut self, clause: u32, pair: Pair) -> Result<(), AllocError>
+    fn replace(&mut self, clause: u32, pair: WatchedPair) -> Result<(), AllocError>
         requires watching { IsWatching self.old }
         requires long { IsLong self.old clause }
         requires pair { MayWatch self.old clause pair }
@@ -73,7 +72,7 @@ impl Watch {
     }
 
     /// Takes the one literal of a clause that is left as implied, if it isn't false.
-    fn conclude(&mut self, clause: u32, left: Code) -> Visited
+    fn conclude(&mut self, clause: u32, left: PackedLit) -> Visited
         requires watching { IsWatching self.old }
         requires long { IsLong self.old clause }
         requires left { IsLeft self.old clause left }
@@ -87,7 +86,7 @@ impl Watch {
     }
 
     /// Looks at the clause of a watcher of a literal that has become false.
-    fn visit(&mut self, watcher: Watcher, lit: Code) -> Result<Visited, AllocError>
+    fn visit(&mut self, watcher: Watcher, lit: PackedLit) -> Result<Visited, AllocError>
         requires watching { IsWatching self.old }
         requires watcher { IsWatcher self.old.clauses watcher }
         requires falsified { is_false (literals self.old.trail.entries) lit ≡ true }
@@ -106,7 +105,7 @@ impl Watch {
         match replacement(&self.trail, self.clauses.get(place), other) {
             Some(first) => {
                 let second = other;
-                self.replace(watcher.clause, Pair { first, second })?;
+                self.replace(watcher.clause, WatchedPair { first, second })?;
                 Ok(Visited::Moved)
             }
             None => Ok(self.conclude(watcher.clause, other)),
@@ -114,7 +113,7 @@ impl Watch {
     }
 
     /// The watcher at that place of the literal's list.
-    fn watcher(&self, lit: Code, place: usize) -> Option<Watcher>
+    fn watcher(&self, lit: PackedLit, place: usize) -> Option<Watcher>
         requires watching { IsWatching self.now }
         requires below { lit.var < self.now.trail.limit }
         ensures some { IfSome result (IsAt (list_at self.now.lists.items lit) place) }
@@ -125,7 +124,7 @@ impl Watch {
     }
 
     /// Takes out the watcher at that place of the literal's list, whose clause doesn't watch it.
-    fn unwatch(&mut self, lit: Code, place: usize)
+    fn unwatch(&mut self, lit: PackedLit, place: usize)
         requires watching { IsWatching self.old }
         requires below { lit.var < self.old.trail.limit }
         requires within { place < length (list_at self.old.lists.items lit) }
@@ -136,7 +135,7 @@ impl Watch {
     }
 
     /// Looks at all clauses that watch a literal which has become false, until one is false.
-    fn sweep(&mut self, lit: Code) -> Result<Option<u64>, AllocError>
+    fn sweep(&mut self, lit: PackedLit) -> Result<Option<u64>, AllocError>
         requires watching { IsWatching self.old }
         requires below { lit.var < self.old.trail.limit }
         requires falsified { is_false (literals self.old.trail.entries) lit ≡ true }
@@ -155,13 +154,13 @@ impl Watch {
     }
 
     /// The negation of the next literal that is to be propagated.
-    fn next(&self) -> Option<Code>
+    fn next(&self) -> Option<PackedLit>
         requires { IsWatching self.now }
         ensures some { IfSome result (IsNext self.now) }
         ensures none { IfNone result (IsPropagated self.now) }
     {
         let entry = self.trail.as_slice().get(self.head)?;
-        Some(entry.code().negated())
+        Some(entry.literal().negated())
     }
 
     /// Propagates until a clause is false, and answers its id, or until no clause is false or unit.

@@ -4,7 +4,7 @@ ghost use Rattle.std.specs.Prelude.{◌≡◌, ◌<◌, ◌≤◌, ◌+◌, ◌^
 ghost use Rattle.bd_watch.specs.Watching.{IsOneOf};
 ghost use Rattle.bd_watch.specs.inner.Watchers.{Removes, AreTwo};
 
-use crate::code::Code;
+use bd_cnf::PackedLit;
 use std::alloc::{AllocError, Global};
 use std::marker::Model;
 
@@ -12,26 +12,26 @@ use std::marker::Model;
 #[derive(Clone, Copy, Debug)]
 pub(crate) struct Watcher {
     pub(crate) clause: u32,
-    pub(crate) blocker: Code,
+    pub(crate) blocker: PackedLit,
 }
 
 /// The two literals that a clause watches.
 #[derive(Clone, Copy, Debug)]
-pub(crate) struct Pair {
-    pub(crate) first: Code,
-    pub(crate) second: Code,
+pub(crate) struct WatchedPair {
+    pub(crate) first: PackedLit,
+    pub(crate) second: PackedLit,
 }
 
-impl Pair {
+impl WatchedPair {
     /// The other of the two, if the literal is one of them.
-    pub(crate) fn other(self, code: Code) -> Option<Code>
-        ensures some { IfSome result (AreTwo self code) }
-        ensures none { IfNone result (IsOneOf self code → ⊥) }
+    pub(crate) fn other(self, packed: PackedLit) -> Option<PackedLit>
+        ensures some { IfSome result (AreTwo self packed) }
+        ensures none { IfNone result (IsOneOf self packed → ⊥) }
     {
-        if self.first.is(code) {
+        if self.first.is(packed) {
             return Some(self.second);
         }
-        if self.second.is(code) {
+        if self.second.is(packed) {
             return Some(self.first);
         }
         None

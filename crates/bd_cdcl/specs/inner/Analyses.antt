@@ -56,10 +56,10 @@ pub record Analyzed (watch : Watch) (start id : ℕ) (a : Analysis) : Type 0 whe
 
 -- of some literals that are false on a trail, one that became false last: in front of its place it has no value, and up to there all are false
 pub record IsSecond (trail : List Assigned) (rest : List Literal) (s : Second) : Type 0 where
-  pub here : 0 < length rest → has_literal rest s.code ≡ true
+  pub here : 0 < length rest → has_literal rest s.literal ≡ true
   pub some : 0 < s.floor → 0 < length rest
   pub others : (l : Literal) → has_literal rest l ≡ true → is_false (front trail s.floor) l ≡ true
-  pub free : (place : ℕ) → place < s.floor → has_variable (front trail place) s.code.var ≡ false
+  pub free : (place : ℕ) → place < s.floor → has_variable (front trail place) s.literal.var ≡ false
 
 -- a clause that follows from what stands, is unit at the end of the level before the last, and at the place that is gone back to, and neither unit nor false at any decision in front of it
 pub record IsLesson (watch : Watch) (start : ℕ) (lesson : Lesson) : Type 0 where

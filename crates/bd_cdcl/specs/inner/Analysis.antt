@@ -18,7 +18,7 @@ pub record IsBeside (trail : List Assigned) (marks : List Bool) (end : ℕ) (kep
   pub kept_there : (l : Literal) → has_literal kept l ≡ true → has_literal before (negate l) ≡ true
   pub apart : All (λ a. has_variable before a.literal.var ≡ false) resolved
 
--- behind such literals the resolved ones are implied one after another, and then the conflict is false
+-- after such literals the resolved ones are implied one after another, and then the conflict is false
 pub record Explains (standing : Standing) (before : List Literal) (resolved : List Assigned) (conflict : List Literal) : Type 0 where
   pub placed : ArePlaced standing before resolved
   pub conflicting : open_literals (before ++ literals resolved) conflict ≡ []

@@ -4,19 +4,11 @@ use Rattle.std.specs.List.{All}
 use Rattle.bd_cnf.specs.Literal.{Literal}
 use Rattle.bd_lrat.specs.Database.{numbered}
 use Rattle.bd_cnf.specs.Trail.{IsClosed}
-use Rattle.bd_cdcl.specs.declared.propagation.Open.{Open}
-use Rattle.bd_cdcl.specs.declared.propagation.Open.TheVariants.{Falsified, Unit as UnitOpen, Unresolved}
 use Rattle.bd_cdcl.specs.declared.propagation.Passed.{Passed}
 use Rattle.bd_cdcl.specs.declared.propagation.Passed.TheVariants.{Conflict, Extended, Closed}
 use Rattle.bd_watch.specs.Levels.{Assigned, literals}
 use Rattle.bd_watch.specs.Trails.{LeveledTrail}
 use Rattle.bd_watch.specs.Watching.{IsConflict}
-
--- how many literals are open, and which where it is one
-abbrev pub IsOpen : Open → List Literal → Type 0
-IsOpen Falsified ls = ls ≡ []
-IsOpen (UnitOpen l) ls = ls ≡ l ∷ []
-IsOpen Unresolved ls = 2 ≤ length ls
 
 -- no clause is false or unit
 abbrev pub AllClosed : List (List Literal) → List Assigned → Type 0

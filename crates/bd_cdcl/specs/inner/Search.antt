@@ -10,7 +10,7 @@ use Rattle.bd_lrat.specs.declared.line.Hint.TheVariants as hint
 use Rattle.bd_lrat.specs.declared.line.Line.{Line}
 use Rattle.bd_lrat.specs.declared.line.Line.TheVariants.{Add}
 use Rattle.bd_lrat.specs.Database.{database, database_of, numbered}
-use Rattle.bd_lrat.specs.Log.{IsAcceptedLog, IsFresh, after_all, additions, with_added}
+use Rattle.bd_lrat.specs.Log.{IsAcceptedLog, IsFresh, AddsRising, after_all, additions, with_added}
 use Rattle.bd_cdcl.specs.declared.search.Search.{Search}
 use Rattle.bd_cdcl.specs.declared.solver.Found.{Found}
 use Rattle.bd_cdcl.specs.declared.solver.Found.TheVariants.{Model, Refuted, Spent}
@@ -21,11 +21,11 @@ use Rattle.bd_watch.specs.Trails.{LeveledTrail, leveled, IsLastDecision}
 abbrev pub conflict_hints : List Assigned → ℕ → List Hint
 conflict_hints trail conflict = reasons trail ++ hint.Unit conflict ∷ []
 
--- the addition of a clause under the id behind the last, by those hints
+-- the addition of a clause under the id after the last, by those hints
 abbrev pub addition : List (List Literal) → List Literal → List Hint → Line
 addition clauses clause hints = Add (length clauses + 1) clause hints
 
--- the decision clause was learned: it stands behind the others and in the log, and implies the negation of the last decision, to which the trail was taken back
+-- the decision clause was learned: it stands after the others and in the log, and implies the negation of the last decision, to which the trail was taken back
 pub record IsLearned (clauses new : List (List Literal)) (trail after : LeveledTrail) (log lines : List Line) (conflict : ℕ) : Type 0 where
   pub clause : List Literal
   pub rising : IsRising clause
@@ -59,6 +59,7 @@ pub record IsSearchingIn (standing : Standing) (problem : Problem) (clauses : Li
   pub known : (clause : List Literal) → Contains (with_added problem.clauses log) clause → Contains clauses clause
   pub accepted : IsAcceptedLog (database_of problem) log
   pub fresh : IsFresh problem log
+  pub added_rising : AddsRising log
   pub stands : after_all (database_of problem) log ≡ database problem.vars (length clauses) standing
   pub counted : additions log ≡ count
 

@@ -4,7 +4,7 @@ use Rattle.std.specs.List.{list_any}
 use Rattle.bd_cnf.specs.Literal.{Literal, has_literal}
 use Rattle.bd_cnf.specs.Standing.{IsBelow}
 use Rattle.bd_lrat.specs.Database.{numbered}
-use Rattle.bd_watch.specs.declared.watcher.Pair.{Pair}
+use Rattle.bd_watch.specs.declared.watcher.WatchedPair.{WatchedPair}
 use Rattle.bd_watch.specs.declared.watcher.Watcher.{Watcher}
 use Rattle.bd_watch.specs.declared.watch.Watch.{Watch}
 use Rattle.bd_watch.specs.inner.Watchers.{listed_more}
@@ -20,7 +20,7 @@ pub record Lists (old new : Watch) (l : Literal) (watcher : Watcher) : Type 0 wh
   pub head : new.head ≡ old.head
 
 -- one clause more, which watches those two
-pub record Adds (old new : Watch) (clause : List Literal) (p : Pair) : Type 0 where
+pub record Adds (old new : Watch) (clause : List Literal) (p : WatchedPair) : Type 0 where
   pub watched : AreWatched new.trail.limit new.clauses new.pairs.items new.lists.items
   pub clauses : new.clauses ≡ old.clauses ++ clause ∷ []
   pub pairs : new.pairs.items ≡ old.pairs.items ++ p ∷ []

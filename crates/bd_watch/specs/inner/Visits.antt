@@ -4,7 +4,7 @@ use Rattle.std.specs.List.{list_any}
 use Rattle.bd_cnf.specs.Literal.{Literal, negate, literal_eq, has_literal}
 use Rattle.bd_cnf.specs.Trail.{is_false, open_literals}
 use Rattle.bd_lrat.specs.Database.{numbered}
-use Rattle.bd_watch.specs.declared.watcher.Pair.{Pair}
+use Rattle.bd_watch.specs.declared.watcher.WatchedPair.{WatchedPair}
 use Rattle.bd_watch.specs.declared.watcher.Watcher.{Watcher}
 use Rattle.bd_watch.specs.declared.watch.Watch.{Watch}
 use Rattle.bd_watch.specs.declared.watch.Visited.{Visited}
@@ -25,8 +25,8 @@ abbrev pub AreFalseBesides : List Literal → List Literal → Literal → Type 
 AreFalseBesides trail clause other = (l : Literal) → has_literal clause l ≡ true → literal_eq l other ≡ false → is_false trail l ≡ true
 
 -- the clause doesn't watch the literal any more, or is true, or is false
-abbrev pub IsVisited : List (List Literal) → List Pair → List Assigned → Literal → ℕ → Visited → Type 0
-IsVisited clauses pairs trail l i Moved = (d : Pair) → IsOneOf (slice_index_or pairs i d) l → ⊥
+abbrev pub IsVisited : List (List Literal) → List WatchedPair → List Assigned → Literal → ℕ → Visited → Type 0
+IsVisited clauses pairs trail l i Moved = (d : WatchedPair) → IsOneOf (slice_index_or pairs i d) l → ⊥
 IsVisited clauses pairs trail l i Kept = list_any (has_literal (literals trail)) (clause_at clauses i) ≡ true
 IsVisited clauses pairs trail l i Conflict = open_literals (literals trail) (clause_at clauses i) ≡ []
 
@@ -35,12 +35,12 @@ pub record Visits (old new : Watch) (l : Literal) (i : ℕ) (visited : Visited) 
   pub watching : IsWatching new
   pub extends : Extends old new
   pub list : list_at new.lists.items l ≡ list_at old.lists.items l
-  pub pairs : (k : ℕ) (d : Pair) → k ≢ i → slice_index_or new.pairs.items k d ≡ slice_index_or old.pairs.items k d
+  pub pairs : (k : ℕ) (d : WatchedPair) → k ≢ i → slice_index_or new.pairs.items k d ≡ slice_index_or old.pairs.items k d
   pub outcome : IsVisited new.clauses new.pairs.items new.trail.entries l i visited
 
 -- each clause that watches the literal is true
-abbrev pub AreSettled : List (List Literal) → List Pair → List Assigned → Literal → Type 0
-AreSettled clauses pairs trail l = (i : ℕ) (d : Pair) → i < length clauses → 2 ≤ length (clause_at clauses i) → IsOneOf (slice_index_or pairs i d) l → list_any (has_literal (literals trail)) (clause_at clauses i) ≡ true
+abbrev pub AreSettled : List (List Literal) → List WatchedPair → List Assigned → Literal → Type 0
+AreSettled clauses pairs trail l = (i : ℕ) (d : WatchedPair) → i < length clauses → 2 ≤ length (clause_at clauses i) → IsOneOf (slice_index_or pairs i d) l → list_any (has_literal (literals trail)) (clause_at clauses i) ≡ true
 
 -- all clauses were looked at that watch the literal, or up to one that is false
 abbrev pub IsSwept : Watch → Literal → Option ℕ → Type 0
@@ -53,9 +53,9 @@ pub record Sweeps (old new : Watch) (l : Literal) (conflict : Option ℕ) : Type
   pub swept : IsSwept new l conflict
 
 -- a clause may watch those two: the second it watches already, and the first isn't false
-pub record MayWatch (w : Watch) (i : ℕ) (p : Pair) : Type 0 where
+pub record MayWatch (w : Watch) (i : ℕ) (p : WatchedPair) : Type 0 where
   pub two : IsPair (clause_at w.clauses i) p
-  pub second : (d : Pair) → IsOneOf (slice_index_or w.pairs.items i d) p.second
+  pub second : (d : WatchedPair) → IsOneOf (slice_index_or w.pairs.items i d) p.second
   pub first : is_false (literals w.trail.entries) p.first ≡ false
 
 -- the other literals of a clause are false, and this one isn't true
@@ -70,8 +70,8 @@ pub record IsLong (w : Watch) (i : ℕ) : Type 0 where
   pub long : 2 ≤ length (clause_at w.clauses i)
 
 -- each clause that watches the literal is true, or listed from that place on
-abbrev pub ArePending : List (List Literal) → List Pair → List Watcher → List Assigned → Literal → ℕ → Type 0
-ArePending clauses pairs watchers trail l place = (i : ℕ) (d : Pair) → i < length clauses → 2 ≤ length (clause_at clauses i) → IsOneOf (slice_index_or pairs i d) l → (list_any (has_literal (literals trail)) (clause_at clauses i) ≡ true) ⊎ IsListed watchers place i
+abbrev pub ArePending : List (List Literal) → List WatchedPair → List Watcher → List Assigned → Literal → ℕ → Type 0
+ArePending clauses pairs watchers trail l place = (i : ℕ) (d : WatchedPair) → i < length clauses → 2 ≤ length (clause_at clauses i) → IsOneOf (slice_index_or pairs i d) l → (list_any (has_literal (literals trail)) (clause_at clauses i) ≡ true) ⊎ IsListed watchers place i
 
 -- a watcher was taken out of the list of the literal
 pub record Unwatches (old new : Watch) (l : Literal) (place : ℕ) : Type 0 where
@@ -89,7 +89,7 @@ pub record IsAt (watchers : List Watcher) (place : ℕ) (w : Watcher) : Type 0 w
 
 -- no clause of the watcher at that place watches the literal
 abbrev pub IsStale : Watch → Literal → ℕ → Type 0
-IsStale w l place = (p : Pair) (d : Watcher) → IsOneOf (slice_index_or w.pairs.items (slice_index_or (list_at w.lists.items l) place d).clause p) l → ⊥
+IsStale w l place = (p : WatchedPair) (d : Watcher) → IsOneOf (slice_index_or w.pairs.items (slice_index_or (list_at w.lists.items l) place d).clause p) l → ⊥
 
 -- the literal is the negation of the first that wasn't propagated
 pub record IsNext (w : Watch) (l : Literal) : Type 0 where

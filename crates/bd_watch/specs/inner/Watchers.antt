@@ -1,12 +1,12 @@
 -- Watchers of a literal, in a list whose order doesn't matter.
 use Rattle.std.specs.Prelude.{◌≡◌, ◌≢◌, ◌⊎◌, ◌<◌, ◌+◌, ◌-◌, ℕ, List, [], ◌∷◌, ◌++◌, length, slice_index_or, slice_set}
 use Rattle.bd_watch.specs.declared.watcher.Watcher.{Watcher}
-use Rattle.bd_watch.specs.declared.watcher.Pair.{Pair}
+use Rattle.bd_watch.specs.declared.watcher.WatchedPair.{WatchedPair}
 use Rattle.bd_cnf.specs.Literal.{Literal}
-use Rattle.bd_watch.specs.Codes.{code_of}
+use Rattle.bd_cnf.specs.Packed.{literal_index}
 
 -- the two literals of the pair are these
-abbrev pub AreTwo : Pair → Literal → Literal → Type 0
+abbrev pub AreTwo : WatchedPair → Literal → Literal → Type 0
 AreTwo p l other = ((l ≡ p.first) × (other ≡ p.second)) ⊎ ((l ≡ p.second) × (other ≡ p.first))
 
 -- one was taken out, and the last put into its place
@@ -17,4 +17,4 @@ pub record Removes (old : List Watcher) (place : ℕ) (new : List Watcher) : Typ
 
 -- the literal has one watcher more
 abbrev pub listed_more : List (List Watcher) → Literal → Watcher → List (List Watcher)
-listed_more lists l w = slice_set lists (code_of l) (slice_index_or lists (code_of l) [] ++ w ∷ [])
+listed_more lists l w = slice_set lists (literal_index l) (slice_index_or lists (literal_index l) [] ++ w ∷ [])

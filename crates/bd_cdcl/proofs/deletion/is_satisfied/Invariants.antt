@@ -1,4 +1,4 @@
 use Rattle.bd_cdcl.proofs.deletion.is_satisfied.Given as goal
 
-abbrev pub invariant-loop-code : goal.invariant-loop-code
-invariant-loop-code l = Unit {0}
+abbrev pub invariant-loop-packed : goal.invariant-loop-packed
+invariant-loop-packed l = Unit {0}

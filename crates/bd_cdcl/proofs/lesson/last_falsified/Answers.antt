@@ -8,8 +8,8 @@ use Rattle.bd_watch.specs.Levels.{literals}
 use Rattle.bd_watch.specs.Trails.{LeveledTrail, IsPlaceOf}
 use Rattle.bd_cdcl.specs.declared.lesson.Second.{Second}
 use Rattle.bd_cdcl.specs.inner.Analyses.{IsSecond}
-use Rattle.bd_cdcl.proofs.Marking.{once_on}
-use Rattle.bd_cdcl.proofs.Lessons.{second_none, second_later, second_earlier}
+use Rattle.bd_cdcl.proofs.MarksSet.{once_on}
+use Rattle.bd_cdcl.proofs.LessonLevels.{second_none, second_later, second_earlier}
 use Rattle.bd_cdcl.proofs.lesson.last_falsified.Goals as goal
 use Rattle.bd_cdcl.proofs.lesson.last_falsified.Goals.{then-place-floor, else-place-floor}
 
@@ -28,13 +28,13 @@ loop-other-preserved c =
     let l = c.other-item.result in
     let rest = c.args.rest.now in
     let i = c.loop-other.other-index in
-    let s : Second = record { code = c.loop-other.code; floor = c.loop-other.floor } in
+    let s : Second = record { literal = c.loop-other.literal; floor = c.loop-other.floor } in
     let bad = c.requires.falsified l (has_at i rest l l c.loop-other-test.true c.other-item.is) in
     let at = subst (λ (t : LeveledTrail). IsPlaceOf t.entries l.var c.place-place.result) c.trail-trail.ensures c.place-place.ensures in
     let once = once_on (numbered w.clauses) w.trail.entries c.requires.watching.complete in
     let more : take (i + 1) rest ≡ take i rest ++ l ∷ [] = take_more rest i l c.loop-other-test.true ∙ ap (λ (m : Literal). take i rest ++ m ∷ []) (sym c.other-item.is) in
-    subst (λ ls. IsSecond w.trail.entries ls (record { code = c.if-place-floor.code; floor = c.if-place-floor.floor })) (sym more)
+    subst (λ ls. IsSecond w.trail.entries ls (record { literal = c.if-place-floor.literal; floor = c.if-place-floor.floor })) (sym more)
     (elim c.if-place-floor.branch [
-      | then-place-floor b ↦ subst (IsSecond w.trail.entries (take i rest ++ l ∷ [])) (λ j. record { code = sym b.code-is j; floor = sym b.floor-is j }) (second_later w.trail.entries (take i rest) s l c.place-place.result c.loop-other.invariant at bad once b.if-place-floor.true)
-      | else-place-floor b ↦ subst (IsSecond w.trail.entries (take i rest ++ l ∷ [])) (λ j. record { code = sym b.code-is j; floor = sym b.floor-is j }) (second_earlier w.trail.entries (take i rest) s l c.place-place.result c.loop-other.invariant at bad once b.if-place-floor.false)
+      | then-place-floor b ↦ subst (IsSecond w.trail.entries (take i rest ++ l ∷ [])) (λ j. record { literal = sym b.literal-is j; floor = sym b.floor-is j }) (second_later w.trail.entries (take i rest) s l c.place-place.result c.loop-other.invariant at bad once b.if-place-floor.true)
+      | else-place-floor b ↦ subst (IsSecond w.trail.entries (take i rest ++ l ∷ [])) (λ j. record { literal = sym b.literal-is j; floor = sym b.floor-is j }) (second_earlier w.trail.entries (take i rest) s l c.place-place.result c.loop-other.invariant at bad once b.if-place-floor.false)
     ])

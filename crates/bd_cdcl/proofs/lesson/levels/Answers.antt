@@ -8,6 +8,6 @@ use Rattle.bd_cdcl.proofs.lesson.levels.Goals as goal
 
 pub place-requires : goal.place-requires
 place-requires c =
-    let l = c.code-item.result in
-    let bad = c.requires.falsified l (has_at c.loop-code.code-index c.args.codes.now l l c.loop-code-test.true c.code-item.is) in
+    let l = c.packed-item.result in
+    let bad = c.requires.falsified l (has_at c.loop-packed.packed-index c.args.lits.now l l c.loop-packed-test.true c.packed-item.is) in
     subst (λ (t : LeveledTrail). has_variable (literals t.entries) l.var ≡ true) (sym c.trail-trail.ensures) (has_variable_of (literals c.args.watch.now.trail.entries) (negate l) bad)

@@ -21,7 +21,7 @@ returns-in_default c =
     let on = mark_read c.args.self.now.marks.items c.args.place c.index.result.now low c.index.ensures ∙ c.if-not-index.false in
     let read = c.index-as_slice-place.is ∙ ap (λ (es : List Assigned). get_or es c.args.place entry) (c.as_slice.ensures.entries ∙ ap (λ (t : LeveledTrail). t.entries) c.trail.ensures) in
     on_ok_weaker c.keep.result
-    (step_keeps w c.args.place entry c.requires.watching c.requires.within read c.args.start c.args.self.now c.keep.new.self c.negated-negated.result on (c.negated-negated.ensures ∙ ap negate c.code.ensures)
+    (step_keeps w c.args.place entry c.requires.watching c.requires.within read c.args.start c.args.self.now c.keep.new.self c.negated-negated.result on (c.negated-negated.ensures ∙ ap negate c.literal.ensures)
     (decision_lone w c.args.place entry c.requires.watching c.requires.within read c.args.start c.args.self.now.marks.items (sym c.reason.ensures ∙ c.in_default.is) c.requires.start))
     c.keep.ensures
 
@@ -35,7 +35,7 @@ returns-then-not-resolves c =
     let read = c.index-as_slice-place.is ∙ ap (λ (es : List Assigned). get_or es c.args.place entry) (c.as_slice.ensures.entries ∙ ap (λ (t : LeveledTrail). t.entries) c.trail.ensures) in
     let lone : c.args.start ≤ c.args.place → AreUnmarked marks c.args.start c.args.place = OnFalse_at (c.if-not-resolves.true) c.in_ok-resolves.ensures.lone in
     on_ok_weaker c.keep-then-not-resolves.result
-    (step_keeps w c.args.place entry c.requires.watching c.requires.within read c.args.start c.args.self.now c.keep-then-not-resolves.new.self c.negated-negated.result on (c.negated-negated.ensures ∙ ap negate c.code.ensures) lone)
+    (step_keeps w c.args.place entry c.requires.watching c.requires.within read c.args.start c.args.self.now c.keep-then-not-resolves.new.self c.negated-negated.result on (c.negated-negated.ensures ∙ ap negate c.literal.ensures) lone)
     c.keep-then-not-resolves.ensures
 
 pub resolve-requires-clause-assigned : goal.resolve-requires-clause-assigned

@@ -2,7 +2,7 @@ use Rattle.std.proofs.Common.{sym, subst}
 use Rattle.std.specs.Bool.{OnTrue}
 use Rattle.std.specs.Prelude.{IsSomeAnd}
 use Rattle.bd_cdcl.specs.inner.Deletions.{IsSatisfied}
-use Rattle.bd_cdcl.proofs.Deleting.{stands_below}
+use Rattle.bd_cdcl.proofs.DeletedClauses.{stands_below}
 use Rattle.bd_cdcl.proofs.deletion.Deletion.may_delete.Goals as goal
 
 pub is_satisfied-requires-clause-below : goal.is_satisfied-requires-clause-below

@@ -2,7 +2,7 @@ use Rattle.std.proofs.Common.{subst}
 use Rattle.bd_watch.specs.declared.watch.Watch.{Watch}
 use Rattle.bd_watch.specs.Watch.{DecidesIn}
 use Rattle.bd_cdcl.specs.declared.descent.Descent.{Descent}
-use Rattle.bd_cdcl.proofs.Descending.{decision_advances}
+use Rattle.bd_cdcl.proofs.DescentSteps.{decision_advances}
 use Rattle.bd_cdcl.proofs.descent.Descent.decide.Goals as goal
 
 pub returns-in-Some-clause-advanced : goal.returns-in-Some-clause-advanced

@@ -9,7 +9,7 @@ use Rattle.bd_watch.specs.Watch.{Propagates, Starts}
 use Rattle.bd_cdcl.specs.declared.descent.Descent.{Descent}
 use Rattle.bd_cdcl.specs.inner.Deletions.{Deletes}
 use Rattle.bd_cdcl.specs.inner.Descents.{IsDescending, Advances}
-use Rattle.bd_cdcl.proofs.Descending.{propagated, descent_propagates, descent_begins, descent_moves, descent_deletes, units_refute, descent_ends, descent_goes_on, descent_satisfies}
+use Rattle.bd_cdcl.proofs.DescentSteps.{propagated, descent_propagates, descent_begins, descent_moves, descent_deletes, units_refute, descent_ends, descent_goes_on, descent_satisfies}
 use Rattle.bd_cdcl.proofs.descent.Descent.finish.Goals as goal
 
 at_error : {X E : Type 0} {P : Type 0} → (r : Result X E) → P → OnErr r P
@@ -26,7 +26,7 @@ returns-in-Some-3-clause-law c =
     let new = propagated d c.propagate.new.self in
     let propagates = subst (Propagates d.watch c.propagate.new.self) c.in-Some-2.is c.in_ok-conflict.ensures in
     let is = descent_propagates p d c.propagate.new.self c.loop-conflict.log (Some c.in-Some-2.conflict) c.loop-conflict.invariant.descending propagates in
-    descent_ends p new c.follow.new.self c.loop-conflict.log c.follow.new.log c.args.budget c.in-Some-2.conflict c.in_ok-found-in-Some-2.field-0 c.in-Some-3.found is propagates.end c.in_ok-found-in-Some-2.ensures.ok c.in-Some-3.is
+    descent_ends p new c.follow.new.self c.loop-conflict.log c.follow.new.log c.args.budget c.in-Some-2.conflict c.in_ok-found-in-Some-2.field-0 c.in-Some-3.found is c.loop-conflict.invariant.budgeted propagates.end c.in_ok-found-in-Some-2.ensures.ok c.in-Some-3.is
 
 pub loop-conflict-preserved-in_default-2 : goal.loop-conflict-preserved-in_default-2
 loop-conflict-preserved-in_default-2 c =
@@ -53,7 +53,7 @@ returns-then-not-advanced-clause-law c =
     let ended : AllAssigned c.propagate.new.self.trail = OnFalse_at (c.if-not-advanced.true) has.ended in
     let logged = descent_deletes p new c.loop-conflict.log c.advance.new.log is (subst (λ (w : Watch). Deletes w c.loop-conflict.log c.advance.new.log) unchanged has.deletes) in
     let same : c.trail.result.now ≡ c.propagate.new.self.trail = c.trail.ensures ∙ ap (λ (w : Watch). w.trail) unchanged in
-    descent_satisfies p new c.args.budget c.advance.new.log a logged propagates.end.1 ended
+    descent_satisfies p new c.args.budget c.advance.new.log a logged c.loop-conflict.invariant.budgeted propagates.end.1 ended
     (subst (λ (t : LeveledTrail). MakesTrue (value_of a) (literals t.entries)) same c.in_ok-assignment-in-None.ensures)
 
 pub loop-conflict-preserved : goal.loop-conflict-preserved

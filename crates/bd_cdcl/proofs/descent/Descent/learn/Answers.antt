@@ -1,7 +1,7 @@
 use Rattle.std.proofs.Common.{◌+◌, List, refl, ap, sym, subst}
 use Rattle.bd_cnf.specs.Literal.{Literal}
 use Rattle.bd_watch.specs.Watch.{MayLearn, Learns}
-use Rattle.bd_cdcl.proofs.Descending.{may_learn, goes_on}
+use Rattle.bd_cdcl.proofs.DescentSteps.{may_learn, goes_on}
 use Rattle.bd_cdcl.proofs.descent.Descent.learn.Goals as goal
 
 pub learn-requires-clause-learned : goal.learn-requires-clause-learned

@@ -1,7 +1,7 @@
 use Rattle.std.proofs.Common.{false, refl, subst}
 use Rattle.bd_watch.specs.Trails.{LeveledTrail, IsStartFrom}
 use Rattle.bd_cdcl.specs.declared.descent.Descent.{Descent}
-use Rattle.bd_cdcl.proofs.Descending.{restart_advances}
+use Rattle.bd_cdcl.proofs.DescentSteps.{restart_advances}
 use Rattle.bd_cdcl.proofs.descent.Descent.restart.Goals as goal
 
 pub returns-in-Some-clause-advanced : goal.returns-in-Some-clause-advanced

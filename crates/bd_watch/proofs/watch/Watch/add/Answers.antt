@@ -3,20 +3,20 @@ use Rattle.std.proofs.lemmas.Result.{on_ok_weaker}
 use Rattle.bd_cnf.specs.Literal.{Literal}
 use Rattle.bd_watch.specs.Watching.{pair_of}
 use Rattle.bd_watch.proofs.Parts.{all_has}
-use Rattle.bd_watch.proofs.Values.{code_below}
-use Rattle.bd_watch.proofs.Lists.{length-listed_more}
-use Rattle.bd_watch.proofs.Loading.{adds_long}
+use Rattle.bd_watch.proofs.Values.{index_below}
+use Rattle.bd_watch.proofs.ListedWatchers.{length-listed_more}
+use Rattle.bd_watch.proofs.LoadedClauses.{adds_long}
 use Rattle.bd_watch.proofs.watch.Watch.add.Goals as goal
 
 pub list-requires : goal.list-requires
 list-requires c =
     let pair = c.requires.pair c.if-lits-lt2.false in
-    omega (arith, c.requires.watched.sized, code_below c.args.first c.args.self.now.trail.limit (all_has (λ (l : Literal). l.var < c.args.self.now.trail.limit) c.args.lits.now c.args.first c.requires.below pair.first))
+    omega (arith, c.requires.watched.sized, index_below c.args.first c.args.self.now.trail.limit (all_has (λ (l : Literal). l.var < c.args.self.now.trail.limit) c.args.lits.now c.args.first c.requires.below pair.first))
 
 pub list-requires-2 : goal.list-requires-2
 list-requires-2 c =
     let pair = c.requires.pair c.if-lits-lt2.false in
-    omega (arith, c.requires.watched.sized, ap length c.in_ok-list.ensures.lists, length-listed_more c.args.self.now.lists.items c.args.first (record { clause = c.len-place.result; blocker = c.args.second }), code_below c.args.second c.args.self.now.trail.limit (all_has (λ (l : Literal). l.var < c.args.self.now.trail.limit) c.args.lits.now c.args.second c.requires.below pair.second))
+    omega (arith, c.requires.watched.sized, ap length c.in_ok-list.ensures.lists, length-listed_more c.args.self.now.lists.items c.args.first (record { clause = c.len-place.result; blocker = c.args.second }), index_below c.args.second c.args.self.now.trail.limit (all_has (λ (l : Literal). l.var < c.args.self.now.trail.limit) c.args.lits.now c.args.second c.requires.below pair.second))
 
 pub returns : goal.returns
 returns c =

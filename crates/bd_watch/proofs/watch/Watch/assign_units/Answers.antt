@@ -1,5 +1,5 @@
 use Rattle.std.proofs.Common.{◌≤◌, length, ap, arith}
-use Rattle.bd_watch.proofs.Loading.{started}
+use Rattle.bd_watch.proofs.LoadedClauses.{started}
 use Rattle.bd_watch.proofs.Units.{units_end}
 use Rattle.bd_watch.proofs.watch.Watch.assign_units.Goals as goal
 

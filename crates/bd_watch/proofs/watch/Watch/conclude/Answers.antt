@@ -2,7 +2,7 @@ use Rattle.std.proofs.Common.{◌∙◌, ◌+◌, ap, sym, refl}
 use Rattle.bd_cnf.specs.Literal.{Literal, has_literal}
 use Rattle.bd_watch.specs.Levels.{literals}
 use Rattle.bd_watch.proofs.Parts.{unassigned_from}
-use Rattle.bd_watch.proofs.Visiting.{left_below, visits_false, visits_implied}
+use Rattle.bd_watch.proofs.VisitedClauses.{left_below, visits_false, visits_implied}
 use Rattle.bd_watch.proofs.watch.Watch.conclude.Goals as goal
 
 pub has-requires : goal.has-requires

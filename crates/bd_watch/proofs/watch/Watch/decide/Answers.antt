@@ -1,7 +1,7 @@
 use Rattle.std.proofs.Common.{◌≤◌, length, refl, sym, subst}
 use Rattle.bd_watch.specs.Trails.{LeveledTrail}
 use Rattle.bd_watch.specs.Watching.{AreWatching}
-use Rattle.bd_watch.proofs.Watching.{decided}
+use Rattle.bd_watch.proofs.WatchedClauses.{decided}
 use Rattle.bd_watch.proofs.watch.Watch.decide.Goals as goal
 
 pub returns : goal.returns

@@ -2,7 +2,7 @@ use Rattle.std.proofs.Common.{◌<◌, ◌∙◌, length, refl, sym, ap, subst, 
 use Rattle.std.proofs.lemmas.List.{length-take-le}
 use Rattle.bd_watch.specs.Trails.{LeveledTrail}
 use Rattle.bd_watch.specs.Watching.{AreWatching}
-use Rattle.bd_watch.proofs.Watching.{taken_back}
+use Rattle.bd_watch.proofs.WatchedClauses.{taken_back}
 use Rattle.bd_watch.proofs.watch.Watch.go_back_to.Goals as goal
 
 pub returns : goal.returns

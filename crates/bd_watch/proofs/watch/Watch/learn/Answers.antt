@@ -2,7 +2,7 @@ use Rattle.std.proofs.Common.{◌<◌, ◌+◌, ap, sym, subst}
 use Rattle.bd_cnf.specs.Literal.{Literal}
 use Rattle.bd_watch.specs.Trails.{LeveledTrail}
 use Rattle.bd_watch.proofs.Parts.{all_has}
-use Rattle.bd_watch.proofs.Loading.{learns}
+use Rattle.bd_watch.proofs.LoadedClauses.{learns}
 use Rattle.bd_watch.proofs.watch.Watch.learn.Goals as goal
 
 pub imply-requires-clause-within : goal.imply-requires-clause-within

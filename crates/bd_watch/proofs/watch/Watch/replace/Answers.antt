@@ -1,13 +1,13 @@
 use Rattle.std.proofs.Common.{◌<◌, length, refl, arith}
-use Rattle.bd_watch.specs.Codes.{code_of}
-use Rattle.bd_watch.proofs.Watching.{literal_below}
-use Rattle.bd_watch.proofs.Visiting.{code_listed, visits_replaced}
+use Rattle.bd_cnf.specs.Packed.{literal_index}
+use Rattle.bd_watch.proofs.WatchedClauses.{literal_below}
+use Rattle.bd_watch.proofs.VisitedClauses.{index_listed, visits_replaced}
 use Rattle.bd_watch.proofs.watch.Watch.replace.Goals as goal
 
 pub index_mut-requires : goal.index_mut-requires
 index_mut-requires c =
     let w = c.args.self.now in
-    let low : code_of c.args.pair.first < length w.lists.items = code_listed w c.args.pair.first c.requires.watching (literal_below w.clauses w.pairs.items w.lists.items w.trail.limit c.args.clause c.args.pair.first c.requires.watching.watched c.requires.long.within c.requires.pair.two.first) in
+    let low : literal_index c.args.pair.first < length w.lists.items = index_listed w c.args.pair.first c.requires.watching (literal_below w.clauses w.pairs.items w.lists.items w.trail.limit c.args.clause c.args.pair.first c.requires.watching.watched c.requires.long.within c.requires.pair.two.first) in
     omega (arith, c.index.ensures, w.lists.ok.0)
 
 pub returns : goal.returns

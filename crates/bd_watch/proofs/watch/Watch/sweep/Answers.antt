@@ -1,6 +1,6 @@
 use Rattle.std.proofs.Common.{◌<◌, ◌+◌, ap, sym, subst}
 use Rattle.bd_watch.specs.inner.Visits.{Visits}
-use Rattle.bd_watch.proofs.Visiting.{watcher_read}
+use Rattle.bd_watch.proofs.VisitedClauses.{watcher_read}
 use Rattle.bd_watch.proofs.Sweeps.{extends_more, extends_unwatched, falsified_still, sweep_kept, sweep_moved, sweep_conflicts}
 use Rattle.bd_watch.proofs.watch.Watch.sweep.Goals as goal
 

@@ -1,12 +1,12 @@
 use Rattle.std.proofs.Common.{◌<◌, length, refl, arith}
-use Rattle.bd_watch.specs.Codes.{code_of}
-use Rattle.bd_watch.proofs.Visiting.{code_listed, unwatched}
+use Rattle.bd_cnf.specs.Packed.{literal_index}
+use Rattle.bd_watch.proofs.VisitedClauses.{index_listed, unwatched}
 use Rattle.bd_watch.proofs.watch.Watch.unwatch.Goals as goal
 
 pub index_mut-requires : goal.index_mut-requires
 index_mut-requires c =
     let w = c.args.self.now in
-    let low : code_of c.args.lit < length w.lists.items = code_listed w c.args.lit c.requires.watching c.requires.below in
+    let low : literal_index c.args.lit < length w.lists.items = index_listed w c.args.lit c.requires.watching c.requires.below in
     omega (arith, c.index.ensures, w.lists.ok.0)
 
 pub returns : goal.returns

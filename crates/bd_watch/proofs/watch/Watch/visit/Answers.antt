@@ -2,7 +2,7 @@ use Rattle.std.proofs.Common.{◌∙◌, refl, sym, subst}
 use Rattle.bd_watch.specs.Levels.{literals}
 use Rattle.bd_watch.specs.Watching.{clause_at}
 use Rattle.bd_watch.specs.inner.Visits.{IsReplacement}
-use Rattle.bd_watch.proofs.Visiting.{left_below, watcher_long, visits_true, pair_is, other_here, not_watched}
+use Rattle.bd_watch.proofs.VisitedClauses.{left_below, watcher_long, visits_true, pair_is, other_here, not_watched}
 use Rattle.bd_watch.proofs.watch.Watch.visit.Goals as goal
 
 pub has-requires : goal.has-requires

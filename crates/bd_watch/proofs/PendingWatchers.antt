@@ -1,0 +1,139 @@
+-- Going along the watchers of a literal: what is left to look at, and watchers taken out.
+use Rattle.std.proofs.Common.{◌≡◌, ◌≢◌, ℕ, ◌+◌, ◌-◌, ◌<◌, ◌≤◌, true, List, [], ◌++◌, length, get_or, set, sym, ap, ◌∙◌, subst, inl, inr, arith, length-set, get_or-set_same, get_or-set_other}
+use Rattle.std.specs.Prelude.{◌⊎◌}
+use Rattle.std.specs.List.{All, list_any}
+use Rattle.std.proofs.lemmas.Bool.{cases_eq, cases_lt}
+use Rattle.std.proofs.lemmas.List.{get_or_past}
+use Rattle.bd_cnf.specs.Literal.{Literal, has_literal}
+use Rattle.bd_watch.specs.declared.watcher.WatchedPair.{WatchedPair}
+use Rattle.bd_watch.specs.declared.watcher.Watcher.{Watcher}
+use Rattle.bd_cnf.specs.Packed.{literal_index}
+use Rattle.bd_watch.specs.Levels.{Assigned, literals}
+use Rattle.bd_watch.specs.Trails.{LeveledTrail}
+use Rattle.bd_watch.specs.Watching.{clause_at, list_at, IsOneOf, IsListed, IsWatcher, AreWatched, AreWatching}
+use Rattle.bd_watch.specs.inner.Watchers.{Removes}
+use Rattle.bd_watch.specs.inner.Visits.{ArePending, AreSettled}
+use Rattle.bd_watch.proofs.Placed.{literals-append}
+use Rattle.bd_watch.proofs.Guards.{true_grown}
+use Rattle.bd_watch.proofs.Values.{same_index}
+
+-- a watcher of another clause than the one at a place is listed after it
+pub listed_next : (ws : List Watcher) (place k : ℕ) (d : Watcher) → k ≢ (get_or ws place d).clause → IsListed ws place k → IsListed ws (place + 1) k
+listed_next ws place k d apart is = record { place = is.place; behind = behind; within = is.within; is = is.is }
+  where
+    behind : place + 1 ≤ is.place
+    behind = elim (cases_eq is.place place) [
+      | inl e ↦ absurd (apart (sym (is.is d) ∙ ap (λ n. (get_or ws n d).clause) e))
+      | inr other ↦ let at_least : place ≤ is.place = is.behind in omega (arith, other)
+    ]
+
+-- and it still is where that one was taken out
+pub listed_removed : (ws new : List Watcher) (place from k : ℕ) (d : Watcher) → Removes ws place new → place < length ws → from ≤ place → k ≢ (get_or ws place d).clause → IsListed ws from k → IsListed new from k
+listed_removed ws new place from k d gone low bound apart is =
+    elim (cases_lt (is.place + 1) (length ws)) [
+      | inl inside ↦ record {
+        place = is.place;
+        behind = is.behind;
+        within = omega (arith, gone.shorter);
+        is = λ e. ap (λ (w : Watcher). w.clause) (gone.kept is.place e other inside) ∙ is.is e;
+      }
+      | inr last ↦
+          let at_end : is.place ≡ length ws - 1 = omega (arith, is.within) in
+          let before : place + 1 < length ws = omega (arith, is.within, other) in
+          record {
+            place = place;
+            behind = bound;
+            within = omega (arith, gone.shorter);
+            is = λ e. ap (λ (w : Watcher). w.clause) (gone.moved e before) ∙ ap (λ n. (get_or ws n e).clause) (sym at_end) ∙ is.is e;
+          }
+    ]
+  where
+    other : is.place ≢ place
+    other e = apart (sym (is.is d) ∙ ap (λ n. (get_or ws n d).clause) e)
+
+all_removed : (P : Watcher → Type 0) (ws new : List Watcher) (place : ℕ) → Removes ws place new → place < length ws → All P ws → All P new
+all_removed P ws new place gone low all k d h =
+    elim (cases_eq k place) [
+      | inl e ↦
+          let before : place + 1 < length ws = omega (arith, gone.shorter) in
+          subst P (sym (ap (λ n. get_or new n d) e ∙ gone.moved d before)) (all (length ws - 1) d (omega arith))
+      | inr apart ↦ let inside : k + 1 < length ws = omega (arith, gone.shorter) in subst P (sym (gone.kept k d apart inside)) (all k d (omega arith))
+    ]
+
+-- a watcher is taken out whose clause doesn't watch the literal
+pub unlisted : (clauses : List (List Literal)) (pairs : List WatchedPair) (lists : List (List Watcher)) (trail : LeveledTrail) (head place : ℕ) (l : Literal) (new : List Watcher) (d : Watcher) → AreWatching clauses pairs lists trail head → Removes (list_at lists l) place new → place < length (list_at lists l) → ((p : WatchedPair) → IsOneOf (get_or pairs (get_or (list_at lists l) place d).clause p) l → ⊥) → AreWatching clauses pairs (set lists (literal_index l) new) trail head
+unlisted clauses pairs lists trail head place l new d is gone low none = record {
+  watched = record {
+    packable = was.packable;
+    paired = was.paired;
+    sized = length-set lists (literal_index l) new ∙ was.sized;
+    rising = was.rising;
+    below = was.below;
+    two = was.two;
+    listed = listed;
+    watchers = watchers;
+  };
+  complete = is.complete;
+  room = is.room;
+  below = is.below;
+  done = is.done;
+  guarded = is.guarded;
+  levels = is.levels;
+}
+  where
+    was : AreWatched trail.limit clauses pairs lists
+    was = is.watched
+
+    at_index : literal_index l < length lists
+    at_index = elim (cases_lt (literal_index l) (length lists)) [
+      | inl h ↦ h
+      | inr past ↦
+          let empty : list_at lists l ≡ [] = get_or_past lists (literal_index l) [] past in
+          absurd (omega (arith, ap length empty))
+    ]
+
+    now : list_at (set lists (literal_index l) new) l ≡ new
+    now = get_or-set_same lists (literal_index l) new [] at_index
+
+    listed : (i : ℕ) (p : WatchedPair) (m : Literal) → i < length clauses → 2 ≤ length (clause_at clauses i) → IsOneOf (get_or pairs i p) m → IsListed (list_at (set lists (literal_index l) new) m) 0 i
+    listed i p m h long one =
+        elim (cases_eq (literal_index m) (literal_index l)) [
+          | inl e ↦
+              let same : m ≡ l = same_index m l e in
+              let apart : i ≢ (get_or (list_at lists l) place d).clause = λ f. none p (subst (λ n. IsOneOf (get_or pairs n p) l) f (subst (IsOneOf (get_or pairs i p)) same one)) in
+              let there : IsListed (list_at lists l) 0 i = subst (λ (x : Literal). IsListed (list_at lists x) 0 i) same (was.listed i p m h long one) in
+              subst (λ (x : Literal). IsListed (list_at (set lists (literal_index l) new) x) 0 i) (sym same) (subst (λ ws. IsListed ws 0 i) (sym now) (listed_removed (list_at lists l) new place 0 i d gone low (omega arith) apart there))
+          | inr apart ↦ subst (λ ws. IsListed ws 0 i) (sym (get_or-set_other lists (literal_index l) (literal_index m) new [] apart)) (was.listed i p m h long one)
+        ]
+
+    watchers : (index : ℕ) → All (IsWatcher clauses) (get_or (set lists (literal_index l) new) index [])
+    watchers index =
+        elim (cases_eq index (literal_index l)) [
+          | inl e ↦ subst (All (IsWatcher clauses)) (sym (ap (λ n. get_or (set lists (literal_index l) new) n []) e ∙ now)) (all_removed (IsWatcher clauses) (list_at lists l) new place gone low (was.watchers (literal_index l)))
+          | inr apart ↦ subst (All (IsWatcher clauses)) (sym (get_or-set_other lists (literal_index l) index new [] apart)) (was.watchers index)
+        ]
+
+module _ (clauses : List (List Literal)) (pairs new_pairs : List WatchedPair) (ws : List Watcher) (trail more : List Assigned) (l : Literal) (place : ℕ) (d : Watcher) where
+  -- a clause other than the one that was looked at
+  pending_other : ArePending clauses pairs ws trail l place → ((k : ℕ) (p : WatchedPair) → k ≢ (get_or ws place d).clause → get_or new_pairs k p ≡ get_or pairs k p) → (i : ℕ) (p : WatchedPair) → i < length clauses → 2 ≤ length (clause_at clauses i) → IsOneOf (get_or new_pairs i p) l → i ≢ (get_or ws place d).clause → (list_any (has_literal (literals (trail ++ more))) (clause_at clauses i) ≡ true) ⊎ IsListed ws place i
+  pending_other is kept i p h long one apart =
+      elim (is i p h long (subst (λ (q : WatchedPair). IsOneOf q l) (kept i p apart) one)) [
+        | inl holds ↦ inl (subst (λ ls. list_any (has_literal ls) (clause_at clauses i) ≡ true) (sym (literals-append trail more)) (true_grown (literals trail) (literals more) (clause_at clauses i) holds))
+        | inr there ↦ inr there
+      ]
+
+  -- the clause was true, or is now
+  pub pending_kept : ArePending clauses pairs ws trail l place → ((k : ℕ) (p : WatchedPair) → k ≢ (get_or ws place d).clause → get_or new_pairs k p ≡ get_or pairs k p) → list_any (has_literal (literals (trail ++ more))) (clause_at clauses (get_or ws place d).clause) ≡ true → ArePending clauses new_pairs ws (trail ++ more) l (place + 1)
+  pending_kept is kept holds i p h long one =
+      elim (cases_eq i (get_or ws place d).clause) [
+        | inl e ↦ inl (subst (λ n. list_any (has_literal (literals (trail ++ more))) (clause_at clauses n) ≡ true) (sym e) holds)
+        | inr apart ↦ elim (pending_other is kept i p h long one apart) [ inl holds ↦ inl holds | inr there ↦ inr (listed_next ws place i d apart there) ]
+      ]
+
+  -- the clause watches another literal in its place
+  pub pending_moved : (new : List Watcher) → ArePending clauses pairs ws trail l place → ((k : ℕ) (p : WatchedPair) → k ≢ (get_or ws place d).clause → get_or new_pairs k p ≡ get_or pairs k p) → ((p : WatchedPair) → IsOneOf (get_or new_pairs (get_or ws place d).clause p) l → ⊥) → Removes ws place new → place < length ws → ArePending clauses new_pairs new (trail ++ more) l place
+  pending_moved new is kept none gone low i p h long one =
+      elim (cases_eq i (get_or ws place d).clause) [
+        | inl e ↦ absurd (none p (subst (λ n. IsOneOf (get_or new_pairs n p) l) e one))
+        | inr apart ↦ elim (pending_other is kept i p h long one apart) [ inl holds ↦ inl holds | inr there ↦ inr (listed_removed ws new place place i d gone low (omega arith) apart there) ]
+      ]
