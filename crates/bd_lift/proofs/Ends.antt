@@ -9,9 +9,6 @@ use Rattle.bd_transitive.specs.Orders.{IsOrder, place}
 use Rattle.bd_transitive.specs.Triangle.{class_of}
 use Rattle.bd_lift.specs.Decoded.{decoded_word, is_end}
 
-touches : Edge → ℕ → Bool
-touches e x = (e.from == x) || (e.to == x)
-
 or-left : (a b : Bool) → a ≡ true → (a || b) ≡ true
 or-left true b h = refl
 or-left false b h = absurd (false≢true h)

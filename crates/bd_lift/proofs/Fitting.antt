@@ -5,6 +5,7 @@ use Rattle.std.proofs.lemmas.Bool.{true≢false}
 use Rattle.std.proofs.lemmas.List.{get_or_default}
 use Rattle.std.proofs.lemmas.Option.{same_Some, slice_get-get_or}
 use Rattle.bd_model.specs.DesignView.{DesignView, PortView}
+use Rattle.bd_model.specs.declared.design.Sort.{Sort}
 use Rattle.bd_model.specs.declared.design.Sort.TheVariants as sort
 use Rattle.bd_model.specs.declared.design.Symbol.{Symbol}
 use Rattle.bd_model.specs.declared.design.Entry as entry
@@ -16,11 +17,13 @@ use Rattle.bd_model.specs.Fits.{Fits, KeepsApart, TableFits, result_sort, scalar
 use Rattle.bd_model.specs.Lawful.{IsConstant, IsLawful, IsLawfulGroup, IsLawfulPort}
 use Rattle.bd_model.specs.Value.{no_table, scalar_word, table_of}
 use Rattle.bd_terms.specs.declared.node.Node.{Node}
+use Rattle.bd_terms.specs.declared.node.Sym.{Sym}
 use Rattle.bd_terms.specs.declared.node.Sym.TheVariants.{Function, Entry, Input}
 use Rattle.bd_terms.specs.Graph.{Use, uses}
 use Rattle.bd_terms.proofs.Places.{AllByRecursion-get}
 use Rattle.bd_function.specs.declared.flat.FlatRow.{FlatRow}
 use Rattle.bd_function.specs.declared.flat.FlatSym.{FlatSym}
+use Rattle.bd_function.specs.declared.symbol_tables.SymTable.{SymTable}
 use Rattle.bd_function.specs.Flat.{HaveSorts, IsFlat, arguments, row_of}
 use Rattle.bd_function.specs.Tables.{default_by, sym_tables, table_with, world_of_tables}
 use Rattle.bd_function.proofs.Applying.{Contains-later}
@@ -29,14 +32,17 @@ use Rattle.bd_prop.specs.declared.atom.Atom.{Atom}
 use Rattle.bd_transitive.specs.declared.graph.Order.{Order}
 use Rattle.bd_transitive.specs.Orders.{IsOrder}
 use Rattle.bd_transitive.specs.Triangle.{value_at}
+use Rattle.bd_lift.specs.Counting.{ArgumentsDiffer, EachRowCounts, ValueCounts}
 use Rattle.bd_lift.specs.Decoded.{AreClasses, AreDecodedBy, decoded_word, edge_truths, variable_use}
-use Rattle.bd_lift.specs.Lifted.{AreKnown, AreToldApart, TellsApart}
+use Rattle.bd_lift.specs.Lifted.{AreKnown, AreToldApart, IsKnown, TellsApart}
 use Rattle.bd_lift.specs.inner.Built.{IsBuilt, entry_value, function_default, function_table, functions_of, scalar_as}
-use Rattle.bd_lift.proofs.Numbered.{AllZip-numbered, get-numbered}
+use Rattle.bd_lift.specs.inner.First.{AreAlike, RowsDiffer}
+use Rattle.bd_lift.proofs.Numbered.{AllByRecursion-numbered, AllZip-numbered, get-numbered}
 use Rattle.bd_lift.proofs.Ends.{Ends, Alone, placed}
 use Rattle.bd_lift.proofs.Deciding.{words-alone, words-edge}
-use Rattle.bd_lift.proofs.Tables.{AreRowsOf, default-given, default-own, entry-sort, function-fits, scalar_as-sort}
-use Rattle.bd_lift.proofs.Known.{IsFound, found, known-function, known-rows}
+use Rattle.bd_lift.proofs.Tables.{AreRowsOf, default-given, default-own, entry-sort, function-fits, scalar_as-sort, sort_arity, sort_result, use-arity, use-sort}
+use Rattle.bd_lift.proofs.FirstRows.{AreAlike-same, AreRowsOf-enough, HasEnough, entry-differ, function-differ, function_default-enough, world-differ, world-enough}
+use Rattle.bd_lift.proofs.Known.{IsFound, found, known-entry, known-function, known-rows}
 
 AllByRecursion-of : {X : Type 0} → (P Q : X → Type 0) (xs : List X) → AllByRecursion Q xs → ((x : X) → Contains xs x → Q x → P x) → AllByRecursion P xs
 AllByRecursion-of P Q [] h f = tt
@@ -65,26 +71,37 @@ pub record HasVariable (syms : List FlatSym) (order : Order) (classes : List ℕ
   pub word : x ≡ scalar.Word (decoded_word order classes row.var)
 
 module _ (d : DesignView) (nodes : List Node) (syms : List FlatSym) (order : Order) (atoms : List (Atom × Bool)) (classes : List ℕ) (v : ℕ → Scalar) (s : IsSettled d nodes syms order atoms classes v) where
-  -- a function's rows have its arity and sort
-  pub function-rows : (f : ℕ) (y : Symbol) → slice_get d.symbols f ≡ Some y → (h : FlatSym) → Contains syms h → h.sym ≡ Function f → AreRowsOf y.arity (result_sort y) (map (row_of v nodes) h.rows)
-  function-rows f y at h p e = by_rows h.rows refl
+  holder-rows : (k : Sym) (arity : ℕ) (z : Sort) → ((u : Use) → IsKnown d u → u.symbol ≡ k → (u.arity ≡ arity) × (u.sort ≡ z)) → (h : FlatSym) → Contains syms h → h.sym ≡ k → AreRowsOf arity z (map (row_of v nodes) h.rows)
+  holder-rows k arity z is h p e = by_rows h.rows refl
     where
-      by_rows : (rows : List FlatRow) → h.rows ≡ rows → AreRowsOf y.arity (result_sort y) (map (row_of v nodes) h.rows)
-      by_rows [] q = subst (λ l. AreRowsOf y.arity (result_sort y) (map (row_of v nodes) l)) (sym q) tt
+      by_rows : (rows : List FlatRow) → h.rows ≡ rows → AreRowsOf arity z (map (row_of v nodes) h.rows)
+      by_rows [] q = subst (λ l. AreRowsOf arity z (map (row_of v nodes) l)) (sym q) tt
       by_rows (r ∷ rows) q =
-          let k = s.known.each h p r (subst (λ l. Contains l r) (sym q) (0, omega arith, refl)) in
-          let known = known-function d k.applied f k.known (k.same ∙ e) in
-          let same : known.0 ≡ y = same_Some known.0 y (sym known.1 ∙ at) in
-          let all = known-rows d v nodes syms s.sorts s.known h p k.applied k.known k.same in
-          let arity : k.applied.arity ≡ y.arity = ap (λ (u : Use). u.arity) known.2 ∙ ap (λ (z : Symbol). z.arity) same in
-          let kind : k.applied.sort ≡ result_sort y = ap (λ (u : Use). u.sort) known.2 ∙ ap result_sort same in
-          subst (λ a. AreRowsOf a (result_sort y) (map (row_of v nodes) h.rows)) arity (subst (λ z. AreRowsOf k.applied.arity z (map (row_of v nodes) h.rows)) kind all)
+          let row = s.known.each h p r (subst (λ l. Contains l r) (sym q) (0, omega arith, refl)) in
+          let all = known-rows d v nodes syms s.sorts s.known h p row.applied row.known row.same in
+          let use_is = is row.applied row.known (row.same ∙ e) in
+          subst (λ a. AreRowsOf a z (map (row_of v nodes) h.rows)) use_is.0 (subst (λ y. AreRowsOf row.applied.arity y (map (row_of v nodes) h.rows)) use_is.1 all)
 
-  table-rows : (f : ℕ) (y : Symbol) → slice_get d.symbols f ≡ Some y → AreRowsOf y.arity (result_sort y) (world_of_tables (sym_tables v nodes syms) (Function f)).rows
-  table-rows f y at = elim (found v nodes syms (Function f)) [
-    | inl e ↦ subst (λ (t : Table). AreRowsOf y.arity (result_sort y) t.rows) (sym e) tt
-    | inr h ↦ subst (λ (t : Table). AreRowsOf y.arity (result_sort y) t.rows) (sym h.table) (function-rows f y at h.holder h.listed h.same)
+  -- a symbol's rows have its arity and sort
+  symbol-rows : (k : Sym) (arity : ℕ) (z : Sort) → ((u : Use) → IsKnown d u → u.symbol ≡ k → (u.arity ≡ arity) × (u.sort ≡ z)) → AreRowsOf arity z (world_of_tables (sym_tables v nodes syms) k).rows
+  symbol-rows k arity z is = elim (found v nodes syms k) [
+    | inl e ↦ subst (λ (t : Table). AreRowsOf arity z t.rows) (sym e) tt
+    | inr h ↦ subst (λ (t : Table). AreRowsOf arity z t.rows) (sym h.table) (holder-rows k arity z is h.holder h.listed h.same)
   ]
+
+  pub function-rows : (f : ℕ) (y : Symbol) → slice_get d.symbols f ≡ Some y → AreRowsOf y.arity (result_sort y) (world_of_tables (sym_tables v nodes syms) (Function f)).rows
+  function-rows f y at = symbol-rows (Function f) y.arity (result_sort y) (λ u known e.
+      let is = known-function d u f known e in
+      let same : is.0 ≡ y = same_Some is.0 y (sym is.1 ∙ at) in
+      (ap (λ (x : Use). x.arity) is.2 ∙ ap (λ (z : Symbol). z.arity) same, ap (λ (x : Use). x.sort) is.2 ∙ ap result_sort same))
+
+  pub entry-rows : (i : ℕ) (x : entry.Entry) → slice_get d.pipe.entries i ≡ Some x → AreRowsOf (sort_arity x.sort) (sort_result x.sort) (world_of_tables (sym_tables v nodes syms) (Entry i)).rows
+  entry-rows i x at = symbol-rows (Entry i) (sort_arity x.sort) (sort_result x.sort) (λ u known e.
+      let is = known-entry d u i known e in
+      let same : is.0 ≡ x = same_Some is.0 x (sym is.1 ∙ at) in (
+        ap (λ (z : Use). z.arity) is.2 ∙ use-arity (Entry i) is.0.sort ∙ ap (λ (z : entry.Entry). sort_arity z.sort) same,
+        ap (λ (z : Use). z.sort) is.2 ∙ use-sort (Entry i) is.0.sort ∙ ap (λ (z : entry.Entry). sort_result z.sort) same,
+      ))
 
   -- a constant has a number of its own, or the word of a variable
   constant-default : (f : ℕ) (y : Symbol) → slice_get d.symbols f ≡ Some y → y.arity ≡ 0 → y.predicate ≡ false
@@ -159,16 +176,22 @@ module _ (d : DesignView) (nodes : List Node) (syms : List FlatSym) (order : Ord
       function-number : (m n : ℕ) → Function m ≡ Function n → m ≡ n
       function-number m n h = cc
 
-  -- a function's table in the case
-  pub table_of-built : (interp : List Table) → interp ≡ functions_of (length order.vertices) (world_of_tables (sym_tables v nodes syms)) d.symbols → (f : ℕ) (y : Symbol) → slice_get d.symbols f ≡ Some y
-      → table_of interp f ≡ function_table (length order.vertices) f y (world_of_tables (sym_tables v nodes syms) (Function f))
-  table_of-built interp is f y at = ap (λ l. table_of l f) is
-      ∙ get-numbered (λ m z. function_table (length order.vertices) m z (world_of_tables (sym_tables v nodes syms) (Function m))) 0 d.symbols f f y no_table at (omega arith)
+module _ (d : DesignView) (nodes : List Node) (syms : List FlatSym) (order : Order) (atoms : List (Atom × Bool)) (classes : List ℕ) (v : ℕ → Scalar) (s : IsSettled d nodes syms order atoms classes v)
+    (tables : List SymTable) (alike : AreAlike (sym_tables v nodes syms) tables) where
+  -- each symbol has enough of its rows
+  pub has-enough : (k : Sym) → HasEnough (world_of_tables (sym_tables v nodes syms) k) (world_of_tables tables k)
+  has-enough k = world-enough (sym_tables v nodes syms) tables alike k
 
-  keeps-apart : (interp : List Table) → interp ≡ functions_of (length order.vertices) (world_of_tables (sym_tables v nodes syms)) d.symbols → (group : List ℕ) → Contains d.distinct group → IsLawfulGroup d group → KeepsApart interp group
+  -- a function's table in the case
+  pub table_of-built : (interp : List Table) → interp ≡ functions_of (length order.vertices) (world_of_tables tables) d.symbols → (f : ℕ) (y : Symbol) → slice_get d.symbols f ≡ Some y
+      → table_of interp f ≡ function_table (length order.vertices) f y (world_of_tables tables (Function f))
+  table_of-built interp is f y at = ap (λ l. table_of l f) is
+      ∙ get-numbered (λ m z. function_table (length order.vertices) m z (world_of_tables tables (Function m))) 0 d.symbols f f y no_table at (omega arith)
+
+  keeps-apart : (interp : List Table) → interp ≡ functions_of (length order.vertices) (world_of_tables tables) d.symbols → (group : List ℕ) → Contains d.distinct group → IsLawfulGroup d group → KeepsApart interp group
   keeps-apart interp is group p l = record {
     no_rows = AllByRecursion-of (λ f. (table_of interp f).rows ≡ []) (IsConstant d) group l.constants (λ f q c.
-        ap (λ (t : Table). t.rows) (table_of-built interp is f c.0 c.1) ∙ ap (λ b. if b then [] else (world_of_tables (sym_tables v nodes syms) (Function f)).rows) (eq-eqb c.0.arity 0 c.2));
+        ap (λ (t : Table). t.rows) (table_of-built interp is f c.0 c.1) ∙ ap (λ b. if b then [] else (world_of_tables tables (Function f)).rows) (eq-eqb c.0.arity 0 c.2));
     different = λ i j dft lt inside e.
         let f = get_or group i dft in
         let g = get_or group j dft in
@@ -177,29 +200,51 @@ module _ (d : DesignView) (nodes : List Node) (syms : List FlatSym) (order : Ord
         let cg = AllByRecursion-get (IsConstant d) group j g l.constants (slice_get-get_or group j dft inside) in
         let df = table_of-built interp is f cf.0 cf.1 in
         let dg = table_of-built interp is g cg.0 cg.1 in
-        constants-differ group p f g (slot group i dft within) (slot group j dft inside) (l.different i j dft lt inside) _ _
-        (constant-default f cf.0 cf.1 cf.2 cf.3) (constant-default g cg.0 cg.1 cg.2 cg.3)
-        (sym (ap (λ (t : Table). t.default) df) ∙ e ∙ ap (λ (t : Table). t.default) dg);
+        constants-differ d nodes syms order atoms classes v s group p f g (slot group i dft within) (slot group j dft inside) (l.different i j dft lt inside) _ _
+        (constant-default d nodes syms order atoms classes v s f cf.0 cf.1 cf.2 cf.3) (constant-default d nodes syms order atoms classes v s g cg.0 cg.1 cg.2 cg.3)
+        (sym (ap (λ (t : Table). t.default) df ∙ own-default f cf.0) ∙ e ∙ ap (λ (t : Table). t.default) dg ∙ own-default g cg.0);
   }
     where
+      own-default : (m : ℕ) (y : Symbol) → function_default (length order.vertices) m y (world_of_tables tables (Function m)) ≡ function_default (length order.vertices) m y (world_of_tables (sym_tables v nodes syms) (Function m))
+      own-default m y = function_default-enough (length order.vertices) m y _ _ (has-enough (Function m))
+
       slot : (xs : List ℕ) (k dft : ℕ) → k < length xs → Contains xs (get_or xs k dft)
       slot xs k dft h = (k, h, get_or_default xs k (get_or xs k dft) dft h)
 
   -- the case fits
-  pub built-fits : (c : Case) → IsBuilt d (length order.vertices) (world_of_tables (sym_tables v nodes syms)) c.interp c.state c.inputs → Fits d c
-  built-fits c b = record {
+  pub built-fits-alike : (c : Case) → IsBuilt d (length order.vertices) (world_of_tables tables) c.interp c.state c.inputs → Fits d c
+  built-fits-alike c b = record {
     interp = record {
       tables = subst (AllZip TableFits d.symbols) (sym b.functions)
-          (AllZip-numbered TableFits (λ f y. function_table (length order.vertices) f y (world_of_tables (sym_tables v nodes syms) (Function f))) 0 d.symbols
+          (AllZip-numbered TableFits (λ f y. function_table (length order.vertices) f y (world_of_tables tables (Function f))) 0 d.symbols
           (λ i j y at e.
           let same : i ≡ j = omega (arith, e) in
-          function-fits (length order.vertices) j y (world_of_tables (sym_tables v nodes syms) (Function j)) (table-rows j y (ap (slice_get d.symbols) (sym same) ∙ at))));
+          function-fits (length order.vertices) j y (world_of_tables tables (Function j)) (AreRowsOf-enough _ _ _ _ (has-enough (Function j)).rows (function-rows d nodes syms order atoms classes v s j y (ap (slice_get d.symbols) (sym same) ∙ at)))));
       apart = AllByRecursion-of (KeepsApart c.interp) (IsLawfulGroup d) d.distinct s.lawful.distinct (keeps-apart c.interp b.functions);
     };
     state = subst (AllZip (λ (e : entry.Entry) x. value_sort x ≡ e.sort) d.pipe.entries) (sym b.entries)
-        (AllZip-numbered (λ (e : entry.Entry) x. value_sort x ≡ e.sort) (λ i (x : entry.Entry). entry_value x.sort (world_of_tables (sym_tables v nodes syms) (Entry i))) 0 d.pipe.entries
-        (λ i j x at e. entry-sort x.sort (world_of_tables (sym_tables v nodes syms) (Entry j))));
+        (AllZip-numbered (λ (e : entry.Entry) x. value_sort x ≡ e.sort) (λ i (x : entry.Entry). entry_value x.sort (world_of_tables tables (Entry i))) 0 d.pipe.entries
+        (λ i j x at e. entry-sort x.sort (world_of_tables tables (Entry j))));
     inputs = subst (AllZip (λ (p : PortView) x. scalar_sort x ≡ p.sort) d.pipe.ports) (sym b.ports)
-        (AllZip-numbered (λ (p : PortView) x. scalar_sort x ≡ p.sort) (λ i (p : PortView). scalar_as p.sort (world_of_tables (sym_tables v nodes syms) (Input i)).default) 0 d.pipe.ports
-        (λ i j p at e. scalar_as-sort p.sort (world_of_tables (sym_tables v nodes syms) (Input j)).default (AllByRecursion-get (IsLawfulPort d) d.pipe.ports i p s.lawful.ports at).sort));
+        (AllZip-numbered (λ (p : PortView) x. scalar_sort x ≡ p.sort) (λ i (p : PortView). scalar_as p.sort (world_of_tables tables (Input i)).default) 0 d.pipe.ports
+        (λ i j p at e. scalar_as-sort p.sort (world_of_tables tables (Input j)).default (AllByRecursion-get (IsLawfulPort d) d.pipe.ports i p s.lawful.ports at).sort));
   }
+
+  -- and each of its rows counts
+  pub built-counts : RowsDiffer tables → (c : Case) → IsBuilt d (length order.vertices) (world_of_tables tables) c.interp c.state c.inputs → EachRowCounts c
+  built-counts differ c b = record {
+    tables = subst (AllByRecursion (λ (t : Table). ArgumentsDiffer t.rows)) (sym b.functions)
+        (AllByRecursion-numbered (λ (t : Table). ArgumentsDiffer t.rows) (λ f y. function_table (length order.vertices) f y (world_of_tables tables (Function f))) 0 d.symbols
+        (λ i j y at e. function-differ (length order.vertices) j y (world_of_tables tables (Function j)) (world-differ tables differ (Function j))));
+    memories = subst (AllByRecursion ValueCounts) (sym b.entries)
+        (AllByRecursion-numbered ValueCounts (λ i (x : entry.Entry). entry_value x.sort (world_of_tables tables (Entry i))) 0 d.pipe.entries
+        (λ i j x at e.
+        let same : i ≡ j = omega (arith, e) in
+        entry-differ x.sort (world_of_tables tables (Entry j))
+        (AreRowsOf-enough _ _ _ _ (has-enough (Entry j)).rows (entry-rows d nodes syms order atoms classes v s j x (ap (slice_get d.pipe.entries) (sym same) ∙ at))) (world-differ tables differ (Entry j))));
+  }
+
+-- so does that of all rows
+pub built-fits : (d : DesignView) (nodes : List Node) (syms : List FlatSym) (order : Order) (atoms : List (Atom × Bool)) (classes : List ℕ) (v : ℕ → Scalar) → IsSettled d nodes syms order atoms classes v
+    → (c : Case) → IsBuilt d (length order.vertices) (world_of_tables (sym_tables v nodes syms)) c.interp c.state c.inputs → Fits d c
+built-fits d nodes syms order atoms classes v s c b = built-fits-alike d nodes syms order atoms classes v s (sym_tables v nodes syms) (AreAlike-same (sym_tables v nodes syms)) c b

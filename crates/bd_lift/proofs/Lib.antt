@@ -5,8 +5,8 @@ pub mod Deciding
 pub mod Classes
 pub mod Building
 pub mod Tables
+pub mod FirstRows
 pub mod Known
 pub mod Fitting
 pub mod Worlds
-pub mod Examples
 pub mod Denoting

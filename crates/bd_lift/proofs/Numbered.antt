@@ -1,7 +1,7 @@
 -- Items with their places.
 use Rattle.std.proofs.Common.{◌≡◌, ℕ, zero, suc, ◌+◌, ◌≤◌, List, [], ◌∷◌, ◌++◌, length, map, take, slice_get, slice_set, Some, refl, ap, sym, ◌∙◌, arith}
 use Rattle.std.specs.Prelude.{slice_index_or}
-use Rattle.std.specs.List.{AllZip}
+use Rattle.std.specs.List.{AllByRecursion, AllZip}
 use Rattle.std.proofs.lemmas.List.{length-take-le, take_more}
 use Rattle.std.proofs.lemmas.Option.{get_or_from_slice_get, none-some, same_Some, slice_get_within}
 use Rattle.bd_lift.specs.inner.Built.{numbered}
@@ -45,6 +45,10 @@ set-numbered f g k (x ∷ xs) (suc i) j y at e h =
 pub AllZip-numbered : {X Y : Type 0} → (P : X → Y → Type 0) (f : ℕ → X → Y) (k : ℕ) (xs : List X) → ((i j : ℕ) (x : X) → slice_get xs i ≡ Some x → j ≡ k + i → P x (f j x)) → AllZip P xs (numbered f k xs)
 AllZip-numbered P f k [] h = tt
 AllZip-numbered P f k (x ∷ xs) h = (h 0 k x refl (omega arith), AllZip-numbered P f (suc k) xs (λ i j y at e. h (suc i) j y at (omega (arith, e))))
+
+pub AllByRecursion-numbered : {X Y : Type 0} → (P : Y → Type 0) (f : ℕ → X → Y) (k : ℕ) (xs : List X) → ((i j : ℕ) (x : X) → slice_get xs i ≡ Some x → j ≡ k + i → P (f j x)) → AllByRecursion P (numbered f k xs)
+AllByRecursion-numbered P f k [] h = tt
+AllByRecursion-numbered P f k (x ∷ xs) h = (h 0 k x refl (omega arith), AllByRecursion-numbered P f (suc k) xs (λ i j y at e. h (suc i) j y at (omega (arith, e))))
 
 -- one item more of those taken
 pub numbered-take : {X Y : Type 0} → (f : ℕ → X → Y) (xs : List X) (i : ℕ) (x : X) → slice_get xs i ≡ Some x → numbered f 0 (take (i + 1) xs) ≡ numbered f 0 (take i xs) ++ f i x ∷ []

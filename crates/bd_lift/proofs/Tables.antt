@@ -14,7 +14,9 @@ use Rattle.bd_model.specs.declared.table.Table.{Table}
 use Rattle.bd_model.specs.Fits.{RowFits, TableFits, result_sort, scalar_sort, value_sort}
 use Rattle.bd_model.specs.Table.{at, row_value}
 use Rattle.bd_model.specs.Value.{scalar_word}
+use Rattle.bd_symbolic.specs.DesignSymbols.{sort_use}
 use Rattle.bd_symbolic.specs.World.{constant, slot_row, value_table}
+use Rattle.bd_terms.specs.declared.node.Sym.{Sym}
 use Rattle.bd_function.specs.Tables.{default_by, default_of, table_with, zero_like}
 use Rattle.bd_lift.specs.inner.Built.{entry_value, function_default, function_table, has_no_row, scalar_as, slot_of}
 
@@ -120,7 +122,7 @@ function-alike classes f y rows h n args =
         ∙ sym (at-constant (result_sort y) rows (subst (λ a. AreRowsOf a (result_sort y) rows) (eqb-true y.arity 0 e) h) args)
     tested false e = ap (λ b. row_value (if b then [] else rows) args (default_of rows)) e
 
-one-argument : (args : List ℕ) → length args ≡ 1 → slice_index_or args 0 0 ∷ [] ≡ args
+pub one-argument : (args : List ℕ) → length args ≡ 1 → slice_index_or args 0 0 ∷ [] ≡ args
 one-argument [] h = absurd (omega (arith, h))
 one-argument (a ∷ []) h = refl
 one-argument (a ∷ b ∷ args) h = absurd (omega (arith, h))
@@ -128,7 +130,7 @@ one-argument (a ∷ b ∷ args) h = absurd (omega (arith, h))
 word-same : (x : Scalar) → scalar_sort x ≡ sort.Word → scalar.Word (scalar_word x) ≡ x
 word-same x h = scalar_as-same sort.Word x h
 
-slots-rows : (rows : List Row) → AreRowsOf 1 sort.Word rows → map slot_row (map slot_of rows) ≡ rows
+pub slots-rows : (rows : List Row) → AreRowsOf 1 sort.Word rows → map slot_row (map slot_of rows) ≡ rows
 slots-rows [] h = refl
 slots-rows (r ∷ rows) h =
     let args = one-argument r.args h.0.arity_is in
@@ -146,6 +148,17 @@ abbrev pub sort_result : Sort → Sort
 sort_result sort.Bool = sort.Bool
 sort_result sort.Word = sort.Word
 sort_result sort.Memory = sort.Word
+
+-- the arity and sort of a latch, memory or input
+pub use-arity : (k : Sym) (s : Sort) → (sort_use k s).arity ≡ sort_arity s
+use-arity k sort.Bool = refl
+use-arity k sort.Word = refl
+use-arity k sort.Memory = refl
+
+pub use-sort : (k : Sym) (s : Sort) → (sort_use k s).sort ≡ sort_result s
+use-sort k sort.Bool = refl
+use-sort k sort.Word = refl
+use-sort k sort.Memory = refl
 
 -- an entry has the values of its table
 pub entry-alike : (s : Sort) (rows : List Row) → AreRowsOf (sort_arity s) (sort_result s) rows → has_no_row rows ≡ false → (args : List ℕ) → at (value_table (entry_value s (table_with rows))) args ≡ at (table_with rows) args

@@ -19,10 +19,10 @@ use Rattle.bd_terms.specs.declared.node.Sym.{Sym}
 use Rattle.bd_terms.specs.declared.node.Sym.TheVariants.{Function, Entry, Input, Address, Var}
 use Rattle.bd_terms.specs.Graph.{Use}
 use Rattle.bd_terms.proofs.Places.{AllByRecursion-get}
-use Rattle.bd_symbolic.specs.DesignSymbols.{sort_use}
 use Rattle.bd_symbolic.specs.World.{constant, value_table, world_of}
 use Rattle.bd_function.specs.declared.flat.FlatRow.{FlatRow}
 use Rattle.bd_function.specs.declared.flat.FlatSym.{FlatSym}
+use Rattle.bd_function.specs.declared.symbol_tables.SymTable.{SymTable}
 use Rattle.bd_function.specs.Flat.{row_of}
 use Rattle.bd_function.specs.Tables.{default_of, sym_tables, table_with, world_of_tables}
 use Rattle.bd_function.proofs.Applying.{Contains-none}
@@ -30,11 +30,13 @@ use Rattle.bd_function.proofs.Tabling.{world_of_tables-own}
 use Rattle.bd_prop.specs.declared.atom.Atom.{Atom}
 use Rattle.bd_transitive.specs.declared.graph.Order.{Order}
 use Rattle.bd_lift.specs.Lifted.{IsKnownRow, IsLifted}
+use Rattle.bd_lift.specs.inner.First.{AreAlike}
 use Rattle.bd_lift.specs.inner.Built.{IsBuilt, entry_value, function_table, has_no_row, scalar_as}
 use Rattle.bd_lift.proofs.Numbered.{get-numbered}
-use Rattle.bd_lift.proofs.Tables.{AreRowsOf, constant-alike, entry-alike, function-alike, sort_arity, sort_result}
+use Rattle.bd_lift.proofs.Tables.{AreRowsOf, constant-alike, entry-alike, function-alike, sort_arity, sort_result, use-arity, use-sort}
+use Rattle.bd_lift.proofs.FirstRows.{AreAlike-same, entry-enough, function-enough}
 use Rattle.bd_lift.proofs.Known.{has-row, known-address, known-entry, known-function, known-input, known-rows, known-var}
-use Rattle.bd_lift.proofs.Fitting.{IsSettled, table_of-built}
+use Rattle.bd_lift.proofs.Fitting.{IsSettled, entry-rows, has-enough, table_of-built}
 
 -- the values of a function at the first numbers
 listed : (ℕ → ℕ) → ℕ → ℕ → List ℕ
@@ -66,17 +68,6 @@ below-bound (t ∷ syms) s i (zero, b, x) e =
     let here : sym_bound t.sym ≡ suc i = ap (λ (z : FlatSym). sym_bound z.sym) x ∙ ap sym_bound e in omega (arith, here)
 below-bound (t ∷ syms) s i (suc k, b, x) e = let rest = below-bound syms s i (k, omega arith, x) e in omega (arith, rest)
 
--- the arity and sort of a latch, memory or input
-use-arity : (k : Sym) (s : Sort) → (sort_use k s).arity ≡ sort_arity s
-use-arity k sort.Bool = refl
-use-arity k sort.Word = refl
-use-arity k sort.Memory = refl
-
-use-sort : (k : Sym) (s : Sort) → (sort_use k s).sort ≡ sort_result s
-use-sort k sort.Bool = refl
-use-sort k sort.Word = refl
-use-sort k sort.Memory = refl
-
 input-alike : (s : Sort) (rows : List Row) → (s ≡ sort.Memory → ⊥) → AreRowsOf (sort_arity s) (sort_result s) rows → has_no_row rows ≡ false → (args : List ℕ)
     → at (constant (scalar_as s (default_of rows))) args ≡ at (table_with rows) args
 input-alike sort.Bool rows m h n args = constant-alike sort.Bool sort.Bool rows h n refl args
@@ -84,7 +75,7 @@ input-alike sort.Word rows m h n args = constant-alike sort.Word sort.Word rows 
 input-alike sort.Memory rows m h n args = absurd (m refl)
 
 module _ (d : DesignView) (nodes : List Node) (syms : List FlatSym) (order : Order) (atoms : List (Atom × Bool)) (classes : List ℕ) (v : ℕ → Scalar) (s : IsSettled d nodes syms order atoms classes v)
-    (c : Case) (b : IsBuilt d (length order.vertices) (world_of_tables (sym_tables v nodes syms)) c.interp c.state c.inputs) where
+    (tables : List SymTable) (alike : AreAlike (sym_tables v nodes syms) tables) (c : Case) (b : IsBuilt d (length order.vertices) (world_of_tables tables) c.interp c.state c.inputs) where
   -- the decoded addresses
   addresses : List ℕ
   addresses = listed (λ i. scalar_word (world_of_tables (sym_tables v nodes syms) (Address i)).default) 0 (bound syms)
@@ -102,7 +93,8 @@ module _ (d : DesignView) (nodes : List Node) (syms : List FlatSym) (order : Ord
       let k = s.known.each h p r q in
       let y = known-function d k.applied f k.known (k.same ∙ e) in
       let rows = rows-by h p r k y.0.arity (result_sort y.0) (ap (λ (u : Use). u.arity) y.2) (ap (λ (u : Use). u.sort) y.2) in
-      ap (λ t. at t args) (table_of-built d nodes syms order atoms classes v s c.interp b.functions f y.0 y.1)
+      ap (λ t. at t args) (table_of-built d nodes syms order atoms classes v s tables alike c.interp b.functions f y.0 y.1)
+      ∙ function-enough (length order.vertices) f y.0 _ _ (has-enough d nodes syms order atoms classes v s tables alike (Function f)) args
       ∙ ap (λ t. at (function_table (length order.vertices) f y.0 t) args) own
       ∙ function-alike (length order.vertices) f y.0 (map (row_of v nodes) h.rows) rows (has-row v nodes h.rows r q) args
       ∙ ap (λ t. at t args) (sym own)
@@ -110,10 +102,12 @@ module _ (d : DesignView) (nodes : List Node) (syms : List FlatSym) (order : Ord
       let k = s.known.each h p r q in
       let x = known-entry d k.applied i k.known (k.same ∙ e) in
       let rows = rows-by h p r k (sort_arity x.0.sort) (sort_result x.0.sort) (ap (λ (u : Use). u.arity) x.2 ∙ use-arity (Entry i) x.0.sort) (ap (λ (u : Use). u.sort) x.2 ∙ use-sort (Entry i) x.0.sort) in
-      let held : slice_index_or c.state i (truth false) ≡ entry_value x.0.sort (world_of_tables (sym_tables v nodes syms) (Entry i)) =
+      let held : slice_index_or c.state i (truth false) ≡ entry_value x.0.sort (world_of_tables tables (Entry i)) =
       ap (λ l. slice_index_or l i (truth false)) b.entries
-      ∙ get-numbered (λ m (z : entry.Entry). entry_value z.sort (world_of_tables (sym_tables v nodes syms) (Entry m))) 0 d.pipe.entries i i x.0 (truth false) x.1 (omega arith) in
-      ap (λ z. at (value_table z) args) (held ∙ ap (entry_value x.0.sort) own)
+      ∙ get-numbered (λ m (z : entry.Entry). entry_value z.sort (world_of_tables tables (Entry m))) 0 d.pipe.entries i i x.0 (truth false) x.1 (omega arith) in
+      ap (λ z. at (value_table z) args) held
+      ∙ entry-enough x.0.sort _ _ (has-enough d nodes syms order atoms classes v s tables alike (Entry i)) (entry-rows d nodes syms order atoms classes v s i x.0 x.1) args
+      ∙ ap (λ t. at (value_table (entry_value x.0.sort t)) args) own
       ∙ entry-alike x.0.sort (map (row_of v nodes) h.rows) rows (has-row v nodes h.rows r q) args
       ∙ ap (λ t. at t args) (sym own)
   alike-by h p r q (Input i) e own args =
@@ -122,7 +116,8 @@ module _ (d : DesignView) (nodes : List Node) (syms : List FlatSym) (order : Ord
       let rows = rows-by h p r k (sort_arity x.0.sort) (sort_result x.0.sort) (ap (λ (u : Use). u.arity) x.2 ∙ use-arity (Input i) x.0.sort) (ap (λ (u : Use). u.sort) x.2 ∙ use-sort (Input i) x.0.sort) in
       let held : slice_index_or c.inputs i (scalar.Bool false) ≡ scalar_as x.0.sort (world_of_tables (sym_tables v nodes syms) (Input i)).default =
       ap (λ l. slice_index_or l i (scalar.Bool false)) b.ports
-      ∙ get-numbered (λ m (z : PortView). scalar_as z.sort (world_of_tables (sym_tables v nodes syms) (Input m)).default) 0 d.pipe.ports i i x.0 (scalar.Bool false) x.1 (omega arith) in
+      ∙ get-numbered (λ m (z : PortView). scalar_as z.sort (world_of_tables tables (Input m)).default) 0 d.pipe.ports i i x.0 (scalar.Bool false) x.1 (omega arith)
+      ∙ ap (scalar_as x.0.sort) (has-enough d nodes syms order atoms classes v s tables alike (Input i)).default in
       ap (λ z. at (constant z) args) (held ∙ ap (λ (t : Table). scalar_as x.0.sort t.default) own)
       ∙ input-alike x.0.sort (map (row_of v nodes) h.rows) (AllByRecursion-get (IsLawfulPort d) d.pipe.ports i x.0 s.lawful.ports x.1).sort rows (has-row v nodes h.rows r q) args
       ∙ ap (λ t. at t args) (sym own)
@@ -137,10 +132,15 @@ module _ (d : DesignView) (nodes : List Node) (syms : List FlatSym) (order : Ord
       ∙ ap (λ t. at t args) (sym own)
   alike-by h p r q (Var i) e own args = let k = s.known.each h p r q in absurd (known-var d k.applied i k.known (k.same ∙ e))
 
-  pub built-lifted : IsLifted nodes syms order atoms c
-  built-lifted = record {
+  pub built-lifted-alike : IsLifted nodes syms order atoms c
+  built-lifted-alike = record {
     values = v;
     decoded = record { classes = classes; are = s.are; by = s.by };
     addresses = addresses;
     alike = λ h p r q args. alike-by h p r q h.sym refl (world_of_tables-own v nodes syms s.flat.once h p) args;
   }
+
+-- so it is in that of all rows
+pub built-lifted : (d : DesignView) (nodes : List Node) (syms : List FlatSym) (order : Order) (atoms : List (Atom × Bool)) (classes : List ℕ) (v : ℕ → Scalar) → IsSettled d nodes syms order atoms classes v
+    → (c : Case) → IsBuilt d (length order.vertices) (world_of_tables (sym_tables v nodes syms)) c.interp c.state c.inputs → IsLifted nodes syms order atoms c
+built-lifted d nodes syms order atoms classes v s c b = built-lifted-alike d nodes syms order atoms classes v s (sym_tables v nodes syms) (AreAlike-same (sym_tables v nodes syms)) c b

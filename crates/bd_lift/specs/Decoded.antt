@@ -31,7 +31,7 @@ edge_truths atoms edges = map (edge_truth atoms) edges
 abbrev pub is_end : List Edge → ℕ → Bool
 is_end edges x = list_any (λ (e : Edge). (e.from == x) || (e.to == x)) edges
 
--- the word of a variable: the class of its vertex, and where it is in no edge a number of its own behind the classes;
+-- the word of a variable: the class of its vertex, and where it is in no edge a number of its own after the classes;
 -- each second number there is left for constants that have no variable
 abbrev pub decoded_word : Order → List ℕ → ℕ → ℕ
 decoded_word order classes x =

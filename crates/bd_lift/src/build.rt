@@ -3,7 +3,7 @@
 ghost use Rattle.std.specs.Prelude.{◌≡◌, ◌≤◌, ◌+◌, ◌*◌, ℕ, List, [], map, length, slice_get, slice_set, IfOk, OnOk, Some};
 ghost use Rattle.bd_model.specs.DesignView.{design_view, port_view};
 ghost use Rattle.bd_model.specs.Fits.{result_sort};
-ghost use Rattle.bd_model.specs.Value.{scalar_truth, scalar_word, no_table};
+ghost use Rattle.bd_model.specs.Value.{no_table};
 ghost use Rattle.bd_model.specs.declared.design.Symbol.{Symbol as TheSymbol};
 ghost use Rattle.bd_model.specs.declared.design.Entry.{Entry as TheEntry};
 ghost use Rattle.bd_model.specs.declared.design.Port.{Port as ThePort};
@@ -248,7 +248,7 @@ fn entry_value(alloc: Global, sort: Sort, table: &Table) -> Result<Value, AllocE
                 slots.push(slot_of(row))?;
             }
             Ok(Value::Memory(Memory {
-                default: word_of(table.default),
+                default: table.default.word(),
                 rows: Slots::from_vec(slots),
             }))
         }
@@ -261,7 +261,7 @@ fn slot_of(row: &Row) -> Slot
 {
     Slot {
         address: row.args.as_slice().first().copied().unwrap_or(0),
-        value: word_of(row.value),
+        value: row.value.word(),
     }
 }
 
@@ -270,25 +270,7 @@ fn scalar_as(sort: Sort, scalar: Scalar) -> Scalar
     ensures { result ≡ scalar_as sort scalar }
 {
     match sort {
-        Sort::Word => Scalar::Word(word_of(scalar)),
-        _ => Scalar::Bool(truth_of(scalar)),
-    }
-}
-
-fn truth_of(scalar: Scalar) -> bool
-    ensures { result ≡ scalar_truth scalar }
-{
-    match scalar {
-        Scalar::Bool(truth) => truth,
-        Scalar::Word(_) => false,
-    }
-}
-
-fn word_of(scalar: Scalar) -> u64
-    ensures { result ≡ scalar_word scalar }
-{
-    match scalar {
-        Scalar::Bool(_) => 0,
-        Scalar::Word(word) => word,
+        Sort::Word => Scalar::Word(scalar.word()),
+        _ => Scalar::Bool(scalar.truth()),
     }
 }

@@ -101,7 +101,7 @@ fn word_of(ends: &IndexMap<u64, u64>, count: usize, var: u64) -> Result<u64, All
     }
 }
 
-/// A number behind the classes.
+/// A number after the classes.
 pub(crate) fn own_number(classes: usize, index: u64) -> Result<u64, AllocError>
     ensures { IfOk result (λ number. number ≡ classes + 2 * index) }
 {

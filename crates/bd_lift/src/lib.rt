@@ -4,11 +4,9 @@
 
 mod build;
 mod decode;
+mod first;
 mod laws;
 mod lifting;
 
 pub use laws::{decoded_edges_tell, decoded_have_sorts, decoded_others_differ, lifted_denotes};
 pub use lifting::lift;
-
-#[cfg(test)]
-mod tests;

@@ -13,11 +13,11 @@ use Rattle.bd_prop.specs.declared.atom.Atom.TheVariants as atom
 use Rattle.bd_prop.specs.Values.{truth_of}
 use Rattle.bd_lift.specs.Decoded.{variable_use}
 
--- the word of a variable by the classes of ends, or behind so many classes
+-- the word of a variable by the classes of ends, or after so many classes
 abbrev pub word_by : List (ℕ × ℕ) → ℕ → ℕ → ℕ
 word_by ends count x = unwrap_or (lookup (nat_eq x) ends) (count + 2 * x)
 
--- what is held at y behind the node, where this was held before it
+-- what is held at y after the node, where this was held before it
 abbrev pub decoded_at : (ℕ → ℕ) → List (Atom × Bool) → Node → ℕ → Option Scalar → Option Scalar
 decoded_at word atoms (App (Var x) args) y before =
     if x == y then Some (scalar.Word (word x)) else before

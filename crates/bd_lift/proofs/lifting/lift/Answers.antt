@@ -6,11 +6,13 @@ use Rattle.bd_model.specs.declared.case.Case.{Case}
 use Rattle.bd_function.specs.Tables.{sym_tables, world_of_tables}
 use Rattle.bd_function.specs.Values.{scalar_of}
 use Rattle.bd_transitive.specs.Triangle.{AgreesWithClasses, MeetsTriangles, class_of, value_at}
+use Rattle.bd_lift.specs.Counting.{EachRowCounts}
 use Rattle.bd_lift.specs.Lifted.{IsLifted}
 use Rattle.bd_lift.specs.inner.Built.{IsBuilt}
+use Rattle.bd_lift.specs.inner.First.{AreAlike}
 use Rattle.bd_lift.proofs.Decoding.{AreDecodedBy-sorts}
-use Rattle.bd_lift.proofs.Fitting.{IsSettled, built-fits}
-use Rattle.bd_lift.proofs.Worlds.{built-lifted}
+use Rattle.bd_lift.proofs.Fitting.{IsSettled, built-counts, built-fits-alike}
+use Rattle.bd_lift.proofs.Worlds.{built-lifted-alike}
 use Rattle.bd_lift.proofs.lifting.lift.Goals as goal
 use Rattle.bd_lift.proofs.lifting.lift.Goals.{After-case_of}
 
@@ -37,21 +39,29 @@ settled c = record {
   apart = c.requires.constants;
 }
 
-built : (c : After-case_of) → IfOk c.case_of.result (λ (k : Case). IsBuilt (design_view c.args.design.now) (length c.args.order.now.vertices)
-    (world_of_tables (sym_tables (scalar_of c.in_ok-decoded.decoded) c.args.flat.now.graph c.args.flat.now.syms)) k.interp k.state k.inputs)
-built c = subst (λ ts. IfOk c.case_of.result (λ (k : Case). IsBuilt (design_view c.args.design.now) (length c.args.order.now.vertices) (world_of_tables ts) k.interp k.state k.inputs)) c.in_ok-tables.ensures.exact
-    (subst (λ n. IfOk c.case_of.result (λ (k : Case). IsBuilt (design_view c.args.design.now) n (world_of_tables c.in_ok-tables.tables) k.interp k.state k.inputs)) c.len.ensures c.case_of.ensures)
+built : (c : After-case_of) → IfOk c.case_of.result (λ (k : Case). IsBuilt (design_view c.args.design.now) (length c.args.order.now.vertices) (world_of_tables c.in_ok-first.first) k.interp k.state k.inputs)
+built c = subst (λ n. IfOk c.case_of.result (λ (k : Case). IsBuilt (design_view c.args.design.now) n (world_of_tables c.in_ok-first.first) k.interp k.state k.inputs)) c.len.ensures c.case_of.ensures
+
+alike : (c : After-case_of) → AreAlike (sym_tables (scalar_of c.in_ok-decoded.decoded) c.args.flat.now.graph c.args.flat.now.syms) c.in_ok-first.first
+alike c = subst (λ ts. AreAlike ts c.in_ok-first.first) c.in_ok-tables.ensures.exact c.in_ok-first.ensures.alike
 
 pub returns-clause-fits : goal.returns-clause-fits
 returns-clause-fits c =
     let s = goal.at.returns-clause-fits c in
     let k = s.After-case_of in
     if_ok _ (λ x. Fits (design_view c.args.design.now) x) c.case_of.result (built k) (λ x b.
-    built-fits (design_view c.args.design.now) c.args.flat.now.graph c.args.flat.now.syms c.args.order.now c.args.values.now c.in_ok-classes.classes (scalar_of c.in_ok-decoded.decoded) (settled k) x b)
+    built-fits-alike (design_view c.args.design.now) c.args.flat.now.graph c.args.flat.now.syms c.args.order.now c.args.values.now c.in_ok-classes.classes (scalar_of c.in_ok-decoded.decoded) (settled k) c.in_ok-first.first (alike k) x b)
 
 pub returns-clause-lifted : goal.returns-clause-lifted
 returns-clause-lifted c =
     let s = goal.at.returns-clause-lifted c in
     let k = s.After-case_of in
     if_ok _ (λ x. IsLifted c.args.flat.now.graph c.args.flat.now.syms c.args.order.now c.args.values.now x) c.case_of.result (built k) (λ x b.
-    built-lifted (design_view c.args.design.now) c.args.flat.now.graph c.args.flat.now.syms c.args.order.now c.args.values.now c.in_ok-classes.classes (scalar_of c.in_ok-decoded.decoded) (settled k) x b)
+    built-lifted-alike (design_view c.args.design.now) c.args.flat.now.graph c.args.flat.now.syms c.args.order.now c.args.values.now c.in_ok-classes.classes (scalar_of c.in_ok-decoded.decoded) (settled k) c.in_ok-first.first (alike k) x b)
+
+pub returns-clause-counts : goal.returns-clause-counts
+returns-clause-counts c =
+    let s = goal.at.returns-clause-counts c in
+    let k = s.After-case_of in
+    if_ok _ (λ x. EachRowCounts x) c.case_of.result (built k) (λ x b.
+    built-counts (design_view c.args.design.now) c.args.flat.now.graph c.args.flat.now.syms c.args.order.now c.args.values.now c.in_ok-classes.classes (scalar_of c.in_ok-decoded.decoded) (settled k) c.in_ok-first.first (alike k) c.in_ok-first.ensures.differ x b)
