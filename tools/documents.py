@@ -1,0 +1,408 @@
+#!/usr/bin/env python3
+"""Makes the parts of docs/ that follow from the code.
+
+    tools/documents.py            writes them
+    tools/documents.py --check    says what is stale, and exits with 1 if anything is
+
+- docs/MAP.md: the last column of the table of crates, who uses each, follows from crates.txt.
+- docs/PROVED.md: the list of what `correct` rests on, by following the definitions that the promise of that name cites.
+- docs/DEFINITIONS.md: each public definition of crates/*/specs with the comment above it, under its module and what the
+  head of the module's file says, its source among that; modules of specs/inner, which no public contract cites, are
+  left out.
+
+A file that a document names by a path from a crate's folder on has to be there.
+"""
+
+import re
+import sys
+import textwrap
+from pathlib import Path
+
+ROOT = Path(__file__).resolve().parent.parent
+WIDTH = 118
+MANY = 9
+
+# what the clause `correct` of the program's call says of the words of a check; other commands aren't followed
+CORRECT = [
+    ("bd_model", "Right", "IsRight"),
+    ("bd_app", "Answer", "ForDesign"),
+]
+LEFT_OUT = {("bd_app", name) for name in ("Replay", "Run", "Generate", "Cases", "Verdicts")}
+LIST = ("<!-- correct: made by tools/documents.py -->", "<!-- correct: to here -->")
+CALLS = ("<!-- calls: made by tools/documents.py -->", "<!-- calls: to here -->")
+FAULTS = re.compile(r"\b(AllocError|\w+Fault|LoadError|SaveError|AddError)\b")
+
+HEAD = """# Definitions
+
+What public contracts cite, crate by crate and module by module: a module's line says what it is about and which source
+it has, and each definition has the comment that stands above it. A module is a file of `crates/NAME/specs/`. What no
+public contract cites stands in `specs/inner/` and isn't listed. Where a head names no source, the definition is this
+project's own. [PROVED.md](PROVED.md) says in which order to read those behind `correct`.
+
+`tools/documents.py` makes this page from the code.
+"""
+
+
+def crates():
+    """The crates of crates.txt in its order, each with what it stands on; test crates apart."""
+    programs, tests, kind = {}, {}, None
+    for line in (ROOT / "crates.txt").read_text().splitlines():
+        if line.startswith("#"):
+            kind = tests if line.strip("# ").startswith("tests") else programs
+        elif ":" in line:
+            left, right = line.split(":", 1)
+            (programs if kind is None else kind)[left.split()[0]] = right.split()
+    return programs, tests
+
+
+# ---- MAP.md
+
+
+def users(name, programs, tests):
+    """Who uses a crate, shortly."""
+    using = [crate for crate, deps in programs.items() if name in deps]
+    if not using and (ROOT / "crates" / name / "src/main.rt").exists():
+        return "people"
+    if not using:
+        return "tests alone" if any(name in deps for deps in tests.values()) else "nobody"
+    others = [crate for crate in programs if crate != name and crate not in using]
+    if len(using) <= MANY:
+        return ", ".join(f"`{crate}`" for crate in using)
+    if len(others) <= MANY:
+        return "all but " + ", ".join(f"`{crate}`" for crate in others)
+    return f"{len(using)} crates"
+
+
+def map_text():
+    """MAP.md with its last column made anew, and the crates that have no row or a row too many."""
+    programs, tests = crates()
+    lines, rows = [], []
+    for line in (ROOT / "docs/MAP.md").read_text().splitlines():
+        found = re.match(r"\| `(\w+)` \|", line)
+        if found and line.count("|") == 5:
+            name = found.group(1)
+            rows.append(name)
+            if name in programs or name in tests:
+                line = "|".join(line.split("|")[:4]) + f"| {users(name, programs, tests)} |"
+        lines.append(line)
+    wanted = list(programs) + list(tests)
+    faults = [f"docs/MAP.md has no row for {name}" for name in wanted if name not in rows]
+    faults += [f"docs/MAP.md has a row for {name}, which crates.txt lacks" for name in rows if name not in wanted]
+    return "\n".join(lines) + "\n", faults
+
+
+# ---- DEFINITIONS.md
+
+
+def comment_above(lines, at):
+    """The comment lines that end right above a line, as one text."""
+    first = at
+    while first > 0 and re.match(r"\s*-- ", lines[first - 1]) and "----" not in lines[first - 1]:
+        first -= 1
+    return " ".join(line.strip()[3:] for line in lines[first:at])
+
+
+def head_of(lines):
+    """The comment at the head of a file, as one text."""
+    head = []
+    for line in lines:
+        if not line.startswith("--"):
+            break
+        head.append(line[3:].strip())
+    return " ".join(head)
+
+
+def definitions(lines):
+    """The public definitions of a file with their comments, in their order."""
+    found, nested = [], False
+    for at, line in enumerate(lines):
+        if line and not line[0].isspace() and not line.startswith("--"):
+            nested = bool(re.match(r"((abbrev|unfoldable) )?mutual|module ", line))
+        top = re.match(r"(?:abbrev |unfoldable )?pub (?:record |data )?(\S+)", line)
+        inside = re.match(r"\s+(?:abbrev |unfoldable )?pub (?:record |data )?(\S+)", line) if nested else None
+        name = (top or inside).group(1) if top or inside else None
+        if name and name not in ("mod", "use"):
+            found.append((name, comment_above(lines, at)))
+    return found
+
+
+def modules(crate):
+    """The public modules of a crate's specs in the order of its Lib.antt."""
+    specs = ROOT / "crates" / crate / "specs"
+    lib = specs / "Lib.antt"
+    names = re.findall(r"^pub mod (\w+)", lib.read_text(), re.M) if lib.exists() else []
+    found = []
+    for name in names:
+        if name == "inner":
+            continue
+        if (specs / f"{name}.antt").exists():
+            found.append((name, specs / f"{name}.antt"))
+        found += [(f"{name}.{file.stem}", file) for file in sorted((specs / name).glob("*.antt"))]
+    return found
+
+
+def folded(text, first="", rest="  "):
+    return textwrap.fill(
+        text, WIDTH, initial_indent=first, subsequent_indent=rest, break_long_words=False, break_on_hyphens=False
+    )
+
+
+def sentence(text):
+    """A head or comment as a sentence that ends."""
+    text = text.strip()
+    return text if text.endswith((".", ":")) else text + "."
+
+
+def definitions_text():
+    programs, tests = crates()
+    out = [HEAD]
+    for crate in programs:
+        parts = []
+        for name, file in modules(crate):
+            lines = file.read_text().splitlines()
+            told = [(word, said) for word, said in definitions(lines) if said]
+            plain = [word for word, said in definitions(lines) if not said]
+            if not told and not plain:
+                continue
+            part = [folded(f"**`{name}`** {sentence(head_of(lines))}" if head_of(lines) else f"**`{name}`**", rest="")]
+            part.append("")
+            part += [folded(f"- `{word}`: {sentence(said)}") for word, said in told]
+            if plain:
+                part.append(folded("- " + ", ".join(f"`{word}`" for word in plain) + "."))
+            parts.append("\n".join(part))
+        if parts:
+            out.append(f"## `{crate}`\n\n" + "\n\n".join(parts) + "\n")
+    return "\n".join(out)
+
+
+# ---- PROVED.md
+
+
+class Module:
+    """A file of specs: its definitions with the words of their texts, and what its names mean."""
+
+    def __init__(self, crate, name, file):
+        self.crate, self.name, self.file = crate, name, file
+        self.lines = file.read_text().splitlines()
+        self.imports, self.aliases = {}, {}
+        self.words, self.order = {}, []
+        self.read_imports()
+        self.read_definitions()
+
+    def read_imports(self):
+        for line in self.lines:
+            found = re.match(r"(?:pub )?use Rattle\.(bd_\w+)\.specs\.([\w.]+?)(?:\.\{(.*)\})?(?: as (\w+))?$", line.strip())
+            if not found or found.group(2).startswith(("declared", "contracts")):
+                continue
+            crate, module, names, alias = found.groups()
+            if names is None:
+                self.aliases[alias or module.split(".")[-1]] = (crate, module)
+            for part in (names or "").split(","):
+                first, _, other = part.strip().partition(" as ")
+                if first:
+                    self.imports[other or first] = (crate, module, first)
+
+    def read_definitions(self):
+        """A definition's text goes from its line to the next one that begins a definition."""
+        start = re.compile(r"(?:abbrev |unfoldable )?(?:pub )?(?:record |data )?([^\s:({]+)")
+        current = None
+        nests = False
+        for line in self.lines:
+            text = line.split("--")[0]
+            if text and not text[0].isspace() and not re.match(r"(pub )?(use|mod)\b|infix", text):
+                nests = bool(re.match(r"((abbrev|unfoldable) )?mutual|module ", text))
+                named = start.match(text)
+                if named and named.group(1) not in ("mutual", "module", "unfolding"):
+                    current = named.group(1)
+            nested = re.match(r"  (?:abbrev |unfoldable )?pub (?:record |data )?([^\s:({]+) :", text)
+            if nested and nests:
+                current = nested.group(1)
+            if current is not None:
+                if current not in self.words:
+                    self.words[current] = set()
+                    self.order.append(current)
+                self.words[current] |= set(re.findall(r"[^\s()\[\]{},;]+", text))
+
+    def cited(self, name):
+        """What a definition cites, as names of modules and in them."""
+        for word in self.words.get(name, ()):
+            for part in {word, word.split(".")[0]}:
+                if part in self.words and part != name:
+                    yield (self.crate, self.name, part)
+                elif part in self.imports:
+                    yield self.imports[part]
+            if "." in word and word.split(".")[0] in self.aliases:
+                yield (*self.aliases[word.split(".")[0]], word.split(".")[1])
+
+
+def rests_on(roots):
+    """The modules behind these definitions with the names in each that others cite; first those that others rest on.
+
+    What a command means is cited as a whole; of it only what is asked is wanted, which is among the roots."""
+    known = {(crate, name): Module(crate, name, file) for crate in crates()[0] for name, file in modules(crate)}
+    seen, entries, needs, work = set(), {}, {}, list(roots)
+    for crate, module, name in roots:
+        entries.setdefault((crate, module), set()).add(name)
+    while work:
+        crate, module, name = work.pop()
+        if (crate, module, name) in seen or (crate, module) not in known:
+            continue
+        seen.add((crate, module, name))
+        needs.setdefault((crate, module), set())
+        for other in known[crate, module].cited(name):
+            if other[:2] in LEFT_OUT or other[:2] not in known or other[2] not in known[other[:2]].words:
+                continue
+            if other[2].endswith("_meaning"):
+                continue
+            if other[:2] != (crate, module):
+                entries.setdefault(other[:2], set()).add(other[2])
+                needs[crate, module].add(other[:2])
+            work.append(other)
+    order = []
+
+    def place(key):
+        if key in order:
+            return
+        for below in sorted(needs[key], key=list(known).index):
+            place(below)
+        if key not in order:
+            order.append(key)
+
+    for key in [key for key in known if key in needs]:
+        place(key)
+    return [(known[key], [name for name in known[key].order if name in entries.get(key, ())]) for key in order]
+
+
+def correct_list():
+    rows = ["| Read | In | For |", "|---|---|---|"]
+    for module, names in rests_on(CORRECT):
+        file = f"{module.crate}/specs/{module.name.replace('.', '/')}.antt"
+        about = re.split(r"(?<=[^0-9][.:]) ", sentence(head_of(module.lines)))[0].rstrip(".:")
+        rows.append("| " + ", ".join(f"`{name}`" for name in names) + f" | `{file}` | {about} |")
+    return "\n".join(rows)
+
+
+def between(text, marks, made):
+    """The text with what stands between the marks made anew, or nothing where it has no such place."""
+    first, last = marks
+    if first not in text or last not in text:
+        return None
+    before, rest = text.split(first, 1)
+    return before + first + "\n\n" + made + "\n\n" + last + rest.split(last, 1)[1]
+
+
+def proved_text():
+    text, faults = (ROOT / "docs/PROVED.md").read_text(), []
+    for marks, made in ((LIST, correct_list()), (CALLS, calls_table())):
+        changed = between(text, marks, made)
+        if changed is None:
+            faults.append(f"docs/PROVED.md has no place {marks[0]}")
+        text = changed or text
+    return text, faults
+
+
+# ---- the table of calls
+
+
+def exported(crate):
+    """The names that a crate's lib.rt gives on."""
+    text = (ROOT / "crates" / crate / "src/lib.rt").read_text()
+    names = set(re.findall(r"^pub use [\w:]+::(\w+);", text, re.M))
+    for listed in re.findall(r"^pub use [\w:]+::\{([^}]*)\};", text, re.M):
+        names |= {name.strip().split(" as ")[-1] for name in listed.split(",")}
+    return names
+
+
+def signatures(crate):
+    """The public calls of a crate that take something, each with its name and the text of its contract."""
+    given, found = exported(crate), []
+    for file in sorted((ROOT / "crates" / crate / "src").glob("*.rt")):
+        owner, trait, lines = None, False, file.read_text().splitlines()
+        for at, line in enumerate(lines):
+            block = re.match(r"(?:pub )?(impl|trait)\b(?:<[^>]*>)? (?:.* for )?(\w+)", line)
+            if block:
+                owner, trait = block.group(2), block.group(1) == "trait"
+            elif line == "}":
+                owner, trait = None, False
+            call = re.match(r"(\s*)(pub )?fn (\w+)", line)
+            if not call or (not call.group(2) and not trait):
+                continue
+            name = f"{owner}::{call.group(3)}" if call.group(1) else call.group(3)
+            if name.split("::")[0] not in given or re.search(r"fn \w+\(\)", line):
+                continue
+            end = at
+            while not re.search(r"(^\s*|[^}] )\{\}?$", lines[end]) and not (trait and lines[end].endswith(";")):
+                end += 1
+            found.append((name, " ".join(part.strip() for part in lines[at:end])))
+    return found
+
+
+def contract(text):
+    """The conditions and the promises of a contract: names with their texts."""
+    parts = re.split(r"\b(requires|ensures)\*?\s*(\w*)\s*\{", text)
+    clauses = list(zip(parts[1::3], parts[2::3], parts[3::3]))
+    return [[(name, said) for kind, name, said in clauses if kind == wanted] for wanted in ("requires", "ensures")]
+
+
+def calls_table():
+    rows = ["| Call | Needs | Takes memory | Promises | After an error |", "|---|---|---|---|---|"]
+    for crate in crates()[0]:
+        found = signatures(crate) if (ROOT / "crates" / crate / "src/lib.rt").exists() and crate != "bd_examples" else []
+        if found:
+            rows.append(f"| **{crate}** | | | | |")
+        for name, text in found:
+            needs, promises = contract(text)
+            result = text.split("requires")[0].split("ensures")[0].split("->")[-1]
+            memory = "yes" if FAULTS.search(result) or name == "run" else "no"
+            errors = [name for name, said in promises if re.search(r"\b(OnErr|IfErr|Err)\b", said) or re.match("err|refused|failed", name)]
+            cells = [
+                named(needs, "one"),
+                memory,
+                named([part for part in promises if part[0] not in errors or not part[0]], "one"),
+                ", ".join(f"`{name}`" for name in errors if name) or ("changes nothing" if memory == "yes" and "&mut" not in text else ""),
+            ]
+            rows.append(f"| `{name}` | " + " | ".join(cells) + " |")
+    return "\n".join(rows)
+
+
+def named(clauses, alone):
+    return ", ".join(f"`{name}`" if name else alone for name, _ in clauses)
+
+
+# ---- all documents
+
+
+def missing_files():
+    """The files of crates and folders that a document names and that aren't there."""
+    faults = []
+    for document in [ROOT / "README.md", *sorted((ROOT / "docs").glob("*.md"))]:
+        for name in re.findall(r"`((?:crates/)?(?:bd_\w+|burch_dill)/[\w/.]+|(?:bench|tools|docs)/[\w.]+)`", document.read_text()):
+            path = name.removeprefix("crates/") if name.startswith("crates/") else name
+            if not (ROOT / name).exists() and not (ROOT / "crates" / path).exists():
+                faults.append(f"{document.relative_to(ROOT)} names {name}, which isn't there")
+    return faults
+
+
+def main(words):
+    if words not in ([], ["--check"]):
+        print(__doc__)
+        return 2
+    proved, proved_faults = proved_text()
+    mapped, mapped_faults = map_text()
+    made = {"docs/MAP.md": mapped, "docs/PROVED.md": proved, "docs/DEFINITIONS.md": definitions_text()}
+    faults = mapped_faults + proved_faults + missing_files()
+    for path, text in made.items():
+        file = ROOT / path
+        old = file.read_text() if file.exists() else ""
+        if old != text and words:
+            changed = set(old.splitlines()) ^ set(text.splitlines())
+            faults.append(f"{path} is stale: {len(changed)} lines differ")
+        elif old != text:
+            file.write_text(text)
+    for fault in faults:
+        print(fault)
+    return 1 if faults else 0
+
+
+if __name__ == "__main__":
+    sys.exit(main(sys.argv[1:]))
