@@ -1,68 +1,21 @@
 -- What a fault at one of several loads says of all the files.
-use Rattle.std.proofs.Common.{◌≡◌, suc, ◌+◌, ◌<◌, ◌≤◌, ℕ, List, [], ◌∷◌, ◌++◌, length, take, refl, ap, append_assoc, ◌∙◌, sym, subst, inr, ap₂, drop, drop-cons, get_or, add-one, arith, length-take, take_all}
+use Rattle.std.proofs.Common.{◌≡◌, zero, suc, ◌+◌, ◌<◌, ◌≤◌, ◌∙◌, ℕ, List, [], ◌∷◌, ◌++◌, length, take, refl, ap, append_assoc, sym, subst, arith, length-take, take_all}
 use Rattle.std.specs.Option.{option_map}
 use Rattle.std.specs.Prelude.{Option, Some, None, Result, Ok, Err, IfSome, IfErr, IsErrAnd}
 use Rattle.bd_files.specs.Devices.{Blame, Held, IsLoaded}
-use Rattle.bd_app.specs.Files.{BlamesOneOf, File, HoldSources, HoldsShort, HoldsShortIf, IsShort, IsFirstLong, Sources, case_files, design_files, one_if}
-use Rattle.bd_app.specs.Run.{cycle_text, cycles_text}
-use Rattle.bd_model.specs.DesignView.{DesignView}
-use Rattle.bd_model.specs.declared.table.Value.{Value}
-use Rattle.bd_typer.specs.Denotes.{Denotes}
-use Rattle.bd_typer.specs.Faults.{FileFault}
-use Rattle.bd_app.specs.inner.Told.{AreDesign, IsCaseRefused, IsJudgedTold, IsLoadFault, IsToldOfCase}
+use Rattle.bd_text.specs.declared.code.Code.{Code}
+use Rattle.bd_text.specs.declared.code.Code.TheVariants.{TooLong}
 use Rattle.bd_typer.specs.declared.fault.Text.{Text}
 use Rattle.bd_typer.specs.declared.fault.Text.TheVariants as text
+use Rattle.bd_app.specs.Cases.{CaseNames, names_files}
+use Rattle.bd_app.specs.Files.{AreShort, BlamesOneOf, File, HoldsShort, IsShort, design_files, one_if}
+use Rattle.bd_app.specs.Meaning.{FilesSeen, IsTooLong}
+use Rattle.bd_app.specs.Sources.{HoldSources, HoldsShortIf, Sources}
 use Rattle.bd_app.specs.declared.answer.Ended.{Ended}
-use Rattle.bd_app.specs.declared.answer.Ended.TheVariants.{Refused, Device, Memory, Replayed}
+use Rattle.bd_app.specs.declared.answer.Ended.TheVariants.{Refused, Device, Memory}
 use Rattle.bd_app.specs.declared.answer.Which.TheVariants as which
-
--- behind a file that isn't too long
-first_behind : (held : Held) (file : File) (files : List File) (text : Text) → IsShort held file → IsFirstLong held files text → IsFirstLong held (file ∷ files) text
-first_behind held file files text short first = record {
-  before = file ∷ first.before;
-  name = first.name;
-  behind = first.behind;
-  order = ap (λ fs. file ∷ fs) first.order;
-  short = (short, first.short);
-  long = first.long;
-}
-
--- before further files
-first_before : (held : Held) (files more : List File) (text : Text) → IsFirstLong held files text → IsFirstLong held (files ++ more) text
-first_before held files more text first = record {
-  before = first.before;
-  name = first.name;
-  behind = first.behind ++ more;
-  order = ap (λ fs. fs ++ more) first.order ∙ append_assoc first.before ((text, first.name) ∷ first.behind) more;
-  short = first.short;
-  long = first.long;
-}
-
-IfSome-map : {A : Type 0} (P Q : A → Type 0) (o : Option A) → ((x : A) → P x → Q x) → IfSome o P → IfSome o Q
-IfSome-map P Q None f h = tt
-IfSome-map P Q (Some x) f h = f x h
-
-pub IfSome-both : {A : Type 0} (P Q R : A → Type 0) (o : Option A) → ((x : A) → P x → Q x → R x) → IfSome o P → IfSome o Q → IfSome o R
-IfSome-both P Q R None f p q = tt
-IfSome-both P Q R (Some x) f p q = f x p q
-
-pub fault_behind : (held : Option Held) (file : File) (files : List File) (e : Ended) → IfSome held (λ h. IsShort h file) → IsLoadFault held files e → IsLoadFault held (file ∷ files) e
-fault_behind held file files (Refused text offset code) short fault =
-    (fault.0, fault.1, IfSome-both _ _ _ held (λ h p q. first_behind h file files text p q) short fault.2)
-fault_behind held file files (Device which.Load) short fault = tt
-fault_behind held file files Memory short fault = tt
-fault_behind held file files _ short fault = absurd fault
-
-pub fault_before : (held : Option Held) (files more : List File) (e : Ended) → IsLoadFault held files e → IsLoadFault held (files ++ more) e
-fault_before held files more (Refused text offset code) fault =
-    (fault.0, fault.1, IfSome-map _ _ held (λ h first. first_before h files more text first) fault.2)
-fault_before held files more (Device which.Load) fault = tt
-fault_before held files more Memory fault = tt
-fault_before held files more _ fault = absurd fault
-
-pub IfSome-all : {A : Type 0} (P : A → Type 0) (o : Option A) → ((x : A) → P x) → IfSome o P
-IfSome-all P None f = tt
-IfSome-all P (Some x) f = f x
+use Rattle.bd_app.specs.inner.Loaded.{IsLoadFault, Loads}
+use Rattle.bd_app.proofs.Passing.{IfSome-both, IfSome-weaker, no_error, passed, rose_after, same_error}
 
 -- ---- what was loaded of a file
 
@@ -86,56 +39,139 @@ loaded_short (Some held) name bytes loaded few =
     (full.1 ∙ ap Some (sym (few_held 1048576 full.0 bytes full.2 few)), few)
 
 -- of too many bytes one more than the most is loaded
-pub loaded_long : (held : Option Held) (text : Text) (name : List ℕ) (bytes : List ℕ) → IsLoaded held name 1048576 bytes → 1048576 < length bytes → IfSome held (λ h. IsFirstLong h ((text, name) ∷ []) text)
+pub loaded_long : (held : Option Held) (text : Text) (name : List ℕ) (bytes : List ℕ) → IsLoaded held name 1048576 bytes → 1048576 < length bytes
+    → IfSome held (λ h. IsTooLong h ((text, name) ∷ []) text 1048576 TooLong)
 loaded_long None text name bytes loaded many = tt
 loaded_long (Some held) text name bytes loaded many =
     let full = held_bytes 1048576 (held name) bytes loaded in
-    record { before = []; name = name; behind = []; order = refl; short = tt; long = (full.0, full.1, many_held 1048576 full.0 bytes full.2 many) }
+    record {
+      first = record { before = []; name = name; after = []; order = refl; short = tt; long = (full.0, full.1, many_held 1048576 full.0 bytes full.2 many) };
+      at_limit = refl;
+      too_long = refl;
+    }
 
 pub short_file : (held : Option Held) (t : Text) (name bytes : List ℕ) → IfSome held (λ h. HoldsShort h name bytes) → IfSome held (λ h. IsShort h (t, name))
-short_file held t name bytes loaded = IfSome-map _ _ held (λ h short. (bytes, short)) loaded
+short_file held t name bytes loaded = IfSome-weaker _ _ held (λ h short. (bytes, short)) loaded
 
--- an error that is passed on is the one that came
-pub passed_with : {T E : Type 0} (P : E → Type 0) (r : Result T E) (e : E) → IsErrAnd r (λ y. y ≡ e) → P e → IfErr r P
-passed_with P (Ok x) e h p = absurd h
-passed_with P (Err y) e h p = subst P (sym h) p
+-- ---- one file after another
 
-pub IfSome-weaker : {A : Type 0} (P Q : A → Type 0) (o : Option A) → ((x : A) → P x → Q x) → IfSome o P → IfSome o Q
-IfSome-weaker P Q o f h = IfSome-map P Q o f h
+-- after a file that isn't too long
+long_after : (held : Held) (file : File) (files : List File) (t : Text) (offset : ℕ) (code : Code) → IsShort held file → IsTooLong held files t offset code → IsTooLong held (file ∷ files) t offset code
+long_after held file files t offset code short long = record {
+  first = record {
+    before = file ∷ long.first.before;
+    name = long.first.name;
+    after = long.first.after;
+    order = ap (λ fs. file ∷ fs) long.first.order;
+    short = (short, long.first.short);
+    long = long.first.long;
+  };
+  at_limit = long.at_limit;
+  too_long = long.too_long;
+}
+
+-- before further files
+long_before : (held : Held) (files more : List File) (t : Text) (offset : ℕ) (code : Code) → IsTooLong held files t offset code → IsTooLong held (files ++ more) t offset code
+long_before held files more t offset code long = record {
+  first = record {
+    before = long.first.before;
+    name = long.first.name;
+    after = long.first.after ++ more;
+    order = ap (λ fs. fs ++ more) long.first.order ∙ append_assoc long.first.before ((t, long.first.name) ∷ long.first.after) more;
+    short = long.first.short;
+    long = long.first.long;
+  };
+  at_limit = long.at_limit;
+  too_long = long.too_long;
+}
+
+fault_after : (held : Option Held) (file : File) (files : List File) (e : Ended) → IfSome held (λ h. IsShort h file) → IsLoadFault held files e → IsLoadFault held (file ∷ files) e
+fault_after held file files (Refused t offset code) short fault =
+    IfSome-both _ _ _ held (λ h p q. long_after h file files t offset code p q) short fault
+fault_after held file files (Device which.Load) short fault = tt
+fault_after held file files Memory short fault = tt
+fault_after held file files _ short fault = absurd fault
+
+fault_before : (held : Option Held) (files more : List File) (e : Ended) → IsLoadFault held files e → IsLoadFault held (files ++ more) e
+fault_before held files more (Refused t offset code) fault = IfSome-weaker _ _ held (λ h long. long_before h files more t offset code long) fault
+fault_before held files more (Device which.Load) fault = tt
+fault_before held files more Memory fault = tt
+fault_before held files more _ fault = absurd fault
+
+blames_after : (blame : Option Blame) (file : File) (files : List File) → BlamesOneOf blame files → BlamesOneOf blame (file ∷ files)
+blames_after blame file files (name, (i, lt, at), is) = (name, (suc i, omega (arith, lt), at), is)
+
+blames_before : (blame : Option Blame) (file : File) (files : List File) → BlamesOneOf blame (file ∷ []) → BlamesOneOf blame (file ∷ files)
+blames_before blame file files (name, (zero, lt, at), is) = (name, (0, omega arith, at), is)
+blames_before blame file files (name, (suc i, lt, at), is) = absurd (omega (arith, lt))
+
+fault_next : {T : Type 0} (held : Option Held) (file : File) (files : List File) (r : Result T Ended) → IfSome held (λ h. IsShort h file) → IfErr r (IsLoadFault held files) → IfErr r (IsLoadFault held (file ∷ files))
+fault_next held file files (Ok x) short fault = tt
+fault_next held file files (Err e) short fault = fault_after held file files e short fault
+
+-- the first load failed
+pub first_fails : {T S : Type 0} {file : File} {more : List File} {a b : FilesSeen} {e : Ended} (r : Result S Ended) → IsErrAnd r (λ y. y ≡ e) → Loads {T = T} (file ∷ []) a b (Err e)
+    → Loads (file ∷ more) a b r
+first_fails {T} {S} {file} {more} {a} {b} {e} r is l = passed (λ z. Loads (file ∷ more) a b z) r e is (record {
+  fault = fault_before a.held (file ∷ []) more e l.fault;
+  rose = λ same. l.rose (same_error _ _ same);
+  blamed = λ same. blames_before b.blame file more (l.blamed (same_error _ _ same));
+  else_keeps_blame = λ other. l.else_keeps_blame (λ same. other (same_error _ _ same));
+  held = l.held;
+  never_falls = l.never_falls;
+})
+
+-- the last load failed
+pub last_fails : {T S : Type 0} {files : List File} {a b : FilesSeen} {e : Ended} (r : Result S Ended) → IsErrAnd r (λ y. y ≡ e) → Loads {T = T} files a b (Err e) → Loads files a b r
+last_fails {T} {S} {files} {a} {b} {e} r is l = passed (λ z. Loads files a b z) r e is (record {
+  fault = l.fault;
+  rose = λ same. l.rose (same_error _ _ same);
+  blamed = λ same. l.blamed (same_error _ _ same);
+  else_keeps_blame = λ other. l.else_keeps_blame (λ same. other (same_error _ _ same));
+  held = l.held;
+  never_falls = l.never_falls;
+})
+
+-- the last load gave its bytes
+pub last_loads : {T S : Type 0} {files : List File} {a b : FilesSeen} {x : T} (y : S) → Loads files a b (Ok x) → Loads files a b (Ok y)
+last_loads {T} {S} {files} {a} {b} {x} y l = record {
+  fault = tt;
+  rose = λ is. absurd (no_error y _ is);
+  blamed = λ is. absurd (no_error y _ is);
+  else_keeps_blame = λ other. l.else_keeps_blame (no_error x _);
+  held = l.held;
+  never_falls = l.never_falls;
+}
+
+-- the first load gave its bytes, and then the others were loaded
+pub loads_next : {T S : Type 0} {file : File} {more : List File} {a b c : FilesSeen} {x : T} {r : Result S Ended} → IfSome a.held (λ h. IsShort h file) → Loads (file ∷ []) a b (Ok x) → Loads more b c r
+    → Loads (file ∷ more) a c r
+loads_next {T} {S} {file} {more} {a} {b} {c} {x} {r} short one others = record {
+  fault = fault_next a.held file more r short (subst (λ h. IfErr r (IsLoadFault h more)) one.held others.fault);
+  rose = λ is. rose_after a.faults b.faults c.faults one.never_falls others.never_falls (others.rose is);
+  blamed = λ is. blames_after c.blame file more (others.blamed is);
+  else_keeps_blame = λ other. others.else_keeps_blame other ∙ one.else_keeps_blame (no_error x _);
+  held = others.held ∙ one.held;
+  never_falls = omega (arith, one.never_falls, others.never_falls);
+}
+
+-- ---- all of them
 
 pub all_held : (held : Option Held) (pipe spec : List ℕ) (inv : Option (List ℕ)) (s : Sources) → IfSome held (λ h. HoldsShort h pipe s.pipe) → IfSome held (λ h. HoldsShort h spec s.spec)
     → IfSome held (λ h. HoldsShortIf h inv s.inv) → IfSome held (λ h. HoldSources h pipe spec inv s)
 all_held None pipe spec inv s a b c = tt
 all_held (Some h) pipe spec inv s a b c = record { pipe_held = a; spec_held = b; inv_held = c }
 
-pub blames_third : (blame : Option Blame) (pipe spec : List ℕ) (inv : Option (List ℕ)) → BlamesOneOf blame (one_if text.Inv inv) → BlamesOneOf blame (design_files pipe spec inv)
-blames_third blame pipe spec inv (name, (i, lt, at), is) = (name, (suc (suc i), omega arith, at), is)
+short_if : (h : Held) (inv : Option (List ℕ)) (bytes : Option (List ℕ)) → HoldsShortIf h inv bytes → AreShort h (one_if text.Inv inv)
+short_if h None None held = tt
+short_if h None (Some bytes) held = absurd held
+short_if h (Some name) None held = absurd held
+short_if h (Some name) (Some bytes) held = ((bytes, held), tt)
 
-pub blames_last : (blame : Option Blame) (pipe spec case : List ℕ) (inv : Option (List ℕ)) → BlamesOneOf blame (one_if text.Inv inv) → BlamesOneOf blame (case_files pipe spec case inv)
-blames_last blame pipe spec case inv (name, (i, lt, at), is) = (name, (suc (suc (suc i)), omega arith, at), is)
+-- files whose bytes are few are short
+pub sources_short : (h : Held) (pipe spec : List ℕ) (inv : Option (List ℕ)) (s : Sources) → HoldSources h pipe spec inv s → AreShort h (design_files pipe spec inv)
+sources_short h pipe spec inv s held = ((s.pipe, held.pipe_held), ((s.spec, held.spec_held), short_if h inv s.inv held.inv_held))
 
-pub next_state : (d : DesignView) (n : ℕ) (states : List (List Value)) (x e : List Value) (text after whole : List ℕ) → n < length states → x ≡ get_or states n e
-    → after ≡ text ++ cycle_text d n x → text ++ cycles_text d n (drop n states) ≡ whole → after ++ cycles_text d (n + 1) (drop (n + 1) states) ≡ whole
-next_state d n states x e text after whole lt at is before =
-    let next : drop n states ≡ x ∷ drop (n + 1) states = drop-cons states n e lt ∙ ap₂ (λ y ys. y ∷ ys) (sym at) (ap (λ k. drop k states) (sym (add-one n))) in
-    ap (λ t. t ++ cycles_text d (n + 1) (drop (n + 1) states)) is ∙ append_assoc text (cycle_text d n x) (cycles_text d (n + 1) (drop (n + 1) states))
-    ∙ ap (λ s. text ++ cycles_text d n s) (sym next) ∙ before
-
--- the same texts denote the same
-pub denotes_same : (p u s v : List ℕ) (i j : Option (List ℕ)) (r : Result DesignView FileFault) → p ≡ u → s ≡ v → i ≡ j → Denotes p s i r → Denotes u v j r
-denotes_same p u s v i j r pu sv ij h =
-    subst (λ x. Denotes u v x r) ij (subst (λ x. Denotes u x i r) sv (subst (λ x. Denotes x s i r) pu h))
-
--- ---- from the bytes of a case to a question on it
-
-module _ (s : Sources) (d : DesignView) (bytes : List ℕ) (design : AreDesign s d) where
-  refused_told : (e : Ended) → IsCaseRefused d bytes e → IsToldOfCase s bytes e
-  refused_told (Refused file offset code) fault = λ h q given case.
-      inr (inr (record { is_case = fault.0; view = d; design = record { sources = s; given = given; denoted = design }; source = bytes; given = case; fault = fault.1 }))
-  refused_told Memory fault = λ h q given case. tt
-  refused_told _ fault = absurd fault
-
-  pub judged_told : (e : Ended) → IsJudgedTold d bytes e → IsToldOfCase s bytes e
-  judged_told (Replayed j) (c, read, fits, judged) = λ h q given case.
-      (d, c, record { design = record { sources = s; given = given; denoted = design }; source = bytes; given = case; case = read; fits = fits }, judged)
-  judged_told e is = refused_told e is
+pub case_short : (h : Held) (names : CaseNames) (s : Sources) (bytes : List ℕ) → HoldSources h names.pipe names.spec names.inv s → HoldsShort h names.case bytes → AreShort h (names_files names)
+case_short h names s bytes held case =
+    ((s.pipe, held.pipe_held), ((s.spec, held.spec_held), ((bytes, case), short_if h names.inv s.inv held.inv_held)))

@@ -1,242 +1,183 @@
--- What the answer was before it was printed, and what its report is.
-use Rattle.std.proofs.Common.{◌≡◌, ◌≢◌, ◌∙◌, ℕ, List, ◌++◌, refl, sym, subst, ap, inl, inr}
-use Rattle.std.specs.Prelude.{◌⊎◌, Option, Some, None, Result, Ok, Err, IfOk, IfErr, IfSome, IsErrOf}
-use Rattle.bd_files.specs.Devices.{Held, Appends, AppendsPrefix}
+-- From the answer to a question to the run that prints it.
+use Rattle.std.proofs.Common.{◌≡◌, ◌≢◌, ◌∙◌, ℕ, List, refl, sym, subst, inl, inr}
+use Rattle.std.specs.Prelude.{◌⊎◌, Option, Some, None, Result, Ok, Err, IfOk, IfErr, IsErrOf}
+use Rattle.bd_files.specs.Devices.{Held, Rose, Appends, AppendsPrefix}
+use Rattle.bd_model.specs.DesignView.{DesignView}
+use Rattle.bd_verify.specs.declared.verdict.Question.TheVariants.{Breaks}
 use Rattle.bd_verify.specs.declared.verdict.Verdict.{Verdict}
 use Rattle.bd_verify.specs.declared.verdict.Verdict.TheVariants as verdict
-use Rattle.bd_app.specs.Answer.{AsksVerdict, ForQuestion, HasReport, IsDecided, IsReport, IsRest, IsRun, IsSaved, IsTold, KeepsOtherFiles, MayHave, SavesNothing, ended_by, first_line_of}
-use Rattle.bd_app.specs.Files.{KeepsAllBut, SavesTo}
-use Rattle.bd_app.specs.Words.{Question, taken}
-use Rattle.bd_app.specs.inner.Told.{FilesSeen, IsAnswered, IsCheckFault, IsReadFault, IsSaid, IsTextFault, IsVerdictAnswer, Leaves, ended_of}
+use Rattle.bd_app.specs.Answer.{HasReport}
+use Rattle.bd_app.specs.Commands.{Question, check, replay, run, gen, meaning_of, taken}
+use Rattle.bd_app.specs.Meaning.{Effects, FilesSeen, IsVerdictFor, Meaning}
+use Rattle.bd_app.specs.Program.{ForDesign, ForVerdict, Headline, IsAnswered, SinkSeen}
+use Rattle.bd_app.specs.Verdicts.{IsVerdict, ended_by}
+use Rattle.bd_app.specs.declared.answer.Answer.{Answer}
 use Rattle.bd_app.specs.declared.answer.Which.TheVariants as which
-use Rattle.bd_app.specs.declared.answer.Which.{Which}
 use Rattle.bd_app.specs.declared.answer.Ended.{Ended}
-use Rattle.bd_app.specs.declared.answer.Ended.TheVariants.{Correct, Wrong, Void, Undecided, Replayed, Ran, Usage, Refused, Device, Memory}
-use Rattle.bd_app.specs.declared.report.Answer.{Answer}
-use Rattle.bd_app.proofs.Loading.{IfSome-all}
-use Rattle.bd_app.proofs.Saving.{keeps_same}
-use Rattle.bd_app.proofs.Verdicts.{line_verdict, may_verdict, no_verdict, rest_verdict, told_verdict, verdict_reports}
+use Rattle.bd_app.specs.declared.answer.Ended.TheVariants.{Usage, Refused, Device, Memory}
+use Rattle.bd_app.specs.declared.verdict.Asked.{Asked}
+use Rattle.bd_app.specs.inner.Done.{IsDone, IsEarlyFault, IsFault, ended_of}
+use Rattle.bd_app.proofs.Effects.{out_effects}
+use Rattle.bd_app.proofs.Passing.{IfSome-weaker}
+use Rattle.bd_app.proofs.Verdicts.{no_memory_verdict, no_ran, no_replayed, no_usage_verdict, same_verdict, verdict_reports}
 
--- an answer other than that of a failing output was there before it was printed
-pub before : (P R : Type 0) (answer : Result Answer Ended) (final : Ended) (old new : Option (List ℕ))
-    → IfErr answer (λ e. (final ≡ e) × P)
-    → IfOk answer (λ a. ((final ≡ a.ended) × Appends old new a.report.items) ⊎ ((final ≡ Device which.Out) × R × AppendsPrefix old new a.report.items))
-    → (e : Ended) → e ≢ Device which.Out → final ≡ e → ended_of answer ≡ e
-before P R (Err f) final old new fault put e other is = sym fault.0 ∙ is
-before P R (Ok a) final old new fault put e other is = elim put [ inl h ↦ sym h.0 ∙ is | inr h ↦ absurd (other (sym is ∙ h.0)) ]
+-- ---- what is promised of each command
 
-told_of : (held : Option Held) (words : List (List ℕ)) (e : Ended) → HasReport e → IsSaid held words e → ForQuestion words (λ q. IfSome held (λ h. IsTold h q e))
-told_of held words (Correct c work) reported said = (said.0, said.1, said.2.1)
-told_of held words (Wrong k c work) reported said = (said.0, said.1, said.2.1)
-told_of held words (Void work) reported said = (said.0, said.1, said.2.1)
-told_of held words (Undecided asked work) reported said = (said.0, said.1, said.2.1)
-told_of held words (Replayed j) reported said = (said.0, said.1, said.2.1)
-told_of held words Ran reported said = (said.0, said.1, said.2.1)
-told_of held words _ reported said = absurd reported
+-- its answers have reports
+pub reports : (q : Question) (held : Option Held) (e : Ended) (report : List ℕ) → (meaning_of q).IsAnswer held e report → HasReport e
+reports (check q) held e report is = subst HasReport (sym is.says.ended) (verdict_reports is.says.verdict)
+reports (replay q) held e report is = subst HasReport (sym is.says.ended) tt
+reports (run q) held e report is = subst HasReport (sym is.says.ended) tt
+reports (gen q) held e report is = subst HasReport (sym is.says.ended) (verdict_reports is.says.verdict)
 
--- where the output failed, a prefix of the report of a true answer went out
-pub cut : (P R : Type 0) (held after : Option Held) (words : List (List ℕ)) (answer : Result Answer Ended) (final : Ended) (old new : Option (List ℕ))
-    → IfErr answer (λ e. (final ≡ e) × P)
-    → IfOk answer (λ a. ((final ≡ a.ended) × Appends old new a.report.items) ⊎ ((final ≡ Device which.Out) × R × AppendsPrefix old new a.report.items))
-    → IfOk answer (λ a. HasReport a.ended × IsReport held words a.ended a.report.items) → IsSaid held words (ended_of answer) → IsSaved after words (ended_of answer)
-    → ended_of answer ≢ Device which.Out → final ≡ Device which.Out
-    → (e : Ended) × (text : List ℕ) × HasReport e × AppendsPrefix old new text × IsReport held words e text × IsSaved after words e × ForQuestion words (λ q. IfSome held (λ h. IsTold h q e))
-cut P R held after words (Err f) final old new fault put report said saved other is = absurd (other (sym fault.0 ∙ is))
-cut P R held after words (Ok a) final old new fault put report said saved other is = elim put [
-  | inl h ↦ absurd (other (sym h.0 ∙ is))
-  | inr h ↦ (a.ended, a.report.items, report.0, h.2, report.1, saved, told_of held words a.ended report.0 said)
-]
-
-may_of : (held : Option Held) (words : List (List ℕ)) (e : Ended) → e ≢ Usage → e ≢ Memory → IsSaid held words e → ForQuestion words (λ q. MayHave q e)
-may_of held words (Correct c work) usage memory said = (said.0, said.1, said.2.0)
-may_of held words (Wrong k c work) usage memory said = (said.0, said.1, said.2.0)
-may_of held words (Void work) usage memory said = (said.0, said.1, said.2.0)
-may_of held words (Undecided asked work) usage memory said = (said.0, said.1, said.2.0)
-may_of held words (Replayed j) usage memory said = (said.0, said.1, said.2.0)
-may_of held words Ran usage memory said = (said.0, said.1, said.2.0)
-may_of held words (Refused file offset code) usage memory said = (said.0, said.1, said.2.0)
-may_of held words (Device w) usage memory said = (said.0, said.1, said.2.0)
-may_of held words Usage usage memory said = absurd (usage refl)
-may_of held words Memory usage memory said = absurd (memory refl)
-
--- what the question of the words may have, also where the output failed
-pub question_of : (P R : Type 0) (held : Option Held) (words : List (List ℕ)) (answer : Result Answer Ended) (final : Ended) (old new : Option (List ℕ))
-    → IfErr answer (λ e. (final ≡ e) × P)
-    → IfOk answer (λ a. ((final ≡ a.ended) × Appends old new a.report.items) ⊎ ((final ≡ Device which.Out) × R × AppendsPrefix old new a.report.items))
-    → IfOk answer (λ a. HasReport a.ended × IsReport held words a.ended a.report.items) → IsSaid held words (ended_of answer)
-    → final ≢ Usage → final ≢ Memory → ForQuestion words (λ q. MayHave q final)
-question_of P R held words (Err f) final old new fault put report said usage memory =
-    may_of held words final usage memory (subst (λ e. IsSaid held words e) (sym fault.0) said)
-question_of P R held words (Ok a) final old new fault put report said usage memory = elim put [
-  | inl h ↦ may_of held words final usage memory (subst (λ e. IsSaid held words e) (sym h.0) said)
-  | inr h ↦
-      let told = told_of held words a.ended report.0 said in
-      subst (λ e. ForQuestion words (λ q. MayHave q e)) (sym h.0) (told.0, told.1, tt)
-]
-
--- what went out is the report
-pub printed : (P R : Type 0) (held : Option Held) (words : List (List ℕ)) (answer : Result Answer Ended) (final : Ended) (old new : Option (List ℕ))
-    → IfErr answer (λ e. (final ≡ e) × P)
-    → IfOk answer (λ a. ((final ≡ a.ended) × Appends old new a.report.items) ⊎ ((final ≡ Device which.Out) × R × AppendsPrefix old new a.report.items))
-    → IfOk answer (λ a. HasReport a.ended × IsReport held words a.ended a.report.items) → IfErr answer (λ e. ¬ HasReport e)
-    → HasReport final → (text : List ℕ) × Appends old new text × IsReport held words final text
-printed P R held words (Err f) final old new fault put report silent reported = absurd (silent (subst HasReport fault.0 reported))
-printed P R held words (Ok a) final old new fault put report silent reported = elim put [
-  | inl h ↦ (a.report.items, h.1, subst (λ e. IsReport held words e a.report.items) (sym h.0) report.1)
-  | inr h ↦ absurd (subst HasReport h.0 reported)
-]
-
--- ---- each command's answer
-
-pub fault_silent : (e : Ended) → IsCheckFault e → ¬ HasReport e
-fault_silent (Refused file offset code) fault = λ h. h
-fault_silent (Device which.Load) fault = λ h. h
-fault_silent (Device which.Save) fault = λ h. h
-fault_silent Memory fault = λ h. h
-fault_silent _ fault = absurd fault
-
-pub read_check : (e : Ended) → IsReadFault e → IsCheckFault e
-read_check (Refused file offset code) fault = tt
-read_check (Device which.Load) fault = tt
-read_check Memory fault = tt
-read_check _ fault = absurd fault
-
-fault_may : (q : Question) (e : Ended) → IsCheckFault e → MayHave q e
-fault_may q (Refused file offset code) fault = tt
-fault_may q (Device which.Load) fault = tt
-fault_may q (Device which.Save) fault = tt
-fault_may q Memory fault = tt
-fault_may q _ fault = absurd fault
-
-fault_answered : (held : Option Held) (q : Question) (e : Ended) → IfSome held (λ h. IsTold h q e) → IsCheckFault e → IsAnswered held q (Err e)
-fault_answered held q e told fault = record { may_have = fault_may q e fault; told = told; report = tt; fault = fault }
-
-all_told : (held : Option Held) (q : Question) (v : Verdict) → IfSome held (λ h. IsDecided h q v) → IfSome held (λ h. IsTold h q (ended_by v))
-all_told None q v told = tt
-all_told (Some h) q v told = told_verdict h q v told
-
--- an answer that is a verdict
-verdict_answered : (held : Option Held) (q : Question) (a : Answer) → AsksVerdict q → IsVerdictAnswer held q a → IsAnswered held q (Ok a)
-verdict_answered held q a asks is =
-    let v = is.verdict in
-    let line : first_line_of q a.ended ≡ _ = ap (first_line_of q) is.ended ∙ line_verdict q v in
-    record {
-      may_have = subst (λ e. MayHave q e) (sym is.ended) (may_verdict q v asks is.given);
-      told = subst (λ e. IfSome held (λ h. IsTold h q e)) (sym is.ended) (all_told held q v is.told);
-      report = (
-        subst HasReport (sym is.ended) (verdict_reports v),
-        is.rest,
-        is.report ∙ ap (λ l. l ++ is.rest) (sym line),
-        subst (λ e. IsRest held q e is.rest) (sym is.ended) (rest_verdict held q v is.rest is.shown),
-      );
-      fault = tt;
-    }
-
-pub check_answered : (held : Option Held) (q : Question) (r : Result Answer Ended) → AsksVerdict q → IfOk r (IsVerdictAnswer held q) → IfErr r (λ e. IfSome held (λ h. IsTold h q e)) → IfErr r IsCheckFault
-    → IsAnswered held q r
-check_answered held q (Ok a) asks is told fault = verdict_answered held q a asks is
-check_answered held q (Err e) asks is told fault = fault_answered held q e told fault
-
-pub run_answered : (held : Option Held) (q : Question) (r : Result Answer Ended) → IsRun q → IfSome held (λ h. IsTold h q (ended_of r)) → IfOk r (λ a. (a.ended ≡ Ran) × IsRest held q Ran a.report.items)
-    → IfErr r IsReadFault → IsAnswered held q r
-run_answered held q (Ok a) runs told (is, report) fault = record {
-  may_have = subst (λ e. MayHave q e) (sym is) runs;
-  told = told;
-  report = (
-    subst HasReport (sym is) tt,
-    a.report.items,
-    ap (λ e. first_line_of q e ++ a.report.items) (sym is),
-    subst (λ e. IsRest held q e a.report.items) (sym is) report,
-  );
-  fault = tt;
+-- an answer that is a verdict is one on its design
+pub verdict_for : (q : Question) (held : Option Held) (v : Verdict) (report : List ℕ) → (meaning_of q).IsAnswer held (ended_by v) report → IsVerdictFor (meaning_of q) held v
+verdict_for (check q) held v report is = record {
+  asked = _;
+  is_asked = refl;
+  design = is.design;
+  asks = is.asks;
+  is_verdict = subst (λ w. IsVerdict is.design _ w) (sym (same_verdict v is.says.verdict is.says.ended)) is.says.is_verdict;
 }
-run_answered held q (Err e) runs told report fault = fault_answered held q e told (read_check e fault)
+verdict_for (replay q) held v report is = absurd (no_replayed v is.says.judgement is.says.ended)
+verdict_for (run q) held v report is = absurd (no_ran v is.says.ended)
+verdict_for (gen q) held v report is = record {
+  asked = _;
+  is_asked = refl;
+  design = is.design;
+  asks = is.asks;
+  is_verdict = subst (λ w. IsVerdict is.design _ w) (sym (same_verdict v is.says.verdict is.says.ended)) is.says.is_verdict;
+}
 
-text_check : (e : Ended) → IsTextFault e → IsCheckFault e
-text_check (Refused file offset code) fault = tt
-text_check Memory fault = tt
-text_check _ fault = absurd fault
+-- ---- before anything is printed
 
--- an answer that comes of no file
-pub gen_answered : (held : Option Held) (q : Question) (r : Result Answer Ended) → AsksVerdict q → ((seen : Option Held) → IfOk r (IsVerdictAnswer seen q)) → ((h : Held) → IfErr r (IsTold h q))
-    → IfErr r IsTextFault → IsAnswered held q r
-gen_answered held q (Ok a) asks is told fault = verdict_answered held q a asks (is held)
-gen_answered held q (Err e) asks is told fault = fault_answered held q e (IfSome-all (λ h. IsTold h q e) held told) (text_check e fault)
+fault_early : (m : Meaning) (held : Option Held) (e : Ended) → IsFault m held e → IsEarlyFault e
+fault_early m held (Refused file offset code) fault = tt
+fault_early m held (Device which.Load) fault = tt
+fault_early m held (Device which.Save) fault = tt
+fault_early m held Memory fault = tt
+fault_early m held _ fault = absurd fault
 
--- ---- what each leaves
+pub done_report : (q : Question) (a b : FilesSeen) (r : Result Answer Ended) → IsDone (meaning_of q) a b r → IfOk r (λ x. HasReport x.ended)
+done_report q a b (Ok x) is = reports q a.held x.ended x.report.items is.answer
+done_report q a b (Err e) is = tt
 
-verdict_saves : (v : Verdict) → ¬ SavesNothing (ended_by v)
-verdict_saves (verdict.Correct c work) is = is
-verdict_saves (verdict.Wrong k c work) is = is
-verdict_saves (verdict.Void work) is = is
-verdict_saves (verdict.Undecided asked work) is = is
+pub done_fault : (q : Question) (a b : FilesSeen) (r : Result Answer Ended) → IsDone (meaning_of q) a b r → IfErr r IsEarlyFault
+done_fault q a b (Ok x) is = tt
+done_fault q a b (Err e) is = fault_early (meaning_of q) a.held e is.fault
 
-pub nothing_held : (P : Type 0) (held : Option Held) (q : Question) (r : Result Answer Ended) → IfOk r (IsVerdictAnswer held q) → IfErr r (λ e. SavesNothing e → P) → SavesNothing (ended_of r) → P
-nothing_held P held q (Ok a) is same nothing = absurd (verdict_saves is.verdict (subst SavesNothing is.ended nothing))
-nothing_held P held q (Err e) is same nothing = same nothing
+pub done_no_usage : (q : Question) (a b : FilesSeen) (r : Result Answer Ended) → IsDone (meaning_of q) a b r → ended_of r ≢ Usage
+done_no_usage q a b (Ok x) is same = subst HasReport same (reports q a.held x.ended x.report.items is.answer)
+done_no_usage q a b (Err e) is same = subst (λ x. IsFault (meaning_of q) a.held x) same is.fault
 
--- ---- from a question to the words that ask it
+-- words ask one question
+pub done_for : (words : List (List ℕ)) (q : Question) (a b : FilesSeen) (r : Result Answer Ended) → taken words ≡ Some q → IsDone (meaning_of q) a b r → (p : Question) → taken words ≡ Some p
+    → IsDone (meaning_of p) a b r
+done_for words q a b r asks is p also = let same : q ≡ p = cc (asks, also) in subst (λ x. IsDone (meaning_of x) a b r) same is
 
--- what is told of the question is said of the words that ask it
-pub said_of : (held : Option Held) (words : List (List ℕ)) (q : Question) (e : Ended) → taken words ≡ Some q → MayHave q e → IfSome held (λ h. IsTold h q e) → IsSaid held words e
-said_of held words q Usage asks may told = absurd may
-said_of held words q Memory asks may told = tt
-said_of held words q (Correct c work) asks may told = (q, asks, (may, told))
-said_of held words q (Wrong k c work) asks may told = (q, asks, (may, told))
-said_of held words q (Void work) asks may told = (q, asks, (may, told))
-said_of held words q (Undecided asked work) asks may told = (q, asks, (may, told))
-said_of held words q (Replayed j) asks may told = (q, asks, (may, told))
-said_of held words q Ran asks may told = (q, asks, (may, told))
-said_of held words q (Refused t offset code) asks may told = (q, asks, (may, told))
-said_of held words q (Device w) asks may told = (q, asks, (may, told))
+-- ---- printing
 
-pub report_of : (held : Option Held) (words : List (List ℕ)) (q : Question) (r : Result Answer Ended) → taken words ≡ Some q → IsAnswered held q r
-    → IfOk r (λ a. HasReport a.ended × IsReport held words a.ended a.report.items)
-report_of held words q (Ok a) asks is =
-    (is.report.0, record { question = q; asked = asks; rest = is.report.1; whole = is.report.2; told = is.report.3 })
-report_of held words q (Err e) asks is = tt
+-- an early fault has no report, and is none of the output
+pub early_silent : (e : Ended) → IsEarlyFault e → ¬ HasReport e
+early_silent Usage fault = λ h. h
+early_silent (Refused file offset code) fault = λ h. h
+early_silent (Device which.Load) fault = λ h. h
+early_silent (Device which.Save) fault = λ h. h
+early_silent Memory fault = λ h. h
+early_silent _ fault = absurd fault
 
-pub silent_fault : (r : Result Answer Ended) → IfErr r IsCheckFault → IfErr r (λ e. ¬ HasReport e)
-silent_fault (Ok a) fault = tt
-silent_fault (Err e) fault = fault_silent e fault
+pub early_no_out : (e : Ended) → IsEarlyFault e → e ≢ Device which.Out
+early_no_out e fault is = subst IsEarlyFault is fault
 
-pub no_out : (e : Ended) → IsCheckFault e → e ≢ Device which.Out
-no_out (Refused file offset code) fault is = cc is
-no_out (Device which.Load) fault is = cc is
-no_out (Device which.Save) fault is = cc is
-no_out Memory fault is = cc is
-no_out _ fault is = absurd fault
+-- the answer to a question that was put
+pub answered : (P R : Type 0) (q : Question) (r : Result Answer Ended) (final : Ended) (a b : FilesSeen) (out out' : SinkSeen) → IfErr r (λ e. (final ≡ e) × P)
+    → IfOk r (λ x. ((final ≡ x.ended) × Appends out.written out'.written x.report.items) ⊎ ((final ≡ Device which.Out) × R × AppendsPrefix out.written out'.written x.report.items))
+    → IsDone (meaning_of q) a b r → IsAnswered (meaning_of q) final a b out out'
+answered P R q (Err e) final a b out out' fault put done =
+    let m = meaning_of q in
+    let early = fault_early m a.held e done.fault in
+    record {
+      refused = λ file offset code is. subst (λ x. IsFault m a.held x) (sym fault.0 ∙ is) done.fault;
+      printed = λ reported. absurd (early_silent e early (subst HasReport fault.0 reported));
+      cut = λ is. absurd (early_no_out e early (sym fault.0 ∙ is));
+      effects = subst (λ x. Effects m a b x) (sym fault.0) done.effects;
+    }
+answered P R q (Ok x) final a b out out' fault put done =
+    let m = meaning_of q in
+    let reported : HasReport x.ended = reports q a.held x.ended x.report.items done.answer in
+    elim put [
+      | inl h ↦ record {
+        refused = λ file offset code is. absurd (subst HasReport (sym h.0 ∙ is) reported);
+        printed = λ _. (x.report.items, h.1, subst (λ e. m.IsAnswer a.held e x.report.items) (sym h.0) done.answer);
+        cut = λ is. absurd (subst HasReport (sym h.0 ∙ is) reported);
+        effects = subst (λ e. Effects m a b e) (sym h.0) done.effects;
+      }
+      | inr h ↦ record {
+        refused = λ file offset code is. absurd (cc (h.0, is));
+        printed = λ has. absurd (subst HasReport h.0 has);
+        cut = λ is. (x.ended, x.report.items, h.2, done.answer, done.effects.saved);
+        effects = subst (λ e. Effects m a b e) (sym h.0) (out_effects m a b x.ended reported done.effects);
+      }
+    ]
 
-reported_no_device : (e : Ended) (w : Which) → HasReport e → e ≢ Device w
-reported_no_device e w reported is = subst HasReport is reported
+-- the output's fault comes of its count
+pub out_rises : (P : Type 0) (o n : ℕ) (r : Result Answer Ended) (final : Ended) (w w' : Option (List ℕ)) → IfErr r (λ e. (final ≡ e) × P)
+    → IfOk r (λ x. ((final ≡ x.ended) × Appends w w' x.report.items) ⊎ ((final ≡ Device which.Out) × Rose o n × AppendsPrefix w w' x.report.items)) → IfOk r (λ x. HasReport x.ended) → IfErr r IsEarlyFault
+    → final ≡ Device which.Out → Rose o n
+out_rises P o n (Err e) final w w' fault put report early is = absurd (early_no_out e early (sym fault.0 ∙ is))
+out_rises P o n (Ok x) final w w' fault put report early is = elim put [ inl h ↦ absurd (subst HasReport (sym h.0 ∙ is) report) | inr h ↦ h.1 ]
 
-pub answered_no_out : (held : Option Held) (q : Question) (r : Result Answer Ended) → IsAnswered held q r → ended_of r ≢ Device which.Out
-answered_no_out held q (Ok a) is = reported_no_device a.ended which.Out is.report.0
-answered_no_out held q (Err e) is = no_out e is.fault
+-- what has no report prints nothing, but for a failing output
+pub silent : (P R : Type 0) (r : Result Answer Ended) (final : Ended) (w w' : Option (List ℕ)) → IfErr r (λ e. (final ≡ e) × P)
+    → IfOk r (λ x. ((final ≡ x.ended) × Appends w w' x.report.items) ⊎ ((final ≡ Device which.Out) × R × AppendsPrefix w w' x.report.items)) → IfOk r (λ x. HasReport x.ended)
+    → ¬ HasReport final → final ≢ Device which.Out → P
+silent P R (Err e) final w w' fault put report quiet other = fault.1
+silent P R (Ok x) final w w' fault put report quiet other = elim put [ inl h ↦ absurd (quiet (subst HasReport (sym h.0) report)) | inr h ↦ absurd (other h.0) ]
 
--- a device that failed is an error
-pub device_error : (held : Option Held) (q : Question) (r : Result Answer Ended) (w : Which) → IsAnswered held q r → ended_of r ≡ Device w → IsErrOf r (Device w)
-device_error held q (Ok a) w is same = absurd (reported_no_device a.ended w is.report.0 same)
-device_error held q (Err e) w is same = ap (λ x. Err x) same
+-- an answer other than the output's fault was there before it was printed
+pub before_out : (P R : Type 0) (r : Result Answer Ended) (final : Ended) (w w' : Option (List ℕ)) → IfErr r (λ e. (final ≡ e) × P)
+    → IfOk r (λ x. ((final ≡ x.ended) × Appends w w' x.report.items) ⊎ ((final ≡ Device which.Out) × R × AppendsPrefix w w' x.report.items))
+    → (e : Ended) → e ≢ Device which.Out → final ≡ e → ended_of r ≡ e
+before_out P R (Err f) final w w' fault put e other is = sym fault.0 ∙ is
+before_out P R (Ok x) final w w' fault put e other is = elim put [ inl h ↦ sym h.0 ∙ is | inr h ↦ absurd (other (sym is ∙ h.0)) ]
 
-pub error_device : (r : Result Answer Ended) (e : Ended) → ended_of r ≢ e → ¬ IsErrOf r e
-error_device (Ok a) e other is = cc is
-error_device (Err x) e other is = other (cc is)
+-- words that aren't taken
+pub untaken : (P R : Type 0) (r : Result Answer Ended) (final : Ended) (w w' : Option (List ℕ)) → IfErr r (λ e. (final ≡ e) × P)
+    → IfOk r (λ x. ((final ≡ x.ended) × Appends w w' x.report.items) ⊎ ((final ≡ Device which.Out) × R × AppendsPrefix w w' x.report.items))
+    → IsErrOf r Usage ⊎ IsErrOf r Memory → (final ≡ Usage) ⊎ (final ≡ Memory)
+untaken P R (Err f) final w w' fault put either = elim either [ inl h ↦ inl (fault.0 ∙ cc h) | inr h ↦ inr (fault.0 ∙ cc h) ]
+untaken P R (Ok x) final w w' fault put either = elim either [ inl h ↦ absurd (cc h) | inr h ↦ absurd (cc h) ]
 
-pub saved_of : (before after : FilesSeen) (words : List (List ℕ)) (q : Question) (r : Result Answer Ended) → taken words ≡ Some q → IfErr r IsCheckFault → Leaves before after q r
-    → IsSaved after.held words (ended_of r)
-saved_of before after words q (Ok a) asks fault leaves = λ v is. (q, asks, leaves.saved v is)
-saved_of before after words q (Err e) asks fault leaves = λ v is. absurd (no_verdict e v (fault_silent e fault) is)
+-- ---- the headline
 
-pub others_of : (before after : Option Held) (words : List (List ℕ)) (q : Question) → taken words ≡ Some q → KeepsAllBut before after (SavesTo q) → KeepsOtherFiles before after words
-others_of before after words q asks keeps = λ p also. let same : q ≡ p = cc (asks, also) in subst (λ x. KeepsAllBut before after (SavesTo x)) same keeps
+module _ (words : List (List ℕ)) (final : Ended) (a b : FilesSeen) (out out' : SinkSeen) (usage : taken words ≡ None → (final ≡ Usage) ⊎ (final ≡ Memory))
+    (answers : (q : Question) → taken words ≡ Some q → IsAnswered (meaning_of q) final a b out out') where
+  -- the question that a verdict answers
+  asked_for : (v : Verdict) (o : Option Question) → taken words ≡ o → final ≡ ended_by v → (q : Question) × (taken words ≡ Some q) × IsVerdictFor (meaning_of q) a.held v
+  asked_for v None asks is = elim (usage asks) [ inl h ↦ absurd (no_usage_verdict v (sym is ∙ h)) | inr h ↦ absurd (no_memory_verdict v (sym is ∙ h)) ]
+  asked_for v (Some q) asks is =
+      let printed = (answers q asks).printed (subst HasReport (sym is) (verdict_reports v)) in
+      (q, asks, verdict_for q a.held v printed.0 (subst (λ e. (meaning_of q).IsAnswer a.held e printed.0) is printed.2))
 
--- words that ask nothing
-pub others_same : (held : Option Held) (words : List (List ℕ)) → KeepsOtherFiles held held words
-others_same held words = λ q asks. keeps_same held held (SavesTo q) refl
+  for_verdict : (v : Verdict) (P : Asked → DesignView → Type 0) → final ≡ ended_by v → ((asked : Asked) (d : DesignView) → IsVerdict d asked v → P asked d) → ForVerdict a.held words P
+  for_verdict v P is f =
+      let found = asked_for v (taken words) refl is in
+      let verdict = found.2 in
+      (found.0, found.1, verdict.asked, verdict.is_asked, IfSome-weaker _ _ a.held (λ h asks. (verdict.design, asks, f verdict.asked verdict.design verdict.is_verdict)) verdict.asks)
 
-pub usage_unsaved : (after : Option Held) (words : List (List ℕ)) → IsSaved after words Usage
-usage_unsaved after words = λ v is. absurd (no_verdict Usage v (λ h. h) is)
+  for_design : (v : Verdict) (P : DesignView → Type 0) → final ≡ ended_by v → ((asked : Asked) (d : DesignView) → IsVerdict d asked v → P d) → ForDesign a.held words P
+  for_design v P is f =
+      let found = asked_for v (taken words) refl is in
+      let verdict = found.2 in
+      (found.0, found.1, IfSome-weaker _ _ a.held (λ h asks. (verdict.design, asks, f verdict.asked verdict.design verdict.is_verdict)) verdict.asks)
 
-pub memory_unsaved : (after : Option Held) (words : List (List ℕ)) → IsSaved after words Memory
-memory_unsaved after words = λ v is. absurd (no_verdict Memory v (λ h. h) is)
+  pub headline : Headline a.held words final
+  headline = record {
+    correct = λ c work is. for_design (verdict.Correct c work) _ is (λ asked d v. v.is_true.0);
+    wrong = λ k c work is. for_design (verdict.Wrong k c work) _ is (λ asked d v. v.is_true);
+    void = λ work is. for_design (verdict.Void work) _ is (λ asked d v. v.is_true);
+    holds = λ c work is. for_design (verdict.Correct (Some c) work) _ is (λ asked d v. v.is_true.1);
+    undecided = λ work is. for_verdict (verdict.Undecided Breaks work) _ is (λ asked d v. v.is_true);
+    may_give = λ v is. for_verdict v _ is (λ asked d v. v.may_give);
+    work = λ v is. for_verdict v _ is (λ asked d v. v.work);
+  }

@@ -22,14 +22,15 @@ use Rattle.clap.specs.declared.parser.matches.ArgMatches.TheViews.{out-SubComman
 use Rattle.clap.specs.declared.parser.matches.SubCommand.{SubCommand}
 use Rattle.clap.proofs.WalkLemmas.{both}
 use Rattle.clap.proofs.OnLiterals.{clap_on_literals}
-use Rattle.bd_app.specs.Words.{Question, command_line, digits_number, if_faultless, question_of, taken, ◌>>=◌}
+use Rattle.bd_app.specs.Commands.{Question, command_line, commands, if_faultless, question_of, taken}
+use Rattle.bd_app.specs.Words.{digits_number, ◌>>=◌}
 
 pub command_line-simple : is_simple command_line ≡ true
-unfolding command_line clap_on_literals
+unfolding command_line commands clap_on_literals
 command_line-simple = refl
 
 pub command_line-free : is_simple_and_free command_line ≡ true
-unfolding command_line clap_on_literals
+unfolding command_line commands clap_on_literals
 command_line-free = refl
 
 -- ---- numbers

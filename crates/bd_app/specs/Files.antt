@@ -5,13 +5,13 @@ use Rattle.std.specs.List.{AllByRecursion, Contains}
 use Rattle.bd_cnf.specs.Problem.{dimacs}
 use Rattle.bd_files.specs.Devices.{Blame, Held, Holds, KeepsOthers}
 use Rattle.bd_files.specs.declared.devices.FileCall.TheVariants as call
-use Rattle.bd_gen.specs.Pipeline.{pipeline_text}
-use Rattle.bd_gen.specs.Specification.{specification_text}
 use Rattle.bd_lrat.specs.Text.{lrat as lrat_text}
 use Rattle.bd_verify.specs.declared.verdict.Work.{Work}
-use Rattle.bd_app.specs.Words.{Name, Question, check, replay, run, gen}
+use Rattle.bd_app.specs.Words.{Name}
 use Rattle.bd_typer.specs.declared.fault.Text.{Text}
 use Rattle.bd_typer.specs.declared.fault.Text.TheVariants.{Pipe, Spec, Inv, Case}
+
+-- ---- files that are read
 
 -- a file by what it is and its name
 abbrev pub File : Type 0
@@ -30,13 +30,6 @@ abbrev pub case_files : Name → Name → Name → Option Name → List File
 case_files pipe spec case inv =
     (Pipe, pipe) ∷ (Spec, spec) ∷ (Case, case) ∷ one_if Inv inv
 
--- in the order of the words
-abbrev pub files_of : Question → List File
-files_of (check pipe spec inv budget cnf lrat diverse) = design_files pipe spec inv
-files_of (replay pipe spec case inv) = case_files pipe spec case inv
-files_of (run pipe spec case cycles) = case_files pipe spec case None
-files_of (gen depth drop) = []
-
 -- these bytes are held under the name, at most 1,048,576
 abbrev pub HoldsShort : Held → Name → List ℕ → Type 0
 HoldsShort held name bytes = (held name ≡ Some bytes) × (length bytes ≤ 1048576)
@@ -47,13 +40,17 @@ IsShort held file = (bytes : List ℕ) × HoldsShort held file.1 bytes
 abbrev pub IsLong : Held → File → Type 0
 IsLong held file = (bytes : List ℕ) × (held file.1 ≡ Some bytes) × (1048576 < length bytes)
 
+-- each of the files is held, and none is too long
+abbrev pub AreShort : Held → List File → Type 0
+AreShort held files = AllByRecursion (IsShort held) files
+
 -- the first of the files that is too long: each before it is held, and isn't
 pub record IsFirstLong (held : Held) (files : List File) (text : Text) : Type 0 where
   pub before : List File
   pub name : Name
-  pub behind : List File
-  pub order : files ≡ before ++ (text, name) ∷ behind
-  pub short : AllByRecursion (IsShort held) before
+  pub after : List File
+  pub order : files ≡ before ++ (text, name) ∷ after
+  pub short : AreShort held before
   pub long : IsLong held (text, name)
 
 -- the last call that failed was a load of one of the files
@@ -61,61 +58,11 @@ abbrev pub BlamesOneOf : Option Blame → List File → Type 0
 BlamesOneOf blame files =
     (name : Name) × Contains (map (λ f. f.1) files) name × (blame ≡ Some (call.Load, name))
 
--- the bytes of the files of a design
-pub record Sources : Type 0 where
-  pub pipe : List ℕ
-  pub spec : List ℕ
-  pub inv : Option (List ℕ)
-
-abbrev pub HoldsShortIf : Held → Option Name → Option (List ℕ) → Type 0
-HoldsShortIf held None None = Unit {0}
-HoldsShortIf held None (Some bytes) = ⊥
-HoldsShortIf held (Some name) None = ⊥
-HoldsShortIf held (Some name) (Some bytes) = HoldsShort held name bytes
-
-pub record HoldSources (held : Held) (pipe spec : Name) (inv : Option Name) (sources : Sources) :
-    Type 0 where
-  pub pipe_held : HoldsShort held pipe sources.pipe
-  pub spec_held : HoldsShort held spec sources.spec
-  pub inv_held : HoldsShortIf held inv sources.inv
-
--- the texts of the generated pipeline, and of its specification
-abbrev pub generated : ℕ → ℕ → Sources
-generated depth drop =
-    record { pipe = pipeline_text depth drop; spec = specification_text; inv = None }
-
--- the bytes that a question's design is read from: those held of its files, or those generated
-abbrev pub AreSources : Held → Question → Sources → Type 0
-AreSources held (check pipe spec inv budget cnf lrat diverse) sources =
-    HoldSources held pipe spec inv sources
-AreSources held (replay pipe spec case inv) sources = HoldSources held pipe spec inv sources
-AreSources held (run pipe spec case cycles) sources = HoldSources held pipe spec None sources
-AreSources held (gen depth drop) sources = sources ≡ generated depth drop
-
--- the bytes that are held of its case
-abbrev pub IsCaseSource : Held → Question → List ℕ → Type 0
-IsCaseSource held (replay pipe spec case inv) bytes = HoldsShort held case bytes
-IsCaseSource held (run pipe spec case cycles) bytes = HoldsShort held case bytes
-IsCaseSource held _ bytes = ⊥
-
--- ---- the files that a question saves to
-
--- where the formula is saved
-abbrev pub cnf_of : Question → Option Name
-cnf_of (check pipe spec inv budget cnf lrat diverse) = cnf
-cnf_of _ = None
-
--- where the proof is saved
-abbrev pub lrat_of : Question → Option Name
-lrat_of (check pipe spec inv budget cnf lrat diverse) = lrat
-lrat_of _ = None
+-- ---- files that are saved to
 
 -- one of two names, of which either may not be given
 abbrev pub IsEither : Option Name → Option Name → Name → Type 0
 IsEither cnf lrat name = (cnf ≡ Some name) ⊎ (lrat ≡ Some name)
-
-abbrev pub SavesTo : Question → Name → Type 0
-SavesTo q name = IsEither (cnf_of q) (lrat_of q) name
 
 -- the last call that failed was a save under one of the two names
 abbrev pub BlamesSaveOf : Option Blame → Option Name → Option Name → Type 0

@@ -1,5 +1,14 @@
-pub mod Answer
-pub mod Files
-pub mod Run
 pub mod Words
+pub mod Files
+pub mod Sources
+pub mod Answer
+pub mod Verdicts
+pub mod Meaning
+pub mod Cases
+pub mod Check
+pub mod Generate
+pub mod Replay
+pub mod Run
+pub mod Commands
+pub mod Program
 pub mod inner

@@ -1,11 +1,54 @@
--- The text of a run: for each state a line with its number, and its entries. This project's own.
-use Rattle.std.specs.Prelude.{ℕ, ◌+◌, List, [], ◌∷◌, ◌++◌, codes}
+-- `run`: the states of a case's run.
+use Rattle.std.specs.Prelude.{◌≡◌, ℕ, ◌+◌, List, [], ◌∷◌, ◌++◌, codes, Option, Some, None}
 use Rattle.std.specs.Fmt.{decimal}
+use Rattle.clap.specs.Simple.{Shape}
+use Rattle.clap.specs.Walk.{Row, first_of}
 use Rattle.bd_model.specs.DesignView.{DesignView}
 use Rattle.bd_model.specs.declared.table.Value.{Value}
 use Rattle.bd_model.specs.declared.case.Case.{Case}
 use Rattle.bd_sim.specs.Trace.{trace_of}
 use Rattle.bd_case.specs.Text.{state_text}
+use Rattle.bd_app.specs.Cases.{CaseNames, case_meaning}
+use Rattle.bd_app.specs.Meaning.{Meaning}
+use Rattle.bd_app.specs.Words.{Name, in_range, machines_command, number_at, required, ◌>>=◌}
+use Rattle.bd_app.specs.declared.answer.Ended.{Ended}
+use Rattle.bd_app.specs.declared.answer.Ended.TheVariants.{Ran}
+use Rattle.bd_app.specs.declared.command.run.RunOptions.{RunOptions}
+
+-- the pipeline, the specification, the case, and the number of cycles
+pub record Run : Type 0 where
+  pub pipe : Name
+  pub spec : Name
+  pub case : Name
+  pub cycles : ℕ
+
+-- ---- its words
+
+-- run PIPE SPEC CASE CYCLES
+abbrev pub run_command : Shape
+run_command = machines_command (codes "run") (
+    required (codes "CASE")
+    ∷ in_range 0 1000 (required (codes "CYCLES"))
+    ∷ [])
+
+unfoldable pub run_question : List Row → Option Run
+run_question rows = do
+  pipe ← first_of (codes "PIPE") rows
+  spec ← first_of (codes "SPEC") rows
+  case ← first_of (codes "CASE") rows
+  cycles ← number_at (codes "CYCLES") rows
+  Some (record { pipe = pipe; spec = spec; case = case; cycles = cycles })
+
+-- the question of these options
+abbrev pub run_of : RunOptions → Run
+run_of options = record {
+  pipe = options.pipe.now;
+  spec = options.spec.now;
+  case = options.case.now;
+  cycles = options.cycles;
+}
+
+-- ---- its answers
 
 -- cycle N, and a line for each entry
 abbrev pub cycle_text : DesignView → ℕ → List Value → List ℕ
@@ -19,3 +62,16 @@ cycles_text d n (state ∷ states) = cycle_text d n state ++ cycles_text d (n + 
 -- the case's state, and the states after each cycle
 abbrev pub run_text : DesignView → Case → ℕ → List ℕ
 run_text d c cycles = cycles_text d 0 (trace_of cycles d.pipe c.interp c.state c.inputs)
+
+-- the run of the case, with so many cycles
+pub record IsTrace (cycles : ℕ) (d : DesignView) (c : Case) (e : Ended) (report : List ℕ) :
+    Type 0 where
+  pub ended : e ≡ Ran
+  pub states : report ≡ run_text d c cycles
+
+-- the names of its files
+abbrev pub run_names : Run → CaseNames
+run_names q = record { pipe = q.pipe; spec = q.spec; case = q.case; inv = None }
+
+abbrev pub run_meaning : Run → Meaning
+run_meaning q = case_meaning (run_names q) (IsTrace q.cycles)

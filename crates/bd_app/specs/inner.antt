@@ -1,4 +1,4 @@
 pub mod Asked
 pub mod Loaded
 pub mod Saved
-pub mod Told
+pub mod Done

@@ -3,9 +3,10 @@
 //! A verdict, a judgement and a run have a report, which goes to the output in one put, and no line.
 //! A fault has a line, which goes to the error output, and no report. So what a reader of the two
 //! streams sees tells the answers apart, and the status tells them apart once more.
-ghost use Rattle.std.specs.Prelude.{◌≡◌, ◌↔◌, ◌≤◌, IsTrue, flat_map};
+ghost use Rattle.std.specs.Prelude.{◌≡◌, ◌≤◌, flat_map};
 ghost use Rattle.bd_files.specs.Devices.{PutsOrFaults};
-ghost use Rattle.bd_app.specs.Answer.{status_of, ended_by, fault_line_of, file_word, device_text, refusal_of, refusal_line, HasReport};
+ghost use Rattle.bd_app.specs.Answer.{status_of, fault_line_of, file_word, device_text, refusal_of, refusal_line, HasReport};
+ghost use Rattle.bd_app.specs.Verdicts.{ended_by};
 
 use bd_files::{Sink, put_pieces};
 use bd_model::{Case, Condition, Judged};
@@ -53,6 +54,13 @@ pub enum Ended {
     Device(Which),
     /// Want of memory.
     Memory,
+}
+
+/// An answer that is no fault, and its report.
+#[derive(Debug, Drop)]
+pub struct Answer {
+    pub ended: Ended,
+    pub report: Vec<u8>,
 }
 
 /// The file's word in a fault line.
@@ -108,16 +116,6 @@ impl Ended {
             Ended::Void(_) => 7,
             Ended::Replayed(Judged::Outside) => 8,
         }
-    }
-
-    /// Whether it has a report, and is no fault.
-    pub fn has_report(&self) -> bool
-        ensures { IsTrue result ↔ HasReport self.now }
-    {
-        !matches!(
-            self,
-            Ended::Usage | Ended::Refused { .. } | Ended::Device(_) | Ended::Memory
-        )
     }
 
     /// Puts the line of a fault on the error output, in pieces and without memory: a put that fails

@@ -2,19 +2,14 @@
 #![tactic(auto)]
 
 mod answer;
-mod check;
 mod command;
-mod design;
 mod load;
 mod program;
-mod replay;
-mod report;
+mod read;
 mod save;
 mod verdict;
+mod words;
 
 pub use answer::{Ended, Which};
 pub use bd_typer::Text;
 pub use program::run;
-
-#[cfg(test)]
-mod tests;

@@ -5,90 +5,52 @@
 //! Each part's clauses say what it leaves alone, so that what the first one told of the files still
 //! holds at the end. Everything that the program does to the world goes through the three objects
 //! that it is given, so the clauses speak of all of it.
-ghost use Rattle.std.specs.Prelude.{◌≡◌, ◌≢◌, ◌≤◌, ◌⊎◌, ℕ, List, Option, Some, None, true, IfSome, IfOk, IfErr};
-ghost use Rattle.bd_files.specs.Devices.{Rose, Appends, AppendsPrefix, PutsOrFaults};
-ghost use Rattle.bd_model.specs.DesignView.{DesignView};
+ghost use Rattle.std.specs.Prelude.{◌≡◌, ◌≢◌, ◌≤◌, ◌⊎◌, Option, Some, None, IfOk, IfErr, IsErrOf};
+ghost use Rattle.bd_files.specs.Devices.{Rose, Appends, AppendsPrefix};
 ghost use Rattle.bd_model.specs.Fits.{Fits};
 ghost use Rattle.bd_model.specs.Conditions.{IsJudged, SomeCaseMeetsInvariant};
 ghost use Rattle.bd_model.specs.Right.{IsRight};
-ghost use Rattle.bd_verify.specs.Verdict.{HasWork};
-ghost use Rattle.bd_verify.specs.declared.verdict.Question.TheVariants.{Breaks};
-ghost use Rattle.bd_verify.specs.declared.verdict.Verdict.{Verdict};
 ghost use Rattle.bd_verify.specs.declared.verdict.Work.{Work};
-ghost use Rattle.bd_app.specs.Answer.{IsTold, IsReport, IsRefused, IsSaved, IsSavedUpTo, KeepsOtherFiles, SavesNothing, Reads, BlamesLoad, BlamesSave, HasReport, ForDesign, ForQuestion, MayHave, budget_of, ended_by, fault_line_of, is_given};
-ghost use Rattle.bd_app.specs.inner.Asked.{asked, HasDepth};
-ghost use Rattle.bd_app.specs.inner.Told.{ended_of, files_seen, IsAnswered, IsSaid, Leaves};
-ghost use Rattle.bd_app.specs.Words.{taken, texts_of};
+ghost use Rattle.bd_app.specs.Answer.{HasReport};
+ghost use Rattle.bd_app.specs.Commands.{Question, meaning_of, taken};
+ghost use Rattle.bd_app.specs.Meaning.{files_seen};
+ghost use Rattle.bd_app.specs.Program.{ForDesign, IsRun, sink_seen};
+ghost use Rattle.bd_app.specs.Words.{texts_of};
+ghost use Rattle.bd_app.specs.inner.Asked.{asked, IsInRange};
+ghost use Rattle.bd_app.specs.inner.Done.{IsDone, IsEarlyFault, ended_of};
 
-use crate::answer::{Ended, Which};
-use crate::check::{check, generate};
-use crate::command::{Command, WordsFault, command_of};
-use crate::load::Names;
-use crate::replay::{replay, run_case};
-use crate::report::Answer;
+use crate::answer::{Answer, Ended, Which};
+use crate::command::{Command, WordsFault, check, command_of, generate, replay, run as run_cycles};
 use bd_files::{Files, Sink};
 use bd_model::{Case, Condition, Judged};
-use bd_text::Code;
-use bd_typer::Text;
 use std::alloc::Global;
 
 /// The answer to the question that the words ask.
 fn answered<F: Files>(alloc: Global, files: &mut F, command: Command<'_>) -> Result<Answer, Ended>
-    requires { HasDepth command }
-    ensures answered { IsAnswered (F.held files.old) (asked command.entry) result }
-    ensures leaves { Leaves (files_seen F.held F.faults F.blame files.old)
-        (files_seen F.held F.faults F.blame files.new) (asked command.entry) result }
+    requires { IsInRange command }
+    ensures { IsDone (meaning_of (asked command.entry))
+        (files_seen F.held F.faults F.blame files.old)
+        (files_seen F.held F.faults F.blame files.new) result }
 {
     match command {
-        Command::Check(words) => check(alloc, files, words),
-        Command::Replay {
-            pipe,
-            spec,
-            case,
-            inv,
-        } => {
-            let names = Names {
-                pipe,
-                spec,
-                case,
-                inv,
-            };
-            replay(alloc, files, names)
-        }
-        Command::Run {
-            pipe,
-            spec,
-            case,
-            cycles,
-        } => run_case(alloc, files, pipe, spec, case, cycles),
-        Command::Gen { depth, drop } => generate(alloc, depth, drop),
+        Command::Check(options) => check::answer(alloc, files, options),
+        Command::Replay(options) => replay::answer(alloc, files, options),
+        Command::Run(options) => run_cycles::answer(alloc, files, options),
+        Command::Gen(options) => generate::answer(alloc, options),
     }
 }
 
 /// The answer, before anything is printed.
 fn answer_of<F: Files>(alloc: Global, words: &[String], files: &mut F) -> Result<Answer, Ended>
-    ensures said { IsSaid (F.held files.old) (texts_of words.now) (ended_of result) }
-    ensures report { IfOk result (λ a. HasReport a.ended
-        × IsReport (F.held files.old) (texts_of words.now) a.ended a.report.items) }
-    ensures fault { IfErr result (λ e. ¬ HasReport e) }
-    ensures out { ended_of result ≢ Ended.Device Which.Out }
-    ensures load_rose { ended_of result ≡ Ended.Device Which.Load →
-        Rose (F.faults files.old) (F.faults files.new) }
-    ensures load_blamed { ended_of result ≡ Ended.Device Which.Load →
-        BlamesLoad (F.blame files.new) (texts_of words.now) }
-    ensures save_rose { ended_of result ≡ Ended.Device Which.Save →
-        Rose (F.faults files.old) (F.faults files.new) }
-    ensures save_blamed { ended_of result ≡ Ended.Device Which.Save →
-        BlamesSave (F.blame files.new) (texts_of words.now) }
-    ensures else_keeps_blame { ended_of result ≢ Ended.Device Which.Load →
-        ended_of result ≢ Ended.Device Which.Save → F.blame files.new ≡ F.blame files.old }
+    ensures usage_only { ended_of result ≡ Ended.Usage → taken (texts_of words.now) ≡ None }
+    ensures usage { taken (texts_of words.now) ≡ None →
+        IsErrOf result Ended.Usage ⊎ IsErrOf result Ended.Memory }
     ensures untouched { taken (texts_of words.now) ≡ None → files.new ≡ files.old }
-    ensures saved { IsSaved (F.held files.new) (texts_of words.now) (ended_of result) }
-    ensures save_failed { ended_of result ≡ Ended.Device Which.Save →
-        IsSavedUpTo (F.held files.old) (F.held files.new) (F.blame files.new)
-        (texts_of words.now) }
-    ensures others { KeepsOtherFiles (F.held files.old) (F.held files.new) (texts_of words.now) }
-    ensures held { SavesNothing (ended_of result) → F.held files.new ≡ F.held files.old }
+    ensures report { IfOk result (λ a. HasReport a.ended) }
+    ensures fault { IfErr result IsEarlyFault }
+    ensures done { (q : Question) → taken (texts_of words.now) ≡ Some q →
+        IsDone (meaning_of q) (files_seen F.held F.faults F.blame files.old)
+        (files_seen F.held F.faults F.blame files.new) result }
     ensures never_falls { F.faults files.old ≤ F.faults files.new }
 {
     match command_of(alloc, words) {
@@ -130,87 +92,24 @@ pub fn run<F: Files, O: Sink, E: Sink>(
     // The headline: under every interpretation, from every state that meets the invariant, and for
     // every list of inputs.
     ensures correct { (c : Option Case) (work : Work) → result ≡ Ended.Correct c work →
-        ForDesign (F.held files.old) (texts_of words.now) (λ q d. IsRight d) }
+        ForDesign (F.held files.old) (texts_of words.now) IsRight }
     ensures wrong { (k : Condition) (c : Case) (work : Work) → result ≡ Ended.Wrong k c work →
-        ForDesign (F.held files.old) (texts_of words.now) (λ q d.
+        ForDesign (F.held files.old) (texts_of words.now) (λ d.
         Fits d c × IsJudged d c (Judged.Broken k)) }
     ensures void { (work : Work) → result ≡ Ended.Void work →
-        ForDesign (F.held files.old) (texts_of words.now) (λ q d. ¬ SomeCaseMeetsInvariant d) }
+        ForDesign (F.held files.old) (texts_of words.now) (λ d. ¬ SomeCaseMeetsInvariant d) }
 
-    // A case that is carried by a correct verdict shows that some state meets the invariant.
-    ensures holds { (c : Case) (work : Work) → result ≡ Ended.Correct (Some c) work →
-        ForDesign (F.held files.old) (texts_of words.now) (λ q d.
-        Fits d c × IsJudged d c Judged.Holds) }
-    ensures undecided { (work : Work) → result ≡ Ended.Undecided Breaks work →
-        ForDesign (F.held files.old) (texts_of words.now) (λ q d.
-        is_given q ≡ true → SomeCaseMeetsInvariant d) }
+    // All of it: what each answer means and what causes it, what is saved and what is printed.
+    ensures run { IsRun (texts_of words.now) result
+        (files_seen F.held F.faults F.blame files.old)
+        (files_seen F.held F.faults F.blame files.new)
+        (sink_seen O.written O.faults out.old) (sink_seen O.written O.faults out.new)
+        (sink_seen E.written E.faults err.old) (sink_seen E.written E.faults err.new) }
 
-    // Each verdict's formula is satisfiable exactly where some case is such as was asked, and its log
-    // is that of an honest solver.
-    ensures work { (v : Verdict) → result ≡ ended_by v →
-        ForDesign (F.held files.old) (texts_of words.now) (λ q d. HasWork d (budget_of q) v) }
-
-    // Every other answer but want of memory has its stated cause.
-    ensures usage_only { result ≡ Ended.Usage → taken (texts_of words.now) ≡ None }
-    ensures usage { taken (texts_of words.now) ≡ None →
-        (result ≡ Ended.Usage) ⊎ (result ≡ Ended.Memory) }
-    ensures question { result ≢ Ended.Usage → result ≢ Ended.Memory →
-        ForQuestion (texts_of words.now) (λ q. MayHave q result) }
-    ensures replayed { (j : Judged) → result ≡ Ended.Replayed j →
-        ForQuestion (texts_of words.now) (λ q. IfSome (F.held files.old) (λ held.
-        (d : DesignView) × (c : Case) × Reads held q d c × IsJudged d c j)) }
-    ensures ran { result ≡ Ended.Ran →
-        ForQuestion (texts_of words.now) (λ q. IfSome (F.held files.old) (λ held.
-        (d : DesignView) × (c : Case) × Reads held q d c)) }
-    ensures refused { (file : Text) (offset : ℕ) (code : Code) →
-        result ≡ Ended.Refused file offset code →
-        ForQuestion (texts_of words.now) (λ q. IfSome (F.held files.old) (λ held.
-        IsRefused held q file offset code)) }
-    ensures load_rose { result ≡ Ended.Device Which.Load →
-        Rose (F.faults files.old) (F.faults files.new) }
-    ensures load_blamed { result ≡ Ended.Device Which.Load →
-        BlamesLoad (F.blame files.new) (texts_of words.now) }
-    ensures save_rose { result ≡ Ended.Device Which.Save →
-        Rose (F.faults files.old) (F.faults files.new) }
-    ensures save_blamed { result ≡ Ended.Device Which.Save →
-        BlamesSave (F.blame files.new) (texts_of words.now) }
-    ensures out_rose { result ≡ Ended.Device Which.Out →
-        Rose (O.faults out.old) (O.faults out.new) }
-
-    // A load or save that fails, and so takes the blame, isn't passed over; words that aren't taken
-    // load nothing.
-    ensures else_keeps_blame { result ≢ Ended.Device Which.Load →
-        result ≢ Ended.Device Which.Save → F.blame files.new ≡ F.blame files.old }
+    // What is left alone.
     ensures untouched { taken (texts_of words.now) ≡ None → files.new ≡ files.old }
-
-    // What is saved: after a verdict all that the words ask for; where a save failed, what stands;
-    // before other answers nothing; and never under another name.
-    ensures saved { IsSaved (F.held files.new) (texts_of words.now) result }
-    ensures save_failed { result ≡ Ended.Device Which.Save →
-        IsSavedUpTo (F.held files.old) (F.held files.new) (F.blame files.new)
-        (texts_of words.now) }
-    ensures others { KeepsOtherFiles (F.held files.old) (F.held files.new) (texts_of words.now) }
-    ensures held { SavesNothing result → F.held files.new ≡ F.held files.old }
-
-    // What is printed. Where the output failed, a prefix of the report of an answer that is true went
-    // out, after what that answer saves.
-    ensures printed { HasReport result → (text : List ℕ)
-        × Appends (O.written out.old) (O.written out.new) text
-        × IsReport (F.held files.old) (texts_of words.now) result text }
-    ensures cut { result ≡ Ended.Device Which.Out → (e : Ended) × (text : List ℕ) × HasReport e
-        × AppendsPrefix (O.written out.old) (O.written out.new) text
-        × IsReport (F.held files.old) (texts_of words.now) e text
-        × IsSaved (F.held files.new) (texts_of words.now) e
-        × ForQuestion (texts_of words.now) (λ q.
-        IfSome (F.held files.old) (λ held. IsTold held q e)) }
     ensures silent { ¬ HasReport result → result ≢ Ended.Device Which.Out → out.new ≡ out.old }
-    ensures line { PutsOrFaults E.written E.faults err.old err.new (fault_line_of result) }
     ensures no_line { HasReport result → err.new ≡ err.old }
-
-    // The counts of faults.
-    ensures files_never_fall { F.faults files.old ≤ F.faults files.new }
-    ensures out_never_falls { O.faults out.old ≤ O.faults out.new }
-    ensures err_never_falls { E.faults err.old ≤ E.faults err.new }
 {
     let answer = answer_of(alloc, words, files);
     let ended = put_report(answer, out);

@@ -1,10 +1,10 @@
 //! Saving a verdict's formula and proof.
 ghost use Rattle.std.specs.Prelude.{◌≡◌, ◌≤◌, List, ℕ, Some, OnOk, IfOk, IfErr, IsErrOf};
 ghost use Rattle.bd_files.specs.Devices.{Holds, KeepsOthers, Rose};
-ghost use Rattle.bd_app.specs.Files.{AreSaved, AreSavedUpTo, BlamesSaveOf, IsEither, KeepsAllBut};
-ghost use Rattle.bd_app.specs.inner.Asked.{given};
-ghost use Rattle.bd_app.specs.inner.Saved.{part_text};
-ghost use Rattle.bd_app.specs.inner.Told.{IsSaveFault};
+ghost use Rattle.bd_app.specs.Files.{KeepsAllBut};
+ghost use Rattle.bd_app.specs.Meaning.{files_seen};
+ghost use Rattle.bd_app.specs.Words.{given};
+ghost use Rattle.bd_app.specs.inner.Saved.{IsSaveFault, Saves, part_text};
 
 use crate::answer::{Ended, Which};
 use bd_cnf::{Cnf, dimacs_text};
@@ -89,21 +89,9 @@ pub fn save_work<F: Files>(
     cnf: Option<&str>,
     lrat: Option<&str>,
 ) -> Result<(), Ended>
-    ensures saved { OnOk result
-        (AreSaved (F.held files.new) (given cnf.entry) (given lrat.entry) work.now) }
-    ensures up_to { IsErrOf result (Ended.Device Which.Save) →
-        AreSavedUpTo (F.held files.old) (F.held files.new) (F.blame files.new)
-        (given cnf.entry) (given lrat.entry) work.now }
-    ensures others { KeepsAllBut (F.held files.old) (F.held files.new)
-        (IsEither (given cnf.entry) (given lrat.entry)) }
-    ensures fault { IfErr result IsSaveFault }
-    ensures rose { IsErrOf result (Ended.Device Which.Save) →
-        Rose (F.faults files.old) (F.faults files.new) }
-    ensures blamed { IsErrOf result (Ended.Device Which.Save) →
-        BlamesSaveOf (F.blame files.new) (given cnf.entry) (given lrat.entry) }
-    ensures else_keeps_blame { ¬ IsErrOf result (Ended.Device Which.Save) →
-        F.blame files.new ≡ F.blame files.old }
-    ensures never_falls { F.faults files.old ≤ F.faults files.new }
+    ensures { Saves (given cnf.entry) (given lrat.entry) work.now
+        (files_seen F.held F.faults F.blame files.old)
+        (files_seen F.held F.faults F.blame files.new) result }
 {
     save_part(alloc, files, cnf, Part::Formula(&work.cnf))?;
     save_part(alloc, files, lrat, Part::Proof(&work.log))

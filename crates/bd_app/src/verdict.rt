@@ -1,20 +1,20 @@
-//! The verdict on the design of sources.
-ghost use Rattle.std.specs.Prelude.{◌≡◌, IfSome, IfOk, IfErr};
+//! The verdict on the design of sources, and its report.
+ghost use Rattle.std.specs.Prelude.{◌≡◌, ◌++◌, [], ◌∷◌, OnOk, IfSome, IfOk, IfErr, string_bytes};
 ghost use Rattle.std.specs.Option.{option_map};
 ghost use Rattle.bd_model.specs.DesignView.{design_view};
 ghost use Rattle.bd_model.specs.Fits.{Fits};
 ghost use Rattle.bd_model.specs.Lawful.{IsLawful};
-ghost use Rattle.bd_app.specs.Answer.{IsVerdict, MayGive, shown_case, work_of};
-ghost use Rattle.bd_app.specs.inner.Loaded.{AreShort, sources_view};
-ghost use Rattle.bd_app.specs.inner.Told.{IsFound, IsFoundOf, IsPart, IsTextFault, IsToldOf};
+ghost use Rattle.bd_app.specs.Verdicts.{IsCaseTextIf, IsVerdict, ended_by, shown_case, verdict_words, work_of};
+ghost use Rattle.bd_app.specs.inner.Loaded.{AreFew, sources_view};
+ghost use Rattle.bd_app.specs.inner.Done.{AreRefused, IsShown, IsShownOf};
 
-use crate::answer::Ended;
-use crate::design::design;
+use crate::answer::{Answer, Ended};
 use crate::load::Sources;
+use crate::read::design;
 use bd_case::case_text;
 use bd_cdcl::Cdcl;
-use bd_model::{Case, Design};
-use bd_verify::{Mode, Verdict, Work, verify};
+use bd_model::{Case, Condition, Design};
+use bd_verify::{Mode, Question, Verdict, Work, verify};
 use std::alloc::{AllocError, Global};
 
 /// What is asked of a design.
@@ -26,13 +26,11 @@ pub struct Asked {
     pub mode: Mode,
     /// Whether an invariant is given.
     pub given: bool,
-    /// Whether the case that the verdict carries is printed.
-    pub shows: bool,
 }
 
-/// A verdict, and the text of the case that is printed with it.
+/// A verdict, and the text of the case that is shown with it.
 #[derive(Debug, Drop)]
-pub struct Found {
+pub struct ShownVerdict {
     pub verdict: Verdict,
     pub case: Vec<u8>,
 }
@@ -64,11 +62,11 @@ fn shown(verdict: &Verdict, shows: bool) -> Option<&Case>
 }
 
 /// Its text.
-fn part(alloc: Global, design: &Design, case: Option<&Case>) -> Result<Vec<u8>, AllocError>
+fn text_of(alloc: Global, design: &Design, case: Option<&Case>) -> Result<Vec<u8>, AllocError>
     requires lawful { IsLawful (design_view design.now) }
     requires fits { IfSome (option_map (λ c. c.now) case) (Fits (design_view design.now)) }
-    ensures { IfOk result
-        (λ text. IsPart (design_view design.now) (option_map (λ c. c.now) case.entry) text.items) }
+    ensures { IfOk result (λ text. IsCaseTextIf (design_view design.now)
+        (option_map (λ c. c.now) case.entry) text.items) }
 {
     match case {
         Some(case) => case_text(alloc, design, case),
@@ -79,8 +77,7 @@ fn part(alloc: Global, design: &Design, case: Option<&Case>) -> Result<Vec<u8>, 
 /// The verdict on a design.
 fn decide(alloc: Global, design: &Design, asked: Asked) -> Result<Verdict, Ended>
     requires lawful { IsLawful (design_view design.now) }
-    ensures verdict { IfOk result (IsVerdict (design_view design.now) asked.given asked.budget) }
-    ensures given { IfOk result (MayGive asked.given) }
+    ensures verdict { IfOk result (IsVerdict (design_view design.now) asked) }
     ensures fault { IfErr result (λ e. e ≡ Ended.Memory) }
 {
     let mut solver = Cdcl::new(alloc);
@@ -97,26 +94,91 @@ fn decide(alloc: Global, design: &Design, asked: Asked) -> Result<Verdict, Ended
     }
 }
 
-/// The verdict on a design, with the text of its case.
-fn found_of(alloc: Global, design: &Design, asked: Asked) -> Result<Found, Ended>
+/// The verdict on a design, with the text of its case where cases are shown.
+fn shown_verdict(
+    alloc: Global,
+    design: &Design,
+    asked: Asked,
+    shows: bool,
+) -> Result<ShownVerdict, Ended>
     requires lawful { IsLawful (design_view design.now) }
-    ensures found { IfOk result (IsFound (design_view design.now) asked) }
+    ensures shown { IfOk result (IsShown (design_view design.now) asked shows) }
     ensures fault { IfErr result (λ e. e ≡ Ended.Memory) }
 {
     let verdict = decide(alloc, design, asked)?;
-    match part(alloc, design, shown(&verdict, asked.shows)) {
-        Ok(case) => Ok(Found { verdict, case }),
+    match text_of(alloc, design, shown(&verdict, shows)) {
+        Ok(case) => Ok(ShownVerdict { verdict, case }),
         Err(_) => Err(Ended::Memory),
     }
 }
 
-/// The verdict on the design of sources, with the text of its case.
-pub fn found_on(alloc: Global, sources: &Sources, asked: Asked) -> Result<Found, Ended>
-    requires { AreShort (sources_view sources.now) }
-    ensures found { IfOk result (IsFoundOf (sources_view sources.now) asked) }
-    ensures told { IfErr result (IsToldOf (sources_view sources.now)) }
-    ensures fault { IfErr result IsTextFault }
+/// The verdict on the design of sources, with the text of its case where cases are shown.
+pub fn verdict_on(
+    alloc: Global,
+    sources: &Sources,
+    asked: Asked,
+    shows: bool,
+) -> Result<ShownVerdict, Ended>
+    requires { AreFew (sources_view sources.now) }
+    ensures shown { IfOk result (IsShownOf (sources_view sources.now) asked shows) }
+    ensures refused { IfErr result (AreRefused (sources_view sources.now)) }
 {
     let design = design(alloc, sources)?;
-    found_of(alloc, &design, asked)
+    shown_verdict(alloc, &design, asked, shows)
+}
+
+/// Puts a verdict in words after a text.
+fn push_words(text: &mut String, verdict: &Verdict, budget: u32) -> Result<(), AllocError>
+    ensures { OnOk result (string_bytes text.new
+        ≡ string_bytes text.old ++ verdict_words budget verdict.now) }
+{
+    match verdict {
+        Verdict::Correct(_, _) => text.push_str("correct"),
+        Verdict::Wrong(Condition::Invariant, _, _) => text.push_str("wrong invariant"),
+        Verdict::Wrong(Condition::Commute, _, _) => text.push_str("wrong commute"),
+        Verdict::Void(_) => text.push_str("void"),
+        Verdict::Undecided(Question::Breaks, _) => write!(text, "undecided {budget}"),
+        Verdict::Undecided(Question::Meets, _) => write!(text, "undecided {budget} meets"),
+    }
+}
+
+/// A verdict's line, and the text of the case after it.
+fn verdict_report(
+    alloc: Global,
+    lead: &str,
+    verdict: &Verdict,
+    budget: u32,
+    case: &[u8],
+) -> Result<Vec<u8>, AllocError>
+    ensures { IfOk result (λ text. text.items
+        ≡ (lead.now ++ verdict_words budget verdict.now ++ 10 ∷ []) ++ case.now) }
+{
+    let mut text = String::from_str(alloc, lead)?;
+    push_words(&mut text, verdict, budget)?;
+    text.push_str("\n")?;
+    let mut report = text.into_bytes();
+    report.extend_from_slice(case)?;
+    Ok(report)
+}
+
+/// The answer that a verdict is.
+pub fn verdict_answer(
+    alloc: Global,
+    lead: &str,
+    shown: ShownVerdict,
+    budget: u32,
+) -> Result<Answer, Ended>
+    ensures ended { IfOk result (λ a. a.ended ≡ ended_by shown.verdict) }
+    ensures report { IfOk result (λ a. a.report.items
+        ≡ (lead.now ++ verdict_words budget shown.verdict ++ 10 ∷ []) ++ shown.case.items) }
+    ensures fault { IfErr result (λ e. e ≡ Ended.Memory) }
+{
+    let ShownVerdict { verdict, case } = shown;
+    match verdict_report(alloc, lead, &verdict, budget, case.as_slice()) {
+        Ok(report) => Ok(Answer {
+            ended: Ended::from_verdict(verdict),
+            report,
+        }),
+        Err(_) => Err(Ended::Memory),
+    }
 }

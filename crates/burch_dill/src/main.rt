@@ -10,8 +10,10 @@ ghost use Rattle.std.specs.Prelude.{◌≡◌, IfOk, OnErr};
 ghost use Rattle.std.specs.Process.{exit_status};
 ghost use Rattle.bd_files.specs.Devices.{PutsOrFaults};
 ghost use Rattle.bd_app.specs.Answer.{fault_line_of, status_of};
+ghost use Rattle.bd_app.specs.Meaning.{files_seen};
+ghost use Rattle.bd_app.specs.Program.{sink_seen};
 ghost use Rattle.bd_app.specs.Words.{texts_of};
-ghost use Rattle.burch_dill.specs.Program.{IsRun, files_seen, sink_seen};
+ghost use Rattle.burch_dill.specs.Program.{EndsWith};
 
 mod real_files;
 mod stream;
@@ -50,7 +52,7 @@ fn run_on<F: Files, O: Sink, E: Sink>(
     out: &mut O,
     err: &mut E,
 ) -> ExitCode
-    ensures { IsRun (texts_of words.now) (exit_status result)
+    ensures { EndsWith (texts_of words.now) (exit_status result)
         (files_seen F.held F.faults F.blame files.old)
         (files_seen F.held F.faults F.blame files.new)
         (sink_seen O.written O.faults out.old) (sink_seen O.written O.faults out.new)
@@ -67,7 +69,7 @@ fn program<F: Files, O: Sink, E: Sink>(
     out: &mut O,
     err: &mut E,
 ) -> ExitCode
-    ensures run { IfOk words (λ words. IsRun (texts_of words.items) (exit_status result)
+    ensures run { IfOk words (λ words. EndsWith (texts_of words.items) (exit_status result)
         (files_seen F.held F.faults F.blame files.old)
         (files_seen F.held F.faults F.blame files.new)
         (sink_seen O.written O.faults out.old) (sink_seen O.written O.faults out.new)

@@ -1,43 +1,29 @@
 -- The program's own commands as the definitions see them.
-use Rattle.std.specs.Prelude.{◌≡◌, ◌≤◌, ℕ, Bool, true, false, List, [], ◌∷◌, ◌++◌, Option}
-use Rattle.std.specs.Option.{option_map}
-use Rattle.std.specs.Borrow.{Bor}
+use Rattle.std.specs.Prelude.{◌≡◌, List, [], ◌∷◌, ◌++◌}
 use Rattle.clap.specs.Walk.{Rule}
 use Rattle.clap.specs.Simple.{Shape, subcommand_of, subcommand_rows_of}
 use Rattle.clap.specs.Faults.{fault_of}
 use Rattle.clap.specs.declared.parser.matches.ArgMatches.{ArgMatches}
-use Rattle.bd_verify.specs.declared.verdict.Mode.{Mode}
-use Rattle.bd_verify.specs.declared.verdict.Mode.TheVariants.{Plain, Diverse}
-use Rattle.bd_app.specs.Words.{Name, Question, check, replay, run, gen, command_line}
-use Rattle.bd_app.specs.declared.command.CheckWords.{CheckWords}
+use Rattle.std.specs.Prelude.{ℕ}
+use Rattle.bd_app.specs.Check.{check_of}
+use Rattle.bd_app.specs.Commands.{Question, check, replay, run, gen, command_line}
+use Rattle.bd_app.specs.Generate.{gen_of, HasDepth}
+use Rattle.bd_app.specs.Replay.{replay_of}
+use Rattle.bd_app.specs.Run.{run_of}
 use Rattle.bd_app.specs.declared.command.Command.{Command}
 use Rattle.bd_app.specs.declared.command.Command.TheVariants.{Check, Replay, Run, Gen}
 
--- the text of a name, where one is given
-abbrev pub given : Option (Bor (List ℕ)) → Option Name
-given = option_map (λ name. name.now)
-
--- positive equality is used
-abbrev pub is_diverse : Mode → Bool
-is_diverse Plain = false
-is_diverse Diverse = true
-
--- the question for a verdict with these words
-abbrev pub check_of : CheckWords → Question
-check_of c =
-    check c.pipe.now c.spec.now (given c.inv) c.budget (given c.cnf) (given c.lrat)
-    (is_diverse c.mode)
-
+-- the question that a command asks
 abbrev pub asked : Command → Question
-asked (Check words) = check_of words
-asked (Replay pipe spec case inv) = replay pipe.now spec.now case.now (given inv)
-asked (Run pipe spec case cycles) = run pipe.now spec.now case.now cycles
-asked (Gen depth drop) = gen depth drop
+asked (Check options) = check (check_of options)
+asked (Replay files) = replay (replay_of files)
+asked (Run options) = run (run_of options)
+asked (Gen options) = gen (gen_of options)
 
--- the depth of a generated pipeline is from 2 to 12
-abbrev pub HasDepth : Command → Type 0
-HasDepth (Gen depth drop) = (2 ≤ depth) × (depth ≤ 12)
-HasDepth _ = Unit {0}
+-- the numbers of a command are in their ranges
+abbrev pub IsInRange : Command → Type 0
+IsInRange (Gen options) = HasDepth options
+IsInRange _ = Unit {0}
 
 -- a command with one more argument
 abbrev pub and_rule : Shape → Rule → Shape

@@ -1,29 +1,43 @@
--- The names and bytes of files as the definitions see them.
-use Rattle.std.specs.Prelude.{ℕ, ◌≤◌, List, length, Option, IfSome, Vec}
+-- The bytes of files as the definitions see them, and what loading leaves.
+use Rattle.std.specs.Prelude.{◌≡◌, ◌≤◌, ℕ, List, length, Option, IfSome, IfErr, IsErrOf, Result, Vec}
 use Rattle.std.specs.declared.alloc.Global.{Global}
 use Rattle.std.specs.Option.{option_map}
-use Rattle.bd_app.specs.Files.{File, Sources, case_files}
-use Rattle.bd_app.specs.Words.{Question, replay}
-use Rattle.bd_app.specs.inner.Asked.{given}
-use Rattle.bd_app.specs.declared.load.Names.{Names}
+use Rattle.bd_files.specs.Devices.{Held, Rose}
+use Rattle.bd_app.specs.Files.{BlamesOneOf, File}
+use Rattle.bd_app.specs.Meaning.{FilesSeen, IsTooLong}
+use Rattle.bd_app.specs.Sources.{Sources}
+use Rattle.bd_app.specs.declared.answer.Which.TheVariants as which
+use Rattle.bd_app.specs.declared.answer.Ended.{Ended}
+use Rattle.bd_app.specs.declared.answer.Ended.TheVariants.{Refused, Device, Memory}
 use Rattle.bd_app.specs.declared.load.Sources.{Sources as LoadedSources}
 
 abbrev pub bytes_of : Option (Vec ℕ Global) → Option (List ℕ)
 bytes_of = option_map (λ bytes. bytes.items)
-
-abbrev pub names_files : Names → List File
-names_files names = case_files names.pipe.now names.spec.now names.case.now (given names.inv)
 
 abbrev pub sources_view : LoadedSources → Sources
 sources_view s =
     record { pipe = s.pipe.items; spec = s.spec.items; inv = bytes_of s.inv }
 
 -- few enough bytes for their readers
-pub record AreShort (s : Sources) : Type 0 where
+pub record AreFew (s : Sources) : Type 0 where
   pub pipe : length s.pipe ≤ 1048576
   pub spec : length s.spec ≤ 1048576
   pub inv : IfSome s.inv (λ bytes. length bytes ≤ 1048576)
 
--- the question on a case with these names
-abbrev pub replay_of : Names → Question
-replay_of names = replay names.pipe.now names.spec.now names.case.now (given names.inv)
+-- what a load that gave no bytes says of files that are loaded in this order
+abbrev pub IsLoadFault : Option Held → List File → Ended → Type 0
+IsLoadFault held files (Refused file offset code) =
+    IfSome held (λ h. IsTooLong h files file offset code)
+IsLoadFault held files (Device which.Load) = Unit {0}
+IsLoadFault held files Memory = Unit {0}
+IsLoadFault held files _ = ⊥
+
+-- what loading these files in this order leaves
+pub record Loads {T : Type 0} (files : List File) (before after : FilesSeen) (r : Result T Ended) :
+    Type 0 where
+  pub fault : IfErr r (IsLoadFault before.held files)
+  pub rose : IsErrOf r (Device which.Load) → Rose before.faults after.faults
+  pub blamed : IsErrOf r (Device which.Load) → BlamesOneOf after.blame files
+  pub else_keeps_blame : ¬ IsErrOf r (Device which.Load) → after.blame ≡ before.blame
+  pub held : after.held ≡ before.held
+  pub never_falls : before.faults ≤ after.faults

@@ -1,10 +1,37 @@
--- The texts that are saved of a verdict's work.
-use Rattle.std.specs.Prelude.{ℕ, List}
+-- The texts that are saved of a verdict's work, and what saving leaves.
+use Rattle.std.specs.Prelude.{◌≡◌, ◌≤◌, ℕ, List, Option, OnOk, IfErr, IsErrOf, Result}
 use Rattle.bd_cnf.specs.Problem.{dimacs}
+use Rattle.bd_files.specs.Devices.{Rose}
 use Rattle.bd_lrat.specs.Text.{lrat}
+use Rattle.bd_verify.specs.declared.verdict.Work.{Work}
+use Rattle.bd_app.specs.Files.{AreSaved, AreSavedUpTo, BlamesSaveOf, IsEither, KeepsAllBut}
+use Rattle.bd_app.specs.Meaning.{FilesSeen}
+use Rattle.bd_app.specs.Words.{Name}
+use Rattle.bd_app.specs.declared.answer.Which.TheVariants as which
+use Rattle.bd_app.specs.declared.answer.Ended.{Ended}
+use Rattle.bd_app.specs.declared.answer.Ended.TheVariants.{Device, Memory}
 use Rattle.bd_app.specs.declared.save.Part.{Part}
 use Rattle.bd_app.specs.declared.save.Part.TheVariants.{Formula, Proof}
 
 abbrev pub part_text : Part → List ℕ
 part_text (Formula cnf) = dimacs cnf.now
 part_text (Proof log) = lrat log.now
+
+-- a fault of saving
+abbrev pub IsSaveFault : Ended → Type 0
+IsSaveFault (Device which.Save) = Unit {0}
+IsSaveFault Memory = Unit {0}
+IsSaveFault _ = ⊥
+
+-- what saving a verdict's work leaves
+pub record Saves {T : Type 0} (cnf lrat : Option Name) (work : Work) (before after : FilesSeen)
+    (r : Result T Ended) : Type 0 where
+  pub fault : IfErr r IsSaveFault
+  pub saved : OnOk r (AreSaved after.held cnf lrat work)
+  pub up_to : IsErrOf r (Device which.Save) →
+      AreSavedUpTo before.held after.held after.blame cnf lrat work
+  pub others : KeepsAllBut before.held after.held (IsEither cnf lrat)
+  pub rose : IsErrOf r (Device which.Save) → Rose before.faults after.faults
+  pub blamed : IsErrOf r (Device which.Save) → BlamesSaveOf after.blame cnf lrat
+  pub else_keeps_blame : ¬ IsErrOf r (Device which.Save) → after.blame ≡ before.blame
+  pub never_falls : before.faults ≤ after.faults

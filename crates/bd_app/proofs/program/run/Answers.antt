@@ -1,61 +1,62 @@
-use Rattle.std.proofs.Common.{Some, subst}
-use Rattle.bd_verify.specs.declared.verdict.Question.TheVariants.{Breaks}
-use Rattle.bd_verify.specs.declared.verdict.Verdict.TheVariants as verdict
+use Rattle.std.proofs.Common.{ap}
+use Rattle.bd_app.specs.Meaning.{files_seen}
+use Rattle.bd_app.specs.Program.{sink_seen}
 use Rattle.bd_app.specs.Words.{texts_of}
-use Rattle.bd_app.specs.inner.Told.{IsSaid}
-use Rattle.bd_app.specs.declared.answer.Ended.{Ended}
-use Rattle.bd_app.specs.declared.answer.Ended.TheVariants.{Correct, Wrong, Void, Undecided}
-use Rattle.bd_app.proofs.Printing.{before, cut, printed, question_of}
-use Rattle.bd_app.proofs.Verdicts.{for_design, no_out_verdict}
+use Rattle.bd_app.specs.declared.answer.Ended.TheVariants.{Usage}
+use Rattle.bd_app.proofs.Printing.{answered, before_out, headline, out_rises, silent, untaken}
 use Rattle.bd_app.proofs.program.run.Goals as goal
 
 pub returns-clause-correct : goal.returns-clause-correct
-returns-clause-correct g c = λ case work is.
-    let same = before _ _ c.answer_of-answer.result c.put_report-ended.result _ _ c.put_report-ended.ensures.fault c.put_report-ended.ensures.report (Correct case work) (λ h. cc h) is in
-    let said = subst (λ (e : Ended). IsSaid (g.F.Files.held c.args.files.now) (texts_of c.args.words.now) e) same c.answer_of-answer.ensures.said in
-    for_design _ _ _ (verdict.Correct case work) (λ q d v. v.is_true.0) said
-
-pub returns-clause-holds : goal.returns-clause-holds
-returns-clause-holds g c = λ case work is.
-    let same = before _ _ c.answer_of-answer.result c.put_report-ended.result _ _ c.put_report-ended.ensures.fault c.put_report-ended.ensures.report (Correct (Some case) work) (λ h. cc h) is in
-    let said = subst (λ (e : Ended). IsSaid (g.F.Files.held c.args.files.now) (texts_of c.args.words.now) e) same c.answer_of-answer.ensures.said in
-    for_design _ _ _ (verdict.Correct (Some case) work) (λ q d v. v.is_true.1) said
+returns-clause-correct g c =
+    let r = c.answer_of-answer in
+    let put = c.put_report-ended in
+    (headline (texts_of c.args.words.now) put.result (files_seen g.F.Files.held g.F.Files.faults g.F.Files.blame c.args.files.now) (files_seen g.F.Files.held g.F.Files.faults g.F.Files.blame r.new.files)
+    (sink_seen g.O.Sink.written g.O.Sink.faults c.args.out.now) (sink_seen g.O.Sink.written g.O.Sink.faults put.new.out)
+    (λ none. untaken _ _ r.result put.result _ _ put.ensures.fault put.ensures.report (r.ensures.usage none))
+    (λ q asks. answered _ _ q r.result put.result _ _ _ _ put.ensures.fault put.ensures.report (r.ensures.done q asks))).correct
 
 pub returns-clause-wrong : goal.returns-clause-wrong
-returns-clause-wrong g c = λ k case work is.
-    let same = before _ _ c.answer_of-answer.result c.put_report-ended.result _ _ c.put_report-ended.ensures.fault c.put_report-ended.ensures.report (Wrong k case work) (λ h. cc h) is in
-    let said = subst (λ (e : Ended). IsSaid (g.F.Files.held c.args.files.now) (texts_of c.args.words.now) e) same c.answer_of-answer.ensures.said in
-    for_design _ _ _ (verdict.Wrong k case work) (λ q d v. v.is_true) said
+returns-clause-wrong g c =
+    let r = c.answer_of-answer in
+    let put = c.put_report-ended in
+    (headline (texts_of c.args.words.now) put.result (files_seen g.F.Files.held g.F.Files.faults g.F.Files.blame c.args.files.now) (files_seen g.F.Files.held g.F.Files.faults g.F.Files.blame r.new.files)
+    (sink_seen g.O.Sink.written g.O.Sink.faults c.args.out.now) (sink_seen g.O.Sink.written g.O.Sink.faults put.new.out)
+    (λ none. untaken _ _ r.result put.result _ _ put.ensures.fault put.ensures.report (r.ensures.usage none))
+    (λ q asks. answered _ _ q r.result put.result _ _ _ _ put.ensures.fault put.ensures.report (r.ensures.done q asks))).wrong
 
 pub returns-clause-void : goal.returns-clause-void
-returns-clause-void g c = λ work is.
-    let same = before _ _ c.answer_of-answer.result c.put_report-ended.result _ _ c.put_report-ended.ensures.fault c.put_report-ended.ensures.report (Void work) (λ h. cc h) is in
-    let said = subst (λ (e : Ended). IsSaid (g.F.Files.held c.args.files.now) (texts_of c.args.words.now) e) same c.answer_of-answer.ensures.said in
-    for_design _ _ _ (verdict.Void work) (λ q d v. v.is_true) said
+returns-clause-void g c =
+    let r = c.answer_of-answer in
+    let put = c.put_report-ended in
+    (headline (texts_of c.args.words.now) put.result (files_seen g.F.Files.held g.F.Files.faults g.F.Files.blame c.args.files.now) (files_seen g.F.Files.held g.F.Files.faults g.F.Files.blame r.new.files)
+    (sink_seen g.O.Sink.written g.O.Sink.faults c.args.out.now) (sink_seen g.O.Sink.written g.O.Sink.faults put.new.out)
+    (λ none. untaken _ _ r.result put.result _ _ put.ensures.fault put.ensures.report (r.ensures.usage none))
+    (λ q asks. answered _ _ q r.result put.result _ _ _ _ put.ensures.fault put.ensures.report (r.ensures.done q asks))).void
 
-pub returns-clause-undecided : goal.returns-clause-undecided
-returns-clause-undecided g c = λ work is.
-    let same = before _ _ c.answer_of-answer.result c.put_report-ended.result _ _ c.put_report-ended.ensures.fault c.put_report-ended.ensures.report (Undecided Breaks work) (λ h. cc h) is in
-    let said = subst (λ (e : Ended). IsSaid (g.F.Files.held c.args.files.now) (texts_of c.args.words.now) e) same c.answer_of-answer.ensures.said in
-    for_design _ _ _ (verdict.Undecided Breaks work) (λ q d v. v.is_true) said
+pub returns-clause-run : goal.returns-clause-run
+returns-clause-run g c =
+    let r = c.answer_of-answer in
+    let put = c.put_report-ended in
+    record {
+      headline = headline (texts_of c.args.words.now) put.result (files_seen g.F.Files.held g.F.Files.faults g.F.Files.blame c.args.files.now) (files_seen g.F.Files.held g.F.Files.faults g.F.Files.blame r.new.files)
+          (sink_seen g.O.Sink.written g.O.Sink.faults c.args.out.now) (sink_seen g.O.Sink.written g.O.Sink.faults put.new.out)
+          (λ none. untaken _ _ r.result put.result _ _ put.ensures.fault put.ensures.report (r.ensures.usage none))
+          (λ q asks. answered _ _ q r.result put.result _ _ _ _ put.ensures.fault put.ensures.report (r.ensures.done q asks));
+      usage_only = λ is. r.ensures.usage_only (before_out _ _ r.result put.result _ _ put.ensures.fault put.ensures.report Usage (λ h. cc h) is);
+      usage = λ none. untaken _ _ r.result put.result _ _ put.ensures.fault put.ensures.report (r.ensures.usage none);
+      untouched = λ none. ap (files_seen g.F.Files.held g.F.Files.faults g.F.Files.blame) (r.ensures.untouched none);
+      answered = λ q asks. answered _ _ q r.result put.result _ _ _ _ put.ensures.fault put.ensures.report (r.ensures.done q asks);
+      out_rose = λ is. out_rises _ _ _ r.result put.result _ _ put.ensures.fault put.ensures.report r.ensures.report r.ensures.fault is;
+      silent = λ quiet other. ap (sink_seen g.O.Sink.written g.O.Sink.faults) (silent _ _ r.result put.result _ _ put.ensures.fault put.ensures.report r.ensures.report quiet other);
+      line = c.put_line.ensures.line;
+      no_line = λ reported. ap (sink_seen g.E.Sink.written g.E.Sink.faults) (c.put_line.ensures.no_line reported);
+      files_never_fall = r.ensures.never_falls;
+      out_never_falls = put.ensures.never_falls;
+      err_never_falls = c.put_line.ensures.never_falls;
+    }
 
-pub returns-clause-work : goal.returns-clause-work
-returns-clause-work g c = λ v is.
-    let same = before _ _ c.answer_of-answer.result c.put_report-ended.result _ _ c.put_report-ended.ensures.fault c.put_report-ended.ensures.report _ (no_out_verdict v) is in
-    let said = subst (λ (e : Ended). IsSaid (g.F.Files.held c.args.files.now) (texts_of c.args.words.now) e) same c.answer_of-answer.ensures.said in
-    for_design _ _ _ v (λ q d is. is.work) said
-
-pub returns-clause-cut : goal.returns-clause-cut
-returns-clause-cut g c = λ is.
-    cut _ _ (g.F.Files.held c.args.files.now) _ (texts_of c.args.words.now) c.answer_of-answer.result c.put_report-ended.result _ _ c.put_report-ended.ensures.fault c.put_report-ended.ensures.report
-    c.answer_of-answer.ensures.report c.answer_of-answer.ensures.said c.answer_of-answer.ensures.saved c.answer_of-answer.ensures.out is
-
-pub returns-clause-question : goal.returns-clause-question
-returns-clause-question g c = λ usage memory.
-    question_of _ _ (g.F.Files.held c.args.files.now) (texts_of c.args.words.now) c.answer_of-answer.result c.put_report-ended.result _ _ c.put_report-ended.ensures.fault c.put_report-ended.ensures.report
-    c.answer_of-answer.ensures.report c.answer_of-answer.ensures.said usage memory
-
-pub returns-clause-printed : goal.returns-clause-printed
-returns-clause-printed g c = λ reported.
-    printed _ _ (g.F.Files.held c.args.files.now) (texts_of c.args.words.now) c.answer_of-answer.result c.put_report-ended.result _ _ c.put_report-ended.ensures.fault c.put_report-ended.ensures.report
-    c.answer_of-answer.ensures.report c.answer_of-answer.ensures.fault reported
+pub returns-clause-silent : goal.returns-clause-silent
+returns-clause-silent g c = λ quiet other.
+    let r = c.answer_of-answer in
+    let put = c.put_report-ended in
+    silent _ _ r.result put.result _ _ put.ensures.fault put.ensures.report r.ensures.report quiet other

@@ -1,14 +1,19 @@
-use Rattle.bd_app.specs.inner.Asked.{given}
-use Rattle.bd_app.proofs.Saving.{OnOk-weaker, are_saved, up_to_proof}
+use Rattle.bd_app.specs.Meaning.{files_seen}
+use Rattle.bd_app.specs.Words.{given}
+use Rattle.bd_app.proofs.Saving.{formula_fails, proof_follows}
 use Rattle.bd_app.proofs.save.save_work.Goals as goal
 
-pub returns-clause-saved : goal.returns-clause-saved
-returns-clause-saved g c =
-    OnOk-weaker _ _ c.save_part-2.result (λ proof. are_saved (g.F.Files.held c.save_part.new.files) (g.F.Files.held c.save_part-2.new.files) (given c.args.cnf) (given c.args.lrat) c.args.work.now
-    c.in_ok-save_part.ensures.saved c.save_part-2.ensures.others proof) c.save_part-2.ensures.saved
+pub returns-in_err-save_part : goal.returns-in_err-save_part
+returns-in_err-save_part g c =
+    let seen = files_seen g.F.Files.held g.F.Files.faults g.F.Files.blame in
+    let part = c.in_err-save_part.ensures in
+    formula_fails (given c.args.cnf) (given c.args.lrat) c.args.work.now (seen c.args.files.now) (seen c.save_part.new.files) _ c.from_residual.result c.from_residual.ensures.1 part.fault part.rose part.blamed
+    part.else_keeps_blame part.others part.never_falls
 
-pub returns-clause-up_to : goal.returns-clause-up_to
-returns-clause-up_to g c = λ is.
-    let blamed = c.save_part-2.ensures.blamed is in
-    up_to_proof (g.F.Files.held c.args.files.now) (g.F.Files.held c.save_part.new.files) (g.F.Files.held c.save_part-2.new.files) _ (given c.args.cnf) (given c.args.lrat) c.args.work.now blamed.0
-    c.in_ok-save_part.ensures.saved c.save_part-2.ensures.others blamed.1 blamed.2
+pub returns : goal.returns
+returns g c =
+    let seen = files_seen g.F.Files.held g.F.Files.faults g.F.Files.blame in
+    let formula = c.in_ok-save_part.ensures in
+    let proof = c.save_part-2.ensures in
+    proof_follows (given c.args.cnf) (given c.args.lrat) c.args.work.now (seen c.args.files.now) (seen c.save_part.new.files) (seen c.save_part-2.new.files) c.save_part-2.result formula.saved formula.others
+    (formula.else_keeps_blame (λ is. cc is)) formula.never_falls proof.fault proof.saved proof.others proof.rose proof.blamed proof.else_keeps_blame proof.never_falls

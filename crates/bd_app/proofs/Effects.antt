@@ -1,0 +1,225 @@
+-- What answers leave of the files.
+use Rattle.std.proofs.Common.{◌≡◌, ◌≢◌, ◌≤◌, ◌∙◌, refl, sym, subst, ap, inl, inr, arith}
+use Rattle.std.specs.Prelude.{Option, None, Result, Ok, Err, IfSome, IsErrAnd}
+use Rattle.bd_files.specs.Devices.{Held}
+use Rattle.bd_verify.specs.declared.verdict.Verdict.{Verdict}
+use Rattle.bd_verify.specs.declared.verdict.Work.{Work}
+use Rattle.bd_app.specs.Answer.{HasReport, SavesNothing}
+use Rattle.bd_app.specs.Files.{AreSaved, AreSavedUpTo, AreShort, IsEither, KeepsAllBut}
+use Rattle.bd_app.specs.Meaning.{Effects, FilesSeen, IsVerdictFor, Meaning}
+use Rattle.bd_app.specs.Verdicts.{ended_by, work_of}
+use Rattle.bd_app.specs.declared.answer.Answer.{Answer}
+use Rattle.bd_app.specs.declared.answer.Which.{Which}
+use Rattle.bd_app.specs.declared.answer.Which.TheVariants as which
+use Rattle.bd_app.specs.declared.answer.Ended.{Ended}
+use Rattle.bd_app.specs.declared.answer.Ended.TheVariants.{Refused, Device, Memory}
+use Rattle.bd_app.specs.inner.Done.{IsDone, IsFault}
+use Rattle.bd_app.specs.inner.Loaded.{IsLoadFault, Loads}
+use Rattle.bd_app.specs.inner.Saved.{IsSaveFault, Saves}
+use Rattle.bd_app.proofs.Passing.{IfSome-both, IfSome-weaker, no_error, passed, rose_after}
+use Rattle.bd_app.proofs.Saving.{keeps_same}
+use Rattle.bd_app.proofs.Verdicts.{no_device, no_verdict, same_verdict, verdict_reports, verdict_saves}
+
+-- ---- nothing happened but reading
+
+-- the files stand, but for the count of their faults
+pub record Stand (before after : FilesSeen) : Type 0 where
+  pub held : after.held ≡ before.held
+  pub blame : after.blame ≡ before.blame
+  pub never_falls : before.faults ≤ after.faults
+
+pub unchanged : (files : FilesSeen) → Stand files files
+unchanged files = record { held = refl; blame = refl; never_falls = omega arith }
+
+-- files that were loaded stand
+pub loaded_stand : {T : Type 0} {files : _} {a b : FilesSeen} {x : T} → Loads files a b (Ok x) → Stand a b
+loaded_stand {T} {files} {a} {b} {x} l = record { held = l.held; blame = l.else_keeps_blame (no_error x _); never_falls = l.never_falls }
+
+-- an answer that is no fault of a device, and no verdict
+pub record IsQuiet (e : Ended) : Type 0 where
+  pub no_device : (w : Which) → e ≢ Device w
+  pub no_verdict : (v : Verdict) → e ≢ ended_by v
+
+quiet_effects : (m : Meaning) (a b : FilesSeen) (e : Ended) → Stand a b → IsQuiet e → Effects m a b e
+quiet_effects m a b e stand quiet = record {
+  load_rose = λ is. absurd (quiet.no_device _ is);
+  load_blamed = λ is. absurd (quiet.no_device _ is);
+  save_rose = λ is. absurd (quiet.no_device _ is);
+  save_blamed = λ is. absurd (quiet.no_device _ is);
+  else_keeps_blame = λ load save. stand.blame;
+  saved = λ v is. absurd (quiet.no_verdict v is);
+  save_failed = λ is. absurd (quiet.no_device _ is);
+  others = keeps_same a.held b.held _ stand.held;
+  held = λ nothing. stand.held;
+  never_falls = stand.never_falls;
+}
+
+-- ---- a load failed
+
+load_silent : (held : Option Held) (files : _) (e : Ended) → IsLoadFault held files e → ¬ HasReport e
+load_silent held files (Refused file offset code) fault = λ h. h
+load_silent held files (Device which.Load) fault = λ h. h
+load_silent held files Memory fault = λ h. h
+load_silent held files _ fault = absurd fault
+
+load_no_save : (held : Option Held) (files : _) (e : Ended) → IsLoadFault held files e → e ≢ Device which.Save
+load_no_save held files e fault is = subst (λ x. IsLoadFault held files x) is fault
+
+load_fault : (m : Meaning) (held : Option Held) (e : Ended) → IsLoadFault held m.files e → IsFault m held e
+load_fault m held (Refused file offset code) fault = IfSome-weaker _ _ held (λ h long. inl long) fault
+load_fault m held (Device which.Load) fault = tt
+load_fault m held Memory fault = tt
+load_fault m held _ fault = absurd fault
+
+load_effects : {T : Type 0} (m : Meaning) (a b : FilesSeen) (e : Ended) → Loads {T = T} m.files a b (Err e) → Effects m a b e
+load_effects m a b e l = record {
+  load_rose = λ is. l.rose (ap (λ x. Err x) is);
+  load_blamed = λ is. l.blamed (ap (λ x. Err x) is);
+  save_rose = λ is. absurd (load_no_save a.held m.files e l.fault is);
+  save_blamed = λ is. absurd (load_no_save a.held m.files e l.fault is);
+  else_keeps_blame = λ load save. l.else_keeps_blame (λ is. load (cc is));
+  saved = λ v is. absurd (no_verdict e v (load_silent a.held m.files e l.fault) is);
+  save_failed = λ is. absurd (load_no_save a.held m.files e l.fault is);
+  others = keeps_same a.held b.held _ l.held;
+  held = λ nothing. l.held;
+  never_falls = l.never_falls;
+}
+
+pub load_failed : {T : Type 0} (m : Meaning) (a b : FilesSeen) (e : Ended) (r : Result Answer Ended) → IsErrAnd r (λ y. y ≡ e) → Loads {T = T} m.files a b (Err e) → IsDone m a b r
+load_failed {T} m a b e r is l = passed (λ z. IsDone m a b z) r e is (record { answer = tt; fault = load_fault m a.held e l.fault; effects = load_effects {T = T} m a b e l })
+
+-- ---- texts have a fault
+
+-- why texts are refused, where no file is too long
+abbrev pub AreTextsRefused : Meaning → Option Held → Ended → Type 0
+AreTextsRefused m held (Refused file offset code) = IfSome held (λ h. m.IsTextFault h file offset code)
+AreTextsRefused m held Memory = Unit {0}
+AreTextsRefused m held _ = ⊥
+
+texts_quiet : (m : Meaning) (held : Option Held) (e : Ended) → AreTextsRefused m held e → IsQuiet e
+texts_quiet m held (Refused file offset code) fault = record { no_device = λ w is. cc is; no_verdict = λ v is. no_verdict (Refused file offset code) v (λ h. h) is }
+texts_quiet m held Memory fault = record { no_device = λ w is. cc is; no_verdict = λ v is. no_verdict Memory v (λ h. h) is }
+texts_quiet m held _ fault = absurd fault
+
+texts_fault : (m : Meaning) (held : Option Held) (e : Ended) → IfSome held (λ h. AreShort h m.files) → AreTextsRefused m held e → IsFault m held e
+texts_fault m held (Refused file offset code) short fault = IfSome-both _ _ _ held (λ h s f. inr (s, f)) short fault
+texts_fault m held Memory short fault = tt
+texts_fault m held _ short fault = absurd fault
+
+pub texts_refused : (m : Meaning) (a b : FilesSeen) (e : Ended) → Stand a b → IfSome a.held (λ h. AreShort h m.files) → AreTextsRefused m a.held e → IsDone m a b (Err e)
+texts_refused m a b e stand short fault =
+    record { answer = tt; fault = texts_fault m a.held e short fault; effects = quiet_effects m a b e stand (texts_quiet m a.held e fault) }
+
+-- want of memory
+pub memory_done : (m : Meaning) (a b : FilesSeen) → Stand a b → IsDone m a b (Err Memory)
+memory_done m a b stand = record { answer = tt; fault = tt; effects = quiet_effects m a b Memory stand (record { no_device = λ w is. cc is; no_verdict = λ v is. no_verdict Memory v (λ h. h) is }) }
+
+-- an answer that is no verdict
+pub quiet_done : (m : Meaning) (a b : FilesSeen) (answer : Answer) → Stand a b → IsQuiet answer.ended → m.IsAnswer a.held answer.ended answer.report.items → IsDone m a b (Ok answer)
+quiet_done m a b answer stand quiet is = record { answer = is; fault = tt; effects = quiet_effects m a b answer.ended stand quiet }
+
+-- ---- verdicts
+
+-- a verdict's answer, after its work was saved
+pub verdict_done : (m : Meaning) (a b : FilesSeen) (v : Verdict) (answer : Answer) → answer.ended ≡ ended_by v → m.IsAnswer a.held answer.ended answer.report.items → AreSaved b.held m.cnf m.lrat (work_of v)
+    → KeepsAllBut a.held b.held (IsEither m.cnf m.lrat) → b.blame ≡ a.blame → a.faults ≤ b.faults → IsDone m a b (Ok answer)
+verdict_done m a b v answer is says saved others blame rises =
+    let other : (w : Which) → answer.ended ≢ Device w = λ w. no_device answer.ended w (subst HasReport (sym is) (verdict_reports v)) in
+    record {
+      answer = says;
+      fault = tt;
+      effects = record {
+        load_rose = λ same. absurd (other _ same);
+        load_blamed = λ same. absurd (other _ same);
+        save_rose = λ same. absurd (other _ same);
+        save_blamed = λ same. absurd (other _ same);
+        else_keeps_blame = λ load save. blame;
+        saved = λ w same. subst (λ x. AreSaved b.held m.cnf m.lrat (work_of x)) (same_verdict v w (sym is ∙ same)) saved;
+        save_failed = λ same. absurd (other _ same);
+        others = others;
+        held = λ nothing. absurd (verdict_saves v (subst SavesNothing is nothing));
+        never_falls = rises;
+      };
+    }
+
+save_silent : (e : Ended) → IsSaveFault e → ¬ HasReport e
+save_silent (Device which.Save) fault = λ h. h
+save_silent Memory fault = λ h. h
+save_silent _ fault = absurd fault
+
+save_no_load : (e : Ended) → IsSaveFault e → e ≢ Device which.Load
+save_no_load e fault is = subst IsSaveFault is fault
+
+save_fault : (m : Meaning) (held : Option Held) (e : Ended) → IsSaveFault e → IsFault m held e
+save_fault m held (Device which.Save) fault = tt
+save_fault m held Memory fault = tt
+save_fault m held _ fault = absurd fault
+
+save_changes : (e : Ended) → IsSaveFault e → ¬ SavesNothing e
+save_changes (Device which.Save) fault = λ h. h
+save_changes Memory fault = λ h. h
+save_changes _ fault = absurd fault
+
+-- the work of a verdict wasn't saved
+pub save_failed : {T : Type 0} (m : Meaning) (a b c : FilesSeen) (v : Verdict) (e : Ended) (r : Result Answer Ended) → IsErrAnd r (λ y. y ≡ e) → Stand a b → IsVerdictFor m a.held v
+    → Saves {T = T} m.cnf m.lrat (work_of v) b c (Err e) → IsDone m a c r
+save_failed m a b c v e r is stand verdict s = passed (λ z. IsDone m a c z) r e is (record {
+  answer = tt;
+  fault = save_fault m a.held e s.fault;
+  effects = record {
+    load_rose = λ same. absurd (save_no_load e s.fault same);
+    load_blamed = λ same. absurd (save_no_load e s.fault same);
+    save_rose = λ same. rose_after a.faults b.faults c.faults stand.never_falls s.never_falls (s.rose (ap (λ x. Err x) same));
+    save_blamed = λ same. s.blamed (ap (λ x. Err x) same);
+    else_keeps_blame = λ load save. s.else_keeps_blame (λ same. save (cc same)) ∙ stand.blame;
+    saved = λ w same. absurd (no_verdict e w (save_silent e s.fault) same);
+    save_failed = λ same. record {
+      verdict = v;
+      is_verdict = verdict;
+      up_to = subst (λ h. AreSavedUpTo h c.held c.blame m.cnf m.lrat (work_of v)) stand.held (s.up_to (ap (λ x. Err x) same));
+    };
+    others = subst (λ h. KeepsAllBut h c.held (IsEither m.cnf m.lrat)) stand.held s.others;
+    held = λ nothing. absurd (save_changes e s.fault nothing);
+    never_falls = omega (arith, stand.never_falls, s.never_falls);
+  };
+})
+
+-- it was saved, and then memory ran out
+pub memory_after : {T : Type 0} (m : Meaning) (a b c : FilesSeen) (x : T) (work : Work) → Stand a b → Saves m.cnf m.lrat work b c (Ok x) → IsDone m a c (Err Memory)
+memory_after m a b c x work stand s = record {
+  answer = tt;
+  fault = tt;
+  effects = record {
+    load_rose = λ same. absurd (cc same);
+    load_blamed = λ same. absurd (cc same);
+    save_rose = λ same. absurd (cc same);
+    save_blamed = λ same. absurd (cc same);
+    else_keeps_blame = λ load save. s.else_keeps_blame (no_error x _) ∙ stand.blame;
+    saved = λ w same. absurd (no_verdict Memory w (λ h. h) same);
+    save_failed = λ same. absurd (cc same);
+    others = subst (λ h. KeepsAllBut h c.held (IsEither m.cnf m.lrat)) stand.held s.others;
+    held = λ nothing. absurd nothing;
+    never_falls = omega (arith, stand.never_falls, s.never_falls);
+  };
+}
+
+-- where no name is given, all is saved
+pub none_saved : (after : Option Held) (work : Work) → AreSaved after None None work
+none_saved after work = record { formula = λ name is other. absurd (cc is); proof = λ name is. absurd (cc is) }
+
+-- ---- the output failed
+
+-- what stood before the report was printed stands
+pub out_effects : (m : Meaning) (a b : FilesSeen) (e : Ended) → HasReport e → Effects m a b e → Effects m a b (Device which.Out)
+out_effects m a b e reported effects = record {
+  load_rose = λ same. absurd (cc same);
+  load_blamed = λ same. absurd (cc same);
+  save_rose = λ same. absurd (cc same);
+  save_blamed = λ same. absurd (cc same);
+  else_keeps_blame = λ load save. effects.else_keeps_blame (no_device e _ reported) (no_device e _ reported);
+  saved = λ v same. absurd (no_verdict (Device which.Out) v (λ h. h) same);
+  save_failed = λ same. absurd (cc same);
+  others = effects.others;
+  held = λ nothing. absurd nothing;
+  never_falls = effects.never_falls;
+}

@@ -1,0 +1,177 @@
+-- From the bytes of files to the answer to a question on them.
+use Rattle.std.proofs.Common.{◌≡◌, ◌∙◌, ℕ, true, false, List, [], ◌∷◌, ◌++◌, length, drop, drop-cons, get_or, add-one, ap, ap₂, append_assoc, refl, sym, subst, inl, inr, arith, ◌<◌, ◌+◌, Bool}
+use Rattle.std.specs.Prelude.{◌⊎◌, Option, Result, Ok, Err, IfSome, IfOk, IfErr, IsErrAnd}
+use Rattle.bd_files.specs.Devices.{Held}
+use Rattle.bd_model.specs.DesignView.{DesignView}
+use Rattle.bd_model.specs.declared.case.Case.{Case}
+use Rattle.bd_model.specs.declared.table.Value.{Value}
+use Rattle.bd_typer.specs.Denotes.{Denotes}
+use Rattle.bd_typer.specs.Faults.{FileFault}
+use Rattle.bd_app.specs.Cases.{CaseNames, CaseSources, case_meaning}
+use Rattle.bd_app.specs.Check.{Check, CheckSources, check_asked, check_meaning}
+use Rattle.bd_app.specs.Files.{HoldsShort, IsEither, KeepsAllBut}
+use Rattle.bd_app.specs.Generate.{Gen, gen_asked, gen_lead, gen_meaning, generated}
+use Rattle.bd_app.specs.Meaning.{FilesSeen, IsVerdictFor}
+use Rattle.bd_app.specs.Replay.{IsJudgement}
+use Rattle.bd_app.specs.Run.{IsTrace, cycle_text, cycles_text}
+use Rattle.bd_app.specs.Sources.{IsDesign, Sources}
+use Rattle.bd_app.specs.Verdicts.{ended_by, verdict_words, work_of, IsVerdictReport}
+use Rattle.bd_app.specs.declared.answer.Answer.{Answer}
+use Rattle.bd_app.specs.declared.answer.Ended.{Ended}
+use Rattle.bd_app.specs.declared.answer.Ended.TheVariants.{Refused, Memory}
+use Rattle.bd_app.specs.declared.verdict.Asked.{Asked}
+use Rattle.bd_app.specs.declared.verdict.ShownVerdict.{ShownVerdict}
+use Rattle.bd_app.specs.inner.Done.{AreDesign, AreRefused, IsCaseRefused, IsDone, IsShownOf, IsVerdictOn, OnCase, OnSources}
+use Rattle.bd_app.specs.inner.Saved.{Saves}
+use Rattle.bd_app.proofs.Effects.{AreTextsRefused, IsQuiet, Stand, memory_after, none_saved, quiet_done, texts_refused, unchanged, verdict_done}
+use Rattle.bd_app.proofs.Loading.{case_short, sources_short}
+use Rattle.bd_app.proofs.Passing.{IfSome-all, IfSome-both, IfSome-weaker, no_error, passed}
+use Rattle.bd_app.proofs.Saving.{keeps_same}
+use Rattle.bd_app.proofs.Verdicts.{no_ran, no_replayed, verdict_report}
+
+-- the same texts denote the same
+pub denotes_same : (p u s v : List ℕ) (i j : Option (List ℕ)) (r : Result DesignView FileFault) → p ≡ u → s ≡ v → i ≡ j → Denotes p s i r → Denotes u v j r
+denotes_same p u s v i j r pu sv ij h =
+    subst (λ x. Denotes u v x r) ij (subst (λ x. Denotes u x i r) sv (subst (λ x. Denotes x s i r) pu h))
+
+-- sources that are given so, and are this design
+pub is_design : (held : Option Held) (AreGiven : Held → Sources → Type 0) (s : Sources) (d : DesignView) → IfSome held (λ h. AreGiven h s) → AreDesign s d → IfSome held (λ h. IsDesign (AreGiven h) d)
+is_design held AreGiven s d given design = IfSome-weaker _ _ held (λ h g. record { sources = s; given = g; denoted = design }) given
+
+-- ---- questions on a case
+
+module _ (names : CaseNames) (Says : DesignView → Case → Ended → List ℕ → Type 0) (held : Option Held) (s : Sources) (bytes : List ℕ)
+    (given : IfSome held (λ h. CaseSources names h s)) (case : IfSome held (λ h. HoldsShort h names.case bytes)) where
+  design_refused : (e : Ended) → AreRefused s e → AreTextsRefused (case_meaning names Says) held e
+  design_refused (Refused file offset code) fault = IfSome-weaker _ _ held (λ h g. inl (record { sources = s; given = g; denoted = fault })) given
+  design_refused Memory fault = tt
+  design_refused _ fault = absurd fault
+
+  case_refused : (d : DesignView) (e : Ended) → AreDesign s d → IsCaseRefused d bytes e → AreTextsRefused (case_meaning names Says) held e
+  case_refused d (Refused file offset code) design fault = IfSome-both _ _ _ held (λ h g c. inr (record {
+    is_case = fault.0;
+    view = d;
+    design = record { sources = s; given = g; denoted = design };
+    source = bytes;
+    given = c;
+    fault = fault.1;
+  })) given case
+  case_refused d Memory design fault = tt
+  case_refused d _ design fault = absurd fault
+
+  any_refused : (e : Ended) → AreRefused s e ⊎ ((d : DesignView) × AreDesign s d × IsCaseRefused d bytes e) → AreTextsRefused (case_meaning names Says) held e
+  any_refused e fault = elim fault [ inl h ↦ design_refused e h | inr h ↦ case_refused h.0 e h.1 h.2 ]
+
+-- the answer to a question on a case, from what is said of its bytes
+pub case_done : (names : CaseNames) (Says : DesignView → Case → Ended → List ℕ → Type 0) (a b : FilesSeen) (s : Sources) (bytes : List ℕ) (r : Result Answer Ended)
+    → ((d : DesignView) (c : Case) (e : Ended) (report : List ℕ) → Says d c e report → IsQuiet e) → Stand a b → IfSome a.held (λ h. CaseSources names h s)
+    → IfSome a.held (λ h. HoldsShort h names.case bytes) → OnSources Says s bytes r → IsDone (case_meaning names Says) a b r
+case_done names Says a b s bytes (Ok answer) quiet stand given case on =
+    let said = on.said.2 in
+    quiet_done (case_meaning names Says) a b answer stand (quiet _ _ _ _ said.says) (record {
+      design = on.said.0;
+      case = said.case;
+      reads = IfSome-both _ _ _ a.held (λ h g c. record {
+        design = record { sources = s; given = g; denoted = on.said.1 };
+        source = bytes;
+        given = c;
+        case = said.read;
+        fits = said.fits;
+      }) given case;
+      says = said.says;
+    })
+case_done names Says a b s bytes (Err e) quiet stand given case on =
+    texts_refused (case_meaning names Says) a b e stand (IfSome-both _ _ _ a.held (λ h g c. case_short h names s bytes g c) given case)
+    (any_refused names Says a.held s bytes given case e on.refused)
+
+pub judgement_quiet : (d : DesignView) (c : Case) (e : Ended) (report : List ℕ) → IsJudgement d c e report → IsQuiet e
+judgement_quiet d c e report is = record {
+  no_device = λ w same. cc (is.ended, same);
+  no_verdict = λ v same. no_replayed v is.judgement (sym same ∙ is.ended);
+}
+
+pub trace_quiet : (cycles : ℕ) (d : DesignView) (c : Case) (e : Ended) (report : List ℕ) → IsTrace cycles d c e report → IsQuiet e
+trace_quiet cycles d c e report is = record {
+  no_device = λ w same. cc (is.ended, same);
+  no_verdict = λ v same. no_ran v (sym same ∙ is.ended);
+}
+
+-- from a case of a design to one of sources
+pub on_sources : (Says : DesignView → Case → Ended → List ℕ → Type 0) (s : Sources) (d : DesignView) (bytes : List ℕ) (r : Result Answer Ended) → AreDesign s d → OnCase Says d bytes r → OnSources Says s bytes r
+on_sources Says s d bytes (Ok a) design on = record { said = (d, design, on.said); refused = tt }
+on_sources Says s d bytes (Err e) design on = record { said = tt; refused = inr (d, design, on.refused) }
+
+pub sources_refused : (Says : DesignView → Case → Ended → List ℕ → Type 0) (s : Sources) (bytes : List ℕ) (e : Ended) (r : Result Answer Ended) → IsErrAnd r (λ y. y ≡ e) → AreRefused s e → OnSources Says s bytes r
+sources_refused Says s bytes e r is fault = passed (λ z. OnSources Says s bytes z) r e is (record { said = tt; refused = inl fault })
+
+pub next_state : (d : DesignView) (n : ℕ) (states : List (List Value)) (x e : List Value) (text after whole : List ℕ) → n < length states → x ≡ get_or states n e
+    → after ≡ text ++ cycle_text d n x → text ++ cycles_text d n (drop n states) ≡ whole → after ++ cycles_text d (n + 1) (drop (n + 1) states) ≡ whole
+next_state d n states x e text after whole lt at is before =
+    let next : drop n states ≡ x ∷ drop (n + 1) states = drop-cons states n e lt ∙ ap₂ (λ y ys. y ∷ ys) (sym at) (ap (λ k. drop k states) (sym (add-one n))) in
+    ap (λ t. t ++ cycles_text d (n + 1) (drop (n + 1) states)) is ∙ append_assoc text (cycle_text d n x) (cycles_text d (n + 1) (drop (n + 1) states))
+    ∙ ap (λ s. text ++ cycles_text d n s) (sym next) ∙ before
+
+-- ---- checks
+
+check_refused : (q : Check) (held : Option Held) (s : Sources) (e : Ended) → IfSome held (λ h. CheckSources q h s) → AreRefused s e → AreTextsRefused (check_meaning q) held e
+check_refused q held s (Refused file offset code) given fault = IfSome-weaker _ _ held (λ h g. record { sources = s; given = g; denoted = fault }) given
+check_refused q held s Memory given fault = tt
+check_refused q held s _ given fault = absurd fault
+
+-- the sources of a check are refused
+pub check_texts : (q : Check) (a b : FilesSeen) (s : Sources) (e : Ended) (r : Result Answer Ended) → IsErrAnd r (λ y. y ≡ e) → Stand a b → IfSome a.held (λ h. CheckSources q h s) → AreRefused s e
+    → IsDone (check_meaning q) a b r
+check_texts q a b s e r is stand given fault = passed (λ z. IsDone (check_meaning q) a b z) r e is (
+    texts_refused (check_meaning q) a b e stand (IfSome-weaker _ _ a.held (λ h g. sources_short h q.pipe q.spec q.inv s g) given) (check_refused q a.held s e given fault))
+
+-- the verdict on them
+pub check_verdict : (q : Check) (held : Option Held) (s : Sources) (shows : Bool) (f : ShownVerdict) → IfSome held (λ h. CheckSources q h s) → IsShownOf s (check_asked q) shows f
+    → IsVerdictFor (check_meaning q) held f.verdict
+check_verdict q held s shows f given (d, design, shown) =
+    record { asked = check_asked q; is_asked = refl; design = d; asks = is_design held (CheckSources q) s d given design; is_verdict = shown.verdict }
+
+check_done_at : {T : Type 0} (q : Check) (a b c : FilesSeen) (s : Sources) (x : T) (d : DesignView) (f : ShownVerdict) (r : Result Answer Ended) → Stand a b → IfSome a.held (λ h. CheckSources q h s)
+    → AreDesign s d → Saves q.cnf q.lrat (work_of f.verdict) b c (Ok x) → IfOk r (λ y. y.ended ≡ ended_by f.verdict)
+    → IfOk r (λ y. IsVerdictReport (check_asked q) true [] d y.ended y.report.items) → IfErr r (λ e. e ≡ Memory) → IsDone (check_meaning q) a c r
+check_done_at q a b c s x d f (Ok answer) stand given design saves ended report memory =
+    verdict_done (check_meaning q) a c f.verdict answer ended
+    (record { design = d; asks = is_design a.held (CheckSources q) s d given design; says = report })
+    saves.saved (subst (λ h. KeepsAllBut h c.held (IsEither q.cnf q.lrat)) stand.held saves.others) (saves.else_keeps_blame (no_error x _) ∙ stand.blame)
+    (omega (arith, stand.never_falls, saves.never_falls))
+check_done_at q a b c s x d f (Err e) stand given design saves ended report memory =
+    subst (λ z. IsDone (check_meaning q) a c (Err z)) (sym memory) (memory_after (check_meaning q) a b c x (work_of f.verdict) stand saves)
+
+-- the answer to a check, after its work was saved
+pub check_done : {T : Type 0} (q : Check) (a b c : FilesSeen) (s : Sources) (x : T) (f : ShownVerdict) (lead : List ℕ) (r : Result Answer Ended) → Stand a b → IfSome a.held (λ h. CheckSources q h s)
+    → IsShownOf s (check_asked q) true f → Saves q.cnf q.lrat (work_of f.verdict) b c (Ok x) → lead ≡ [] → IfOk r (λ y. y.ended ≡ ended_by f.verdict)
+    → IfOk r (λ y. y.report.items ≡ (lead ++ verdict_words q.budget f.verdict ++ 10 ∷ []) ++ f.case.items) → IfErr r (λ e. e ≡ Memory) → IsDone (check_meaning q) a c r
+check_done q a b c s x f lead r stand given (d, design, shown) saves led ended report memory =
+    let whole = subst (λ l. IfOk r (λ y. y.report.items ≡ (l ++ verdict_words q.budget f.verdict ++ 10 ∷ []) ++ f.case.items)) led report in
+    check_done_at q a b c s x d f r stand given design saves ended (verdict_report d (check_asked q) true f [] r shown ended whole) memory
+
+-- ---- generated pipelines
+
+-- their texts are refused
+pub verdict_refused : (asked : Asked) (shows : Bool) (lead : List ℕ) (s : Sources) (e : Ended) (r : Result Answer Ended) → IsErrAnd r (λ y. y ≡ e) → AreRefused s e → IsVerdictOn asked shows lead s r
+verdict_refused asked shows lead s e r is fault = passed (λ z. IsVerdictOn asked shows lead s z) r e is (record { said = tt; refused = fault })
+
+-- the verdict on them
+pub verdict_on_sources : (asked : Asked) (shows : Bool) (lead : List ℕ) (s : Sources) (f : ShownVerdict) (r : Result Answer Ended) → IsShownOf s asked shows f → IfOk r (λ y. y.ended ≡ ended_by f.verdict)
+    → IfOk r (λ y. y.report.items ≡ (lead ++ verdict_words asked.budget f.verdict ++ 10 ∷ []) ++ f.case.items) → IfErr r (λ e. e ≡ Memory) → IsVerdictOn asked shows lead s r
+verdict_on_sources asked shows lead s f (Ok answer) (d, design, shown) ended report memory =
+    record { said = (d, design, verdict_report d asked shows f lead (Ok answer) shown ended report); refused = tt }
+verdict_on_sources asked shows lead s f (Err e) is ended report memory = record { said = tt; refused = subst (λ x. AreRefused s x) (sym memory) tt }
+
+gen_refused : (q : Gen) (held : Option Held) (s : Sources) (e : Ended) → s ≡ generated q → AreRefused s e → AreTextsRefused (gen_meaning q) held e
+gen_refused q held s (Refused file offset code) is fault = IfSome-all _ held (λ h. record { sources = s; given = is; denoted = fault })
+gen_refused q held s Memory is fault = tt
+gen_refused q held s _ is fault = absurd fault
+
+pub gen_done : (q : Gen) (files : FilesSeen) (s : Sources) (r : Result Answer Ended) → s ≡ generated q → IsVerdictOn gen_asked false (gen_lead q) s r → IsDone (gen_meaning q) files files r
+gen_done q files s (Ok answer) is on =
+    let says = on.said.2 in
+    verdict_done (gen_meaning q) files files says.verdict answer says.ended
+    (record { design = on.said.0; asks = IfSome-all _ files.held (λ h. record { sources = s; given = is; denoted = on.said.1 }); says = says })
+    (none_saved files.held (work_of says.verdict)) (keeps_same files.held files.held _ refl) refl (omega arith)
+gen_done q files s (Err e) is on =
+    texts_refused (gen_meaning q) files files e (unchanged files) (IfSome-all _ files.held (λ h. tt)) (gen_refused q files.held s e is on.refused)

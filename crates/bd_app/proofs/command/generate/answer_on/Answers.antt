@@ -1,0 +1,13 @@
+use Rattle.std.proofs.Common.{false}
+use Rattle.bd_app.specs.Generate.{gen_asked}
+use Rattle.bd_app.specs.inner.Loaded.{sources_view}
+use Rattle.bd_app.proofs.Sources.{verdict_on_sources, verdict_refused}
+use Rattle.bd_app.proofs.command.generate.answer_on.Goals as goal
+
+pub returns-in_err-shown : goal.returns-in_err-shown
+returns-in_err-shown c = verdict_refused gen_asked false c.args.lead.now (sources_view c.args.sources.now) _ c.from_residual.result c.from_residual.ensures.1 c.in_err-shown.ensures.refused
+
+pub returns : goal.returns
+returns c =
+    let done = c.verdict_answer.ensures in
+    verdict_on_sources gen_asked false c.args.lead.now (sources_view c.args.sources.now) c.in_ok-shown.shown c.verdict_answer.result c.in_ok-shown.ensures.shown done.ended done.report done.fault

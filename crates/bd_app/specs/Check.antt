@@ -1,0 +1,84 @@
+-- `check`: the verdict on a pipeline.
+use Rattle.std.specs.Prelude.{true, ℕ, List, [], ◌∷◌, codes, Option, Some, is_some}
+use Rattle.clap.specs.Simple.{Shape, new_rule}
+use Rattle.clap.specs.Walk.{Row, first_of}
+use Rattle.bd_files.specs.Devices.{Held}
+use Rattle.bd_verify.specs.declared.verdict.Mode.{Mode}
+use Rattle.bd_app.specs.Files.{design_files}
+use Rattle.bd_app.specs.Meaning.{Meaning}
+use Rattle.bd_app.specs.Sources.{HoldSources, IsDesign, IsDesignFault, Sources}
+use Rattle.bd_app.specs.Verdicts.{IsVerdictAnswer}
+use Rattle.bd_app.specs.Words.{Name, budget_option, flag, given, machines_command, mode_at, number_at, option, ◌>>=◌}
+use Rattle.bd_app.specs.declared.verdict.Asked.{Asked}
+use Rattle.bd_app.specs.declared.command.check.CheckOptions.{CheckOptions}
+
+-- the pipeline, the specification and maybe the invariant, the budget, where to save the formula
+-- and the proof, and whether positive equality is used
+pub record Check : Type 0 where
+  pub pipe : Name
+  pub spec : Name
+  pub inv : Option Name
+  pub budget : ℕ
+  pub cnf : Option Name
+  pub lrat : Option Name
+  pub mode : Mode
+
+-- ---- its words
+
+-- check PIPE SPEC [INV] [--budget N] [--cnf FILE] [--lrat FILE] [--diverse]
+abbrev pub check_command : Shape
+check_command = machines_command (codes "check") (
+    new_rule (codes "INV")
+    ∷ budget_option
+    ∷ option (codes "cnf")
+    ∷ option (codes "lrat")
+    ∷ flag (codes "diverse")
+    ∷ [])
+
+unfoldable pub check_question : List Row → Option Check
+check_question rows = do
+  pipe ← first_of (codes "PIPE") rows
+  spec ← first_of (codes "SPEC") rows
+  budget ← number_at (codes "budget") rows
+  Some (record {
+    pipe = pipe;
+    spec = spec;
+    inv = first_of (codes "INV") rows;
+    budget = budget;
+    cnf = first_of (codes "cnf") rows;
+    lrat = first_of (codes "lrat") rows;
+    mode = mode_at (codes "diverse") rows;
+  })
+
+-- the question of these options
+abbrev pub check_of : CheckOptions → Check
+check_of options = record {
+  pipe = options.pipe.now;
+  spec = options.spec.now;
+  inv = given options.inv;
+  budget = options.budget;
+  cnf = given options.cnf;
+  lrat = given options.lrat;
+  mode = options.mode;
+}
+
+-- ---- its answers
+
+-- the sources of the design
+abbrev pub CheckSources : Check → Held → Sources → Type 0
+CheckSources q held = HoldSources held q.pipe q.spec q.inv
+
+-- what is asked of it
+abbrev pub check_asked : Check → Asked
+check_asked q = record { budget = q.budget; mode = q.mode; given = is_some q.inv }
+
+abbrev pub check_meaning : Check → Meaning
+check_meaning q = record {
+  files = design_files q.pipe q.spec q.inv;
+  cnf = q.cnf;
+  lrat = q.lrat;
+  Asks = λ held d. IsDesign (CheckSources q held) d;
+  verdict = Some (check_asked q);
+  IsTextFault = λ held file offset code. IsDesignFault (CheckSources q held) file offset code;
+  IsAnswer = IsVerdictAnswer (λ held d. IsDesign (CheckSources q held) d) (check_asked q) true [];
+}

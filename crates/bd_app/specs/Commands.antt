@@ -1,0 +1,70 @@
+-- The command line: which words are taken, what they ask for, and what it means.
+-- Source: what `clap` makes of the words of a simple command, as the crate states it.
+use Rattle.std.specs.Prelude.{ℕ, false, List, [], ◌∷◌, map, codes, Option, None, if◌then◌else◌}
+use Rattle.std.specs.Option.{option_map}
+use Rattle.std.specs.Str.{bytes_eq}
+use Rattle.clap.specs.Walk.{Row}
+use Rattle.clap.specs.Simple.{App, Shape, new_shape, subcommand_of}
+use Rattle.clap.specs.Faults.{fault_of}
+use Rattle.clap.specs.Kinds.{Kinds}
+use Rattle.bd_app.specs.Meaning.{Meaning}
+use Rattle.bd_app.specs.Check.{Check, check_command, check_meaning, check_question}
+use Rattle.bd_app.specs.Generate.{Gen, gen_command, gen_meaning, gen_question}
+use Rattle.bd_app.specs.Replay.{Replay, replay_command, replay_meaning, replay_question}
+use Rattle.bd_app.specs.Run.{Run, run_command, run_meaning, run_question}
+use Rattle.bd_app.specs.Words.{◌>>=◌}
+
+-- what the words ask for
+pub data Question : Type 0 where
+  check : Check → Question
+  replay : Replay → Question
+  run : Run → Question
+  gen : Gen → Question
+
+-- what it means
+abbrev pub meaning_of : Question → Meaning
+meaning_of (check q) = check_meaning q
+meaning_of (replay q) = replay_meaning q
+meaning_of (run q) = run_meaning q
+meaning_of (gen q) = gen_meaning q
+
+-- a command: its words, and the question of their values
+pub record Command : Type 0 where
+  pub shape : Shape
+  pub question : List Row → Option Question
+
+-- the command table
+unfoldable pub commands : List Command
+commands =
+    record { shape = check_command; question = λ rows. option_map check (check_question rows) }
+    ∷ record { shape = replay_command; question = λ rows. option_map replay (replay_question rows) }
+    ∷ record { shape = run_command; question = λ rows. option_map run (run_question rows) }
+    ∷ record { shape = gen_command; question = λ rows. option_map gen (gen_question rows) }
+    ∷ []
+
+unfoldable pub command_line : App
+unfolding commands
+command_line = record {
+  top = record (new_shape (codes "burch_dill")) { is_leaf = false };
+  subs = map (λ c. c.shape) commands;
+}
+
+-- what the command of this name asks
+abbrev pub question_among : List Command → List ℕ → List Row → Option Question
+question_among [] name rows = None
+question_among (c ∷ cs) name rows =
+    if bytes_eq name c.shape.name then c.question rows else question_among cs name rows
+
+unfoldable pub question_of : List ℕ → List Row → Option Question
+question_of name rows = question_among commands name rows
+
+-- where clap finds no fault
+abbrev pub if_faultless : {A : Type 0} → Kinds → Option A → Option A
+if_faultless [] found = found
+if_faultless (kind ∷ kinds) found = None
+
+-- what the words ask for, where they are taken: clap finds no fault in them, and they name a command
+unfoldable pub taken : List (List ℕ) → Option Question
+taken words = if_faultless (fault_of command_line words) (do
+  named ← subcommand_of command_line words
+  question_of named.0 named.1)

@@ -1,0 +1,106 @@
+-- What a run of the program does with the words of its command line, its files and its two streams.
+use Rattle.std.specs.Prelude.{◌≡◌, ◌≢◌, ◌≤◌, ◌⊎◌, ℕ, true, List, Option, Some, None, IfSome}
+use Rattle.bd_model.specs.DesignView.{DesignView}
+use Rattle.bd_model.specs.Fits.{Fits}
+use Rattle.bd_model.specs.Conditions.{IsJudged, SomeCaseMeetsInvariant}
+use Rattle.bd_model.specs.Right.{IsRight}
+use Rattle.bd_model.specs.declared.case.Case.{Case}
+use Rattle.bd_model.specs.declared.case.Condition.{Condition}
+use Rattle.bd_model.specs.declared.case.Judged.TheVariants.{Broken, Holds}
+use Rattle.bd_files.specs.Devices.{Held, Rose, Appends, AppendsPrefix, PutsOrFaults}
+use Rattle.bd_text.specs.declared.code.Code.{Code}
+use Rattle.bd_typer.specs.declared.fault.Text.{Text}
+use Rattle.bd_verify.specs.Verdict.{HasWork}
+use Rattle.bd_verify.specs.declared.verdict.Question.TheVariants.{Breaks}
+use Rattle.bd_verify.specs.declared.verdict.Verdict.{Verdict}
+use Rattle.bd_verify.specs.declared.verdict.Work.{Work}
+use Rattle.bd_app.specs.Answer.{HasReport, fault_line_of}
+use Rattle.bd_app.specs.Commands.{Question, meaning_of, taken}
+use Rattle.bd_app.specs.Meaning.{Effects, FilesSeen, IsRefused, IsSaved, Meaning}
+use Rattle.bd_app.specs.Verdicts.{MayGive, ended_by}
+use Rattle.bd_app.specs.declared.answer.Which.TheVariants.{Out}
+use Rattle.bd_app.specs.declared.answer.Ended.{Ended}
+use Rattle.bd_app.specs.declared.answer.Ended.TheVariants.{Correct, Wrong, Void, Undecided, Usage, Refused, Device, Memory}
+use Rattle.bd_app.specs.declared.verdict.Asked.{Asked}
+
+-- a sink as a caller sees it
+pub record SinkSeen : Type 0 where
+  pub written : Option (List ℕ)
+  pub faults : ℕ
+
+abbrev pub sink_seen : {S : Type 0} → (S → Option (List ℕ)) → (S → ℕ) → S → SinkSeen
+sink_seen written faults sink = record { written = written sink; faults = faults sink }
+
+-- ---- the headline
+
+-- the words ask a question on a design of which this holds
+abbrev pub ForDesign : Option Held → List (List ℕ) → (DesignView → Type 0) → Type 0
+ForDesign held words P =
+    (q : Question) × (taken words ≡ Some q)
+    × IfSome held (λ h. (d : DesignView) × (meaning_of q).Asks h d × P d)
+
+-- they ask for a verdict on a design, and this holds of what is asked and of the design
+abbrev pub ForVerdict : Option Held → List (List ℕ) → (Asked → DesignView → Type 0) → Type 0
+ForVerdict held words P =
+    (q : Question) × (taken words ≡ Some q)
+    × (asked : Asked) × ((meaning_of q).verdict ≡ Some asked)
+    × IfSome held (λ h. (d : DesignView) × (meaning_of q).Asks h d × P asked d)
+
+-- what the verdict that a run answers says of the design: under every interpretation, from every
+-- state that meets the invariant, and for every list of inputs
+pub record Headline (held : Option Held) (words : List (List ℕ)) (e : Ended) : Type 0 where
+  pub correct : (c : Option Case) (work : Work) → e ≡ Correct c work → ForDesign held words IsRight
+  pub wrong : (k : Condition) (c : Case) (work : Work) → e ≡ Wrong k c work →
+      ForDesign held words (λ d. Fits d c × IsJudged d c (Broken k))
+  pub void : (work : Work) → e ≡ Void work →
+      ForDesign held words (λ d. ¬ SomeCaseMeetsInvariant d)
+  -- a case that is carried by a correct verdict shows that some state meets the invariant
+  pub holds : (c : Case) (work : Work) → e ≡ Correct (Some c) work →
+      ForDesign held words (λ d. Fits d c × IsJudged d c Holds)
+  pub undecided : (work : Work) → e ≡ Undecided Breaks work →
+      ForVerdict held words (λ asked d. asked.given ≡ true → SomeCaseMeetsInvariant d)
+  -- it is one that may come with an invariant, or without
+  pub may_give : (v : Verdict) → e ≡ ended_by v →
+      ForVerdict held words (λ asked d. MayGive asked.given v)
+  -- its formula is satisfiable exactly where some case is such as was asked, and its log is that of
+  -- an honest solver
+  pub work : (v : Verdict) → e ≡ ended_by v →
+      ForVerdict held words (λ asked d. HasWork d asked.budget v)
+
+-- ---- a run
+
+-- the answer to a question, what was printed of it, and what is left of the files
+pub record IsAnswered (m : Meaning) (e : Ended) (files files' : FilesSeen) (out out' : SinkSeen) :
+    Type 0 where
+  pub refused : (file : Text) (offset : ℕ) (code : Code) → e ≡ Refused file offset code →
+      IfSome files.held (λ held. IsRefused m held file offset code)
+  pub printed : HasReport e → (report : List ℕ)
+      × Appends out.written out'.written report × m.IsAnswer files.held e report
+  -- where the output failed, a prefix of the report of an answer that is true went out, after what
+  -- that answer saves
+  pub cut : e ≡ Device Out → (a : Ended) × (report : List ℕ)
+      × AppendsPrefix out.written out'.written report × m.IsAnswer files.held a report
+      × IsSaved m files'.held a
+  pub effects : Effects m files files' e
+
+-- a run on these words that ends with this answer
+pub record IsRun (words : List (List ℕ)) (e : Ended)
+    (files files' : FilesSeen) (out out' err err' : SinkSeen) : Type 0 where
+  pub headline : Headline files.held words e
+  -- words that aren't taken; they load nothing
+  pub usage_only : e ≡ Usage → taken words ≡ None
+  pub usage : taken words ≡ None → (e ≡ Usage) ⊎ (e ≡ Memory)
+  pub untouched : taken words ≡ None → files' ≡ files
+  -- words that ask a question
+  pub answered : (q : Question) → taken words ≡ Some q →
+      IsAnswered (meaning_of q) e files files' out out'
+  -- the two streams
+  pub out_rose : e ≡ Device Out → Rose out.faults out'.faults
+  pub silent : ¬ HasReport e → e ≢ Device Out → out' ≡ out
+  pub line : PutsOrFaults (λ (sink : SinkSeen). sink.written) (λ (sink : SinkSeen). sink.faults)
+      err err' (fault_line_of e)
+  pub no_line : HasReport e → err' ≡ err
+  -- the counts of faults
+  pub files_never_fall : files.faults ≤ files'.faults
+  pub out_never_falls : out.faults ≤ out'.faults
+  pub err_never_falls : err.faults ≤ err'.faults

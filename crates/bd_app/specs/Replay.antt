@@ -1,0 +1,61 @@
+-- `replay`: what a case shows.
+use Rattle.std.specs.Prelude.{◌≡◌, ℕ, List, [], ◌∷◌, ◌++◌, codes, Option, Some}
+use Rattle.clap.specs.Simple.{Shape, new_rule}
+use Rattle.clap.specs.Walk.{Row, first_of}
+use Rattle.bd_model.specs.DesignView.{DesignView}
+use Rattle.bd_model.specs.Conditions.{IsJudged}
+use Rattle.bd_model.specs.declared.case.Case.{Case}
+use Rattle.bd_model.specs.declared.case.Condition.TheVariants as condition
+use Rattle.bd_model.specs.declared.case.Judged.{Judged}
+use Rattle.bd_model.specs.declared.case.Judged.TheVariants as judged
+use Rattle.bd_app.specs.Cases.{CaseNames, case_meaning}
+use Rattle.bd_app.specs.Meaning.{Meaning}
+use Rattle.bd_app.specs.Words.{given, machines_command, required, ◌>>=◌}
+use Rattle.bd_app.specs.declared.answer.Ended.{Ended}
+use Rattle.bd_app.specs.declared.answer.Ended.TheVariants.{Replayed}
+use Rattle.bd_app.specs.declared.load.CaseFiles.{CaseFiles}
+
+-- the pipeline, the specification, the case, and maybe the invariant
+abbrev pub Replay : Type 0
+Replay = CaseNames
+
+-- ---- its words
+
+-- replay PIPE SPEC CASE [INV]
+abbrev pub replay_command : Shape
+replay_command =
+    machines_command (codes "replay") (required (codes "CASE") ∷ new_rule (codes "INV") ∷ [])
+
+unfoldable pub replay_question : List Row → Option Replay
+replay_question rows = do
+  pipe ← first_of (codes "PIPE") rows
+  spec ← first_of (codes "SPEC") rows
+  case ← first_of (codes "CASE") rows
+  Some (record { pipe = pipe; spec = spec; case = case; inv = first_of (codes "INV") rows })
+
+-- the question of these options
+abbrev pub replay_of : CaseFiles → Replay
+replay_of files = record {
+  pipe = files.pipe.now;
+  spec = files.spec.now;
+  case = files.case.now;
+  inv = given files.inv;
+}
+
+-- ---- its answers
+
+abbrev pub judged_words : Judged → List ℕ
+judged_words judged.Holds = codes "holds"
+judged_words judged.Outside = codes "outside"
+judged_words (judged.Broken condition.Invariant) = codes "broken invariant"
+judged_words (judged.Broken condition.Commute) = codes "broken commute"
+
+-- the judgement of the case, in words
+pub record IsJudgement (d : DesignView) (c : Case) (e : Ended) (report : List ℕ) : Type 0 where
+  pub judgement : Judged
+  pub is_judged : IsJudged d c judgement
+  pub ended : e ≡ Replayed judgement
+  pub words : report ≡ judged_words judgement ++ 10 ∷ []
+
+abbrev pub replay_meaning : Replay → Meaning
+replay_meaning q = case_meaning q IsJudgement

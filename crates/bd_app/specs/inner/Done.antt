@@ -1,0 +1,105 @@
+-- What the parts of a run say before anything is printed.
+use Rattle.std.specs.Prelude.{◌≡◌, ◌⊎◌, Bool, ℕ, List, Option, Result, Ok, Err, IfSome, IfOk, IfErr}
+use Rattle.bd_model.specs.DesignView.{DesignView}
+use Rattle.bd_model.specs.Fits.{Fits}
+use Rattle.bd_model.specs.declared.case.Case.{Case}
+use Rattle.bd_typer.specs.declared.fault.Text.TheVariants as text
+use Rattle.bd_case.specs.Reads.{IsReading}
+use Rattle.bd_files.specs.Devices.{Held}
+use Rattle.bd_app.specs.Meaning.{Effects, FilesSeen, IsRefused, Meaning}
+use Rattle.bd_app.specs.Sources.{AreRead, Sources}
+use Rattle.bd_app.specs.Verdicts.{IsCaseTextIf, IsVerdict, IsVerdictReport, shown_case}
+use Rattle.bd_app.specs.declared.answer.Answer.{Answer}
+use Rattle.bd_app.specs.declared.answer.Which.TheVariants as which
+use Rattle.bd_app.specs.declared.answer.Ended.{Ended}
+use Rattle.bd_app.specs.declared.answer.Ended.TheVariants.{Usage, Refused, Device, Memory}
+use Rattle.bd_app.specs.declared.verdict.Asked.{Asked}
+use Rattle.bd_app.specs.declared.verdict.ShownVerdict.{ShownVerdict}
+
+-- the answer, also where it is a fault
+abbrev pub ended_of : Result Answer Ended → Ended
+ended_of (Ok answer) = answer.ended
+ended_of (Err fault) = fault
+
+-- a fault that may come before anything is printed
+abbrev pub IsFault : Meaning → Option Held → Ended → Type 0
+IsFault m held (Refused file offset code) = IfSome held (λ h. IsRefused m h file offset code)
+IsFault m held (Device which.Load) = Unit {0}
+IsFault m held (Device which.Save) = Unit {0}
+IsFault m held Memory = Unit {0}
+IsFault m held _ = ⊥
+
+-- a fault of the words, of loading, reading or saving, or want of memory
+abbrev pub IsEarlyFault : Ended → Type 0
+IsEarlyFault Usage = Unit {0}
+IsEarlyFault (Refused file offset code) = Unit {0}
+IsEarlyFault (Device which.Load) = Unit {0}
+IsEarlyFault (Device which.Save) = Unit {0}
+IsEarlyFault Memory = Unit {0}
+IsEarlyFault _ = ⊥
+
+-- the answer to a question, with its report, and what it leaves of the files
+pub record IsDone (m : Meaning) (before after : FilesSeen) (r : Result Answer Ended) : Type 0 where
+  pub answer : IfOk r (λ a. m.IsAnswer before.held a.ended a.report.items)
+  pub fault : IfErr r (IsFault m before.held)
+  pub effects : Effects m before after (ended_of r)
+
+-- ---- what is said of bytes
+
+-- these sources are this design
+abbrev pub AreDesign : Sources → DesignView → Type 0
+AreDesign s d = AreRead s (Ok d)
+
+-- why sources are no design
+abbrev pub AreRefused : Sources → Ended → Type 0
+AreRefused s (Refused file offset code) =
+    AreRead s (Err (record { file = file; offset = offset; code = code }))
+AreRefused s Memory = Unit {0}
+AreRefused s _ = ⊥
+
+-- why bytes are no case of a design
+abbrev pub IsCaseRefused : DesignView → List ℕ → Ended → Type 0
+IsCaseRefused d bytes (Refused file offset code) =
+    (file ≡ text.Case) × IsReading d bytes (Err (record { offset = offset; code = code }))
+IsCaseRefused d bytes Memory = Unit {0}
+IsCaseRefused d bytes _ = ⊥
+
+-- this is said of the case that the bytes are
+pub record IsSaidOf (Says : DesignView → Case → Ended → List ℕ → Type 0) (d : DesignView)
+    (bytes : List ℕ) (a : Answer) : Type 0 where
+  pub case : Case
+  pub read : IsReading d bytes (Ok case)
+  pub fits : Fits d case
+  pub says : Says d case a.ended a.report.items
+
+-- this is said of the case of a design, unless its bytes are refused
+pub record OnCase (Says : DesignView → Case → Ended → List ℕ → Type 0) (d : DesignView)
+    (bytes : List ℕ) (r : Result Answer Ended) : Type 0 where
+  pub said : IfOk r (IsSaidOf Says d bytes)
+  pub refused : IfErr r (IsCaseRefused d bytes)
+
+-- or those of the design
+pub record OnSources (Says : DesignView → Case → Ended → List ℕ → Type 0) (s : Sources)
+    (bytes : List ℕ) (r : Result Answer Ended) : Type 0 where
+  pub said : IfOk r (λ a. (d : DesignView) × AreDesign s d × IsSaidOf Says d bytes a)
+  pub refused : IfErr r (λ e.
+      AreRefused s e ⊎ ((d : DesignView) × AreDesign s d × IsCaseRefused d bytes e))
+
+-- ---- verdicts
+
+-- a verdict on a design, and the text of the case that is shown with it
+pub record IsShown (d : DesignView) (asked : Asked) (shows : Bool) (f : ShownVerdict) :
+    Type 0 where
+  pub verdict : IsVerdict d asked f.verdict
+  pub case : IsCaseTextIf d (shown_case shows f.verdict) f.case.items
+
+-- the same of the design of sources
+abbrev pub IsShownOf : Sources → Asked → Bool → ShownVerdict → Type 0
+IsShownOf s asked shows f = (d : DesignView) × AreDesign s d × IsShown d asked shows f
+
+-- an answer that is a verdict on the design of sources, unless they are refused
+pub record IsVerdictOn (asked : Asked) (shows : Bool) (lead : List ℕ) (s : Sources)
+    (r : Result Answer Ended) : Type 0 where
+  pub said : IfOk r (λ a. (d : DesignView) × AreDesign s d
+      × IsVerdictReport asked shows lead d a.ended a.report.items)
+  pub refused : IfErr r (AreRefused s)

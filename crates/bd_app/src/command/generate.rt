@@ -1,0 +1,114 @@
+//! `gen`: the verdict on a generated pipeline.
+ghost use Rattle.std.specs.Prelude.{◌≡◌, ◌≤◌, false, IfSome, IfOk, string_bytes};
+ghost use Rattle.std.specs.Option.{option_map};
+ghost use Rattle.clap.specs.Words.{found_of, rows_of, shape_of};
+ghost use Rattle.clap.specs.declared.builder.command.Command.TheViews.{out-Command as fields_of};
+ghost use Rattle.bd_app.specs.Generate.{gen_asked, gen_command, gen_lead, gen_meaning, gen_of, gen_question, generated, HasDepth};
+ghost use Rattle.bd_app.specs.Meaning.{FilesSeen};
+ghost use Rattle.bd_app.specs.inner.Loaded.{AreFew, sources_view};
+ghost use Rattle.bd_app.specs.inner.Done.{IsDone, IsVerdictOn};
+
+use crate::answer::{Answer, Ended};
+use crate::load::{MAX_FILE, Sources};
+use crate::verdict::{Asked, verdict_answer, verdict_on};
+use crate::words::number_at;
+use bd_gen::design_text;
+use bd_verify::Mode;
+use clap::{Arg, ArgMatches, Command, value_parser};
+use std::alloc::{AllocError, Global};
+
+/// Its options.
+#[derive(Clone, Copy, Debug)]
+pub struct GenOptions {
+    pub depth: u32,
+    pub drop: u32,
+}
+
+/// Its words.
+pub fn command<'a>(alloc: Global) -> Result<Command<'a>, AllocError>
+    ensures shape { IfOk result (λ c. shape_of c ≡ gen_command) }
+    ensures local { IfOk result (λ c. (fields_of c).has_globals ≡ false) }
+{
+    let depth = Arg::new(alloc, "DEPTH")
+        .required(true)
+        .value_parser(value_parser!(u32).range(2..=12));
+    let drop = Arg::new(alloc, "DROP")
+        .required(true)
+        .value_parser(value_parser!(u32).range(0..=11));
+    Command::new(alloc, "gen").arg(depth)?.arg(drop)
+}
+
+/// The options that its words give.
+#[tactic(auto, unfolding(crate::specs::Generate::gen_question))]
+pub fn options(matches: &ArgMatches<'_>) -> Option<GenOptions>
+    ensures asked { option_map gen_of result ≡ gen_question (rows_of (found_of matches.now)) }
+    ensures bounded { IfSome result HasDepth }
+{
+    let depth = number_at(matches, "DEPTH")?;
+    let drop = number_at(matches, "DROP")?;
+    if 2 <= depth && depth <= 12 {
+        Some(GenOptions { depth, drop })
+    } else {
+        None
+    }
+}
+
+/// What is asked of each generated pipeline.
+const ASKED: Asked = Asked {
+    budget: 200_000,
+    mode: Mode::Plain,
+    given: false,
+};
+
+/// The texts of a generated pipeline and of its specification.
+fn sources(alloc: Global, options: GenOptions) -> Result<Sources, AllocError>
+    requires { HasDepth options }
+    ensures generated { IfOk result (λ s. sources_view s ≡ generated (gen_of options)) }
+    ensures few { IfOk result (λ s. AreFew (sources_view s)) }
+{
+    let (pipe, spec) = design_text(alloc, options.depth, options.drop)?;
+    // Neither is ever so long: the longest pipeline has some 2,500 bytes.
+    if pipe.as_slice().len() > MAX_FILE || spec.as_slice().len() > MAX_FILE {
+        return Err(AllocError);
+    }
+    Ok(Sources {
+        pipe,
+        spec,
+        inv: None,
+    })
+}
+
+/// What the line of its verdict begins with.
+fn lead(alloc: Global, options: GenOptions) -> Result<String, AllocError>
+    requires { HasDepth options }
+    ensures { IfOk result (λ text. string_bytes text ≡ gen_lead (gen_of options)) }
+{
+    let GenOptions { depth, drop } = options;
+    let latches = 3 * depth - 1;
+    let mut text = String::new(alloc);
+    write!(text, "gen {depth} {drop} latches {latches} ")?;
+    Ok(text)
+}
+
+/// The verdict on these texts, with its line.
+fn answer_on(alloc: Global, lead: &str, sources: &Sources) -> Result<Answer, Ended>
+    requires { AreFew (sources_view sources.now) }
+    ensures { IsVerdictOn gen_asked false lead.now (sources_view sources.now) result }
+{
+    let shown = verdict_on(alloc, sources, ASKED, false)?;
+    verdict_answer(alloc, lead, shown, ASKED.budget)
+}
+
+/// Its answer. No case is printed.
+pub fn answer(alloc: Global, options: GenOptions) -> Result<Answer, Ended>
+    requires { HasDepth options }
+    ensures { (files : FilesSeen) → IsDone (gen_meaning (gen_of options)) files files result }
+{
+    let Ok(sources) = sources(alloc, options) else {
+        return Err(Ended::Memory);
+    };
+    let Ok(lead) = lead(alloc, options) else {
+        return Err(Ended::Memory);
+    };
+    answer_on(alloc, lead.as_str(), &sources)
+}

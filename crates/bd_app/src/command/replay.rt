@@ -1,0 +1,106 @@
+//! `replay`: what a case shows.
+ghost use Rattle.std.specs.Prelude.{◌≡◌, ◌++◌, [], ◌∷◌, false, IfOk, IfErr};
+ghost use Rattle.std.specs.Option.{option_map};
+ghost use Rattle.clap.specs.Words.{found_of, rows_of, shape_of};
+ghost use Rattle.clap.specs.declared.builder.command.Command.TheViews.{out-Command as fields_of};
+ghost use Rattle.bd_model.specs.DesignView.{design_view};
+ghost use Rattle.bd_model.specs.Lawful.{IsLawful};
+ghost use Rattle.bd_app.specs.Meaning.{files_seen};
+ghost use Rattle.bd_app.specs.Replay.{judged_words, replay_command, replay_meaning, replay_of, replay_question, IsJudgement};
+ghost use Rattle.bd_app.specs.inner.Loaded.{AreFew, sources_view};
+ghost use Rattle.bd_app.specs.inner.Done.{IsDone, OnCase, OnSources};
+
+use crate::answer::{Answer, Ended};
+use crate::load::{CaseBytes, CaseFiles, load_case};
+use crate::read::{case, design};
+use crate::words::{machines_command, required, with, word_at};
+use bd_files::Files;
+use bd_model::{Condition, Design, Judged};
+use bd_sim::judge;
+use clap::{Arg, ArgMatches, Command};
+use std::alloc::{AllocError, Global};
+
+/// Its words.
+pub fn command<'a>(alloc: Global) -> Result<Command<'a>, AllocError>
+    ensures shape { IfOk result (λ c. shape_of c ≡ replay_command) }
+    ensures local { IfOk result (λ c. (fields_of c).has_globals ≡ false) }
+{
+    let command = machines_command(alloc, "replay")?;
+    let command = with(command, required(alloc, "CASE"))?;
+    with(command, Arg::new(alloc, "INV"))
+}
+
+/// Its options, the names of the files of a case.
+#[tactic(auto, unfolding(crate::specs::Replay::replay_question))]
+pub fn options<'a>(matches: &ArgMatches<'a>) -> Option<CaseFiles<'a>>
+    ensures { option_map replay_of result ≡ replay_question (rows_of (found_of matches.now)) }
+{
+    Some(CaseFiles {
+        pipe: word_at(matches, "PIPE")?,
+        spec: word_at(matches, "SPEC")?,
+        case: word_at(matches, "CASE")?,
+        inv: word_at(matches, "INV"),
+    })
+}
+
+/// The line of a judgement.
+fn judged_line(judged: Judged) -> &'static [u8]
+    ensures { result.now ≡ judged_words judged ++ 10 ∷ [] }
+{
+    match judged {
+        Judged::Holds => b"holds\n",
+        Judged::Outside => b"outside\n",
+        Judged::Broken(Condition::Invariant) => b"broken invariant\n",
+        Judged::Broken(Condition::Commute) => b"broken commute\n",
+    }
+}
+
+/// The answer that a judgement is.
+fn judged_answer(alloc: Global, judged: Judged) -> Result<Answer, Ended>
+    ensures answer { IfOk result (λ a.
+        (a.ended ≡ Ended.Replayed judged) × (a.report.items ≡ judged_words judged ++ 10 ∷ [])) }
+    ensures fault { IfErr result (λ e. e ≡ Ended.Memory) }
+{
+    match Vec::from_slice(alloc, judged_line(judged)) {
+        Ok(report) => Ok(Answer {
+            ended: Ended::Replayed(judged),
+            report,
+        }),
+        Err(_) => Err(Ended::Memory),
+    }
+}
+
+/// What the case of bytes shows.
+fn judged(alloc: Global, design: &Design, bytes: &[u8]) -> Result<Answer, Ended>
+    requires { IsLawful (design_view design.now) }
+    ensures { OnCase IsJudgement (design_view design.now) bytes.now result }
+{
+    let case = case(alloc, design, bytes)?;
+    match judge(alloc, design, &case) {
+        Ok(judged) => judged_answer(alloc, judged),
+        Err(_) => Err(Ended::Memory),
+    }
+}
+
+/// What the case of loaded files shows.
+fn judged_bytes(alloc: Global, bytes: &CaseBytes) -> Result<Answer, Ended>
+    requires { AreFew (sources_view bytes.now.sources) }
+    ensures { OnSources IsJudgement (sources_view bytes.now.sources) bytes.now.case.items result }
+{
+    let design = design(alloc, &bytes.sources)?;
+    judged(alloc, &design, bytes.case.as_slice())
+}
+
+/// Its answer.
+pub fn answer<F: Files>(
+    alloc: Global,
+    files: &mut F,
+    options: CaseFiles<'_>,
+) -> Result<Answer, Ended>
+    ensures { IsDone (replay_meaning (replay_of options.entry))
+        (files_seen F.held F.faults F.blame files.old)
+        (files_seen F.held F.faults F.blame files.new) result }
+{
+    let bytes = load_case(files, options)?;
+    judged_bytes(alloc, &bytes)
+}

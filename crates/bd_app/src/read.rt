@@ -1,0 +1,55 @@
+//! Reading the texts of files.
+//!
+//! All files are loaded before the first is read, and a design is read before its case. So the first
+//! fault in this order refuses: a file that is too long, a fault of the design's files, one of the
+//! case.
+ghost use Rattle.std.specs.Prelude.{IfOk, IfErr, Ok};
+ghost use Rattle.bd_case.specs.Reads.{IsReading};
+ghost use Rattle.bd_model.specs.DesignView.{design_view};
+ghost use Rattle.bd_model.specs.Fits.{Fits};
+ghost use Rattle.bd_model.specs.Lawful.{IsLawful};
+ghost use Rattle.bd_app.specs.inner.Loaded.{AreFew, sources_view};
+ghost use Rattle.bd_app.specs.inner.Done.{AreDesign, AreRefused, IsCaseRefused};
+
+use crate::answer::Ended;
+use crate::load::Sources;
+use bd_case::{CaseFault, read_case};
+use bd_model::{Case, Design};
+use bd_typer::{DesignFault, Text, design_of};
+use std::alloc::Global;
+
+/// The design of sources.
+pub fn design(alloc: Global, sources: &Sources) -> Result<Design, Ended>
+    requires { AreFew (sources_view sources.now) }
+    ensures read { IfOk result (λ d. AreDesign (sources_view sources.now) (design_view d)) }
+    ensures lawful { IfOk result (λ d. IsLawful (design_view d)) }
+    ensures refused { IfErr result (AreRefused (sources_view sources.now)) }
+{
+    let inv = match &sources.inv {
+        Some(inv) => Some(inv.as_slice()),
+        None => None,
+    };
+    match design_of(alloc, sources.pipe.as_slice(), sources.spec.as_slice(), inv) {
+        Ok(design) => Ok(design),
+        Err(DesignFault::Bad { file, offset, code }) => Err(Ended::Refused { file, offset, code }),
+        Err(DesignFault::Memory) => Err(Ended::Memory),
+    }
+}
+
+/// The case of bytes.
+pub fn case(alloc: Global, design: &Design, bytes: &[u8]) -> Result<Case, Ended>
+    requires { IsLawful (design_view design.now) }
+    ensures read { IfOk result (λ c.
+        IsReading (design_view design.now) bytes.now (Ok c) × Fits (design_view design.now) c) }
+    ensures refused { IfErr result (IsCaseRefused (design_view design.now) bytes.now) }
+{
+    match read_case(alloc, design, bytes) {
+        Ok(case) => Ok(case),
+        Err(CaseFault::Bad { offset, code }) => Err(Ended::Refused {
+            file: Text::Case,
+            offset,
+            code,
+        }),
+        Err(CaseFault::Memory) => Err(Ended::Memory),
+    }
+}
