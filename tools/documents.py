@@ -25,7 +25,10 @@ MANY = 9
 # what the clause `correct` of the program's call says of the words of a check; other commands aren't followed
 CORRECT = [
     ("bd_model", "Right", "IsRight"),
-    ("bd_app", "Answer", "ForDesign"),
+    ("bd_app", "Check", "check_question"),
+    ("bd_app", "Check", "CheckSources"),
+    ("bd_app", "Sources", "IsDesign"),
+    ("bd_app", "Program", "ForDesign"),
 ]
 LEFT_OUT = {("bd_app", name) for name in ("Replay", "Run", "Generate", "Cases", "Verdicts")}
 LIST = ("<!-- correct: made by tools/documents.py -->", "<!-- correct: to here -->")
@@ -378,6 +381,8 @@ def missing_files():
     for document in [ROOT / "README.md", *sorted((ROOT / "docs").glob("*.md"))]:
         for name in re.findall(r"`((?:crates/)?(?:bd_\w+|burch_dill)/[\w/.]+|(?:bench|tools|docs)/[\w.]+)`", document.read_text()):
             path = name.removeprefix("crates/") if name.startswith("crates/") else name
+            if "NAME" in name:
+                continue
             if not (ROOT / name).exists() and not (ROOT / "crates" / path).exists():
                 faults.append(f"{document.relative_to(ROOT)} names {name}, which isn't there")
     return faults
