@@ -52,7 +52,11 @@ impl Partners {
 }
 
 /// For each ite the words with which it is compared.
-pub(crate) fn asked(alloc: Global, flat: &Flat, marks: &ReachedTerms) -> Result<Vec<Partners>, AllocError>
+pub(crate) fn asked(
+    alloc: Global,
+    flat: &Flat,
+    marks: &ReachedTerms,
+) -> Result<Vec<Partners>, AllocError>
     requires { (id : ℕ) → IsTrue (slice_index_or marks.now id false)
         ↔ Reaches flat.now.graph flat.now.root id }
     ensures { IfOk result (λ p. AreAsked flat.now.graph flat.now.root 0 p.items) }

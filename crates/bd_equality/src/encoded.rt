@@ -38,6 +38,7 @@ pub fn encode(
     marked: Option<&Marked>,
 ) -> Result<Encoded, AllocError>
     ensures root { IfOk result (λ e. e.root < length e.prop) }
+    ensures graph { IfOk result (λ e. IsGraph e.prop) }
     ensures denotes { IfOk result (λ e.
         Encodes flat.now.graph flat.now.root (option_copied marked.entry) e.prop e.root) }
     ensures by_edges { IfOk result (λ e.

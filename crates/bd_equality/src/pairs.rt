@@ -10,7 +10,7 @@ use std::marker::Model;
 
 /// Two variables.
 #[derive(Clone, Copy, Debug, PartialEq, Eq, Hash)]
-struct Pair {
+struct VariablePair {
     from: u64,
     to: u64,
 }
@@ -18,7 +18,7 @@ struct Pair {
 /// Edges, each once.
 #[derive(Drop)]
 pub(crate) struct Pairs {
-    pairs: IndexSet<Pair>,
+    pairs: IndexSet<VariablePair>,
 }
 
 impl Model for Pairs {
@@ -45,7 +45,7 @@ impl Pairs {
         ensures { OnOk result ((e : TheEdge) →
             Contains self.new e ↔ (Contains self.old e ⊎ (edge from to ≡ e))) }
     {
-        self.pairs.insert(Pair { from, to })?;
+        self.pairs.insert(VariablePair { from, to })?;
         Ok(())
     }
 

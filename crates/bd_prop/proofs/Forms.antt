@@ -4,8 +4,8 @@ use Rattle.std.proofs.lemmas.Bool.{false≢true, true≢false, eqb-true, cases_l
 use Rattle.std.proofs.lemmas.Option.{slice_get-get_or, slice_get_within, get_or_from_slice_get}
 use Rattle.std.proofs.lemmas.List.{append-nil, get_or_append_left, get_or_push, length_push}
 use Rattle.bd_prop.specs.declared.atom.Atom.{Atom}
-use Rattle.bd_prop.specs.declared.form.Form.{Form}
-use Rattle.bd_prop.specs.declared.form.Form.TheVariants.{Kept, Fresh}
+use Rattle.bd_prop.specs.declared.form.Rewrite.{Rewrite}
+use Rattle.bd_prop.specs.declared.form.Rewrite.TheVariants.{Kept, Fresh}
 use Rattle.bd_prop.specs.declared.node.PropNode.{PropNode}
 use Rattle.bd_prop.specs.declared.node.PropNode.TheVariants.{True, Not}
 use Rattle.bd_prop.specs.Node.{children}
@@ -15,12 +15,12 @@ use Rattle.bd_prop.specs.Form.{node_at, is_true_node, is_true, is_false_node, is
 use Rattle.bd_prop.proofs.Truths.{node_truth_same, truth-extends, truth-node}
 
 -- the new list goes on from the old one
-pub Extends-form : (old : List PropNode) (form : Form) (new : List PropNode) (id : ℕ) → HasForm old form new id → Extends old new
+pub Extends-form : (old : List PropNode) (form : Rewrite) (new : List PropNode) (id : ℕ) → HasForm old form new id → Extends old new
 Extends-form old (Kept kept) new id (is, same) = ([], same ∙ sym (append-nil old))
 Extends-form old (Fresh node) new id (at, inl same) = ([], same ∙ sym (append-nil old))
 Extends-form old (Fresh node) new id (at, inr added) = (node ∷ [], added)
 
-pub within-form : (old : List PropNode) (form : Form) (new : List PropNode) (id : ℕ) → IsFormBelow (length old) form → HasForm old form new id → id < length new
+pub within-form : (old : List PropNode) (form : Rewrite) (new : List PropNode) (id : ℕ) → IsFormBelow (length old) form → HasForm old form new id → id < length new
 within-form old (Kept kept) new id below (is, same) = subst (λ ns. id < length ns) (sym same) (subst (λ k. k < length old) (sym is) below)
 within-form old (Fresh node) new id below (at, added) = slice_get_within new id node at
 
@@ -37,13 +37,13 @@ IsGraph-push old node graph below id n at =
           subst (λ m. IsBelow id m) same (subst (λ k. IsBelow k node) last below)
     ]
 
-pub IsGraph-form : (old : List PropNode) (form : Form) (new : List PropNode) (id : ℕ) → IsGraph old → IsFormBelow (length old) form → HasForm old form new id → IsGraph new
+pub IsGraph-form : (old : List PropNode) (form : Rewrite) (new : List PropNode) (id : ℕ) → IsGraph old → IsFormBelow (length old) form → HasForm old form new id → IsGraph new
 IsGraph-form old (Kept kept) new id graph below (is, same) = subst IsGraph (sym same) graph
 IsGraph-form old (Fresh node) new id graph below (at, inl same) = subst IsGraph (sym same) graph
 IsGraph-form old (Fresh node) new id graph below (at, inr added) = subst IsGraph (sym added) (IsGraph-push old node graph below)
 
 -- the id of a form denotes what the form does
-pub truth-form : (v : Atom → Bool) (old : List PropNode) (form : Form) (new : List PropNode) (id : ℕ) → IsGraph old → IsFormBelow (length old) form → HasForm old form new id → truth_at v new id ≡ form_truth v old form
+pub truth-form : (v : Atom → Bool) (old : List PropNode) (form : Rewrite) (new : List PropNode) (id : ℕ) → IsGraph old → IsFormBelow (length old) form → HasForm old form new id → truth_at v new id ≡ form_truth v old form
 truth-form v old (Kept kept) new id graph below (is, same) = λ i. truth_at v (same i) (is i)
 truth-form v old (Fresh node) new id graph below has =
     truth-node v new id node (IsGraph-form old (Fresh node) new id graph below has) has.0
@@ -126,7 +126,7 @@ module _ (v : Atom → Bool) (nodes : List PropNode) (graph : IsGraph nodes) whe
       by (Not b) at = twice (truth_at v nodes b) ∙ ap not (sym (truth-node v nodes a (Not b) graph at))
       by n at = refl
 
-  Denotes : Bool → Form → Type 0
+  Denotes : Bool → Rewrite → Type 0
   Denotes b form = form_truth v nodes form ≡ b
 
   pub truth-and : (a b : ℕ) → a < length nodes → b < length nodes → form_truth v nodes (and_form nodes a b) ≡ (truth_at v nodes a && truth_at v nodes b)

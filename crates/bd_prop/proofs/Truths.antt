@@ -24,7 +24,7 @@ node_truth_same v f g (Ite a b c) h =
     let third : f c ≡ g c = h 2 a (omega arith) in
     λ i. cond (first i) (second i) (third i)
 
--- nodes that come behind change no value
+-- nodes that come after change no value
 pub truth-front : (v : Atom → Bool) (nodes more : List PropNode) (id : ℕ) → id < length nodes → truth_at v (nodes ++ more) id ≡ truth_at v nodes id
 unfolding truths truth_at
 truth-front v nodes more id h = get-grown_front (λ done n. node_truth v (λ c. slice_index_or done c false) n) nodes more id false h
@@ -32,7 +32,7 @@ truth-front v nodes more id h = get-grown_front (λ done n. node_truth v (λ c. 
 pub truth-extends : (v : Atom → Bool) (old new : List PropNode) (id : ℕ) → Extends old new → id < length old → truth_at v new id ≡ truth_at v old id
 truth-extends v old new id (more, is) h = ap (λ ns. truth_at v ns id) is ∙ truth-front v old more id h
 
--- the node at an id, between those before it and those behind it
+-- the node at an id, between those before it and those after it
 pub split_at : (nodes : List PropNode) (id : ℕ) (n : PropNode) → StandsAt nodes id n → nodes ≡ take id nodes ++ n ∷ drop (id + 1) nodes
 split_at nodes id n at =
     sym (take-append-drop id nodes) ∙ ap (λ rest. take id nodes ++ rest) (drop_more nodes id n (slice_get_within nodes id n at) ∙ ap (λ m. m ∷ drop (id + 1) nodes) (get_or_from_slice_get nodes id n n at))

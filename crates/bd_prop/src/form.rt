@@ -9,7 +9,7 @@ use crate::node::PropNode;
 
 /// What a constructor makes of its node: an id that stands for it already, or the node.
 #[derive(Clone, Copy, Debug)]
-pub(crate) enum Form {
+pub(crate) enum Rewrite {
     Kept(usize),
     Fresh(PropNode),
 }
@@ -32,7 +32,7 @@ fn is_false(nodes: &[PropNode], id: usize) -> bool
     }
 }
 
-pub(crate) fn not_form(nodes: &[PropNode], a: usize) -> Form
+pub(crate) fn not_form(nodes: &[PropNode], a: usize) -> Rewrite
     requires graph { IsGraph nodes.now }
     requires within { a < length nodes.now }
     ensures form { result ≡ not_form nodes.now a }
@@ -41,12 +41,12 @@ pub(crate) fn not_form(nodes: &[PropNode], a: usize) -> Form
         form_truth v nodes.now result ≡ not (truth_at v nodes.now a) }
 {
     match nodes[a] {
-        PropNode::Not(b) => Form::Kept(b),
-        _ => Form::Fresh(PropNode::Not(a)),
+        PropNode::Not(b) => Rewrite::Kept(b),
+        _ => Rewrite::Fresh(PropNode::Not(a)),
     }
 }
 
-pub(crate) fn and_form(nodes: &[PropNode], a: usize, b: usize) -> Form
+pub(crate) fn and_form(nodes: &[PropNode], a: usize, b: usize) -> Rewrite
     requires graph { IsGraph nodes.now }
     requires first { a < length nodes.now }
     requires second { b < length nodes.now }
@@ -56,15 +56,15 @@ pub(crate) fn and_form(nodes: &[PropNode], a: usize, b: usize) -> Form
         form_truth v nodes.now result ≡ (truth_at v nodes.now a && truth_at v nodes.now b) }
 {
     if is_true(nodes, a) || is_false(nodes, b) || a == b {
-        Form::Kept(b)
+        Rewrite::Kept(b)
     } else if is_false(nodes, a) || is_true(nodes, b) {
-        Form::Kept(a)
+        Rewrite::Kept(a)
     } else {
-        Form::Fresh(PropNode::And(a, b))
+        Rewrite::Fresh(PropNode::And(a, b))
     }
 }
 
-pub(crate) fn or_form(nodes: &[PropNode], a: usize, b: usize) -> Form
+pub(crate) fn or_form(nodes: &[PropNode], a: usize, b: usize) -> Rewrite
     requires graph { IsGraph nodes.now }
     requires first { a < length nodes.now }
     requires second { b < length nodes.now }
@@ -74,15 +74,15 @@ pub(crate) fn or_form(nodes: &[PropNode], a: usize, b: usize) -> Form
         form_truth v nodes.now result ≡ (truth_at v nodes.now a || truth_at v nodes.now b) }
 {
     if is_false(nodes, a) || is_true(nodes, b) || a == b {
-        Form::Kept(b)
+        Rewrite::Kept(b)
     } else if is_true(nodes, a) || is_false(nodes, b) {
-        Form::Kept(a)
+        Rewrite::Kept(a)
     } else {
-        Form::Fresh(PropNode::Or(a, b))
+        Rewrite::Fresh(PropNode::Or(a, b))
     }
 }
 
-pub(crate) fn ite_form(nodes: &[PropNode], control: usize, first: usize, second: usize) -> Form
+pub(crate) fn ite_form(nodes: &[PropNode], control: usize, first: usize, second: usize) -> Rewrite
     requires graph { IsGraph nodes.now }
     requires control { control < length nodes.now }
     requires first { first < length nodes.now }
@@ -94,10 +94,10 @@ pub(crate) fn ite_form(nodes: &[PropNode], control: usize, first: usize, second:
         then truth_at v nodes.now first else truth_at v nodes.now second) }
 {
     if is_true(nodes, control) || first == second {
-        Form::Kept(first)
+        Rewrite::Kept(first)
     } else if is_false(nodes, control) {
-        Form::Kept(second)
+        Rewrite::Kept(second)
     } else {
-        Form::Fresh(PropNode::Ite(control, first, second))
+        Rewrite::Fresh(PropNode::Ite(control, first, second))
     }
 }

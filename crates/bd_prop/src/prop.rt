@@ -1,6 +1,6 @@
 //! The truth graph. Children stand before parents, so each pass over it is a loop over its nodes.
 use crate::atom::Atom;
-use crate::form::{Form, and_form, ite_form, not_form, or_form};
+use crate::form::{Rewrite, and_form, ite_form, not_form, or_form};
 use crate::node::PropNode;
 use indexmap::IndexSet;
 use std::alloc::{AllocError, Global};
@@ -75,22 +75,22 @@ impl Prop {
     pub fn mk_true(&mut self) -> Result<usize, AllocError>
         ensures grows { Extends self.old self.new }
         ensures within { IfOk result (λ id. id < length self.new) }
-        ensures form { IfOk result (HasForm self.old (Form.Fresh PropNode.True) self.new) }
+        ensures form { IfOk result (HasForm self.old (Rewrite.Fresh PropNode.True) self.new) }
         ensures truth { IfOk result (λ id. (v : Atom → Bool) → truth_at v self.new id ≡ true) }
         ensures err { OnErr result (self.new ≡ self.old) }
     {
-        self.make(Form::Fresh(PropNode::True))
+        self.make(Rewrite::Fresh(PropNode::True))
     }
 
     /// An atom.
     pub fn mk_atom(&mut self, atom: Atom) -> Result<usize, AllocError>
         ensures grows { Extends self.old self.new }
         ensures within { IfOk result (λ id. id < length self.new) }
-        ensures form { IfOk result (HasForm self.old (Form.Fresh (PropNode.Atom atom)) self.new) }
+        ensures form { IfOk result (HasForm self.old (Rewrite.Fresh (PropNode.Atom atom)) self.new) }
         ensures truth { IfOk result (λ id. (v : Atom → Bool) → truth_at v self.new id ≡ v atom) }
         ensures err { OnErr result (self.new ≡ self.old) }
     {
-        self.make(Form::Fresh(PropNode::Atom(atom)))
+        self.make(Rewrite::Fresh(PropNode::Atom(atom)))
     }
 
     /// A negation. That of a negation is the node below.
@@ -155,7 +155,7 @@ impl Prop {
         self.make(form)
     }
 
-    fn make(&mut self, form: Form) -> Result<usize, AllocError>
+    fn make(&mut self, form: Rewrite) -> Result<usize, AllocError>
         requires { IsFormBelow (length self.old) form }
         ensures grows { Extends self.old self.new }
         ensures within { IfOk result (λ id. id < length self.new) }
@@ -165,8 +165,8 @@ impl Prop {
         ensures err { OnErr result (self.new ≡ self.old) }
     {
         match form {
-            Form::Kept(id) => Ok(id),
-            Form::Fresh(node) => {
+            Rewrite::Kept(id) => Ok(id),
+            Rewrite::Fresh(node) => {
                 let (id, _) = self.nodes.insert_full(node)?;
                 Ok(id)
             }

@@ -12,3 +12,5 @@ pub mod ClassesAgree
 pub mod Fans
 pub mod Counting
 pub mod Numbered
+pub mod Implications
+pub mod TriangleClauses

@@ -11,7 +11,7 @@ use Rattle.bd_transitive.proofs.NotTwo.{not_two_from}
 use Rattle.bd_transitive.proofs.Places.{place-get}
 use Rattle.bd_transitive.proofs.OrderSpans.{Contains-from_at, spans_bounded, span_at, span_between_lt, joins_at_places, joins_at_from_span}
 
-module _ (order : Order) (is : IsOrder order) (value : ℕ → Bool) where
+module _ (order : Order) (is : IsOrder order) where
   -- three spans make a triangle exactly where their edges do
   pub span_triangle : (d e f : ℕ) → IsTriangle order d e f → IsSpanTriangle (map (span_of order.vertices) order.edges) d e f
   span_triangle d e f t = record {
@@ -50,11 +50,8 @@ module _ (order : Order) (is : IsOrder order) (value : ℕ → Bool) where
         right_later = omega arith;
       }
 
-  pub meets_from_spans : MeetsSpans (map (span_of order.vertices) order.edges) value → MeetsTriangles order value
-  meets_from_spans h d e f t = h d e f (span_triangle d e f t)
-
-  pub spans_from_meets : MeetsTriangles order value → MeetsSpans (map (span_of order.vertices) order.edges) value
-  spans_from_meets h d e f t = h d e f (triangle_of_spans d e f t)
+  pub spans_from_meets : (value : ℕ → Bool) → MeetsTriangles order value → MeetsSpans (map (span_of order.vertices) order.edges) value
+  spans_from_meets value h d e f t = h d e f (triangle_of_spans d e f t)
 
 -- values that come from classes meet the triangles
 pub classes_meet : (order : Order) (value : ℕ → Bool) (class : ℕ → ℕ) → AgreesWithClasses order.edges value class → MeetsTriangles order value

@@ -1,4 +1,5 @@
 pub mod Edges
 pub mod Orders
 pub mod Triangle
+pub mod Clauses
 pub mod inner

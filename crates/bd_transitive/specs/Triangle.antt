@@ -1,6 +1,6 @@
 -- Transitivity of equality on the triangles of an elimination order (Bryant and Velev 2000). An edge's truth
 -- value says whether its ends are equal; `value e` is that of edge number e, from 0.
-use Rattle.std.specs.Prelude.{◌≡◌, ◌≢◌, ◌↔◌, ◌<◌, ◌+◌, ◌==◌, ℕ, Bool, false, List, [], ◌∷◌, min, IsTrue, count_by, slice_index_or}
+use Rattle.std.specs.Prelude.{◌≡◌, ◌≢◌, ◌↔◌, ◌<◌, ◌+◌, ◌==◌, ℕ, Bool, false, List, [], ◌∷◌, All, Contains, length, min, IsTrue, count_by, slice_index, slice_index_or}
 use Rattle.bd_transitive.specs.Edges.{JoinsAt}
 use Rattle.bd_transitive.specs.Orders.{place}
 use Rattle.bd_transitive.specs.declared.graph.Edge.{Edge}
@@ -17,6 +17,15 @@ pub record IsTriangle (order : Order) (d e f : ℕ) : Type 0 where
   pub left_later : place order.vertices vertex < place order.vertices left
   pub right_later : place order.vertices vertex < place order.vertices right
 
+-- the numbers of the three edges of a triangle
+pub record Triangle : Type 0 where
+  pub first : ℕ
+  pub second : ℕ
+  pub across : ℕ
+
+abbrev pub triangle : ℕ → ℕ → ℕ → Triangle
+triangle d e f = record { first = d; second = e; across = f }
+
 -- not exactly two of the three are true
 abbrev pub IsNotTwo : Bool → Bool → Bool → Type 0
 IsNotTwo a b c = count_by (λ x. x) (a ∷ b ∷ c ∷ []) ≢ 2
@@ -29,9 +38,9 @@ MeetsTriangles order value = (d e f : ℕ) → IsTriangle order d e f → IsNotT
 abbrev pub AgreesWithClasses : List Edge → (ℕ → Bool) → (ℕ → ℕ) → Type 0
 AgreesWithClasses edges value class = (e a b : ℕ) → JoinsAt edges e a b → IsTrue (value e) ↔ (class a ≡ class b)
 
--- in the clauses of the triangles the variable of an edge is its number from 1
-abbrev pub edge_value : (ℕ → Bool) → ℕ → Bool
-edge_value v e = v (e + 1)
+-- the value of an edge's variable, where the variables are listed by the numbers of the edges
+abbrev pub edge_value : (ℕ → Bool) → List ℕ → ℕ → Bool
+edge_value v vars e = v (slice_index vars e)
 
 -- the value of edge number e in a list of values
 abbrev pub value_at : List Bool → ℕ → Bool
@@ -53,3 +62,9 @@ pair_count test (x ∷ xs) = count_by (test x) xs + pair_count test xs
 -- how many triangles: each two edges that lead from one vertex to later neighbours make one
 abbrev pub triangle_count : Order → ℕ
 triangle_count order = pair_count (λ d e. earlier_place order.vertices d == earlier_place order.vertices e) order.edges
+
+-- all triangles of an order, each once: the edge with the lesser number of the two from one vertex is the first
+pub record AreTriangles (order : Order) (triangles : List Triangle) : Type 0 where
+  pub each : All (λ t. (t.first < t.second) × IsTriangle order t.first t.second t.across) triangles
+  pub all : (d e f : ℕ) → d < e → IsTriangle order d e f → Contains triangles (triangle d e f)
+  pub counted : length triangles ≡ triangle_count order

@@ -7,14 +7,14 @@ ghost use Rattle.bd_transitive.specs.inner.Spans.{IsSpan, filled_order};
 
 use crate::fewest::fewest_first;
 use crate::fill::fill;
-use crate::graph::{Edge, Edges, Order, Words};
+use crate::graph::{Edge, Edges, Order, Vertices};
 use crate::span::{Span, indexed, spans};
 use indexmap::IndexSet;
 use std::alloc::{AllocError, Global};
 
 /// An elimination order of the ends of the edges. Again and again a vertex with fewest neighbours among those
 /// left is taken out (the least number among equals), once its later neighbours are joined pairwise. The edges
-/// that are added for this come behind the given ones.
+/// that are added for this come after the given ones.
 pub fn order(alloc: Global, edges: &Edges) -> Result<Order, AllocError>
     requires { AreEdges edges.now }
     ensures order { IfOk result IsOrder }
@@ -53,7 +53,7 @@ fn ends(alloc: Global, edges: &[Edge], first: &[u64]) -> Result<IndexSet<u64>, A
     Ok(vertices)
 }
 
-/// The order of the vertices with the given edges, and behind them the edges of the further spans.
+/// The order of the vertices with the given edges, and after them the edges of the further spans.
 fn filled(
     alloc: Global,
     vertices: &[u64],
@@ -72,7 +72,7 @@ fn filled(
         })?;
     }
     Ok(Order {
-        vertices: Words::from_vec(Vec::from_slice(alloc, vertices)?),
+        vertices: Vertices::from_vec(Vec::from_slice(alloc, vertices)?),
         edges: Edges::from_vec(edges),
     })
 }

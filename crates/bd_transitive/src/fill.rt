@@ -5,14 +5,14 @@ ghost use Rattle.std.specs.Prelude.{◌≡◌, ◌≢◌, ◌<◌, ◌≤◌, �
 ghost use Rattle.bd_transitive.specs.inner.Spans.{IsSpan, IsComplete, IsFilled};
 ghost use Rattle.bd_transitive.specs.inner.Rows.{HaveEnds, JoinedToAll};
 
-use crate::rows::{Rows, empty_rows};
+use crate::rows::{PlaceRows, empty_rows};
 use crate::span::Span;
 use bd_list::Sequence;
 use indexmap::IndexSet;
 use std::alloc::{AllocError, Global};
 use std::mem;
 
-/// Adds spans behind the others until each two later neighbours of a vertex are joined.
+/// Adds spans after the others until each two later neighbours of a vertex are joined.
 pub(crate) fn fill(
     alloc: Global,
     count: usize,
@@ -42,7 +42,7 @@ fn least(numbers: &[usize]) -> Option<usize>
 }
 
 /// The later neighbours of each of that many vertices.
-fn rows_of(alloc: Global, count: usize, spans: &[Span]) -> Result<Rows, AllocError>
+fn rows_of(alloc: Global, count: usize, spans: &[Span]) -> Result<PlaceRows, AllocError>
     requires { All (IsSpan count) spans.now }
     ensures size { IfOk result (λ rows. length rows.items ≡ count) }
     ensures ends { IfOk result (λ rows. HaveEnds spans.now rows.items 0) }
@@ -57,7 +57,7 @@ fn rows_of(alloc: Global, count: usize, spans: &[Span]) -> Result<Rows, AllocErr
 /// Joins a vertex to each other vertex of a list.
 fn join_to_all(
     spans: &mut IndexSet<Span>,
-    rows: &mut Rows,
+    rows: &mut PlaceRows,
     low: usize,
     all: &[usize],
 ) -> Result<(), AllocError>

@@ -12,10 +12,10 @@ pub struct Edge {
 /// A list of edges. The number of an edge is its place, from 0.
 pub type Edges = Sequence<Edge>;
 
-/// A list of words.
-pub type Words = Sequence<u64>;
+/// A list of vertices.
+pub type Vertices = Sequence<u64>;
 
-/// A list of clauses, in which the variable of an edge is its number from 1.
+/// The clauses of triangles.
 pub type Triangles = Sequence<Clause>;
 
 /// A truth value for each edge of an order.
@@ -27,6 +27,6 @@ pub type Classes = Sequence<u64>;
 /// Vertices in the order in which they are eliminated, and the edges between them.
 #[derive(Debug, Drop)]
 pub struct Order {
-    pub vertices: Words,
+    pub vertices: Vertices,
     pub edges: Edges,
 }

@@ -20,8 +20,5 @@ mod span;
 pub use clauses::triangles;
 pub use elimination::order;
 pub use equivalence::classes;
-pub use graph::{Classes, Edge, EdgeValues, Edges, Order, Triangles, Words};
+pub use graph::{Classes, Edge, EdgeValues, Edges, Order, Triangles, Vertices};
 pub use laws::{classes_meet_triangles, meets_by_edges};
-
-#[cfg(test)]
-mod tests;

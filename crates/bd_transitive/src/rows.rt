@@ -5,10 +5,10 @@ use bd_list::Sequence;
 use std::alloc::{AllocError, Global};
 
 /// A list for each place.
-pub(crate) type Rows = Vec<Sequence<usize>>;
+pub(crate) type PlaceRows = Vec<Sequence<usize>>;
 
 /// As many empty rows.
-pub(crate) fn empty_rows(alloc: Global, count: usize) -> Result<Rows, AllocError>
+pub(crate) fn empty_rows(alloc: Global, count: usize) -> Result<PlaceRows, AllocError>
     ensures { IfOk result (λ rows. rows.items ≡ replicate count []) }
 {
     let mut rows = Vec::with_capacity(alloc, count)?;

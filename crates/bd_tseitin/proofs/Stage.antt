@@ -13,7 +13,7 @@ use Rattle.bd_prop.specs.Graph.{IsGraph, StandsAt, Reaches, IsBelow}
 use Rattle.bd_prop.proofs.Reaching.{reached_children}
 use Rattle.bd_cnf.specs.Literal.{Literal, literal, negate}
 use Rattle.bd_tseitin.specs.declared.row.AtomVar.{AtomVar}
-use Rattle.bd_tseitin.specs.declared.form.Parts.{Parts}
+use Rattle.bd_tseitin.specs.declared.form.PartialForm.{PartialForm}
 use Rattle.bd_tseitin.specs.Definition.{is_gate, and_clauses, or_clauses, ite_clauses, definition, AreClauses}
 use Rattle.bd_tseitin.specs.Form.{definition_at, rows_of, rows_at, IsTseitin}
 use Rattle.bd_tseitin.specs.inner.Step.{known, AreKnown, Pushes, literal_in, AddsNode}
@@ -52,7 +52,7 @@ module _ (nodes : List PropNode) (marks : List Bool) where
   pub rows_to : ℕ → List AtomVar
   rows_to k = flat_map (rows_at nodes (literal_of nodes marks)) (gates nodes marks k)
 
-  pub record IsStage (k : ℕ) (parts : Parts) : Type 0 where
+  pub record IsStage (k : ℕ) (parts : PartialForm) : Type 0 where
     pub size : length parts.literals.items ≡ k
     pub table : (id : ℕ) → id < k → is_marked nodes marks id ≡ true → get_or parts.literals.items id None ≡ Some (literal_of nodes marks id)
     pub counted : parts.vars ≡ length (gates nodes marks k)
@@ -84,7 +84,7 @@ module _ (nodes : List PropNode) (marks : List Bool) where
       ]
 
   -- a node that isn't reached
-  pub stage_skip : (k : ℕ) (old new : Parts) → is_marked nodes marks k ≡ false → IsStage k old → new.literals.items ≡ old.literals.items ++ None ∷ [] → new.vars ≡ old.vars → new.clauses.items ≡ old.clauses.items → new.atoms.items ≡ old.atoms.items → IsStage (suc k) new
+  pub stage_skip : (k : ℕ) (old new : PartialForm) → is_marked nodes marks k ≡ false → IsStage k old → new.literals.items ≡ old.literals.items ++ None ∷ [] → new.vars ≡ old.vars → new.clauses.items ≡ old.clauses.items → new.atoms.items ≡ old.atoms.items → IsStage (suc k) new
   unfolding clauses_to rows_to
   stage_skip k old new off is literals vars clauses atoms =
       let none : has_variable nodes marks k ≡ false = ap (λ b. b && is_gate (node_at nodes k)) off in
@@ -115,18 +115,18 @@ module _ (nodes : List PropNode) (marks : List Bool) where
   pub marked_children : (root : ℕ) → ((id : ℕ) → (is_marked nodes marks id ≡ true) ↔ Reaches nodes root id) → (k : ℕ) (n : PropNode) → is_marked nodes marks k ≡ true → StandsAt nodes k n → All (λ c. is_marked nodes marks c ≡ true) (children n)
   marked_children root are k n on at j d h = (are (get_or (children n) j d)).1 (reached_children nodes root k n ((are k).0 on) at j d h)
 
-  pub children_known : (k : ℕ) (parts : Parts) (n : PropNode) → IsBelow k n → All (λ c. is_marked nodes marks c ≡ true) (children n) → IsStage k parts → AreKnown parts.literals.items (children n)
+  pub children_known : (k : ℕ) (parts : PartialForm) (n : PropNode) → IsBelow k n → All (λ c. is_marked nodes marks c ≡ true) (children n) → IsStage k parts → AreKnown parts.literals.items (children n)
   children_known k parts n low marked is j d h = ap is_some (is.table (get_or (children n) j d) (low j d h) (marked j d h))
 
-  pub root_known : (k root : ℕ) (parts : Parts) → root < k → is_marked nodes marks root ≡ true → IsStage k parts → IsSome (get_or parts.literals.items root None)
+  pub root_known : (k root : ℕ) (parts : PartialForm) → root < k → is_marked nodes marks root ≡ true → IsStage k parts → IsSome (get_or parts.literals.items root None)
   root_known k root parts low on is = ap is_some (is.table root low on)
 
   -- there are no more variables than nodes
-  pub vars_at_most : (k : ℕ) (parts : Parts) → IsStage k parts → parts.vars ≤ k
+  pub vars_at_most : (k : ℕ) (parts : PartialForm) → IsStage k parts → parts.vars ≤ k
   vars_at_most k parts is = omega (arith, is.counted, length-gates nodes marks k)
 
   -- a node that is reached
-  pub stage_add : IsGraph nodes → (k : ℕ) (n : PropNode) (old new : Parts) → is_marked nodes marks k ≡ true → StandsAt nodes k n → All (λ c. is_marked nodes marks c ≡ true) (children n) → IsStage k old → AddsNode old n new → IsStage (suc k) new
+  pub stage_add : IsGraph nodes → (k : ℕ) (n : PropNode) (old new : PartialForm) → is_marked nodes marks k ≡ true → StandsAt nodes k n → All (λ c. is_marked nodes marks c ≡ true) (children n) → IsStage k old → AddsNode old n new → IsStage (suc k) new
   unfolding clauses_to rows_to
   stage_add graph k n old new on at marked is adds =
       let same = known_children k old.literals.items n (graph k n at) marked is.table in
@@ -170,7 +170,7 @@ module _ (nodes : List PropNode) (marks : List Bool) where
             }
       ]
 
-  pub stage_start : (parts : Parts) → parts.literals.items ≡ [] → parts.vars ≡ 0 → parts.clauses.items ≡ [] → parts.atoms.items ≡ [] → IsStage 0 parts
+  pub stage_start : (parts : PartialForm) → parts.literals.items ≡ [] → parts.vars ≡ 0 → parts.clauses.items ≡ [] → parts.atoms.items ≡ [] → IsStage 0 parts
   unfolding clauses_to rows_to
   stage_start parts literals vars clauses atoms = record {
     size = ap length literals;
@@ -181,7 +181,7 @@ module _ (nodes : List PropNode) (marks : List Bool) where
   }
 
   -- the parts of all nodes, with the root's unit clause, are Tseitin's form
-  pub IsTseitin-stage : IsGraph nodes → (root : ℕ) (parts : Parts) (clauses : List (List Literal)) → length marks ≡ length nodes → ((id : ℕ) → (is_marked nodes marks id ≡ true) ↔ Reaches nodes root id)
+  pub IsTseitin-stage : IsGraph nodes → (root : ℕ) (parts : PartialForm) (clauses : List (List Literal)) → length marks ≡ length nodes → ((id : ℕ) → (is_marked nodes marks id ≡ true) ↔ Reaches nodes root id)
       → IsStage (length nodes) parts → Pushes parts.clauses.items ((literal_of nodes marks root ∷ []) ∷ []) clauses → IsTseitin nodes root parts.vars clauses parts.atoms.items
   unfolding clauses_to rows_to
   IsTseitin-stage graph root parts clauses size are is unit = record {

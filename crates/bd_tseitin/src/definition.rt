@@ -16,7 +16,7 @@ pub(crate) fn literal(literals: &[Option<Lit>], id: usize) -> Lit
     literals[id].unwrap()
 }
 
-/// Puts the clause of these literals behind the others, unless it is always true.
+/// Puts the clause of these literals after the others, unless it is always true.
 pub(crate) fn push(alloc: Global, clauses: &mut Vec<Clause>, lits: &[Lit]) -> Result<(), AllocError>
     ensures { OnOk result (Pushes clauses.old.items (lits.now ∷ []) clauses.new.items) }
 {
@@ -26,7 +26,7 @@ pub(crate) fn push(alloc: Global, clauses: &mut Vec<Clause>, lits: &[Lit]) -> Re
     Ok(())
 }
 
-/// Puts the clauses that define the gate behind the others.
+/// Puts the clauses that define the gate after the others.
 pub(crate) fn define(
     alloc: Global,
     clauses: &mut Vec<Clause>,

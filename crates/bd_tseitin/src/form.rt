@@ -20,7 +20,7 @@ use std::alloc::{AllocError, Global};
 
 /// The form of the nodes so far.
 #[derive(Drop)]
-struct Parts {
+struct PartialForm {
     /// The literal of each node that the root reaches.
     literals: Vec<Option<Lit>>,
     vars: u64,
@@ -37,7 +37,7 @@ fn push_row(atoms: &mut Vec<AtomVar>, node: PropNode, var: u64) -> Result<(), Al
     Ok(())
 }
 
-fn add_gate(alloc: Global, parts: &mut Parts, node: PropNode) -> Result<(), AllocError>
+fn add_gate(alloc: Global, parts: &mut PartialForm, node: PropNode) -> Result<(), AllocError>
     requires gate { is_gate node ≡ true }
     requires known { AreKnown parts.old.literals.items (children node) }
     requires room { parts.old.vars + 1 < 2 ^ 64 }
@@ -52,7 +52,7 @@ fn add_gate(alloc: Global, parts: &mut Parts, node: PropNode) -> Result<(), Allo
     Ok(())
 }
 
-fn add(alloc: Global, parts: &mut Parts, node: PropNode) -> Result<(), AllocError>
+fn add(alloc: Global, parts: &mut PartialForm, node: PropNode) -> Result<(), AllocError>
     requires known { AreKnown parts.old.literals.items (children node) }
     requires room { parts.old.vars + 1 < 2 ^ 64 }
     ensures { OnOk result (AddsNode parts.old node parts.new) }
@@ -65,7 +65,7 @@ fn add(alloc: Global, parts: &mut Parts, node: PropNode) -> Result<(), AllocErro
     add_gate(alloc, parts, node)
 }
 
-fn parts_of(alloc: Global, prop: &Prop, root: usize) -> Result<Parts, AllocError>
+fn parts_of(alloc: Global, prop: &Prop, root: usize) -> Result<PartialForm, AllocError>
     requires { root < length prop.now }
     ensures graph { OnOk result (IsGraph prop.now) }
     ensures different { OnOk result (HasOneId prop.now) }
@@ -74,7 +74,7 @@ fn parts_of(alloc: Global, prop: &Prop, root: usize) -> Result<Parts, AllocError
     let marked = reached(alloc, prop, root)?;
     let marks = marked.as_slice();
     let nodes = prop.nodes();
-    let mut parts = Parts {
+    let mut parts = PartialForm {
         literals: Vec::with_capacity(alloc, nodes.len())?,
         vars: 0,
         clauses: Vec::new(alloc),
@@ -101,6 +101,7 @@ pub fn clauses(alloc: Global, prop: &Prop, root: usize) -> Result<Formula, Alloc
     ensures form { IfOk result (λ f. (t : IsTseitin prop.now root f.cnf.vars f.cnf.clauses f.atoms)
         × ((v : Atom → Bool) → truth_at v prop.now root ≡ true →
         Extends prop.now root v f.cnf.clauses f.atoms t.literal_of)) }
+    ensures different { OnOk result (HasOneId prop.now) }
     ensures inputs { IfOk result (λ f. (a : ℕ → Bool) (v : Atom → Bool) →
         Satisfies a f.cnf.clauses → Agree a v f.atoms → truth_at v prop.now root ≡ true) }
 

@@ -1,17 +1,15 @@
-mod Refusing
-pub mod Numbering
-pub mod Naming
-pub mod Pushing
-pub mod Edged
-pub mod Classes
-pub mod Lifting
-pub mod Asking
+pub mod AtomMap
 pub mod Entries
-pub mod Parting
-pub mod Flattened
-pub mod Formulated
-pub mod Decided
-pub mod Judging
-pub mod Agreeing
-pub mod Returned
-mod ExampleLawful
+pub mod AddedRows
+pub mod EdgesWithin
+pub mod EdgesMean
+pub mod ClassesExist
+pub mod CaseExists
+pub mod RootDecides
+pub mod MarkedApart
+pub mod FlatDecides
+pub mod FormulaDecides
+pub mod KeptDecides
+pub mod Judgements
+pub mod WordsAgree
+pub mod Results

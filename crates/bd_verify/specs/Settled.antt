@@ -1,23 +1,18 @@
--- What a solver's answer comes to: the first line that isn't accepted and the first clause that is false, by number
+-- What a solver's answer comes to: the first line that isn't accepted, or the first clause that is false, by number
 -- (clausal proofs in textual LRAT, checked line by line).
-use Rattle.std.specs.Prelude.{◌≡◌, ℕ, ◌+◌, ◌==◌, Bool, List, [], ◌∷◌, Option, None, Some, is_ok, if◌then◌else◌}
+use Rattle.std.specs.Prelude.{◌≡◌, ℕ, ◌+◌, ◌==◌, Bool, List, [], ◌∷◌, Option, None, Some, if◌then◌else◌}
 use Rattle.std.specs.List.{list_any}
 use Rattle.bd_cnf.specs.Literal.{Literal}
 use Rattle.bd_cnf.specs.Clause.{clause_value}
 use Rattle.bd_cnf.specs.Assignment.{value_of}
 use Rattle.bd_cnf.specs.Problem.{Problem}
 use Rattle.bd_lrat.specs.declared.line.Line.{Line}
-use Rattle.bd_lrat.specs.Database.{Database, after, database_of, line_answer}
-use Rattle.bd_lrat.specs.Log.{additions, adds_empty}
+use Rattle.bd_lrat.specs.Database.{database_of}
+use Rattle.bd_lrat.specs.Log.{additions, adds_empty, refused_from}
 use Rattle.bd_cdcl.specs.declared.solver.Found.{Found}
 use Rattle.bd_cdcl.specs.declared.solver.Found.TheVariants as found
 use Rattle.bd_verify.specs.declared.settling.Settled.{Settled}
 use Rattle.bd_verify.specs.declared.settling.Settled.TheVariants.{Refuted, Model, Spent, BadProof, NoEnd, BadModel}
-
--- the number of the first line, from n, that isn't accepted on what stands before it
-abbrev pub refused_from : ℕ → Database → List Line → Option ℕ
-refused_from n db [] = None
-refused_from n db (line ∷ lines) = if is_ok (line_answer db line) then refused_from (n + 1) (after db line) lines else Some n
 
 -- the number of the first clause, from n, that is false
 abbrev pub false_from : ℕ → (ℕ → Bool) → List (List Literal) → Option ℕ

@@ -1,5 +1,6 @@
--- What a verdict on a design means, and what stands behind it: a formula that is satisfiable exactly where some case is
--- such as was asked, and the log of an honest solver's answer over it (Burch and Dill 1994; DIMACS CNF; textual LRAT).
+-- What a verdict on a design means, and its work: the kept formula of the question, which is satisfiable exactly where
+-- some case is such as was asked, and the log of an honest solver's answer over it (Burch and Dill 1994; DIMACS CNF;
+-- textual LRAT).
 use Rattle.std.specs.Prelude.{◌≡◌, ◌↔◌, ℕ, Bool, true}
 use Rattle.bd_model.specs.DesignView.{DesignView}
 use Rattle.bd_model.specs.Fits.{Fits}
@@ -13,11 +14,13 @@ use Rattle.bd_cnf.specs.Problem.{Problem}
 use Rattle.bd_cdcl.specs.Law.{IsLaw}
 use Rattle.bd_cdcl.specs.declared.solver.Found.{Found}
 use Rattle.bd_cdcl.specs.declared.solver.Found.TheVariants as found
+use Rattle.bd_verify.specs.declared.verdict.Mode.{Mode}
 use Rattle.bd_verify.specs.declared.verdict.Question.{Question}
 use Rattle.bd_verify.specs.declared.verdict.Question.TheVariants as question
 use Rattle.bd_verify.specs.declared.verdict.Work.{Work}
 use Rattle.bd_verify.specs.declared.verdict.Verdict.{Verdict}
 use Rattle.bd_verify.specs.declared.verdict.Verdict.TheVariants.{Correct, Wrong, Void, Undecided}
+use Rattle.bd_verify.specs.Kept.{IsKept}
 
 -- what a verdict says of a design, where an invariant is given or none: it is right, and a case meets a given invariant;
 -- a fitting case breaks the condition; an invariant is given that no case meets; or nothing
@@ -36,14 +39,15 @@ IsAsked question.Meets d c = MeetsInvariant d c.interp c.state
 pub record Keeps (d : DesignView) (such : Case → Type 0) (formula : Problem) : Type 0 where
   pub decides : ((v : ℕ → Bool) × Satisfies v formula.clauses) ↔ ((c : Case) × Fits d c × such c)
 
--- the formula of a question, and the log of an honest solver's answer over it
-pub record IsWorkOf (d : DesignView) (asked : Question) (budget : ℕ) (answer : Found) (work : Work) : Type 0 where
+-- the kept formula of a question, and the log of an honest solver's answer over it
+pub record IsWorkOf (d : DesignView) (asked : Question) (mode : Mode) (budget : ℕ) (answer : Found) (work : Work) : Type 0 where
+  pub kept : IsKept d asked mode work.cnf
   pub keeps : Keeps d (IsAsked asked d) work.cnf
   pub law : IsLaw work.cnf budget answer work.log
 
 -- the work of a verdict: a refutation for `correct` and `void`, a model for `wrong`, else the budget is spent
-abbrev pub HasWork : DesignView → ℕ → Verdict → Type 0
-HasWork d budget (Correct c work) = IsWorkOf d question.Breaks budget found.Refuted work
-HasWork d budget (Wrong k c work) = (model : _) × IsWorkOf d question.Breaks budget (found.Model model) work
-HasWork d budget (Void work) = IsWorkOf d question.Meets budget found.Refuted work
-HasWork d budget (Undecided asked work) = IsWorkOf d asked budget found.Spent work
+abbrev pub HasWork : DesignView → Mode → ℕ → Verdict → Type 0
+HasWork d mode budget (Correct c work) = IsWorkOf d question.Breaks mode budget found.Refuted work
+HasWork d mode budget (Wrong k c work) = (model : _) × IsWorkOf d question.Breaks mode budget (found.Model model) work
+HasWork d mode budget (Void work) = IsWorkOf d question.Meets mode budget found.Refuted work
+HasWork d mode budget (Undecided asked work) = IsWorkOf d asked mode budget found.Spent work

@@ -1,6 +1,5 @@
 pub mod Numbers
 pub mod Edges
-pub mod Kept
+pub mod Questions
 pub mod Decided
 pub mod Reduced
-pub mod Example

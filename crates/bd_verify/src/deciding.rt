@@ -6,12 +6,13 @@ ghost use Rattle.bd_lift.specs.Lifted.{AreKnown};
 ghost use Rattle.bd_model.specs.Fits.{Fits};
 ghost use Rattle.bd_model.specs.DesignView.{design_view};
 ghost use Rattle.bd_model.specs.Lawful.{IsLawful};
+ghost use Rattle.bd_verify.specs.declared.verdict.Mode.{Mode as AnyMode};
 ghost use Rattle.bd_verify.specs.declared.verdict.Question.{Question as Asked};
 ghost use Rattle.bd_verify.specs.inner.Decided.{IsDecided};
 ghost use Rattle.bd_verify.specs.Verdict.{IsAsked};
-ghost use Rattle.bd_verify.specs.inner.Reduced.{IsFlatOf, IsFormulaOf};
+ghost use Rattle.bd_verify.specs.inner.Reduced.{HasFlatOf, HasFormulaOf};
 
-use crate::kept::{Reduction, reduced};
+use crate::reduction::{Reduction, reduced};
 use crate::verdict::{Mode, Question, Work};
 use bd_cdcl::{Found, HonestSolver};
 use bd_cnf::Assignment;
@@ -42,7 +43,7 @@ pub(crate) fn decide<S: HonestSolver>(
     mode: Mode,
 ) -> Result<Decision, AllocError>
     requires { IsLawful (design_view design.now) }
-    ensures { IfOk result (IsDecided (design_view design.now) asked budget) }
+    ensures { IfOk result (IsDecided (design_view design.now) asked mode budget) }
 {
     let reduction = reduced(alloc, design, asked, mode)?;
     let mut log = Log::new(alloc);
@@ -66,11 +67,11 @@ fn lifted(
     requires lawful { IsLawful (design_view design.now) }
     requires known { AreKnown (design_view design.now) reduction.now.flat.graph
         reduction.now.flat.syms }
-    requires formulates { IsFormulaOf (design_view design.now) reduction.now }
+    requires formula { HasFormulaOf (design_view design.now) reduction.now }
     requires model { Satisfies (value_of model.now) reduction.now.formula.cnf.clauses }
     ensures fits { IfOk result (λ c. Fits (design_view design.now) c) }
-    ensures asked { IfOk result (λ c. (asked : Asked) →
-        IsFlatOf (design_view design.now) asked reduction.now →
+    ensures asked { IfOk result (λ c. (asked : Asked) (mode : AnyMode) →
+        HasFlatOf (design_view design.now) asked mode reduction.now →
         IsAsked asked (design_view design.now) c) }
 {
     let values = inputs_of(alloc, &reduction.formula, model)?;

@@ -3,15 +3,12 @@
 
 mod deciding;
 mod edges;
-mod kept;
 mod laws;
 mod numbers;
+mod reduction;
 mod settling;
 mod verdict;
 
-pub use laws::verdicts_agree;
+pub use laws::{kept_decides, positive_have_no_edge, spent_is_bounded, verdicts_agree};
 pub use settling::{Settled, settle};
 pub use verdict::{Mode, Question, Verdict, Work, verify};
-
-#[cfg(test)]
-mod tests;

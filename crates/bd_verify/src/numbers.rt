@@ -1,8 +1,11 @@
 //! Which variable stands for which atom, as a list of rows that grows, and a map to find them by.
-ghost use Rattle.std.specs.Prelude.{◌≡◌, ◌<◌, ◌≤◌, IfOk, OnOk};
-ghost use Rattle.bd_verify.specs.inner.Numbers.{Finds, GrowsRows, IsNumbered, Names};
+ghost use Rattle.std.specs.Prelude.{◌≡◌, ◌∷◌, [], Contains, IfOk, OnOk};
+ghost use Rattle.bd_tseitin.specs.Rows.{AreRows};
+ghost use Rattle.bd_verify.specs.Kept.{AddsRows, AreVariables, edge_row};
+ghost use Rattle.bd_verify.specs.inner.Numbers.{Finds, IsNumbered};
 
 use bd_prop::Atom;
+use bd_transitive::Edge;
 use bd_tseitin::{AtomVar, AtomVars};
 use indexmap::IndexMap;
 use std::alloc::{AllocError, Global};
@@ -16,15 +19,45 @@ pub(crate) struct Numbers {
 }
 
 impl Numbers {
-    /// The variable of an atom. One without a row gets a new variable; a number past 64 bits ends as want of
-    /// memory.
-    pub(crate) fn variable(&mut self, atom: Atom) -> Result<u64, AllocError>
+    /// These rows.
+    pub(crate) fn of(alloc: Global, vars: u64, atoms: AtomVars) -> Result<Numbers, AllocError>
+        requires { AreRows vars atoms }
+        ensures vars { IfOk result (λ n. n.vars ≡ vars) }
+        ensures atoms { IfOk result (λ n. n.atoms ≡ atoms) }
+        ensures numbered { IfOk result IsNumbered }
+    {
+        let found = found(alloc, atoms.as_slice())?;
+        Ok(Numbers { vars, atoms, found })
+    }
+
+    /// The variable of each edge, in their order.
+    pub(crate) fn variables(
+        &mut self,
+        alloc: Global,
+        edges: &[Edge],
+    ) -> Result<Vec<u64>, AllocError>
         requires { IsNumbered self.old }
-        ensures names { IfOk result (λ var. Names self.new atom var) }
-        ensures grows { OnOk result (GrowsRows self.old.vars self.old.atoms
+        ensures variables { IfOk result (λ vars. AreVariables self.new.atoms edges.now vars.items) }
+        ensures rows { OnOk result (AddsRows edges.now self.old.vars self.old.atoms
             self.new.vars self.new.atoms) }
         ensures numbered { OnOk result (IsNumbered self.new) }
     {
+        let mut variables = Vec::with_capacity(alloc, edges.len())?;
+        for edge in edges {
+            variables.push(self.variable(edge)?)?;
+        }
+        Ok(variables)
+    }
+
+    /// The variable of an edge. One without a row gets a new variable; a number past 64 bits ends as want of memory.
+    fn variable(&mut self, edge: &Edge) -> Result<u64, AllocError>
+        requires { IsNumbered self.old }
+        ensures row { IfOk result (λ var. Contains self.new.atoms (edge_row edge.now var)) }
+        ensures rows { OnOk result (AddsRows (edge.now ∷ []) self.old.vars self.old.atoms
+            self.new.vars self.new.atoms) }
+        ensures numbered { OnOk result (IsNumbered self.new) }
+    {
+        let atom = Atom::Edge(edge.from, edge.to);
         if let Some(var) = self.found.get(&atom) {
             return Ok(*var);
         }
@@ -37,7 +70,7 @@ impl Numbers {
 }
 
 /// The variable of each atom of these rows.
-pub(crate) fn found(alloc: Global, atoms: &[AtomVar]) -> Result<IndexMap<Atom, u64>, AllocError>
+fn found(alloc: Global, atoms: &[AtomVar]) -> Result<IndexMap<Atom, u64>, AllocError>
     ensures { IfOk result (λ found. Finds found.entries atoms.now) }
 {
     let mut found = IndexMap::new(alloc);

@@ -1,15 +1,13 @@
 //! A solver's answer, checked. Nobody need believe the solver: a proof counts if each of its lines is accepted and it
 //! ends as it should, and a model if it satisfies the formula.
 ghost use Rattle.std.specs.Prelude.{◌≡◌, IfOk};
-ghost use Rattle.std.specs.List.{list_any};
 ghost use Rattle.bd_cnf.specs.Assignment.{value_of};
-ghost use Rattle.bd_lrat.specs.Database.{database_of};
-ghost use Rattle.bd_lrat.specs.Log.{additions, adds_empty, adds_literals};
-ghost use Rattle.bd_verify.specs.Settled.{Settles, false_from, refused_from, refuted, settled_of, spent};
+ghost use Rattle.bd_lrat.specs.Log.{additions, adds_literals};
+ghost use Rattle.bd_verify.specs.Settled.{Settles, false_from, refuted, settled_of, spent};
 
 use bd_cdcl::{Found, Solver};
 use bd_cnf::{Assignment, Cnf};
-use bd_lrat::{AddError, Checker, Line, Log};
+use bd_lrat::{Line, Log, adds_empty, refused_line};
 use std::alloc::{AllocError, Global};
 
 /// What an answer comes to.
@@ -94,12 +92,6 @@ fn spent(budget: u32, log: Log) -> Settled
     }
 }
 
-fn adds_empty(log: &Log) -> bool
-    ensures { result ≡ list_any adds_empty log.now }
-{
-    log.as_slice().iter().any(|line| line.adds_empty())
-}
-
 /// How many lines add a clause of one literal or more.
 fn additions(log: &Log) -> u64
     ensures { result ≡ additions log.now }
@@ -117,21 +109,6 @@ fn adds_literals(line: &Line) -> bool
         Line::Add { clause, .. } => !clause.lits().is_empty(),
         Line::Delete { .. } => false,
     }
-}
-
-/// The number of the first line that isn't accepted on those before it.
-fn refused_line(alloc: Global, cnf: &Cnf, log: &Log) -> Result<Option<u64>, AllocError>
-    ensures { IfOk result (λ number. number ≡ refused_from 1 (database_of cnf.now) log.now) }
-{
-    let mut checker = Checker::new(alloc, cnf)?;
-    for (index, line) in log.as_slice().iter().enumerate() {
-        match checker.add_line(line) {
-            Ok(()) => {}
-            Err(AddError::Refused(_)) => return Ok(Some(index as u64 + 1)),
-            Err(AddError::Memory) => return Err(AllocError),
-        }
-    }
-    Ok(None)
 }
 
 /// The number of the first clause that the assignment makes false.

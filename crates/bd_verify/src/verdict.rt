@@ -35,8 +35,8 @@ pub enum Mode {
     Diverse,
 }
 
-/// The formula of a question, and the log of the solver's answer over it: with the clauses from 1 in order, each line
-/// is accepted on what stands before it.
+/// The kept formula of a question, and the log of the solver's answer over it: with the clauses from 1 in order, each
+/// line is accepted on what stands before it.
 #[derive(Debug, Drop)]
 pub struct Work {
     pub cnf: Cnf,
@@ -83,7 +83,7 @@ pub fn verify<S: HonestSolver>(
         given ≡ true }
     ensures met { (work : Work) → result ≡ Ok (Verdict.Undecided Question.Breaks work) →
         given ≡ true → SomeCaseMeetsInvariant (design_view design.now) }
-    ensures work { IfOk result (HasWork (design_view design.now) budget) }
+    ensures work { IfOk result (HasWork (design_view design.now) mode budget) }
     ensures says { IfOk result (Says (design_view design.now) given) }
 {
     if !given {
@@ -108,7 +108,7 @@ fn breaks<S: HonestSolver>(
     requires lawful { IsLawful (design_view design.now) }
     requires met { IfSome met (λ c. Fits (design_view design.now) c
         × MeetsInvariant (design_view design.now) c.interp c.state) }
-    ensures { IfOk result (IsFound (design_view design.now) budget met) }
+    ensures { IfOk result (IsFound (design_view design.now) mode budget met) }
 {
     match decide(alloc, solver, design, budget, Question::Breaks, mode)? {
         Decision::None(work) => Ok(Verdict::Correct(met, work)),

@@ -3,7 +3,7 @@ use Rattle.std.specs.Prelude.{ℕ, Bool, ◌==◌, ◌&&◌, List, Option, nat_e
 use Rattle.std.specs.Map.{lookup}
 use Rattle.bd_transitive.specs.declared.graph.Edge.{Edge}
 use Rattle.bd_equality.specs.declared.split.Equation.{Equation}
-use Rattle.bd_equality.specs.declared.pairs.Pair.{Pair}
+use Rattle.bd_equality.specs.declared.pairs.VariablePair.{VariablePair}
 
 abbrev pub is_equation : ℕ → ℕ → ℕ → ℕ → Bool
 is_equation ite other i o = (ite == i) && (other == o)
@@ -20,5 +20,5 @@ abbrev pub variable_of : List (ℕ × ℕ) → ℕ → Option ℕ
 variable_of variables f = lookup (nat_eq f) variables
 
 -- a pair as an edge
-abbrev pub edge_of : Pair → Edge
+abbrev pub edge_of : VariablePair → Edge
 edge_of p = record { from = p.from; to = p.to }

@@ -1,7 +1,10 @@
 -- Edges by the places of their ends in the order of the vertices.
-use Rattle.std.specs.Prelude.{◌≡◌, ◌≢◌, ◌<◌, ◌==◌, ◌++◌, ℕ, Bool, Some, List, All, AllPairs, Contains, min, max, map, drop, length, slice_get, slice_index}
+use Rattle.std.specs.Prelude.{◌≡◌, ◌≢◌, ◌<◌, ◌==◌, ◌++◌, ℕ, Bool, Some, List, All, AllPairs, Contains, min, max, map, drop, take, length, slice_get, slice_index}
+use Rattle.std.specs.List.{flat_map}
+use Rattle.bd_cnf.specs.Literal.{Literal}
 use Rattle.bd_transitive.specs.Orders.{place}
-use Rattle.bd_transitive.specs.Triangle.{IsNotTwo}
+use Rattle.bd_transitive.specs.Clauses.{triangle_clauses}
+use Rattle.bd_transitive.specs.Triangle.{IsNotTwo, Triangle, pair_count, triangle}
 use Rattle.bd_transitive.specs.declared.graph.Edge.{Edge}
 use Rattle.bd_transitive.specs.declared.graph.Order.{Order}
 use Rattle.bd_transitive.specs.declared.span.Span.{Span}
@@ -22,7 +25,7 @@ span_of vertices edge = span_between (place vertices edge.from) (place vertices 
 abbrev pub edge_at : List ℕ → Span → Edge
 edge_at vertices s = record { from = slice_index vertices s.low; to = slice_index vertices s.high }
 
--- the order of the vertices with the given edges, and behind them the edges of the further spans
+-- the order of the vertices with the given edges, and after them the edges of the further spans
 abbrev pub filled_order : List ℕ → List Edge → List Span → Order
 filled_order vertices given spans = record { vertices = vertices; edges = given ++ map (edge_at vertices) (drop (length given) spans) }
 
@@ -72,10 +75,26 @@ pub record IsEarlier (spans : List Span) (e d : ℕ) : Type 0 where
 abbrev pub MeetsSpans : List Span → (ℕ → Bool) → Type 0
 MeetsSpans spans value = (d e f : ℕ) → IsSpanTriangle spans d e f → IsNotTwo (value d) (value e) (value f)
 
--- the same for the triangles of one span with some others
-abbrev pub MeetsFan : List Span → List ℕ → ℕ → (ℕ → Bool) → Type 0
-MeetsFan spans row e value = (d f : ℕ) → Contains row d → IsSpanTriangle spans d e f → IsNotTwo (value d) (value e) (value f)
+-- the triangles of two of the first spans, each once
+pub record AreTrianglesBelow (spans : List Span) (n : ℕ) (triangles : List Triangle) : Type 0 where
+  pub each : All (λ t. (t.first < t.second) × IsSpanTriangle spans t.first t.second t.across) triangles
+  pub all : (d e f : ℕ) → d < e → e < n → IsSpanTriangle spans d e f → Contains triangles (triangle d e f)
+  pub counted : length triangles ≡ pair_count same_low (take n spans)
 
--- the same for the triangles of two of the first spans
-abbrev pub MeetsBelow : List Span → ℕ → (ℕ → Bool) → Type 0
-MeetsBelow spans n value = (d e f : ℕ) → d < e → e < n → IsSpanTriangle spans d e f → IsNotTwo (value d) (value e) (value f)
+-- their clauses
+pub record AreClausesBelow (spans : List Span) (vars : List ℕ) (n : ℕ) (clauses : List (List Literal)) : Type 0 where
+  pub triangles : List Triangle
+  pub are : AreTrianglesBelow spans n triangles
+  pub is : clauses ≡ flat_map (triangle_clauses vars) triangles
+
+-- the triangles of one span with each of a row of earlier ones
+pub record AreFan (spans : List Span) (row : List ℕ) (e : ℕ) (triangles : List Triangle) : Type 0 where
+  pub firsts : map (λ (t : Triangle). t.first) triangles ≡ row
+  pub seconds : All (λ (t : Triangle). t.second ≡ e) triangles
+  pub each : All (λ (t : Triangle). IsSpanTriangle spans t.first t.second t.across) triangles
+
+-- their clauses come after the others
+pub record AddsFan (spans : List Span) (vars row : List ℕ) (e : ℕ) (old new : List (List Literal)) : Type 0 where
+  pub triangles : List Triangle
+  pub are : AreFan spans row e triangles
+  pub is : new ≡ old ++ flat_map (triangle_clauses vars) triangles

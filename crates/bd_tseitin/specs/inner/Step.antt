@@ -3,7 +3,7 @@ use Rattle.std.specs.Prelude.{◌≡◌, ℕ, ◌+◌, true, if◌then◌else◌
 use Rattle.bd_prop.specs.declared.node.PropNode.{PropNode}
 use Rattle.bd_prop.specs.declared.node.PropNode.TheVariants.{Not}
 use Rattle.bd_cnf.specs.Literal.{Literal, literal, negate}
-use Rattle.bd_tseitin.specs.declared.form.Parts.{Parts}
+use Rattle.bd_tseitin.specs.declared.form.PartialForm.{PartialForm}
 use Rattle.bd_tseitin.specs.Definition.{is_gate, definition, AreClauses}
 use Rattle.bd_tseitin.specs.Form.{rows_of}
 
@@ -15,7 +15,7 @@ known literals id = unwrap_or (slice_index_or literals id None) (literal 0 true)
 abbrev pub AreKnown : List (Option Literal) → List ℕ → Type 0
 AreKnown literals ids = All (λ id. IsSome (slice_index_or literals id None)) ids
 
--- the new clauses stand behind the old ones
+-- the new clauses come after the old ones
 abbrev pub Pushes : List (List Literal) → List (List Literal) → List (List Literal) → Type 0
 Pushes old lists new = (more : List (List Literal)) × (new ≡ old ++ more) × AreClauses lists more
 
@@ -25,7 +25,7 @@ literal_in literals vars (Not a) = negate (known literals a)
 literal_in literals vars _ = literal (vars + 1) true
 
 -- the new parts have one node more, which the root reaches
-pub record AddsNode (old : Parts) (node : PropNode) (new : Parts) : Type 0 where
+pub record AddsNode (old : PartialForm) (node : PropNode) (new : PartialForm) : Type 0 where
   pub literals : new.literals.items ≡ old.literals.items ++ Some (literal_in old.literals.items old.vars node) ∷ []
   pub vars : new.vars ≡ old.vars + (if is_gate node then 1 else 0)
   pub clauses : Pushes old.clauses.items (definition (known old.literals.items) (literal_in old.literals.items old.vars node) node) new.clauses.items

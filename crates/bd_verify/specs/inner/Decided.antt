@@ -6,6 +6,7 @@ use Rattle.bd_model.specs.Conditions.{IsJudged}
 use Rattle.bd_model.specs.declared.case.Case.{Case}
 use Rattle.bd_model.specs.declared.case.Judged.TheVariants as judged
 use Rattle.bd_cdcl.specs.declared.solver.Found.TheVariants as found
+use Rattle.bd_verify.specs.declared.verdict.Mode.{Mode}
 use Rattle.bd_verify.specs.declared.verdict.Question.{Question}
 use Rattle.bd_verify.specs.declared.deciding.Decision.{Decision}
 use Rattle.bd_verify.specs.declared.deciding.Decision.TheVariants as decision
@@ -15,19 +16,19 @@ use Rattle.bd_verify.specs.declared.verdict.Verdict.TheVariants.{Correct, Wrong,
 use Rattle.bd_verify.specs.Verdict.{IsAsked, IsWorkOf}
 
 -- no case is such; this one is; or the budget is spent
-abbrev pub IsDecided : DesignView → Question → ℕ → Decision → Type 0
-IsDecided d asked budget (decision.None work) =
-    ((c : Case) → Fits d c → ¬ IsAsked asked d c) × IsWorkOf d asked budget found.Refuted work
-IsDecided d asked budget (decision.Some c work) =
-    Fits d c × IsAsked asked d c × ((model : _) × IsWorkOf d asked budget (found.Model model) work)
-IsDecided d asked budget (decision.Spent work) = IsWorkOf d asked budget found.Spent work
+abbrev pub IsDecided : DesignView → Question → Mode → ℕ → Decision → Type 0
+IsDecided d asked mode budget (decision.None work) =
+    ((c : Case) → Fits d c → ¬ IsAsked asked d c) × IsWorkOf d asked mode budget found.Refuted work
+IsDecided d asked mode budget (decision.Some c work) =
+    Fits d c × IsAsked asked d c × ((model : _) × IsWorkOf d asked mode budget (found.Model model) work)
+IsDecided d asked mode budget (decision.Spent work) = IsWorkOf d asked mode budget found.Spent work
 
 -- the verdict where it is asked whether a case breaks a condition: the case that is carried is this one, and none is such;
 -- or the case is judged to break the condition
-abbrev pub IsFound : DesignView → ℕ → Option Case → Verdict → Type 0
-IsFound d budget met (Correct c work) =
-    (c ≡ met) × ((c : Case) → Fits d c → ¬ IsAsked question.Breaks d c) × IsWorkOf d question.Breaks budget found.Refuted work
-IsFound d budget met (Wrong k c work) =
-    Fits d c × IsJudged d c (judged.Broken k) × ((model : _) × IsWorkOf d question.Breaks budget (found.Model model) work)
-IsFound d budget met (Void work) = ⊥
-IsFound d budget met (Undecided asked work) = (asked ≡ question.Breaks) × IsWorkOf d question.Breaks budget found.Spent work
+abbrev pub IsFound : DesignView → Mode → ℕ → Option Case → Verdict → Type 0
+IsFound d mode budget met (Correct c work) =
+    (c ≡ met) × ((c : Case) → Fits d c → ¬ IsAsked question.Breaks d c) × IsWorkOf d question.Breaks mode budget found.Refuted work
+IsFound d mode budget met (Wrong k c work) =
+    Fits d c × IsJudged d c (judged.Broken k) × ((model : _) × IsWorkOf d question.Breaks mode budget (found.Model model) work)
+IsFound d mode budget met (Void work) = ⊥
+IsFound d mode budget met (Undecided asked work) = (asked ≡ question.Breaks) × IsWorkOf d question.Breaks mode budget found.Spent work

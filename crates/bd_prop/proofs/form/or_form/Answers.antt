@@ -1,5 +1,5 @@
 use Rattle.std.proofs.Common.{◌≡◌, ◌∙◌, ap, rules}
-use Rattle.bd_prop.specs.declared.form.Form.TheVariants.{Kept}
+use Rattle.bd_prop.specs.declared.form.Rewrite.TheVariants.{Kept}
 use Rattle.bd_prop.specs.Form.{or_form, form_truth}
 use Rattle.bd_prop.proofs.Forms.{truth-or}
 use Rattle.bd_prop.proofs.form.or_form.Goals as goal

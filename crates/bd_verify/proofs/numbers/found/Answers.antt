@@ -4,7 +4,7 @@ use Rattle.bd_prop.specs.declared.atom.Atom.TheVariants.{Edge}
 use Rattle.bd_prop.proofs.Values.{atom_eq-is}
 use Rattle.bd_tseitin.specs.declared.row.AtomVar.{AtomVar}
 use Rattle.bd_verify.specs.inner.Numbers.{Finds}
-use Rattle.bd_verify.proofs.Numbering.{Finds-more, lookup-atom}
+use Rattle.bd_verify.proofs.AtomMap.{Finds-more, lookup-atom}
 use Rattle.bd_verify.proofs.numbers.found.Goals as goal
 
 pub loop-row-preserved : goal.loop-row-preserved

@@ -1,0 +1,56 @@
+-- What the roots of the questions decide.
+use Rattle.std.proofs.Common.{◌≡◌, ℕ, List, [], Result, Ok, Err, IfOk, sym, subst}
+use Rattle.std.specs.declared.alloc.AllocError.{AllocError}
+use Rattle.bd_model.specs.DesignView.{DesignView}
+use Rattle.bd_model.specs.Cycle.{flushed}
+use Rattle.bd_model.specs.Lawful.{IsLawful}
+use Rattle.bd_model.specs.Conditions.{MeetsInvariant}
+use Rattle.bd_model.specs.declared.design.Sort.TheVariants as sort
+use Rattle.bd_terms.specs.declared.node.Node.{Node}
+use Rattle.bd_terms.specs.Graph.{HasSort}
+use Rattle.bd_goal.specs.Claims.{Claims}
+use Rattle.bd_goal.specs.Formula.{Corresponds, IsOutside, address_count}
+use Rattle.bd_goal.specs.Laws.{BreaksSome}
+use Rattle.bd_goal.specs.Symbols.{AppliesKnown, ReachesKnown}
+use Rattle.bd_goal.proofs.Deciding.{breaks_from, breaks_to, decides, meets_from, meets_to}
+use Rattle.bd_goal.proofs.Known.{AppliesKnown-empty}
+use Rattle.bd_verify.specs.declared.verdict.Question.{Question}
+use Rattle.bd_verify.specs.declared.verdict.Question.TheVariants as question
+use Rattle.bd_verify.specs.Kept.{IsRootOf}
+use Rattle.bd_verify.specs.Verdict.{IsAsked}
+use Rattle.bd_verify.specs.inner.Questions.{Asks}
+
+-- a graph of no term applies what is known
+pub known-empty : (d : DesignView) (n : ℕ) (old : List Node) → old ≡ [] → AppliesKnown d n old
+known-empty d n old e = subst (AppliesKnown d n) (sym e) (AppliesKnown-empty d n)
+
+pub root-breaks : (d : DesignView) (asked : Question) (nodes : List Node) (root n : ℕ) → asked ≡ question.Breaks → HasSort nodes root sort.Bool → Claims d (Corresponds d (flushed d)) nodes root
+    → n ≡ address_count d → ReachesKnown d n nodes root → IsRootOf d asked nodes root
+root-breaks d asked nodes root n e sorted claims count known = subst (λ q. IsRootOf d q nodes root) (sym e) (record {
+  sorted = sorted;
+  claims = claims;
+  known = subst (λ k. ReachesKnown d k nodes root) count known;
+})
+
+pub root-meets : (d : DesignView) (asked : Question) (nodes old : List Node) → old ≡ [] → asked ≡ question.Meets → (r : Result ℕ AllocError) → IfOk r (λ root. HasSort nodes root sort.Bool)
+    → IfOk r (λ root. Claims d (IsOutside d) nodes root) → IfOk r (λ root. (n : ℕ) → AppliesKnown d n old → ReachesKnown d n nodes root) → IfOk r (IsRootOf d asked nodes)
+root-meets d asked nodes old empty e (Ok root) sorted claims known = subst (λ q. IsRootOf d q nodes root) (sym e) (record {
+  sorted = sorted;
+  claims = claims;
+  known = known 0 (known-empty d 0 old empty);
+})
+root-meets d asked nodes old empty e (Err error) sorted claims known = tt
+
+pub root-decides : (d : DesignView) → IsLawful d → (asked : Question) (nodes : List Node) (root : ℕ) → IsRootOf d asked nodes root → Asks d (IsAsked asked d) nodes root
+root-decides d lawful question.Breaks nodes root r = record {
+  sorted = r.sorted;
+  decides = λ g. decides d (Corresponds d (flushed d)) (BreaksSome d (flushed d)) lawful (breaks_from d (flushed d)) (breaks_to d (flushed d)) (address_count d) nodes root g r.sorted r.known r.claims;
+  count = address_count d;
+  known = r.known;
+}
+root-decides d lawful question.Meets nodes root r = record {
+  sorted = r.sorted;
+  decides = λ g. decides d (IsOutside d) (λ c. MeetsInvariant d c.interp c.state) lawful (meets_from d) (meets_to d) 0 nodes root g r.sorted r.known r.claims;
+  count = 0;
+  known = r.known;
+}
