@@ -97,7 +97,7 @@ pub verdict_is : (d : DesignView) (asked : Asked) (v : Verdict) → ((c : Option
     → ((c : Case) (work : Work) → v ≡ verdict.Correct (Some c) work → Fits d c × IsJudged d c judged.Holds)
     → ((k : Condition) (c : Case) (work : Work) → v ≡ verdict.Wrong k c work → Fits d c × IsJudged d c (judged.Broken k))
     → ((work : Work) → v ≡ verdict.Void work → ¬ SomeCaseMeetsInvariant d) → ((work : Work) → v ≡ verdict.Undecided Breaks work → asked.given ≡ true → SomeCaseMeetsInvariant d)
-    → HasWork d asked.budget v → MayGive asked.given v → IsVerdict d asked v
+    → HasWork d asked.mode asked.budget v → MayGive asked.given v → IsVerdict d asked v
 verdict_is d asked (verdict.Correct None work) right holds wrong void met has may = record { may_give = may; is_true = (right None work refl, tt); work = has }
 verdict_is d asked (verdict.Correct (Some c) work) right holds wrong void met has may = record { may_give = may; is_true = (right (Some c) work refl, holds c work refl); work = has }
 verdict_is d asked (verdict.Wrong k c work) right holds wrong void met has may = record { may_give = may; is_true = wrong k c work refl; work = has }

@@ -62,10 +62,10 @@ pub record Headline (held : Option Held) (words : List (List ℕ)) (e : Ended) :
   -- it is one that may come with an invariant, or without
   pub may_give : (v : Verdict) → e ≡ ended_by v →
       ForVerdict held words (λ asked d. MayGive asked.given v)
-  -- its formula is satisfiable exactly where some case is such as was asked, and its log is that of
-  -- an honest solver
+  -- its formula is the one that is kept of the question that gave it, in the mode that is asked for,
+  -- and its log is that of an honest solver
   pub work : (v : Verdict) → e ≡ ended_by v →
-      ForVerdict held words (λ asked d. HasWork d asked.budget v)
+      ForVerdict held words (λ asked d. HasWork d asked.mode asked.budget v)
 
 -- ---- a run
 

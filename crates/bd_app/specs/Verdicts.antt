@@ -54,7 +54,7 @@ MayGive given _ = Unit {0}
 pub record IsVerdict (d : DesignView) (asked : Asked) (v : Verdict) : Type 0 where
   pub may_give : MayGive asked.given v
   pub is_true : IsTrueVerdict d asked.given v
-  pub work : HasWork d asked.budget v
+  pub work : HasWork d asked.mode asked.budget v
 
 -- ---- its report
 
