@@ -1,6 +1,6 @@
 -- Names, numbers and truth values as they are written.
-use Rattle.std.proofs.Common.{◌≡◌, ◌≢◌, ℕ, zero, suc, ◌+◌, ◌*◌, ◌/◌, ◌%◌, ◌-◌, ◌^◌, ◌<◌, ◌≤◌, Bool, true, false, cond, eqb, leb, List, [], ◌∷◌, ◌++◌, length, get_or, fold, Ok, refl, sym, ap, ◌∙◌, inl, inr, arith}
-use Rattle.std.specs.Prelude.{codes, not, ◌&&◌, ◌||◌}
+use Rattle.std.proofs.Common.{◌≡◌, ◌≢◌, ℕ, ◌+◌, ◌*◌, ◌/◌, ◌%◌, ◌-◌, ◌^◌, ◌<◌, ◌≤◌, true, false, eqb, leb, List, [], ◌∷◌, ◌++◌, length, get_or, Ok, refl, ap, ◌∙◌, inl, inr, arith}
+use Rattle.std.specs.Prelude.{codes, ◌&&◌}
 use Rattle.std.specs.List.{All, list_all}
 use Rattle.std.specs.Fmt.{decimal}
 use Rattle.std.proofs.lemmas.Fmt.{decimal_by_steps, decimal_digit, first_decimal, decimal_nonempty}
@@ -12,18 +12,16 @@ use Rattle.std.proofs.lemmas.List.Elements.{All-nil, All-cons}
 use Rattle.bd_text.specs.Layout.{IsAtomByte}
 use Rattle.bd_text.specs.Nodes.{Node, atom, list}
 use Rattle.bd_text.specs.Written.{without_offsets}
-use Rattle.bd_model.specs.Name.{IsName, is_digit, is_letter, begins_name, continues_name, spells_name}
+use Rattle.bd_model.specs.Name.{IsName, is_digit, begins_name, continues_name, spells_name}
 use Rattle.bd_model.specs.Fits.{scalar_sort}
 use Rattle.bd_model.specs.declared.table.Scalar.{Scalar}
 use Rattle.bd_model.specs.declared.table.Scalar.TheVariants as scalar
-use Rattle.bd_model.specs.declared.design.Sort.{Sort}
-use Rattle.bd_model.specs.declared.design.Sort.TheVariants as sort
 use Rattle.bd_syntax.specs.Reading.{number_form, name_form, is_number, number_of, spot}
-use Rattle.bd_syntax.proofs.Holding.{split_and}
+use Rattle.bd_syntax.proofs.Results.{split_and}
 use Rattle.bd_syntax.proofs.Names.{is_name-IsName}
 use Rattle.bd_case.specs.Content.{IsShort, IsShortScalar}
 use Rattle.bd_case.specs.Reading.{word_form, truth_form, scalar_form}
-use Rattle.bd_case.specs.Text.{scalar_text, word_node, scalar_node}
+use Rattle.bd_case.specs.Text.{word_node, scalar_node}
 
 -- ---- numbers
 

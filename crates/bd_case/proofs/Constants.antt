@@ -1,6 +1,6 @@
 -- Constants that are kept apart have different values, and the test of it says so.
-use Rattle.std.proofs.Common.{◌≡◌, ◌≢◌, ℕ, zero, suc, ◌+◌, ◌<◌, ◌≤◌, Bool, true, false, List, [], ◌∷◌, ◌++◌, length, map, get_or, Option, Some, None, Ok, Err, Result, refl, sym, ap, ◌∙◌, subst, arith}
-use Rattle.std.specs.Prelude.{slice_get, ◌||◌, nat_eq}
+use Rattle.std.proofs.Common.{◌≡◌, ◌≢◌, ℕ, zero, suc, ◌<◌, Bool, true, false, List, [], ◌∷◌, ◌++◌, length, get_or, Ok, refl, sym, ap, ◌∙◌, arith}
+use Rattle.std.specs.Prelude.{◌||◌, nat_eq}
 use Rattle.std.specs.List.{AllByRecursion, AllZip, AllPairs, list_any}
 use Rattle.std.proofs.lemmas.List.{length-map, get_or-map}
 use Rattle.std.proofs.lemmas.List.Folds.{list_any-append}
@@ -9,16 +9,14 @@ use Rattle.std.proofs.lemmas.List.Kept.{AllPairs-cons}
 use Rattle.bd_model.specs.DesignView.{DesignView}
 use Rattle.bd_model.specs.Lawful.{IsLawful, IsLawfulGroup, IsConstant}
 use Rattle.bd_model.specs.Value.{table_of, no_table}
-use Rattle.bd_model.specs.Fits.{scalar_sort, result_sort, TableFits, DefaultsDiffer, KeepsApart, InterpFits, Fits}
+use Rattle.bd_model.specs.Fits.{scalar_sort, TableFits, DefaultsDiffer, KeepsApart, Fits}
 use Rattle.bd_model.specs.declared.table.Scalar.{Scalar}
 use Rattle.bd_model.specs.declared.table.Scalar.TheVariants as scalar
 use Rattle.bd_model.specs.declared.table.Table.{Table}
-use Rattle.bd_model.specs.declared.design.Sort.{Sort}
 use Rattle.bd_model.specs.declared.design.Sort.TheVariants as sort
-use Rattle.bd_model.specs.declared.design.Symbol.{Symbol}
 use Rattle.bd_model.specs.declared.case.Case.{Case}
 use Rattle.bd_model.proofs.Pairs.{AllZip-at}
-use Rattle.bd_case.specs.Content.{word_of}
+use Rattle.bd_model.specs.Value.{scalar_word}
 use Rattle.bd_case.specs.Reading.{repeats, constants, distinct_form}
 
 -- ---- a list without repeats
@@ -87,10 +85,10 @@ repeats-different before (x ∷ xs) e =
 
 -- ---- the values of constants
 
-word_of-injective : (x y : Scalar) → scalar_sort x ≡ sort.Word → scalar_sort y ≡ sort.Word → word_of x ≡ word_of y → x ≡ y
-word_of-injective (scalar.Bool b) y p q e = absurd (cc)
-word_of-injective (scalar.Word n) (scalar.Bool b) p q e = absurd (cc)
-word_of-injective (scalar.Word n) (scalar.Word m) p q e = ap scalar.Word e
+scalar_word-injective : (x y : Scalar) → scalar_sort x ≡ sort.Word → scalar_sort y ≡ sort.Word → scalar_word x ≡ scalar_word y → x ≡ y
+scalar_word-injective (scalar.Bool b) y p q e = absurd (cc)
+scalar_word-injective (scalar.Word n) (scalar.Bool b) p q e = absurd (cc)
+scalar_word-injective (scalar.Word n) (scalar.Word m) p q e = ap scalar.Word e
 
 abbrev IsWordAt : List Table → ℕ → Type 0
 IsWordAt interp f = scalar_sort (table_of interp f).default ≡ sort.Word
@@ -112,20 +110,20 @@ constants_words d interp (f ∷ fs) tables h = (constant_word d interp f tables 
 
 differ-values : (interp : List Table) (group : List ℕ) → AllByRecursion (IsWordAt interp) group → AllPairs (DefaultsDiffer interp) group → AllPairs ◌≢◌ (constants interp group)
 differ-values interp group words different = λ i j d below within e.
-    let value = λ (f : ℕ). word_of (table_of interp f).default in
+    let value = λ (f : ℕ). scalar_word (table_of interp f).default in
     let size = length-map group value in
     let at_j : j < length group = omega arith in
     let at_i : i < length group = omega arith in
     different i j 0 below at_j
-    (word_of-injective _ _ (each_at (IsWordAt interp) group i words at_i) (each_at (IsWordAt interp) group j words at_j)
+    (scalar_word-injective _ _ (each_at (IsWordAt interp) group i words at_i) (each_at (IsWordAt interp) group j words at_j)
     (sym (get_or-map value group i 0 d at_i) ∙ e ∙ get_or-map value group j 0 d at_j))
 
 values-differ : (interp : List Table) (group : List ℕ) → AllPairs ◌≢◌ (constants interp group) → AllPairs (DefaultsDiffer interp) group
 values-differ interp group different = λ i j d below within e.
-    let value = λ (f : ℕ). word_of (table_of interp f).default in
+    let value = λ (f : ℕ). scalar_word (table_of interp f).default in
     let size = length-map group value in
     different i j 0 below (omega arith)
-    (get_or-map value group i d 0 (omega arith) ∙ ap word_of e ∙ sym (get_or-map value group j d 0 (omega arith)))
+    (get_or-map value group i d 0 (omega arith) ∙ ap scalar_word e ∙ sym (get_or-map value group j d 0 (omega arith)))
 
 -- constants that are kept apart have no value twice
 pub apart-repeats : (d : DesignView) (interp : List Table) (group : List ℕ) → AllZip TableFits d.symbols interp → IsLawfulGroup d group → KeepsApart interp group → repeats [] (constants interp group) ≡ false

@@ -1,14 +1,14 @@
 -- The tables of a case are those of its kinds, and give the case back.
-use Rattle.std.proofs.Common.{◌≡◌, ◌≢◌, ℕ, zero, suc, ◌+◌, ◌<◌, ◌≤◌, Bool, true, false, List, [], ◌∷◌, ◌++◌, length, map, take, drop, get_or, Option, Some, None, refl, sym, ap, ◌∙◌, subst, arith}
-use Rattle.std.specs.Prelude.{slice_get, ◌||◌, nat_eq}
+use Rattle.std.proofs.Common.{◌≡◌, ℕ, ◌+◌, Bool, true, false, List, [], ◌∷◌, ◌++◌, length, map, take, drop, Some, refl, sym, ap, ◌∙◌, subst, arith}
+use Rattle.std.specs.Prelude.{◌||◌, nat_eq}
 use Rattle.std.specs.List.{AllByRecursion, AllZip, list_any, zip}
 use Rattle.std.proofs.lemmas.Bool.{le-leb}
-use Rattle.std.proofs.lemmas.List.{length-map, length-append, append_assoc, get_or_append_left}
+use Rattle.std.proofs.lemmas.List.{length-map, length-append, append_assoc}
 use Rattle.std.proofs.Math.Seq.{take-append_seam, drop-append_seam}
 use Rattle.std.proofs.lemmas.Slice.Zip.{AllZip-long}
 use Rattle.bd_model.specs.DesignView.{DesignView, PortView}
 use Rattle.bd_model.specs.Value.{table_of}
-use Rattle.bd_model.specs.Fits.{scalar_sort, value_sort, result_sort, RowFits, TableFits, KeepsApart, InterpFits, Fits}
+use Rattle.bd_model.specs.Fits.{scalar_sort, value_sort, RowFits, TableFits, KeepsApart, Fits}
 use Rattle.bd_model.specs.declared.table.Scalar.{Scalar}
 use Rattle.bd_model.specs.declared.table.Scalar.TheVariants as scalar
 use Rattle.bd_model.specs.declared.table.Row.{Row}
@@ -22,13 +22,11 @@ use Rattle.bd_model.specs.declared.design.Sort.TheVariants as sort
 use Rattle.bd_model.specs.declared.design.Symbol.{Symbol}
 use Rattle.bd_model.specs.declared.design.Entry.{Entry}
 use Rattle.bd_model.specs.declared.case.Case.{Case}
-use Rattle.bd_case.specs.Kinds.{head_word, head_of, head_takes, is_apart, symbol_head, symbol_kind, symbol_kinds, sort_kind, entry_kind, input_kind, kinds}
-use Rattle.bd_case.specs.Content.{constant_table, row_of, table_of_value, tables_of, word_of, slot_of, value_of_table, case_from}
+use Rattle.bd_case.specs.Kinds.{head_text, head_of, head_takes, is_apart, symbol_head, symbol_kind, symbol_kinds, sort_kind, entry_kind, input_kind, kinds}
+use Rattle.bd_case.specs.Content.{constant_table, row_of, table_of_value, tables_of, slot_of, value_of_table, case_from}
 use Rattle.bd_case.specs.declared.kind.Version.{Version}
 use Rattle.bd_case.specs.declared.kind.Version.TheVariants.{One, Two}
-use Rattle.bd_case.specs.declared.kind.Head.{Head}
-use Rattle.bd_case.specs.declared.kind.Head.TheVariants as heads
-use Rattle.bd_case.specs.declared.kind.Kind.{Kind}
+use Rattle.bd_case.specs.declared.kind.EntryKind.{EntryKind}
 use Rattle.bd_case.proofs.Rows.{IsRowOf, IsTableOf}
 
 -- ---- two lists, place by place
@@ -42,12 +40,12 @@ AllZip-append R (x ∷ xs) (y ∷ ys) us vs h g = (h.0, AllZip-append R xs ys us
 -- ---- what an entry may hold
 
 -- a head of the version, with no more parts than it takes, and a table of the kind
-pub record IsContent (version : Version) (kind : Kind) (t : Table) : Type 0 where
-  pub known : head_of version (head_word kind.head) ≡ Some kind.head
+pub record IsContent (version : Version) (kind : EntryKind) (t : Table) : Type 0 where
+  pub known : head_of version (head_text kind.head) ≡ Some kind.head
   pub takes : head_takes kind.head (2 + length t.rows) ≡ true
   pub table : IsTableOf kind t
 
-symbol_head-known : (version : Version) (apart predicate : Bool) → head_of version (head_word (symbol_head version apart predicate)) ≡ Some (symbol_head version apart predicate)
+symbol_head-known : (version : Version) (apart predicate : Bool) → head_of version (head_text (symbol_head version apart predicate)) ≡ Some (symbol_head version apart predicate)
 unfolding head_of
 symbol_head-known One true true = refl
 symbol_head-known One true false = refl

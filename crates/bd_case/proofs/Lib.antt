@@ -1,11 +1,11 @@
 pub mod Atoms
+pub mod CaseReadsBack
 pub mod Constants
 pub mod Contents
-pub mod Fitting
 pub mod Laid
-pub mod Lines
-pub mod Pairs
+pub mod OneReading
 pub mod Places
-pub mod Readings
-pub mod Rereading
+pub mod ReadCasesFit
+pub mod Remaining
 pub mod Rows
+pub mod TwoLists

@@ -1,5 +1,5 @@
 -- Rows and tables that are written read back.
-use Rattle.std.proofs.Common.{◌≡◌, ℕ, zero, suc, ◌+◌, ◌<◌, ◌≤◌, Bool, true, false, List, [], ◌∷◌, ◌++◌, length, map, Option, Some, None, Result, Ok, Err, refl, sym, ap, ◌∙◌, arith}
+use Rattle.std.proofs.Common.{◌≡◌, ℕ, ◌+◌, Bool, true, false, List, [], ◌∷◌, ◌++◌, length, map, Some, Result, Ok, refl, sym, ap, ◌∙◌, arith}
 use Rattle.std.specs.List.{AllByRecursion}
 use Rattle.std.proofs.lemmas.Bool.{eq-eqb}
 use Rattle.std.proofs.lemmas.List.{length-map}
@@ -7,15 +7,14 @@ use Rattle.bd_text.specs.Nodes.{Node, atom, list, Nodes, no_nodes, node, node_co
 use Rattle.bd_text.specs.View.{nodes_from}
 use Rattle.bd_text.specs.Written.{without_offsets, all_without_offsets}
 use Rattle.bd_syntax.specs.Reading.{Fault, each_form, before_last, last_node}
-use Rattle.bd_model.specs.Table.{at}
 use Rattle.bd_model.specs.Fits.{scalar_sort}
 use Rattle.bd_model.specs.declared.design.Sort.{Sort}
 use Rattle.bd_model.specs.declared.table.Row.{Row}
 use Rattle.bd_model.specs.declared.table.Table.{Table}
 use Rattle.bd_case.specs.Content.{IsShort, IsShortRow, IsShortTable}
-use Rattle.bd_case.specs.Reading.{word_form, scalar_form, last_form, row_parts, counted_form, row_form, kept, table_form}
+use Rattle.bd_case.specs.Reading.{word_form, scalar_form, row_parts, counted_form, row_form, kept, table_form}
 use Rattle.bd_case.specs.Text.{word_node, scalar_node, row_node}
-use Rattle.bd_case.specs.declared.kind.Kind.{Kind}
+use Rattle.bd_case.specs.declared.kind.EntryKind.{EntryKind}
 use Rattle.bd_case.proofs.Atoms.{word_form-word_node, scalar_form-scalar_node}
 
 -- each of some trees reads back
@@ -58,7 +57,7 @@ ends_with (x ∷ xs) last (node u (node v vs)) e =
     }
 
 -- a row of so many words, and a value of that sort
-pub record IsRowOf (kind : Kind) (r : Row) : Type 0 where
+pub record IsRowOf (kind : EntryKind) (r : Row) : Type 0 where
   pub arity : length r.args ≡ kind.arity
   pub value : scalar_sort r.value ≡ kind.sort
 
@@ -73,7 +72,7 @@ row_parts-row s offset r us sorted short e =
     let value : scalar_form s ends.end ≡ Ok r.value = ap (λ t. scalar_form t ends.end) (sym sorted) ∙ scalar_form-scalar_node r.value ends.end short.value ends.same_end in
     rw (words, is_end, value) refl
 
-pub row_form-row_node : (kind : Kind) (r : Row) (u : Node) → IsRowOf kind r × IsShortRow r → without_offsets u ≡ row_node r → row_form kind u ≡ Ok r
+pub row_form-row_node : (kind : EntryKind) (r : Row) (u : Node) → IsRowOf kind r × IsShortRow r → without_offsets u ≡ row_node r → row_form kind u ≡ Ok r
 unfolding counted_form
 row_form-row_node kind r (atom offset text) h e = absurd (cc)
 row_form-row_node kind r (list offset parts) h e =
@@ -85,7 +84,7 @@ row_form-row_node kind r (list offset parts) h e =
     rw test (row_parts-row kind.sort offset r parts h.0.value h.1 inside)
 
 -- a table of that sort and arity, without rows where it is kept apart
-pub record IsTableOf (kind : Kind) (t : Table) : Type 0 where
+pub record IsTableOf (kind : EntryKind) (t : Table) : Type 0 where
   pub default : scalar_sort t.default ≡ kind.sort
   pub rows : AllByRecursion (IsRowOf kind) t.rows
   pub apart : kind.apart ≡ true → t.rows ≡ []
@@ -98,7 +97,7 @@ kept-same : (apart : Bool) (t : Table) → (apart ≡ true → t.rows ≡ []) �
 kept-same false t h = refl
 kept-same true t h = let none : t.rows ≡ [] = h refl in rw none (cc)
 
-pub table_form-table : (kind : Kind) (t : Table) (u : Node) (us : Nodes) → IsTableOf kind t → IsShortTable t
+pub table_form-table : (kind : EntryKind) (t : Table) (u : Node) (us : Nodes) → IsTableOf kind t → IsShortTable t
     → without_offsets u ≡ scalar_node t.default → all_without_offsets us ≡ nodes_from (map row_node t.rows) → table_form kind u us ≡ Ok t
 unfolding table_form
 table_form-table kind t u us fits short same_default same_rows =

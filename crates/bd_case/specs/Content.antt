@@ -3,12 +3,12 @@
 use Rattle.std.specs.Prelude.{ℕ, ◌+◌, ◌^◌, ◌<◌, List, [], ◌∷◌, ◌++◌, map, length, take, drop, slice_index_or}
 use Rattle.std.specs.List.{AllByRecursion, zip}
 use Rattle.bd_model.specs.DesignView.{DesignView}
+use Rattle.bd_model.specs.Value.{scalar_word}
 use Rattle.bd_model.specs.declared.table.Scalar.{Scalar}
 use Rattle.bd_model.specs.declared.table.Scalar.TheVariants as scalar
 use Rattle.bd_model.specs.declared.table.Row.{Row}
 use Rattle.bd_model.specs.declared.table.Table.{Table}
 use Rattle.bd_model.specs.declared.table.Slot.{Slot}
-use Rattle.bd_model.specs.declared.table.Memory.{Memory}
 use Rattle.bd_model.specs.declared.table.Value.{Value}
 use Rattle.bd_model.specs.declared.table.Value.TheVariants as value
 use Rattle.bd_model.specs.declared.design.Sort.{Sort}
@@ -33,17 +33,12 @@ tables_of c = (c.interp ++ map table_of_value c.state) ++ map constant_table c.i
 
 -- ---- from tables
 
--- the word that a scalar is, and 0 for a truth value
-abbrev pub word_of : Scalar → ℕ
-word_of (scalar.Word n) = n
-word_of (scalar.Bool b) = 0
-
 abbrev pub slot_of : Row → Slot
-slot_of row = record { address = slice_index_or row.args 0 0; value = word_of row.value }
+slot_of row = record { address = slice_index_or row.args 0 0; value = scalar_word row.value }
 
 abbrev pub value_of_table : Sort → Table → Value
 value_of_table sort.Memory t =
-    value.Memory (record { default = word_of t.default; rows = map slot_of t.rows })
+    value.Memory (record { default = scalar_word t.default; rows = map slot_of t.rows })
 value_of_table s t = value.Scalar t.default
 
 -- the tables of the symbols, then those of the entries, then those of the inputs

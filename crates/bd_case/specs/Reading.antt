@@ -1,16 +1,15 @@
 -- The case that trees are, or its first fault: entries from left to right, and of an entry first its shape, then its name,
 -- then its values. The text and its codes are this project's own.
-use Rattle.std.specs.Prelude.{◌==◌, ℕ, zero, suc, ◌+◌, Bool, true, false, not, ◌||◌, List, [], ◌∷◌, ◌++◌, map, Option, Some, None, is_some, option_map, Result, Ok, Err, codes, nat_eq, slice_index_or, slice_set, if◌then◌else◌}
+use Rattle.std.specs.Prelude.{◌==◌, ℕ, suc, ◌+◌, Bool, true, false, ◌||◌, List, [], ◌∷◌, ◌++◌, map, Option, Some, None, is_some, option_map, Result, Ok, codes, nat_eq, slice_index_or, slice_set, if◌then◌else◌}
 use Rattle.std.specs.List.{list_any}
 use Rattle.bd_text.specs.Nodes.{Node, atom, list, Nodes, no_nodes, node, node_count}
-use Rattle.bd_text.specs.declared.code.Code.{Code}
 use Rattle.bd_text.specs.declared.code.Code.TheVariants.{WrongHead, Malformed, DeclaredTwice, UnknownName, WrongSort, WrongArity, MissingOrTwice, NotDistinct}
-use Rattle.bd_syntax.specs.Words.{is_word}
+use Rattle.bd_syntax.specs.Words.{same_text}
 use Rattle.bd_syntax.specs.Reading.{Fault, ◌>>=◌, refused, atom_form, name_form, number_form, first_form, others, each_form, before_last, last_node, headed_form, end_form}
 use Rattle.bd_model.specs.DesignView.{DesignView}
 use Rattle.bd_model.specs.Lawful.{all_names}
 use Rattle.bd_model.specs.Table.{at}
-use Rattle.bd_model.specs.Value.{table_of}
+use Rattle.bd_model.specs.Value.{scalar_word, table_of}
 use Rattle.bd_model.specs.declared.table.Scalar.{Scalar}
 use Rattle.bd_model.specs.declared.table.Scalar.TheVariants as scalar
 use Rattle.bd_model.specs.declared.table.Row.{Row}
@@ -18,13 +17,13 @@ use Rattle.bd_model.specs.declared.table.Table.{Table}
 use Rattle.bd_model.specs.declared.design.Sort.{Sort}
 use Rattle.bd_model.specs.declared.design.Sort.TheVariants as sort
 use Rattle.bd_model.specs.declared.case.Case.{Case}
-use Rattle.bd_case.specs.Kinds.{head_word, head_of, head_takes, may_lack, kinds}
-use Rattle.bd_case.specs.Content.{constant_table, word_of, case_from}
+use Rattle.bd_case.specs.Kinds.{head_text, head_of, head_takes, may_lack, kinds}
+use Rattle.bd_case.specs.Content.{constant_table, case_from}
 use Rattle.bd_case.specs.declared.kind.Version.{Version}
 use Rattle.bd_case.specs.declared.kind.Version.TheVariants.{One, Two}
-use Rattle.bd_case.specs.declared.kind.Head.{Head}
-use Rattle.bd_case.specs.declared.kind.Head.TheVariants as heads
-use Rattle.bd_case.specs.declared.kind.Kind.{Kind}
+use Rattle.bd_case.specs.declared.kind.EntryHead.{EntryHead}
+use Rattle.bd_case.specs.declared.kind.EntryHead.TheVariants as heads
+use Rattle.bd_case.specs.declared.kind.EntryKind.{EntryKind}
 
 -- ---- values and rows
 
@@ -32,8 +31,8 @@ use Rattle.bd_case.specs.declared.kind.Kind.{Kind}
 unfoldable pub truth_form : Node → Result Scalar Fault
 truth_form t = do
   truth ← atom_form t
-  if is_word truth.text (codes "true") then Ok (scalar.Bool true)
-      else (if is_word truth.text (codes "false") then Ok (scalar.Bool false)
+  if same_text truth.text (codes "true") then Ok (scalar.Bool true)
+      else (if same_text truth.text (codes "false") then Ok (scalar.Bool false)
       else refused truth.offset WrongSort)
 
 -- a number of at most 64 bits
@@ -59,13 +58,13 @@ row_parts s offset parts = do
   Ok (record { args = args; value = value })
 
 -- one part more than the arity
-unfoldable pub counted_form : Kind → ℕ → Nodes → Result Row Fault
+unfoldable pub counted_form : EntryKind → ℕ → Nodes → Result Row Fault
 counted_form kind offset parts =
     if node_count parts == kind.arity + 1 then row_parts kind.sort offset parts
     else refused offset WrongArity
 
 -- a row is a list
-abbrev pub row_form : Kind → Node → Result Row Fault
+abbrev pub row_form : EntryKind → Node → Result Row Fault
 row_form kind (atom offset text) = refused offset Malformed
 row_form kind (list offset parts) = counted_form kind offset parts
 
@@ -75,7 +74,7 @@ kept true t = constant_table (at t [])
 kept false t = t
 
 -- DEFAULT ROW ..
-unfoldable pub table_form : Kind → Node → Nodes → Result Table Fault
+unfoldable pub table_form : EntryKind → Node → Nodes → Result Table Fault
 table_form kind t ts = do
   default ← scalar_form kind.sort t
   rows ← each_form (row_form kind) ts
@@ -86,20 +85,20 @@ table_form kind t ts = do
 -- the first place of a name
 abbrev pub place_of : List ℕ → List (List ℕ) → Option ℕ
 place_of name [] = None
-place_of name (n ∷ ns) = if is_word n name then Some 0 else option_map suc (place_of name ns)
+place_of name (n ∷ ns) = if same_text n name then Some 0 else option_map suc (place_of name ns)
 
 -- what stands past the last place
-abbrev pub no_kind : Kind
+abbrev pub no_kind : EntryKind
 no_kind = record { head = heads.Input; sort = sort.Bool; arity = 0; apart = false }
 
-abbrev pub kind_at : List Kind → ℕ → Kind
+abbrev pub kind_at : List EntryKind → ℕ → EntryKind
 kind_at ks i = slice_index_or ks i no_kind
 
-abbrev pub is_head : Head → Head → Bool
-is_head head other = is_word (head_word head) (head_word other)
+abbrev pub is_head : EntryHead → EntryHead → Bool
+is_head head other = same_text (head_text head) (head_text other)
 
 -- an entry with this head gives what stands at the place of its name, if no entry before it does
-abbrev pub place_form : List Kind → List (Option Table) → Head → ℕ → Option ℕ → Result ℕ Fault
+abbrev pub place_form : List EntryKind → List (Option Table) → EntryHead → ℕ → Option ℕ → Result ℕ Fault
 place_form ks given head offset None = refused offset UnknownName
 place_form ks given head offset (Some i) =
     if is_head head (kind_at ks i).head
@@ -107,7 +106,7 @@ place_form ks given head offset (Some i) =
     else refused offset WrongSort
 
 -- NAME DEFAULT ROW .., beside what was given before
-unfoldable pub parts_form : Version → DesignView → List (Option Table) → ℕ → Head → Nodes → Result (List (Option Table)) Fault
+unfoldable pub parts_form : Version → DesignView → List (Option Table) → ℕ → EntryHead → Nodes → Result (List (Option Table)) Fault
 parts_form version d given offset head (node t (node u us)) = do
   name ← name_form t
   i ← place_form (kinds version d) given head name.offset (place_of name.text (all_names d))
@@ -116,7 +115,7 @@ parts_form version d given offset head (node t (node u us)) = do
 parts_form version d given offset head _ = refused offset Malformed
 
 -- the head of an entry, with as many parts as it takes
-abbrev pub head_form : ℕ → ℕ → Option Head → Result Head Fault
+abbrev pub head_form : ℕ → ℕ → Option EntryHead → Result EntryHead Fault
 head_form offset parts None = refused offset Malformed
 head_form offset parts (Some head) =
     if head_takes head parts then Ok head else refused offset Malformed
@@ -142,14 +141,14 @@ abbrev pub default_of : Sort → Scalar
 default_of sort.Bool = scalar.Bool false
 default_of s = scalar.Word 0
 
-abbrev pub given_or : ℕ → Kind → Option Table → Result Table Fault
+abbrev pub given_or : ℕ → EntryKind → Option Table → Result Table Fault
 given_or offset kind (Some t) = Ok t
 given_or offset kind None =
     if may_lack kind.head then Ok (constant_table (default_of kind.sort))
     else refused offset MissingOrTwice
 
 -- everything that the case gives
-abbrev pub whole_form : ℕ → List Kind → List (Option Table) → Result (List Table) Fault
+abbrev pub whole_form : ℕ → List EntryKind → List (Option Table) → Result (List Table) Fault
 whole_form offset [] given = Ok []
 whole_form offset (kind ∷ ks) [] = Ok []
 whole_form offset (kind ∷ ks) (t ∷ given) = do
@@ -164,7 +163,7 @@ repeats before (x ∷ xs) = list_any (nat_eq x) before || repeats (before ++ x �
 
 -- the values of constants
 abbrev pub constants : List Table → List ℕ → List ℕ
-constants interp group = map (λ f. word_of (table_of interp f).default) group
+constants interp group = map (λ f. scalar_word (table_of interp f).default) group
 
 -- the constants of each group have different values
 abbrev pub distinct_form : List (List ℕ) → ℕ → Case → Result Case Fault
@@ -175,10 +174,10 @@ distinct_form distinct offset c =
 abbrev pub version_part : Node → Result Version Fault
 version_part (list offset parts) = refused offset WrongHead
 version_part (atom offset text) =
-    if is_word text (codes "1") then Ok One
-    else (if is_word text (codes "2") then Ok Two else refused offset WrongHead)
+    if same_text text (codes "1") then Ok One
+    else (if same_text text (codes "2") then Ok Two else refused offset WrongHead)
 
--- the version behind the word case, and the entries behind it
+-- the version of a case, and the entries after it
 abbrev pub version_form : ℕ → Nodes → Result (Version × Nodes) Fault
 version_form offset no_nodes = refused offset WrongHead
 version_form offset (node t ts) = do
@@ -194,7 +193,7 @@ file_form (node t ts) = do
   end ← end_form ts
   Ok (inside.0, content)
 
-abbrev pub nothing_given : List Kind → List (Option Table)
+abbrev pub nothing_given : List EntryKind → List (Option Table)
 nothing_given ks = map (λ _. None) ks
 
 -- the case that trees are, for a design

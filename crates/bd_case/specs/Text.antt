@@ -14,12 +14,12 @@ use Rattle.bd_model.specs.declared.table.Value.{Value}
 use Rattle.bd_model.specs.declared.design.Entry.{Entry}
 use Rattle.bd_model.specs.declared.case.Case.{Case}
 use Rattle.bd_model.specs.declared.design.Symbol.{Symbol}
-use Rattle.bd_case.specs.Kinds.{head_word, version_of, is_apart, symbol_kind, entry_kind}
+use Rattle.bd_case.specs.Kinds.{head_text, version_of, is_apart, symbol_kind, entry_kind}
 use Rattle.bd_case.specs.Content.{constant_table, table_of_value}
 use Rattle.bd_case.specs.declared.kind.Version.{Version}
 use Rattle.bd_case.specs.declared.kind.Version.TheVariants.{One, Two}
-use Rattle.bd_case.specs.declared.kind.Head.{Head}
-use Rattle.bd_case.specs.declared.kind.Head.TheVariants.{Input}
+use Rattle.bd_case.specs.declared.kind.EntryHead.{EntryHead}
+use Rattle.bd_case.specs.declared.kind.EntryHead.TheVariants.{Input}
 
 abbrev pub scalar_text : Scalar → List ℕ
 scalar_text (scalar.Bool b) = if b then codes "true" else codes "false"
@@ -36,9 +36,9 @@ abbrev pub row_node : Row → Node
 row_node r = list 0 (nodes_from (map word_node r.args ++ scalar_node r.value ∷ []))
 
 -- (HEAD NAME DEFAULT ROW ..), (HEAD NAME VALUE) where there is no row
-abbrev pub entry_node : Head → List ℕ → Table → Node
+abbrev pub entry_node : EntryHead → List ℕ → Table → Node
 entry_node head name t =
-    list 0 (node (atom 0 (head_word head)) (node (atom 0 name)
+    list 0 (node (atom 0 (head_text head)) (node (atom 0 name)
     (node (scalar_node t.default) (nodes_from (map row_node t.rows)))))
 
 -- the entries of the symbols from this number on

@@ -2,9 +2,9 @@
 //! before its values.
 
 ghost use Rattle.std.specs.Prelude.{◌≡◌, ◌<◌, ◌≤◌, ℕ, true, length, map, is_some, slice_index_or, IfOk, OnOk, Some, None};
-ghost use Rattle.bd_text.specs.Nodes.{list, node, node_count};
-ghost use Rattle.bd_text.specs.View.{node_of, nodes_of, nodes_of_all};
-ghost use Rattle.bd_syntax.specs.Reading.{Gives, first_form, others, spot};
+ghost use Rattle.bd_text.specs.Nodes.{node};
+ghost use Rattle.bd_text.specs.View.{node_of, nodes_of_all};
+ghost use Rattle.bd_syntax.specs.Reading.{Gives};
 ghost use Rattle.bd_model.specs.DesignView.{design_view};
 ghost use Rattle.bd_model.specs.Lawful.{all_names};
 ghost use Rattle.bd_case.specs.Kinds.{head_of, head_takes, kinds};
@@ -12,11 +12,13 @@ ghost use Rattle.bd_case.specs.Reading.{entries_form, entry_form, head_form, kep
 ghost use Rattle.bd_case.specs.inner.Frame.{IsFrame};
 
 use crate::frame::Frame;
-use crate::kind::{Head, Kind, Version};
-use crate::value::{self, bad};
+use crate::kind::{EntryHead, EntryKind, Version};
+use crate::value;
 use bd_model::{Rows, Table};
-use bd_syntax::FormFault;
-use bd_text::{Code, Tree, Trees};
+use bd_syntax::atoms::name_text;
+use bd_syntax::lists::open;
+use bd_syntax::{FormFault, bad};
+use bd_text::{Code, Tree};
 use std::alloc::Global;
 
 /// A constant that is kept apart has the value of its table, and no rows.
@@ -34,7 +36,7 @@ fn kept(alloc: Global, apart: bool, table: Table) -> Table
 
 /// A default, and rows.
 #[tactic(auto, unfolding(crate::specs::Reading::table_form))]
-fn table(alloc: Global, kind: Kind, default: &Tree, rows: &[Tree]) -> Result<Table, FormFault>
+fn table(alloc: Global, kind: EntryKind, default: &Tree, rows: &[Tree]) -> Result<Table, FormFault>
     ensures { Gives (λ t. t) result
         (table_form kind (node_of default.now) (nodes_of_all rows.now)) }
 {
@@ -49,7 +51,7 @@ fn table(alloc: Global, kind: Kind, default: &Tree, rows: &[Tree]) -> Result<Tab
 fn place(
     frame: &Frame<'_>,
     given: &[Option<Table>],
-    head: Head,
+    head: EntryHead,
     offset: usize,
     name: &[u8],
 ) -> Result<usize, FormFault>
@@ -72,44 +74,18 @@ fn place(
     Ok(place)
 }
 
-/// The word that a list begins with, and the parts behind it.
-#[derive(Clone, Copy)]
-struct Opened<'a> {
-    at: usize,
-    word: &'a [u8],
-    parts: &'a [Tree],
-}
-
-/// Opens the list that stands at an offset.
-#[tactic(auto, using(bd_syntax::proofs::Views::node_counts))]
-fn open(offset: usize, parts: &Trees) -> Result<Opened<'_>, FormFault>
-    ensures first { Gives (λ list. spot list.at list.word.now) result
-        (first_form offset (nodes_of parts.now)) }
-    ensures parts { IfOk result (λ list.
-        others (nodes_of parts.now) ≡ nodes_of_all list.parts.now) }
-    ensures count { IfOk result (λ list.
-        node_count (others (nodes_of parts.now)) ≡ length list.parts.now) }
-{
-    let Some((first, parts)) = parts.as_slice().split_first() else {
-        return Err(bad(offset, Code::Malformed));
-    };
-    match first {
-        Tree::Atom { offset: at, text } => Ok(Opened {
-            at: *at,
-            word: text.as_slice(),
-            parts,
-        }),
-        Tree::List { .. } => Err(bad(offset, Code::Malformed)),
-    }
-}
-
-/// The head that a word is, where so many parts may follow it.
-fn head_of(version: Version, offset: usize, word: &[u8], parts: usize) -> Result<Head, FormFault>
+/// The head that a text is, where so many parts may follow it.
+fn head_of(
+    version: Version,
+    offset: usize,
+    text: &[u8],
+    parts: usize,
+) -> Result<EntryHead, FormFault>
     ensures head { Gives (λ head. head) result
-        (head_form offset parts (head_of version word.now)) }
+        (head_form offset parts (head_of version text.now)) }
     ensures takes { IfOk result (λ head. head_takes head parts ≡ true) }
 {
-    match Head::from_text(version, word) {
+    match EntryHead::from_text(version, text) {
         Some(head) if head.takes(parts) => Ok(head),
         _ => Err(bad(offset, Code::Malformed)),
     }
@@ -124,6 +100,7 @@ struct Named<'a> {
 }
 
 impl<'a> Named<'a> {
+    /// Those of the parts after the head.
     fn of(parts: &'a [Tree]) -> Named<'a>
         requires { 2 ≤ length parts.now }
         ensures { nodes_of_all parts.now ≡ node (node_of result.name.now)
@@ -156,20 +133,20 @@ pub fn entry(
         Tree::Atom { offset, .. } => Err(bad(*offset, Code::Malformed)),
         Tree::List { offset, parts } => {
             let list = open(*offset, parts)?;
-            let head = head_of(frame.version, *offset, list.word, list.parts.len())?;
+            let head = head_of(frame.version, *offset, list.first, list.parts.len())?;
             content(alloc, frame, given, *offset, head, list.parts)
         }
     }
 }
 
-/// What stands behind the head of an entry.
+/// What follows the head of an entry.
 #[tactic(auto, unfolding(crate::specs::Reading::parts_form))]
 fn content(
     alloc: Global,
     frame: &Frame<'_>,
     given: &mut Vec<Option<Table>>,
     offset: usize,
-    head: Head,
+    head: EntryHead,
     parts: &[Tree],
 ) -> Result<(), FormFault>
     requires frame { IsFrame frame.now }
@@ -185,8 +162,8 @@ fn content(
         default,
         rows,
     } = Named::of(parts);
-    let (at, word) = value::name(name)?;
-    let place = place(frame, given, head, at, word)?;
+    let (at, text) = name_text(name)?;
+    let place = place(frame, given, head, at, text)?;
     given[place] = Some(table(alloc, frame.kinds[place], default, rows)?);
     Ok(())
 }

@@ -9,7 +9,7 @@ ghost use Rattle.bd_case.specs.Kinds.{entry_kind, input_kind, is_apart, kinds, s
 ghost use Rattle.bd_case.specs.Reading.{place_of};
 ghost use Rattle.bd_case.specs.inner.Frame.{Finds, IsFrame};
 
-use crate::kind::{Kind, Version};
+use crate::kind::{EntryKind, Version};
 use bd_model::{Design, Distinct, Entry, Places, Port, Symbol};
 use indexmap::{IndexMap, IndexSet};
 use std::alloc::{AllocError, Global};
@@ -20,7 +20,7 @@ pub struct Frame<'a> {
     pub design: &'a Design,
     pub version: Version,
     pub places: IndexMap<&'a [u8], usize>,
-    pub kinds: Vec<Kind>,
+    pub kinds: Vec<EntryKind>,
 }
 
 impl<'a> Frame<'a> {
@@ -94,6 +94,7 @@ pub fn apart(alloc: Global, distinct: &Distinct) -> Result<IndexSet<usize>, Allo
     Ok(apart)
 }
 
+/// Puts the constants of a group to the others.
 fn put_group(apart: &mut IndexSet<usize>, group: &Places) -> Result<(), AllocError>
     ensures { OnOk result ((f : ℕ) → contains nat_eq apart.new f
         ≡ (contains nat_eq apart.old f || list_any (nat_eq f) group.now)) }
@@ -105,7 +106,7 @@ fn put_group(apart: &mut IndexSet<usize>, group: &Places) -> Result<(), AllocErr
 }
 
 /// The kinds, in the order of the names.
-fn kinds(alloc: Global, design: &Design, version: Version) -> Result<Vec<Kind>, AllocError>
+fn kinds(alloc: Global, design: &Design, version: Version) -> Result<Vec<EntryKind>, AllocError>
     ensures { IfOk result (λ list. list.items ≡ kinds version (design_view design.now)) }
 {
     let mut kinds = Vec::new(alloc);
@@ -122,8 +123,9 @@ fn kinds(alloc: Global, design: &Design, version: Version) -> Result<Vec<Kind>, 
     Ok(kinds)
 }
 
+/// The kind of each function and predicate.
 fn push_symbols(
-    kinds: &mut Vec<Kind>,
+    kinds: &mut Vec<EntryKind>,
     version: Version,
     distinct: &Distinct,
     apart: &IndexSet<usize>,
@@ -134,26 +136,28 @@ fn push_symbols(
         ≡ kinds.old.items ++ symbol_kinds version distinct.now 0 symbols.now) }
 {
     for (f, symbol) in symbols.iter().enumerate() {
-        kinds.push(Kind::of_symbol(version, apart.contains(&f), symbol))?;
+        kinds.push(EntryKind::of_symbol(version, apart.contains(&f), symbol))?;
     }
     Ok(())
 }
 
-fn push_entries(kinds: &mut Vec<Kind>, entries: &[Entry]) -> Result<(), AllocError>
+/// The kind of each latch and memory.
+fn push_entries(kinds: &mut Vec<EntryKind>, entries: &[Entry]) -> Result<(), AllocError>
     ensures { OnOk result (kinds.new.items ≡ kinds.old.items ++ map entry_kind entries.now) }
 {
     for entry in entries {
-        kinds.push(Kind::of_entry(entry.sort))?;
+        kinds.push(EntryKind::of_entry(entry.sort))?;
     }
     Ok(())
 }
 
-fn push_ports(kinds: &mut Vec<Kind>, ports: &[Port]) -> Result<(), AllocError>
+/// The kind of each input.
+fn push_ports(kinds: &mut Vec<EntryKind>, ports: &[Port]) -> Result<(), AllocError>
     ensures { OnOk result (kinds.new.items
         ≡ kinds.old.items ++ map (λ p. input_kind p.sort) (map port_view ports.now)) }
 {
     for port in ports {
-        kinds.push(Kind::of_input(port.sort))?;
+        kinds.push(EntryKind::of_input(port.sort))?;
     }
     Ok(())
 }

@@ -2,7 +2,7 @@
 
 ghost use Rattle.std.specs.Prelude.{◌≡◌};
 ghost use Rattle.bd_model.specs.DesignView.{port_view};
-ghost use Rattle.bd_case.specs.Kinds.{head_of, head_takes, head_word, heads_of, may_lack, entry_kind, input_kind, sort_kind, symbol_head, symbol_kind};
+ghost use Rattle.bd_case.specs.Kinds.{head_of, head_takes, head_text, heads_of, may_lack, entry_kind, input_kind, sort_kind, symbol_head, symbol_kind};
 ghost use Rattle.bd_case.specs.Reading.{is_head};
 
 use bd_model::{Sort, Symbol};
@@ -14,9 +14,9 @@ pub enum Version {
     Two,
 }
 
-/// The first word of an entry.
+/// What an entry begins with.
 #[derive(Clone, Copy, Debug, PartialEq, Eq)]
-pub enum Head {
+pub enum EntryHead {
     Function,
     Predicate,
     Constant,
@@ -27,72 +27,73 @@ pub enum Head {
 
 /// What an entry gives: a table of a sort and an arity, and whether it's a constant that is kept apart.
 #[derive(Clone, Copy, Debug, PartialEq, Eq)]
-pub struct Kind {
-    pub head: Head,
+pub struct EntryKind {
+    pub head: EntryHead,
     pub sort: Sort,
     pub arity: u32,
     pub apart: bool,
 }
 
-const FIRST_HEADS: [Head; 5] = [
-    Head::Function,
-    Head::Predicate,
-    Head::Memory,
-    Head::Latch,
-    Head::Input,
+const FIRST_HEADS: [EntryHead; 5] = [
+    EntryHead::Function,
+    EntryHead::Predicate,
+    EntryHead::Memory,
+    EntryHead::Latch,
+    EntryHead::Input,
 ];
 
-const SECOND_HEADS: [Head; 6] = [
-    Head::Constant,
-    Head::Function,
-    Head::Predicate,
-    Head::Memory,
-    Head::Latch,
-    Head::Input,
+const SECOND_HEADS: [EntryHead; 6] = [
+    EntryHead::Constant,
+    EntryHead::Function,
+    EntryHead::Predicate,
+    EntryHead::Memory,
+    EntryHead::Latch,
+    EntryHead::Input,
 ];
 
-impl Head {
-    pub fn word(self) -> &'static [u8]
-        ensures { result.now ≡ head_word self }
+impl EntryHead {
+    /// Its text.
+    pub fn text(self) -> &'static [u8]
+        ensures { result.now ≡ head_text self }
     {
         match self {
-            Head::Function => b"function",
-            Head::Predicate => b"predicate",
-            Head::Constant => b"constant",
-            Head::Memory => b"memory",
-            Head::Latch => b"latch",
-            Head::Input => b"input",
+            EntryHead::Function => b"function",
+            EntryHead::Predicate => b"predicate",
+            EntryHead::Constant => b"constant",
+            EntryHead::Memory => b"memory",
+            EntryHead::Latch => b"latch",
+            EntryHead::Input => b"input",
         }
     }
 
     /// The head of that version that a text is.
     #[tactic(auto, unfolding(crate::specs::Kinds::head_of))]
-    pub fn from_text(version: Version, text: &[u8]) -> Option<Head>
+    pub fn from_text(version: Version, text: &[u8]) -> Option<EntryHead>
         ensures { result ≡ head_of version text.now }
     {
         match version {
-            Version::One => FIRST_HEADS.iter().copied().find(|head| text == head.word()),
+            Version::One => FIRST_HEADS.iter().copied().find(|head| text == head.text()),
             Version::Two => SECOND_HEADS
                 .iter()
                 .copied()
-                .find(|head| text == head.word()),
+                .find(|head| text == head.text()),
         }
     }
 
     /// Whether it's that head.
-    pub fn is(self, other: Head) -> bool
+    pub fn is(self, other: EntryHead) -> bool
         ensures { result ≡ is_head self other }
     {
-        self.word() == other.word()
+        self.text() == other.text()
     }
 
-    /// Whether it has so many parts behind it.
+    /// Whether it has so many parts after it.
     pub fn takes(self, parts: usize) -> bool
         ensures { result ≡ head_takes self parts }
     {
         match self {
-            Head::Function | Head::Predicate | Head::Memory => parts >= 2,
-            Head::Constant | Head::Latch | Head::Input => parts == 2,
+            EntryHead::Function | EntryHead::Predicate | EntryHead::Memory => parts >= 2,
+            EntryHead::Constant | EntryHead::Latch | EntryHead::Input => parts == 2,
         }
     }
 
@@ -100,27 +101,29 @@ impl Head {
     pub fn may_lack(self) -> bool
         ensures { result ≡ may_lack self }
     {
-        matches!(self, Head::Function | Head::Predicate)
+        matches!(self, EntryHead::Function | EntryHead::Predicate)
     }
 }
 
-fn symbol_head(version: Version, apart: bool, predicate: bool) -> Head
+/// The head of a function or predicate.
+fn symbol_head(version: Version, apart: bool, predicate: bool) -> EntryHead
     ensures { result ≡ symbol_head version apart predicate }
 {
     if apart && version == Version::Two {
-        Head::Constant
+        EntryHead::Constant
     } else if predicate {
-        Head::Predicate
+        EntryHead::Predicate
     } else {
-        Head::Function
+        EntryHead::Function
     }
 }
 
-impl Kind {
-    pub fn of_symbol(version: Version, apart: bool, symbol: &Symbol) -> Kind
+impl EntryKind {
+    /// That of a function or predicate.
+    pub fn of_symbol(version: Version, apart: bool, symbol: &Symbol) -> EntryKind
         ensures { result ≡ symbol_kind version apart symbol.now }
     {
-        Kind {
+        EntryKind {
             head: symbol_head(version, apart, symbol.predicate),
             sort: symbol.result_sort(),
             arity: symbol.arity,
@@ -129,18 +132,18 @@ impl Kind {
     }
 
     /// That of a latch or memory.
-    pub fn of_entry(sort: Sort) -> Kind
+    pub fn of_entry(sort: Sort) -> EntryKind
         ensures { result ≡ sort_kind sort }
     {
         match sort {
-            Sort::Memory => Kind {
-                head: Head::Memory,
+            Sort::Memory => EntryKind {
+                head: EntryHead::Memory,
                 sort: Sort::Word,
                 arity: 1,
                 apart: false,
             },
-            Sort::Bool | Sort::Word => Kind {
-                head: Head::Latch,
+            Sort::Bool | Sort::Word => EntryKind {
+                head: EntryHead::Latch,
                 sort,
                 arity: 0,
                 apart: false,
@@ -148,11 +151,12 @@ impl Kind {
         }
     }
 
-    pub fn of_input(sort: Sort) -> Kind
+    /// That of an input.
+    pub fn of_input(sort: Sort) -> EntryKind
         ensures { result ≡ input_kind sort }
     {
-        Kind {
-            head: Head::Input,
+        EntryKind {
+            head: EntryHead::Input,
             sort,
             arity: 0,
             apart: false,

@@ -21,6 +21,3 @@ pub use write::{case_text, state_text};
 
 /// Why a case isn't read.
 pub type CaseFault = bd_syntax::FormFault;
-
-#[cfg(test)]
-mod tests;

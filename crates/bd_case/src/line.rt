@@ -3,16 +3,17 @@
 ghost use Rattle.std.specs.Prelude.{◌≡◌, ◌++◌, ◌∷◌, [], map, OnOk, decimal};
 ghost use Rattle.bd_text.specs.View.{nodes_from};
 ghost use Rattle.bd_text.specs.Written.{written, written_rest};
-ghost use Rattle.bd_case.specs.Kinds.{entry_kind, head_word};
+ghost use Rattle.bd_case.specs.Kinds.{entry_kind, head_text};
 ghost use Rattle.std.specs.List.{AllByRecursion};
 ghost use Rattle.bd_case.specs.Content.{IsShort, IsShortRow, IsShortScalar, IsShortTable, constant_table, row_of, table_of_value};
 ghost use Rattle.bd_case.specs.Text.{entry_node, row_node, scalar_text};
 
-use crate::kind::{Head, Kind};
+use crate::kind::{EntryHead, EntryKind};
 use bd_model::{Entry, Row, Scalar, Slot, Table, Value};
 use std::alloc::AllocError;
 use std::io::Write;
 
+/// A word in decimal digits.
 fn push_word(out: &mut Vec<u8>, word: u64) -> Result<(), AllocError>
     ensures text { OnOk result (out.new.items ≡ out.old.items ++ decimal word) }
     ensures short { IsShort word }
@@ -20,6 +21,7 @@ fn push_word(out: &mut Vec<u8>, word: u64) -> Result<(), AllocError>
     write!(out, "{word}").map_err(|_| AllocError)
 }
 
+/// A truth value or a word.
 fn push_scalar(out: &mut Vec<u8>, scalar: Scalar) -> Result<(), AllocError>
     ensures text { OnOk result (out.new.items ≡ out.old.items ++ scalar_text scalar) }
     ensures short { IsShortScalar scalar }
@@ -47,6 +49,7 @@ fn push_row(out: &mut Vec<u8>, args: &[u64], value: Scalar) -> Result<(), AllocE
     Ok(())
 }
 
+/// A space and a row, for each row.
 fn push_rows(out: &mut Vec<u8>, rows: &[Row]) -> Result<(), AllocError>
     ensures text { OnOk result (out.new.items
         ≡ out.old.items ++ written_rest (nodes_from (map row_node rows.now))) }
@@ -58,6 +61,7 @@ fn push_rows(out: &mut Vec<u8>, rows: &[Row]) -> Result<(), AllocError>
     Ok(())
 }
 
+/// A space and a row, for each row of a memory.
 fn push_slots(out: &mut Vec<u8>, slots: &[Slot]) -> Result<(), AllocError>
     ensures text { OnOk result (out.new.items
         ≡ out.old.items ++ written_rest (nodes_from (map row_node (map row_of slots.now)))) }
@@ -72,16 +76,16 @@ fn push_slots(out: &mut Vec<u8>, slots: &[Slot]) -> Result<(), AllocError>
 /// An entry up to its rows.
 fn begin_entry(
     out: &mut Vec<u8>,
-    head: Head,
+    head: EntryHead,
     name: &[u8],
     default: Scalar,
 ) -> Result<(), AllocError>
     ensures text { OnOk result (out.new.items ≡ out.old.items
-        ++ 40 ∷ head_word head ++ 32 ∷ name.now ++ 32 ∷ scalar_text default) }
+        ++ 40 ∷ head_text head ++ 32 ∷ name.now ++ 32 ∷ scalar_text default) }
     ensures short { OnOk result (IsShortScalar default) }
 {
     out.push(b'(')?;
-    out.extend_from_slice(head.word())?;
+    out.extend_from_slice(head.text())?;
     out.push(b' ')?;
     out.extend_from_slice(name)?;
     out.push(b' ')?;
@@ -91,7 +95,7 @@ fn begin_entry(
 /// The entry of a function, a predicate or a constant.
 pub fn push_table(
     out: &mut Vec<u8>,
-    head: Head,
+    head: EntryHead,
     name: &[u8],
     table: &Table,
 ) -> Result<(), AllocError>
@@ -112,7 +116,7 @@ pub fn push_value(out: &mut Vec<u8>, entry: &Entry, value: &Value) -> Result<(),
         (table_of_value value.now))) }
     ensures short { OnOk result (IsShortTable (table_of_value value.now)) }
 {
-    let head = Kind::of_entry(entry.sort).head;
+    let head = EntryKind::of_entry(entry.sort).head;
     match value {
         Value::Scalar(scalar) => push_scalar_entry(out, head, entry.name.as_slice(), *scalar),
         Value::Memory(memory) => {
@@ -132,7 +136,7 @@ pub fn push_value(out: &mut Vec<u8>, entry: &Entry, value: &Value) -> Result<(),
 /// An entry without rows.
 pub fn push_scalar_entry(
     out: &mut Vec<u8>,
-    head: Head,
+    head: EntryHead,
     name: &[u8],
     value: Scalar,
 ) -> Result<(), AllocError>

@@ -1,8 +1,8 @@
 //! Reading a case.
 
-ghost use Rattle.std.specs.Prelude.{◌≡◌, ℕ, IfOk, codes, map};
+ghost use Rattle.std.specs.Prelude.{◌≡◌, ℕ, IfOk, map};
 ghost use Rattle.bd_text.specs.View.{node_of, nodes_of, nodes_of_all};
-ghost use Rattle.bd_syntax.specs.Reading.{Gives, headed_form, offset_of};
+ghost use Rattle.bd_syntax.specs.Reading.{Gives};
 ghost use Rattle.bd_model.specs.DesignView.{design_view};
 ghost use Rattle.bd_model.specs.Fits.{Fits};
 ghost use Rattle.bd_model.specs.Lawful.{IsLawful};
@@ -12,37 +12,15 @@ ghost use Rattle.bd_case.specs.Reads.{IsRead};
 use crate::CaseFault;
 use crate::entry::entries;
 use crate::frame::Frame;
-use crate::kind::{Kind, Version};
-use crate::value::bad;
+use crate::kind::{EntryKind, Version};
 use crate::whole::{case_from, distinct, whole};
 use bd_model::{Case, Design, Table};
-use bd_syntax::FormFault;
+use bd_syntax::lists::{end, headed, offset_of};
+use bd_syntax::{FormFault, bad};
 use bd_text::{Code, TextFault, Tree, Trees, read_trees};
 use std::alloc::{AllocError, Global};
 
-fn offset_of(tree: &Tree) -> usize
-    ensures { result ≡ offset_of (node_of tree.now) }
-{
-    match tree {
-        Tree::Atom { offset, .. } | Tree::List { offset, .. } => *offset,
-    }
-}
-
-/// The offset of a case's tree, and the parts behind its head.
-fn headed(tree: &Tree) -> Result<(usize, &[Tree]), FormFault>
-    ensures { Gives (λ file. (file.0, nodes_of_all file.1.now)) result
-        (headed_form (codes "case") (node_of tree.now)) }
-{
-    if let Tree::List { offset, parts } = tree {
-        if let Some((Tree::Atom { text, .. }, parts)) = parts.as_slice().split_first() {
-            if text.as_slice() == b"case".as_slice() {
-                return Ok((*offset, parts));
-            }
-        }
-    }
-    Err(bad(offset_of(tree), Code::WrongHead))
-}
-
+/// The version that a tree is.
 fn version_of(tree: &Tree) -> Result<Version, FormFault>
     ensures { Gives (λ v. v) result (version_part (node_of tree.now)) }
 {
@@ -57,7 +35,7 @@ fn version_of(tree: &Tree) -> Result<Version, FormFault>
     Err(bad(offset_of(tree), Code::WrongHead))
 }
 
-/// The version behind the word `case`, and the entries behind it.
+/// The version of a case, and the entries after it.
 fn version(offset: usize, parts: &[Tree]) -> Result<(Version, &[Tree]), FormFault>
     ensures { Gives (λ p. (p.0, nodes_of_all p.1.now)) result
         (version_form offset (nodes_of_all parts.now)) }
@@ -70,14 +48,15 @@ fn version(offset: usize, parts: &[Tree]) -> Result<(Version, &[Tree]), FormFaul
 
 /// The one tree of a case.
 #[derive(Clone, Copy)]
-struct File<'a> {
+struct CaseFile<'a> {
     offset: usize,
     version: Version,
     entries: &'a [Tree],
 }
 
-impl<'a> File<'a> {
-    fn of(trees: &'a Trees) -> Result<File<'a>, FormFault>
+impl<'a> CaseFile<'a> {
+    /// That of a text's trees.
+    fn of(trees: &'a Trees) -> Result<CaseFile<'a>, FormFault>
         ensures { Gives (λ file. (file.offset, (file.version, nodes_of_all file.entries.now)))
             result
             (file_form (nodes_of trees.now)) }
@@ -85,20 +64,19 @@ impl<'a> File<'a> {
         let Some((tree, further)) = trees.as_slice().split_first() else {
             return Err(bad(0, Code::WrongHead));
         };
-        let (offset, parts) = headed(tree)?;
+        let (offset, parts) = headed(tree, b"case")?;
         let (version, entries) = version(offset, parts)?;
-        match further.first() {
-            Some(second) => Err(bad(offset_of(second), Code::WrongHead)),
-            None => Ok(File {
-                offset,
-                version,
-                entries,
-            }),
-        }
+        end(further)?;
+        Ok(CaseFile {
+            offset,
+            version,
+            entries,
+        })
     }
 }
 
-fn nothing_given(alloc: Global, kinds: &[Kind]) -> Result<Vec<Option<Table>>, AllocError>
+/// Nothing for each kind.
+fn nothing_given(alloc: Global, kinds: &[EntryKind]) -> Result<Vec<Option<Table>>, AllocError>
     ensures { IfOk result (λ given. given.items ≡ nothing_given kinds.now) }
 {
     let mut given = Vec::with_capacity(alloc, kinds.len())?;
@@ -113,7 +91,7 @@ fn nothing_given(alloc: Global, kinds: &[Kind]) -> Result<Vec<Option<Table>>, Al
 fn case_of_trees(alloc: Global, design: &Design, trees: &Trees) -> Result<Case, FormFault>
     ensures { Gives (λ c. c) result (case_form (design_view design.now) (nodes_of trees.now)) }
 {
-    let file = File::of(trees)?;
+    let file = CaseFile::of(trees)?;
     let frame = Frame::new(alloc, design, file.version)?;
     let mut given = nothing_given(alloc, &frame.kinds)?;
     entries(alloc, &frame, &mut given, file.entries)?;

@@ -4,22 +4,22 @@ ghost use Rattle.std.specs.Prelude.{◌≡◌, ◌≤◌, ◌+◌, ℕ, [], map,
 ghost use Rattle.std.specs.List.{list_any, zip};
 ghost use Rattle.bd_syntax.specs.Reading.{Gives};
 ghost use Rattle.bd_model.specs.DesignView.{design_view};
-ghost use Rattle.bd_model.specs.Value.{table_of};
+ghost use Rattle.bd_model.specs.Value.{scalar_word, table_of};
 ghost use Rattle.bd_case.specs.Kinds.{kinds};
-ghost use Rattle.bd_case.specs.Content.{case_from, slot_of, value_of_table, word_of};
+ghost use Rattle.bd_case.specs.Content.{case_from, slot_of, value_of_table};
 ghost use Rattle.bd_case.specs.Reading.{constants, default_of, distinct_form, given_or, repeats, whole_form};
 
-use crate::kind::Kind;
-use crate::value::bad;
+use crate::kind::EntryKind;
 use bd_model::{
     Case, Design, Entry, Inputs, Interp, Memory, Places, Row, Rows, Scalar, Slot, Slots, Sort,
     State, Table, Value,
 };
-use bd_syntax::FormFault;
+use bd_syntax::{FormFault, bad};
 use bd_text::Code;
 use indexmap::IndexSet;
 use std::alloc::{AllocError, Global};
 
+/// The default where none is given.
 fn default_of(sort: Sort) -> Scalar
     ensures { result ≡ default_of sort }
 {
@@ -33,7 +33,7 @@ fn default_of(sort: Sort) -> Scalar
 fn given_or(
     alloc: Global,
     offset: usize,
-    kind: Kind,
+    kind: EntryKind,
     given: Option<Table>,
 ) -> Result<Table, FormFault>
     ensures { Gives (λ t. t) result (given_or offset kind given) }
@@ -52,7 +52,7 @@ fn given_or(
 pub fn whole(
     alloc: Global,
     offset: usize,
-    kinds: &[Kind],
+    kinds: &[EntryKind],
     given: Vec<Option<Table>>,
 ) -> Result<Vec<Table>, FormFault>
     requires { length given.items ≡ length kinds.now }
@@ -67,24 +67,17 @@ pub fn whole(
     Ok(tables)
 }
 
-fn word_of(scalar: Scalar) -> u64
-    ensures { result ≡ word_of scalar }
-{
-    match scalar {
-        Scalar::Word(word) => word,
-        Scalar::Bool(_) => 0,
-    }
-}
-
+/// The row of a memory that a table's row is.
 fn slot_of(row: &Row) -> Slot
     ensures { result ≡ slot_of row.now }
 {
     Slot {
         address: row.args.as_slice().first().copied().unwrap_or(0),
-        value: word_of(row.value),
+        value: row.value.word(),
     }
 }
 
+/// Each row as a memory's.
 fn slots(alloc: Global, rows: &Rows) -> Result<Slots, AllocError>
     ensures { IfOk result (λ slots. slots ≡ map slot_of rows.now) }
 {
@@ -95,18 +88,20 @@ fn slots(alloc: Global, rows: &Rows) -> Result<Slots, AllocError>
     Ok(Slots::from_vec(slots))
 }
 
+/// The value of a latch or memory that a table is.
 fn value(alloc: Global, sort: Sort, table: &Table) -> Result<Value, AllocError>
     ensures { IfOk result (λ v. v ≡ value_of_table sort table.now) }
 {
     match sort {
         Sort::Memory => Ok(Value::Memory(Memory {
-            default: word_of(table.default),
+            default: table.default.word(),
             rows: slots(alloc, &table.rows)?,
         })),
         Sort::Bool | Sort::Word => Ok(Value::Scalar(table.default)),
     }
 }
 
+/// The values of the latches and memories.
 fn state(alloc: Global, entries: &[Entry], tables: &[Table]) -> Result<State, AllocError>
     ensures { IfOk result (λ state. state
         ≡ map (λ p. value_of_table p.0.sort p.1) (zip entries.now tables.now)) }
@@ -118,6 +113,7 @@ fn state(alloc: Global, entries: &[Entry], tables: &[Table]) -> Result<State, Al
     Ok(State::from_vec(state))
 }
 
+/// The values of the inputs.
 fn inputs(alloc: Global, tables: &[Table]) -> Result<Inputs, AllocError>
     ensures { IfOk result (λ inputs. inputs ≡ map (λ t. t.default) tables.now) }
 {
@@ -148,10 +144,10 @@ pub fn case_from(alloc: Global, design: &Design, mut tables: Vec<Table>) -> Resu
 
 /// The value of a constant.
 fn constant(interp: &Interp, f: u32) -> u64
-    ensures { result ≡ word_of (table_of interp.now f).default }
+    ensures { result ≡ scalar_word (table_of interp.now f).default }
 {
     match interp.as_slice().get(f as usize) {
-        Some(table) => word_of(table.default),
+        Some(table) => table.default.word(),
         None => 0,
     }
 }

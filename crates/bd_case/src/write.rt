@@ -12,12 +12,13 @@ ghost use Rattle.bd_case.specs.Reads.{IsReading};
 ghost use Rattle.bd_case.specs.Text.{entry_line, input_nodes, state_line, state_nodes, state_text, symbol_nodes, text_of, version_text};
 
 use crate::frame::apart;
-use crate::kind::{Head, Kind, Version};
+use crate::kind::{EntryHead, EntryKind, Version};
 use crate::line::{push_scalar_entry, push_table, push_value};
 use bd_model::{Case, Design, Distinct, Entry, Port, Scalar, State, Symbol, Table, Value};
 use indexmap::IndexSet;
 use std::alloc::{AllocError, Global};
 
+/// The version in which the cases of a design are written.
 fn version_of(distinct: &Distinct) -> Version
     ensures { result ≡ version_of distinct.now }
 {
@@ -28,6 +29,7 @@ fn version_of(distinct: &Distinct) -> Version
     }
 }
 
+/// A version as it is written.
 fn version_text(version: Version) -> &'static [u8]
     ensures { result.now ≡ version_text version }
 {
@@ -54,7 +56,7 @@ fn push_symbols(
 {
     for f in 0..symbols.len().min(tables.len()) {
         let symbol = &symbols[f];
-        let kind = Kind::of_symbol(version, apart.contains(&f), symbol);
+        let kind = EntryKind::of_symbol(version, apart.contains(&f), symbol);
         out.extend_from_slice(b"\n ")?;
         push_table(out, kind.head, symbol.name.as_slice(), &tables[f])?;
     }
@@ -84,7 +86,7 @@ fn push_inputs(out: &mut Vec<u8>, ports: &[Port], inputs: &[Scalar]) -> Result<(
 {
     for (port, value) in ports.iter().zip(inputs) {
         out.extend_from_slice(b"\n ")?;
-        push_scalar_entry(out, Head::Input, port.name.as_slice(), *value)?;
+        push_scalar_entry(out, EntryHead::Input, port.name.as_slice(), *value)?;
     }
     Ok(())
 }

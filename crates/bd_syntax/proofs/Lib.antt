@@ -1,8 +1,8 @@
+pub mod EachForm
 pub mod Expressions
-pub mod Holding
 pub mod Limits
-pub mod Loop
 pub mod Names
 pub mod Numbers
+pub mod Results
 pub mod Views
 pub mod WellFormed

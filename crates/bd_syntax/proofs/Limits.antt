@@ -1,4 +1,4 @@
--- The trees of a text are no more than its bytes. (Belongs to the crate of texts.)
+-- The trees of a text are no more than its bytes.
 use Rattle.std.proofs.Common.{ℕ, ◌+◌, ◌<◌, ◌≤◌, List, length, arith}
 use Rattle.bd_text.specs.Nodes.{Node, atom, list, Nodes, no_nodes, node, node_count}
 use Rattle.bd_text.specs.Faults.{HasNoFault}

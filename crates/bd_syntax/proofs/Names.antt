@@ -7,7 +7,7 @@ use Rattle.std.proofs.lemmas.Bool.{leb-true, not-true}
 use Rattle.std.proofs.lemmas.Bool.Decides.{nat_tests}
 use Rattle.bd_model.specs.Name.{IsName, spells_name, keywords}
 use Rattle.bd_syntax.specs.Name.{is_name}
-use Rattle.bd_syntax.proofs.Holding.{split_and}
+use Rattle.bd_syntax.proofs.Results.{split_and}
 
 pub is_name-true : (text : List ℕ) → is_name text ≡ true → IsName text
 is_name-true text h =

@@ -4,16 +4,13 @@ use Rattle.bd_text.specs.Nodes.{node_count, Node, node, no_nodes, add_node, Node
 use Rattle.bd_text.specs.View.{node_of, nodes_of_all}
 use Rattle.bd_text.specs.declared.tree.Tree.{Tree}
 use Rattle.bd_text.proofs.Views.{node_count-nodes_of_all, nodes_of_all-push}
-use Rattle.bd_syntax.specs.Forms.{Expression, word, application, expression_count, expressions_from, expression_of, expressions_of, expressions_of_all}
+use Rattle.bd_syntax.specs.Forms.{Expression, application, expression_count, expressions_from, expression_of, expressions_of, expressions_of_all}
 use Rattle.bd_syntax.specs.Reading.{before_last, last_node}
 use Rattle.bd_syntax.specs.declared.form.Spot.{Spot}
 use Rattle.bd_syntax.specs.declared.form.Form.{Form}
-use Rattle.bd_syntax.specs.declared.form.Form.TheVariants.{Atom, List as ListOf}
+use Rattle.bd_syntax.specs.declared.form.Form.TheVariants.{List as ListOf}
 use Rattle.bd_syntax.specs.declared.form.Form.{the_lemmas}
 use Rattle.bd_syntax.specs.declared.form.Forms.{Forms}
-
-pub expression_of-Atom : (s : Spot) → expression_of (Atom s) ≡ word s
-expression_of-Atom s = search (rules, the_lemmas)
 
 pub expression_of-List : (offset : ℕ) (head : Spot) (parts : Forms) → expression_of (ListOf offset head parts) ≡ application offset head (expressions_of parts)
 expression_of-List offset head parts = search (rules, the_lemmas)

@@ -7,9 +7,9 @@ use Rattle.std.proofs.lemmas.Result.{IfOk-weaker}
 use Rattle.bd_text.specs.Nodes.{Node, atom, list, Nodes, no_nodes, node, node_count}
 use Rattle.bd_text.specs.Written.{nesting, nesting_inside}
 use Rattle.bd_syntax.specs.Name.{is_name}
-use Rattle.bd_syntax.specs.Words.{is_word, is_truth, head_of, head_takes, is_item_of, operator_of, operator_takes}
-use Rattle.bd_syntax.specs.Forms.{Expression, word, application, Expressions, expression, expression_count, ItemView, latch_item, memory_item, input_item, function_item, predicate_item, let_item, next_item, flush_item, steps_item, exact_item, distinct_item, AstView, InvView}
-use Rattle.bd_syntax.specs.Reading.{Fault, ◌>>=◌, spot, name_form, is_number, number_of, number_form, scalar_form, sort_form, first_form, others, each_form, operator_form, word_form, expression_form, argument_forms, expression_forms, latch_form, memory_form, input_form, function_form, predicate_form, let_form, next_form, flush_form, steps_form, exact_form, distinct_form, parts_form, head_form, item_form, headed_form, end_form, file_form, kind_word, kind_place, machine_form, before_last, last_node, value_form, invariant_form}
+use Rattle.bd_syntax.specs.Words.{same_text, is_truth, head_of, head_takes, is_item_of, operator_of, operator_takes}
+use Rattle.bd_syntax.specs.Forms.{Expression, leaf, application, Expressions, expression, expression_count, ItemView, latch_item, memory_item, input_item, function_item, predicate_item, let_item, next_item, flush_item, steps_item, exact_item, distinct_item, AstView, InvView}
+use Rattle.bd_syntax.specs.Reading.{Fault, ◌>>=◌, spot, name_form, is_number, number_of, number_form, scalar_form, sort_form, first_form, others, each_form, operator_form, leaf_form, expression_form, argument_forms, expression_forms, latch_form, memory_form, input_form, function_form, predicate_form, let_form, next_form, flush_form, steps_form, exact_form, distinct_form, parts_form, head_form, item_form, headed_form, end_form, file_form, kind_text, kind_place, machine_form, before_last, last_node, value_form, invariant_form}
 use Rattle.bd_syntax.specs.WellFormed.{IsHead, IsExpression, AreExpressions, IsNamed, IsScalar, IsItem, IsAst, IsInvAst, IsShort, AreShort, AreWithinLimits, expression_nesting, nesting_of_all, HasFewParts, HaveFewParts, IsLimited, IsLimitedItem, AreLimited, IsLimitedInvAst}
 use Rattle.bd_syntax.specs.declared.form.Spot.{Spot}
 use Rattle.bd_syntax.specs.declared.head.Head.{Head}
@@ -21,7 +21,7 @@ use Rattle.bd_model.specs.declared.design.Sort.TheVariants as sorts
 use Rattle.bd_syntax.specs.declared.ast.Kind.{Kind}
 use Rattle.bd_text.specs.declared.code.Code.TheVariants.{WrongHead, Malformed, NotName, NotNumber, NotOfThisFile}
 use Rattle.bd_syntax.proofs.Names.{is_name-true}
-use Rattle.bd_syntax.proofs.Holding.{holds_then, holds_if, holds_if_both, anything, split_and}
+use Rattle.bd_syntax.proofs.Results.{holds_then, holds_if, holds_if_both, anything, split_and}
 
 -- ---- atoms
 
@@ -44,7 +44,7 @@ two_sorts false false fault = tt
 
 scalar_holds : (t : Node) → IfOk (scalar_form t) IsScalar
 unfolding scalar_form
-scalar_holds (atom offset text) = two_sorts (is_word text (codes "word")) (is_word text (codes "bool")) (record { offset = offset; code = Malformed })
+scalar_holds (atom offset text) = two_sorts (same_text text (codes "word")) (same_text text (codes "bool")) (record { offset = offset; code = Malformed })
 scalar_holds (list offset parts) = tt
 
 -- ---- expressions
@@ -61,10 +61,10 @@ pub record KeepAll (ts : Nodes) (es : Expressions) : Type 0 where
   pub nesting : nesting_of_all es ≤ nesting_inside ts
   pub few : (most : ℕ) → AreShort most ts → HaveFewParts most es
 
-word_holds : (offset : ℕ) (text : List ℕ) → IfOk (word_form offset text) (Keeps (atom offset text))
-unfolding word_form
-word_holds offset text =
-    holds_if (Keeps (atom offset text)) (is_name text || is_truth text) (word (spot offset text)) (record { offset = offset; code = NotName })
+leaf_holds : (offset : ℕ) (text : List ℕ) → IfOk (leaf_form offset text) (Keeps (atom offset text))
+unfolding leaf_form
+leaf_holds offset text =
+    holds_if (Keeps (atom offset text)) (is_name text || is_truth text) (leaf (spot offset text)) (record { offset = offset; code = NotName })
     (λ h. record { formed = h; nesting = omega arith; few = λ most short. tt })
 
 operator_holds : (offset n : ℕ) (head : Spot) (operator : Option Operator) → operator_of head.text ≡ operator
@@ -96,7 +96,7 @@ application_kept offset parts head es is_head keeps = record {
 
 mutual
   pub expression_holds : (t : Node) → IfOk (expression_form t) (Keeps t)
-  expression_holds (atom offset text) = word_holds offset text
+  expression_holds (atom offset text) = leaf_holds offset text
   expression_holds (list offset parts) =
       let Q = Keeps (list offset parts) in
       holds_then (λ _. Unit {0}) Q (first_form offset parts) (λ first. operator_form offset first (node_count (others parts)) (operator_of first.text) >>= λ head. argument_forms parts >>= λ es. Ok (application offset head es)) (anything (first_form offset parts))
@@ -169,7 +169,7 @@ All-AllRead P Q f no_nodes (x ∷ xs) h = absurd h
 All-AllRead P Q f (node t ts) [] h = absurd h
 All-AllRead P Q f (node t ts) (x ∷ xs) h = (f t x h.0, All-AllRead P Q f ts xs h.1)
 
--- what holds of an item that was read from the parts behind its head
+-- what holds of an item that was read from the parts after its head
 abbrev IsRead : Place → Nodes → ItemView → Type 0
 IsRead place ts item = IsItem place item × (AreWithin ts → IsLimitedItem item)
 
@@ -317,7 +317,7 @@ headed_holds head (atom offset text) ts = tt
 headed_holds head (list offset no_nodes) ts = tt
 headed_holds head (list offset (node (list at inside) parts)) ts = tt
 headed_holds head (list offset (node (atom at text) parts)) ts =
-    holds_if (IsInside (node (list offset (node (atom at text) parts)) ts)) (is_word text head) (offset, parts) (record { offset = offset; code = WrongHead })
+    holds_if (IsInside (node (list offset (node (atom at text) parts)) ts)) (same_text text head) (offset, parts) (record { offset = offset; code = WrongHead })
     (λ _ limits. AreWithin-others (node (atom at text) parts) (AreWithin-inside offset (node (atom at text) parts) (omega (arith, limits.0)) limits.1.0))
 
 file_holds : (head : List ℕ) (trees : Nodes) → IfOk (file_form head trees) (IsInside trees)
@@ -330,7 +330,7 @@ pub machine_holds : (kind : Kind) (trees : Nodes) → IfOk (machine_form kind tr
 unfolding machine_form
 machine_holds kind trees =
     let Q : AstView → Type 0 = λ ast. IsAst ast × (AreWithinLimits trees → AreLimited ast.items) in
-    holds_then (IsInside trees) Q (file_form (kind_word kind) trees) (λ file. each_form (item_form (kind_place kind)) file.1 >>= λ items. Ok (record { kind = kind; offset = file.0; items = items })) (file_holds (kind_word kind) trees)
+    holds_then (IsInside trees) Q (file_form (kind_text kind) trees) (λ file. each_form (item_form (kind_place kind)) file.1 >>= λ items. Ok (record { kind = kind; offset = file.0; items = items })) (file_holds (kind_text kind) trees)
     (λ file inside. holds_then (AreItems (kind_place kind) file.1) Q (each_form (item_form (kind_place kind)) file.1) (λ items. Ok (record { kind = kind; offset = file.0; items = items })) (items_hold (kind_place kind) file.1)
     (λ items all. (all.0, λ limits. all.1 (inside limits))))
 

@@ -15,8 +15,8 @@ use Rattle.bd_syntax.specs.declared.ast.InvAst.{InvAst}
 mutual
   pub data Expression : Type 0 where
     -- a name, true or false
-    word : Spot → Expression
-    -- the offset of a list's parenthesis, its first word, and its other parts
+    leaf : Spot → Expression
+    -- the offset of a list's parenthesis, its first atom, and its other parts
     application : ℕ → Spot → Expressions → Expression
 
   pub data Expressions : Type 0 where
@@ -35,7 +35,7 @@ expressions_from (e ∷ es) = expression e (expressions_from es)
 
 -- one level, with what stands below it already seen
 abbrev pub form_step : Form-F Expression Expressions → Expression
-form_step (Form-F.Atom spot) = word spot
+form_step (Form-F.Atom spot) = leaf spot
 form_step (Form-F.List offset head parts) = application offset head parts
 
 abbrev pub forms_step : Forms-F Expression Expressions → Expressions

@@ -7,8 +7,8 @@ use Rattle.bd_text.specs.declared.code.Code.{Code}
 use Rattle.bd_text.specs.declared.code.Code.TheVariants.{WrongHead, Malformed, NotName, NotNumber, NotOfThisFile}
 use Rattle.bd_model.specs.Name.{is_digit}
 use Rattle.bd_syntax.specs.Name.{is_name}
-use Rattle.bd_syntax.specs.Words.{is_word, is_truth, head_of, head_takes, is_item_of, operator_of, operator_takes}
-use Rattle.bd_syntax.specs.Forms.{Expression, word, application, Expressions, no_expressions, expression, ItemView, latch_item, memory_item, input_item, function_item, predicate_item, let_item, next_item, flush_item, steps_item, exact_item, distinct_item, AstView, InvView}
+use Rattle.bd_syntax.specs.Words.{same_text, is_truth, head_of, head_takes, is_item_of, operator_of, operator_takes}
+use Rattle.bd_syntax.specs.Forms.{Expression, leaf, application, Expressions, no_expressions, expression, ItemView, latch_item, memory_item, input_item, function_item, predicate_item, let_item, next_item, flush_item, steps_item, exact_item, distinct_item, AstView, InvView}
 use Rattle.bd_syntax.specs.declared.form.Spot.{Spot}
 use Rattle.bd_syntax.specs.declared.fault.FormFault.{FormFault}
 use Rattle.bd_syntax.specs.declared.fault.FormFault.TheVariants as faults
@@ -82,14 +82,14 @@ number_form most t = do
 unfoldable pub scalar_form : Node → Result Sort Fault
 scalar_form t = do
   sort ← atom_form t
-  if is_word sort.text (codes "word") then Ok sorts.Word
-      else (if is_word sort.text (codes "bool") then Ok sorts.Bool else refused sort.offset Malformed)
+  if same_text sort.text (codes "word") then Ok sorts.Word
+      else (if same_text sort.text (codes "bool") then Ok sorts.Bool else refused sort.offset Malformed)
 
 -- the sort of a let
 unfoldable pub sort_form : Node → Result Sort Fault
 sort_form t = do
   sort ← atom_form t
-  if is_word sort.text (codes "memory") then Ok sorts.Memory else scalar_form t
+  if same_text sort.text (codes "memory") then Ok sorts.Memory else scalar_form t
 
 -- ---- lists
 
@@ -122,21 +122,21 @@ operator_form offset head parts None =
     if is_name head.text then Ok head else refused head.offset NotName
 
 -- a name, true or false
-unfoldable pub word_form : ℕ → List ℕ → Result Expression Fault
-word_form offset text =
-    if is_name text || is_truth text then Ok (word (spot offset text)) else refused offset NotName
+unfoldable pub leaf_form : ℕ → List ℕ → Result Expression Fault
+leaf_form offset text =
+    if is_name text || is_truth text then Ok (leaf (spot offset text)) else refused offset NotName
 
 abbrev mutual
-  -- a word, or a list whose first part is an operator or a name
+  -- a leaf, or a list whose first part is an operator or a name
   pub expression_form : Node → Result Expression Fault
-  expression_form (atom offset text) = word_form offset text
+  expression_form (atom offset text) = leaf_form offset text
   expression_form (list offset parts) = do
     first ← first_form offset parts
     head ← operator_form offset first (node_count (others parts)) (operator_of first.text)
     arguments ← argument_forms parts
     Ok (application offset head arguments)
 
-  -- the parts behind the first
+  -- the parts after the first
   pub argument_forms : Nodes → Result Expressions Fault
   argument_forms no_nodes = Ok no_expressions
   argument_forms (node t ts) = expression_forms ts
@@ -225,7 +225,7 @@ distinct_form offset ts = do
   names ← each_form name_form ts
   Ok (distinct_item offset names)
 
--- the parts behind the head of an item
+-- the parts after the head of an item
 abbrev pub parts_form : ℕ → Head → Nodes → Result ItemView Fault
 parts_form offset heads.Latch (node t (node u no_nodes)) = latch_form offset t u
 parts_form offset heads.Memory (node t no_nodes) = memory_form offset t
@@ -258,10 +258,10 @@ item_form place (list offset parts) = do
 
 -- ---- files
 
--- the offset of a list and the parts behind its first, which must be this word
+-- the offset of a list and the parts after its first, which must be this text
 abbrev pub headed_form : List ℕ → Node → Result (ℕ × Nodes) Fault
 headed_form head (list offset (node (atom at text) ts)) =
-    if is_word text head then Ok (offset, ts) else refused offset WrongHead
+    if same_text text head then Ok (offset, ts) else refused offset WrongHead
 headed_form head (list offset _) = refused offset WrongHead
 headed_form head (atom offset text) = refused offset WrongHead
 
@@ -274,7 +274,7 @@ abbrev pub end_form : Nodes → Result (Unit {0}) Fault
 end_form no_nodes = Ok tt
 end_form (node t ts) = refused (offset_of t) WrongHead
 
--- one tree, a list that begins with this word
+-- one tree, a list that begins with this text
 abbrev pub file_form : List ℕ → Nodes → Result (ℕ × Nodes) Fault
 file_form head no_nodes = refused 0 WrongHead
 file_form head (node t ts) = do
@@ -282,9 +282,9 @@ file_form head (node t ts) = do
   end ← end_form ts
   Ok inside
 
-abbrev pub kind_word : Kind → List ℕ
-kind_word kinds.Pipeline = codes "pipeline"
-kind_word kinds.Specification = codes "specification"
+abbrev pub kind_text : Kind → List ℕ
+kind_text kinds.Pipeline = codes "pipeline"
+kind_text kinds.Specification = codes "specification"
 
 abbrev pub kind_place : Kind → Place
 kind_place kinds.Pipeline = places.Pipeline
@@ -293,7 +293,7 @@ kind_place kinds.Specification = places.Specification
 -- (pipeline ITEM ..), (specification ITEM ..)
 unfoldable pub machine_form : Kind → Nodes → Result AstView Fault
 machine_form kind trees = do
-  file ← file_form (kind_word kind) trees
+  file ← file_form (kind_text kind) trees
   items ← each_form (item_form (kind_place kind)) file.1
   Ok (record { kind = kind; offset = file.0; items = items })
 

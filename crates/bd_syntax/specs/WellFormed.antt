@@ -2,11 +2,11 @@
 use Rattle.std.specs.Prelude.{◌≢◌, ℕ, ◌+◌, ◌≤◌, ◌||◌, max, List, length, Option, Some, None, IsTrue}
 use Rattle.std.specs.List.{AllByRecursion}
 use Rattle.bd_text.specs.Nodes.{Node, atom, list, Nodes, no_nodes, node, node_count}
-use Rattle.bd_text.specs.Written.{nesting_inside}
+use Rattle.bd_text.specs.Written.{AreShallow}
 use Rattle.bd_model.specs.Name.{IsName}
 use Rattle.bd_syntax.specs.Name.{is_name}
 use Rattle.bd_syntax.specs.Words.{is_truth, is_item_of, operator_of, operator_takes}
-use Rattle.bd_syntax.specs.Forms.{Expression, word, application, Expressions, no_expressions, expression, expression_count, ItemView, latch_item, memory_item, input_item, function_item, predicate_item, let_item, next_item, flush_item, steps_item, exact_item, distinct_item, AstView, InvView}
+use Rattle.bd_syntax.specs.Forms.{Expression, leaf, application, Expressions, no_expressions, expression, expression_count, ItemView, latch_item, memory_item, input_item, function_item, predicate_item, let_item, next_item, flush_item, steps_item, exact_item, distinct_item, AstView, InvView}
 use Rattle.bd_syntax.specs.Reading.{kind_place}
 use Rattle.bd_syntax.specs.declared.form.Spot.{Spot}
 use Rattle.bd_syntax.specs.declared.head.Head.{Head}
@@ -23,9 +23,9 @@ IsHead text parts (Some operator) = IsTrue (operator_takes operator parts)
 IsHead text parts None = IsName text
 
 abbrev mutual
-  -- words are names, true or false, and operators have as many parts as they take
+  -- leaves are names, true or false, and operators have as many parts as they take
   pub IsExpression : Expression → Type 0
-  IsExpression (word w) = IsTrue (is_name w.text || is_truth w.text)
+  IsExpression (leaf w) = IsTrue (is_name w.text || is_truth w.text)
   IsExpression (application offset head parts) =
       IsHead head.text (expression_count parts) (operator_of head.text) × AreExpressions parts
 
@@ -39,7 +39,7 @@ IsNamed name = IsName name.text
 abbrev pub IsScalar : Sort → Type 0
 IsScalar sort = sort ≢ sorts.Memory
 
--- the first word of an item
+-- what an item begins with
 abbrev pub item_head : ItemView → Head
 item_head (latch_item offset name sort) = heads.Latch
 item_head (memory_item offset name) = heads.Memory
@@ -96,12 +96,12 @@ abbrev mutual
 -- trees as a text of at most 1,048,576 bytes has them: at most 200 lists are open at once, and none is
 -- longer than the text may be
 abbrev pub AreWithinLimits : Nodes → Type 0
-AreWithinLimits trees = (nesting_inside trees ≤ 200) × AreShort 1048576 trees
+AreWithinLimits trees = AreShallow trees × AreShort 1048576 trees
 
 -- how many lists are open at most inside an expression
 abbrev mutual
   pub expression_nesting : Expression → ℕ
-  expression_nesting (word w) = 0
+  expression_nesting (leaf w) = 0
   expression_nesting (application offset head parts) = 1 + nesting_of_all parts
 
   pub nesting_of_all : Expressions → ℕ
@@ -111,7 +111,7 @@ abbrev mutual
 -- no list of parts is longer than so much
 abbrev mutual
   pub HasFewParts : ℕ → Expression → Type 0
-  HasFewParts most (word w) = Unit {0}
+  HasFewParts most (leaf w) = Unit {0}
   HasFewParts most (application offset head parts) =
       (expression_count parts ≤ most) × HaveFewParts most parts
 

@@ -1,4 +1,4 @@
--- The words of the files, and how many parts follow each. The language is this project's own.
+-- What lists begin with in the files, and how many parts follow each. The language is this project's own.
 use Rattle.std.specs.Prelude.{ℕ, Bool, true, false, ◌==◌, ◌||◌, List, [], ◌∷◌, Option, codes, nat_eq, nat_le, find}
 use lib.Pointwise.{pointwise}
 use Rattle.bd_syntax.specs.declared.head.Head.{Head}
@@ -8,22 +8,22 @@ use Rattle.bd_syntax.specs.declared.head.Place.TheVariants.{Pipeline, Specificat
 use Rattle.bd_syntax.specs.declared.operator.Operator.{Operator}
 use Rattle.bd_syntax.specs.declared.operator.Operator.TheVariants.{Not, And, Or, Implies, Iff, Equal, Ite, Read, Write}
 
--- whether a text is the word
-abbrev pub is_word : List ℕ → List ℕ → Bool
-is_word text word = pointwise nat_eq text word
+-- whether two texts are the same
+abbrev pub same_text : List ℕ → List ℕ → Bool
+same_text text other = pointwise nat_eq text other
 
-abbrev pub head_word : Head → List ℕ
-head_word Latch = codes "latch"
-head_word Memory = codes "memory"
-head_word Input = codes "input"
-head_word Function = codes "function"
-head_word Predicate = codes "predicate"
-head_word Let = codes "let"
-head_word Next = codes "next"
-head_word Flush = codes "flush"
-head_word Steps = codes "steps"
-head_word Exact = codes "exact"
-head_word Distinct = codes "distinct"
+abbrev pub head_text : Head → List ℕ
+head_text Latch = codes "latch"
+head_text Memory = codes "memory"
+head_text Input = codes "input"
+head_text Function = codes "function"
+head_text Predicate = codes "predicate"
+head_text Let = codes "let"
+head_text Next = codes "next"
+head_text Flush = codes "flush"
+head_text Steps = codes "steps"
+head_text Exact = codes "exact"
+head_text Distinct = codes "distinct"
 
 abbrev pub heads : List Head
 heads =
@@ -32,9 +32,9 @@ heads =
 
 -- the head that a text is
 unfoldable pub head_of : List ℕ → Option Head
-head_of text = find (λ head. is_word text (head_word head)) heads
+head_of text = find (λ head. same_text text (head_text head)) heads
 
--- how many parts stand behind it: (latch NAME SORT), (memory NAME), (input NAME SORT EXPR),
+-- how many parts follow it: (latch NAME SORT), (memory NAME), (input NAME SORT EXPR),
 -- (function NAME N), (predicate NAME N), (let NAME SORT EXPR), (next NAME EXPR), (flush N), (steps N),
 -- (exact N EXPR), (distinct NAME NAME ..)
 abbrev pub head_takes : Head → ℕ → Bool
@@ -61,23 +61,23 @@ is_item_of Specification head = true
 is_item_of Invariant Let = true
 is_item_of Invariant head = false
 
-abbrev pub operator_word : Operator → List ℕ
-operator_word Not = codes "not"
-operator_word And = codes "and"
-operator_word Or = codes "or"
-operator_word Implies = codes "implies"
-operator_word Iff = codes "iff"
-operator_word Equal = codes "="
-operator_word Ite = codes "ite"
-operator_word Read = codes "read"
-operator_word Write = codes "write"
+abbrev pub operator_text : Operator → List ℕ
+operator_text Not = codes "not"
+operator_text And = codes "and"
+operator_text Or = codes "or"
+operator_text Implies = codes "implies"
+operator_text Iff = codes "iff"
+operator_text Equal = codes "="
+operator_text Ite = codes "ite"
+operator_text Read = codes "read"
+operator_text Write = codes "write"
 
 abbrev pub operators : List Operator
 operators = Not ∷ And ∷ Or ∷ Implies ∷ Iff ∷ Equal ∷ Ite ∷ Read ∷ Write ∷ []
 
 -- the operator that a text is
 unfoldable pub operator_of : List ℕ → Option Operator
-operator_of text = find (λ operator. is_word text (operator_word operator)) operators
+operator_of text = find (λ operator. same_text text (operator_text operator)) operators
 
 -- how many parts it takes: (not P), (and P P ..), (or P P ..), (implies P Q), (iff P Q), (= A B),
 -- (ite P X Y), (read M A), (write M A D)
@@ -94,4 +94,4 @@ operator_takes Write parts = parts == 3
 
 -- true and false
 abbrev pub is_truth : List ℕ → Bool
-is_truth text = is_word text (codes "true") || is_word text (codes "false")
+is_truth text = same_text text (codes "true") || same_text text (codes "false")

@@ -1,6 +1,6 @@
 //! Atoms: names, numbers and sorts.
 
-ghost use Rattle.std.specs.Prelude.{◌≡◌, ◌≤◌};
+ghost use Rattle.std.specs.Prelude.{◌≡◌, ◌≤◌, IfOk};
 ghost use Rattle.bd_text.specs.View.{node_of};
 ghost use Rattle.bd_syntax.specs.Reading.{Gives, atom_form, name_form, number_form, scalar_form, sort_form, spot as spot_of};
 
@@ -13,7 +13,7 @@ use bd_text::{Bytes, Code, Tree};
 use std::alloc::Global;
 
 /// The offset and the bytes of an atom.
-fn atom(tree: &Tree) -> Result<(usize, &[u8]), FormFault>
+pub fn atom(tree: &Tree) -> Result<(usize, &[u8]), FormFault>
     ensures { Gives (λ a. spot_of a.0 a.1.now) result (atom_form (node_of tree.now)) }
 {
     match tree {
@@ -22,29 +22,39 @@ fn atom(tree: &Tree) -> Result<(usize, &[u8]), FormFault>
     }
 }
 
-pub fn spot(alloc: Global, offset: usize, text: &[u8]) -> Result<Spot, FormFault>
+/// A copy of an atom's bytes, with its offset.
+pub(crate) fn spot(alloc: Global, offset: usize, text: &[u8]) -> Result<Spot, FormFault>
     ensures { Gives (λ s. s) result (Ok (spot_of offset text.now)) }
 {
     let text = Bytes::from_vec(Vec::from_slice(alloc, text)?);
     Ok(Spot { offset, text })
 }
 
+/// The offset and the bytes of a name.
 #[tactic(auto, unfolding(crate::specs::Reading::name_form))]
-pub fn name(alloc: Global, tree: &Tree) -> Result<Spot, FormFault>
-    ensures { Gives (λ s. s) result (name_form (node_of tree.now)) }
+pub fn name_text(tree: &Tree) -> Result<(usize, &[u8]), FormFault>
+    ensures { Gives (λ a. spot_of a.0 a.1.now) result (name_form (node_of tree.now)) }
 {
     let (offset, text) = atom(tree)?;
     if !is_name(text) {
         return Err(bad(offset, Code::NotName));
     }
+    Ok((offset, text))
+}
+
+/// A name.
+pub(crate) fn name(alloc: Global, tree: &Tree) -> Result<Spot, FormFault>
+    ensures { Gives (λ s. s) result (name_form (node_of tree.now)) }
+{
+    let (offset, text) = name_text(tree)?;
     spot(alloc, offset, text)
 }
 
 /// A number of at most so much.
 #[tactic(auto, unfolding(crate::specs::Reading::number_form))]
-pub fn number(tree: &Tree, most: u32) -> Result<u32, FormFault>
-    requires { most ≤ 64 }
-    ensures { Gives (λ n. n) result (number_form most (node_of tree.now)) }
+pub fn number(tree: &Tree, most: u64) -> Result<u64, FormFault>
+    ensures exact { Gives (λ n. n) result (number_form most (node_of tree.now)) }
+    ensures within { IfOk result (λ n. n ≤ most) }
 {
     let (offset, text) = atom(tree)?;
     match number_within(text, most) {
@@ -53,9 +63,16 @@ pub fn number(tree: &Tree, most: u32) -> Result<u32, FormFault>
     }
 }
 
+/// A number of at most so much, where that has 32 bits.
+pub(crate) fn count(tree: &Tree, most: u32) -> Result<u32, FormFault>
+    ensures { Gives (λ n. n) result (number_form most (node_of tree.now)) }
+{
+    Ok(number(tree, u64::from(most))? as u32)
+}
+
 /// The sort of a latch or an input.
 #[tactic(auto, unfolding(crate::specs::Reading::scalar_form))]
-pub fn scalar(tree: &Tree) -> Result<Sort, FormFault>
+pub(crate) fn scalar(tree: &Tree) -> Result<Sort, FormFault>
     ensures { Gives (λ s. s) result (scalar_form (node_of tree.now)) }
 {
     let (offset, text) = atom(tree)?;
@@ -70,7 +87,7 @@ pub fn scalar(tree: &Tree) -> Result<Sort, FormFault>
 
 /// The sort of a let.
 #[tactic(auto, unfolding(crate::specs::Reading::sort_form))]
-pub fn sort(tree: &Tree) -> Result<Sort, FormFault>
+pub(crate) fn sort(tree: &Tree) -> Result<Sort, FormFault>
     ensures { Gives (λ s. s) result (sort_form (node_of tree.now)) }
 {
     let (_, text) = atom(tree)?;

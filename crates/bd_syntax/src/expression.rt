@@ -3,7 +3,7 @@
 ghost use Rattle.std.specs.Prelude.{◌≡◌, ◌||◌};
 ghost use Rattle.bd_text.specs.View.{node_of};
 ghost use Rattle.bd_syntax.specs.Forms.{expression_of};
-ghost use Rattle.bd_syntax.specs.Reading.{Gives, expression_form, operator_form, spot as spot_of, word_form};
+ghost use Rattle.bd_syntax.specs.Reading.{Gives, expression_form, operator_form, spot as spot_of, leaf_form};
 ghost use Rattle.bd_syntax.specs.Words.{is_truth, operator_of};
 
 use crate::atoms::spot;
@@ -14,16 +14,17 @@ use crate::{Form, FormFault, Forms, Operator};
 use bd_text::{Code, Tree};
 use std::alloc::Global;
 
+/// Whether a text is `true` or `false`.
 fn is_truth(text: &[u8]) -> bool
     ensures { result ≡ is_truth text.now }
 {
     text == b"true".as_slice() || text == b"false".as_slice()
 }
 
-/// A name, `true` or `false`.
-#[tactic(auto, unfolding(crate::specs::Reading::word_form))]
-fn word(alloc: Global, offset: usize, text: &[u8]) -> Result<Form, FormFault>
-    ensures { Gives expression_of result (word_form offset text.now) }
+/// The expression of an atom: a name, `true` or `false`.
+#[tactic(auto, unfolding(crate::specs::Reading::leaf_form))]
+fn leaf(alloc: Global, offset: usize, text: &[u8]) -> Result<Form, FormFault>
+    ensures { Gives expression_of result (leaf_form offset text.now) }
 {
     if !is_name(text) && !is_truth(text) {
         return Err(bad(offset, Code::NotName));
@@ -31,15 +32,15 @@ fn word(alloc: Global, offset: usize, text: &[u8]) -> Result<Form, FormFault>
     Ok(Form::Atom(spot(alloc, offset, text)?))
 }
 
-/// Tests the word that a list begins with: an operator with as many parts as it takes, or a name.
-fn test_head(offset: usize, at: usize, word: &[u8], parts: usize) -> Result<(), FormFault>
-    ensures { Gives (λ _. spot_of at word.now) result
-        (operator_form offset (spot_of at word.now) parts (operator_of word.now)) }
+/// Tests what a list begins with: an operator with as many parts as it takes, or a name.
+fn test_head(offset: usize, at: usize, text: &[u8], parts: usize) -> Result<(), FormFault>
+    ensures { Gives (λ _. spot_of at text.now) result
+        (operator_form offset (spot_of at text.now) parts (operator_of text.now)) }
 {
-    match Operator::from_text(word) {
+    match Operator::from_text(text) {
         Some(operator) if operator.takes(parts) => Ok(()),
         Some(_) => Err(bad(offset, Code::Malformed)),
-        None if is_name(word) => Ok(()),
+        None if is_name(text) => Ok(()),
         None => Err(bad(at, Code::NotName)),
     }
 }
@@ -49,11 +50,11 @@ pub fn expression(alloc: Global, tree: &Tree) -> Result<Form, FormFault>
     ensures { Gives expression_of result (expression_form (node_of tree.now)) }
 {
     match tree {
-        Tree::Atom { offset, text } => word(alloc, *offset, text.as_slice()),
+        Tree::Atom { offset, text } => leaf(alloc, *offset, text.as_slice()),
         Tree::List { offset, parts } => {
             let list = open(*offset, parts)?;
-            test_head(*offset, list.at, list.word, list.parts.len())?;
-            let head = spot(alloc, list.at, list.word)?;
+            test_head(*offset, list.at, list.first, list.parts.len())?;
+            let head = spot(alloc, list.at, list.first)?;
             let mut parts = Vec::new(alloc);
             for part in list.parts {
                 parts.push(expression(alloc, part)?)?;

@@ -39,6 +39,7 @@ impl<T: Drop> From<AllocFailed<T>> for FormFault {
     }
 }
 
+/// The fault of a code at an offset.
 pub fn bad(offset: usize, code: Code) -> FormFault
     ensures { result ≡ FormFault.Bad offset code }
 {

@@ -5,7 +5,7 @@ ghost use Rattle.bd_syntax.specs.Forms.{expressions_of, expressions_of_all, expr
 
 use bd_text::Bytes;
 
-/// A word of a file, and where it stands.
+/// An atom of a file, and where it stands.
 #[derive(Debug, PartialEq, Eq, Drop)]
 pub struct Spot {
     /// The offset of its first byte.
@@ -26,7 +26,7 @@ pub enum Form {
         offset: usize,
         /// The operator or name.
         head: Spot,
-        /// The parts behind it.
+        /// The parts after it.
         parts: Forms,
     },
 }

@@ -1,9 +1,9 @@
 //! The heads of items.
 
 ghost use Rattle.std.specs.Prelude.{◌≡◌};
-ghost use Rattle.bd_syntax.specs.Words.{head_of, head_takes, head_word, is_item_of};
+ghost use Rattle.bd_syntax.specs.Words.{head_of, head_takes, head_text, is_item_of};
 
-/// The first word of an item.
+/// What an item begins with.
 #[derive(Clone, Copy, Debug, PartialEq, Eq)]
 pub enum Head {
     Latch,
@@ -45,8 +45,9 @@ const HEADS: [Head; 11] = [
 ];
 
 impl Head {
-    fn word(self) -> &'static [u8]
-        ensures { result.now ≡ head_word self }
+    /// Its text.
+    fn text(self) -> &'static [u8]
+        ensures { result.now ≡ head_text self }
     {
         match self {
             Head::Latch => b"latch",
@@ -68,10 +69,10 @@ impl Head {
     pub fn from_text(text: &[u8]) -> Option<Head>
         ensures { result ≡ head_of text.now }
     {
-        HEADS.iter().copied().find(|head| text == head.word())
+        HEADS.iter().copied().find(|head| text == head.text())
     }
 
-    /// Whether it has so many parts behind it.
+    /// Whether it has so many parts after it.
     pub fn takes(self, parts: usize) -> bool
         ensures { result ≡ head_takes self parts }
     {

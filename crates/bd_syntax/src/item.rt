@@ -4,7 +4,7 @@ use crate::{Form, Spot};
 use bd_list::Sequence;
 use bd_model::Sort;
 
-/// Words of a file, in its order.
+/// Atoms of a file, in its order.
 pub type Spots = Sequence<Spot>;
 
 /// An item. Each has the offset of its `(`.

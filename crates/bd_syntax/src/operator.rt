@@ -1,7 +1,7 @@
 //! The operators of expressions.
 
 ghost use Rattle.std.specs.Prelude.{◌≡◌};
-ghost use Rattle.bd_syntax.specs.Words.{operator_of, operator_takes, operator_word};
+ghost use Rattle.bd_syntax.specs.Words.{operator_of, operator_takes, operator_text};
 
 /// An operator of expressions.
 #[derive(Clone, Copy, Debug, PartialEq, Eq)]
@@ -30,8 +30,9 @@ const OPERATORS: [Operator; 9] = [
 ];
 
 impl Operator {
-    fn word(self) -> &'static [u8]
-        ensures { result.now ≡ operator_word self }
+    /// Its text.
+    fn text(self) -> &'static [u8]
+        ensures { result.now ≡ operator_text self }
     {
         match self {
             Operator::Not => b"not",
@@ -54,7 +55,7 @@ impl Operator {
         OPERATORS
             .iter()
             .copied()
-            .find(|operator| text == operator.word())
+            .find(|operator| text == operator.text())
     }
 
     /// Whether it may have so many parts.

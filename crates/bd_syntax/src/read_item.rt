@@ -77,7 +77,7 @@ fn function(alloc: Global, offset: usize, parts: &[Tree]) -> Result<Item, FormFa
     Ok(Item::Function {
         offset,
         name: atoms::name(alloc, name)?,
-        arity: atoms::number(arity, MAX_ARITY)?,
+        arity: atoms::count(arity, MAX_ARITY)?,
     })
 }
 
@@ -91,7 +91,7 @@ fn predicate(alloc: Global, offset: usize, parts: &[Tree]) -> Result<Item, FormF
     Ok(Item::Predicate {
         offset,
         name: atoms::name(alloc, name)?,
-        arity: atoms::number(arity, MAX_ARITY)?,
+        arity: atoms::count(arity, MAX_ARITY)?,
     })
 }
 
@@ -132,7 +132,7 @@ fn flush(offset: usize, parts: &[Tree]) -> Result<Item, FormFault>
 {
     Ok(Item::Flush {
         offset,
-        count: atoms::number(one(parts), MAX_FLUSH)?,
+        count: atoms::count(one(parts), MAX_FLUSH)?,
     })
 }
 
@@ -144,7 +144,7 @@ fn steps(offset: usize, parts: &[Tree]) -> Result<Item, FormFault>
 {
     Ok(Item::Steps {
         offset,
-        count: atoms::number(one(parts), MAX_STEPS)?,
+        count: atoms::count(one(parts), MAX_STEPS)?,
     })
 }
 
@@ -157,7 +157,7 @@ fn exact(alloc: Global, offset: usize, parts: &[Tree]) -> Result<Item, FormFault
     let (count, when) = two(parts);
     Ok(Item::Exact {
         offset,
-        count: atoms::number(count, MAX_STEPS)?,
+        count: atoms::count(count, MAX_STEPS)?,
         when: expression(alloc, when)?,
     })
 }
@@ -204,12 +204,12 @@ fn item_of_head(alloc: Global, offset: usize, head: Head, parts: &[Tree]) -> Res
     }
 }
 
-/// The head that a word is, where so many parts may follow it and it may stand in that place.
-fn head_of(place: Place, offset: usize, word: &[u8], parts: usize) -> Result<Head, FormFault>
-    ensures head { Gives (λ head. head) result (head_form place offset parts (head_of word.now)) }
+/// The head that a text is, where so many parts may follow it and it may stand in that place.
+fn head_of(place: Place, offset: usize, text: &[u8], parts: usize) -> Result<Head, FormFault>
+    ensures head { Gives (λ head. head) result (head_form place offset parts (head_of text.now)) }
     ensures takes { IfOk result (λ head. head_takes head parts ≡ true) }
 {
-    match Head::from_text(word) {
+    match Head::from_text(text) {
         Some(head) if !head.takes(parts) => Err(bad(offset, Code::Malformed)),
         Some(head) if !head.is_item_of(place) => Err(bad(offset, Code::NotOfThisFile)),
         Some(head) => Ok(head),
@@ -226,7 +226,7 @@ fn item(alloc: Global, place: Place, tree: &Tree) -> Result<Item, FormFault>
         Tree::Atom { offset, .. } => Err(bad(*offset, Code::Malformed)),
         Tree::List { offset, parts } => {
             let list = open(*offset, parts)?;
-            let head = head_of(place, *offset, list.word, list.parts.len())?;
+            let head = head_of(place, *offset, list.first, list.parts.len())?;
             item_of_head(alloc, *offset, head, list.parts)
         }
     }

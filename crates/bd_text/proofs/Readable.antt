@@ -8,9 +8,9 @@ use Rattle.bd_text.specs.Layout.{IsSeparator, IsAtomByte, read_at}
 use Rattle.bd_text.specs.Grammar.{IsRun, TreeAt, TreesAt, Spells}
 use Rattle.bd_text.specs.Faults.{HasDepth, HasNoFault}
 use Rattle.bd_text.specs.Nodes.{Node, atom, list, Nodes, no_nodes, node}
-use Rattle.bd_text.specs.Written.{HasWords, HaveWords, AreReadable, nesting, nesting_inside}
+use Rattle.bd_text.specs.Written.{HasPlainAtoms, HavePlainAtoms, AreReadable, nesting, nesting_inside}
 use Rattle.bd_text.proofs.Comments.{up_from}
-use Rattle.bd_text.proofs.Counting.{depth_open, depth_close, depth_other}
+use Rattle.bd_text.proofs.Depths.{depth_open, depth_close, depth_other}
 use Rattle.bd_text.proofs.FirstFaults.{read_is}
 use Rattle.bd_text.proofs.Steps.{past_end, separator_allowed}
 use Rattle.bd_text.specs.declared.code.Code.TheVariants.{TooDeep}
@@ -31,8 +31,8 @@ separator_plain b h =
     let a = separator_allowed b h in
     (elim h [ inl e ↦ omega arith | inr h ↦ elim h [ inl e ↦ omega arith | inr h ↦ elim h [ inl e ↦ omega arith | inr e ↦ omega arith ] ] ], a.1, a.2)
 
-run_words : (s : List ℕ) (i j : ℕ) (text : List ℕ) → IsRun s i j → text ≡ slice_range s i j → (0 < length text) × All IsAtomByte text
-run_words s i j text run e =
+run_plain : (s : List ℕ) (i j : ℕ) (text : List ℕ) → IsRun s i j → text ≡ slice_range s i j → (0 < length text) × All IsAtomByte text
+run_plain s i j text run e =
     let last = run.each (j - 1) (omega (arith, run.nonempty)) (omega (arith, run.nonempty)) in
     let within : j - 1 < length s = inside_text s (j - 1) (λ z. absurd (omega (arith, last.0))) in
     let long : length (take (j - i) (drop i s)) ≡ j - i = length-take-le (j - i) (drop i s) (omega (arith, length-drop i s)) in
@@ -45,9 +45,9 @@ run_words s i j text run e =
     (omega (arith, long, ap length e, run.nonempty), subst (λ x. All IsAtomByte x) (sym e) all)
 
 mutual
-  tree_readable : (s : List ℕ) (i j d : ℕ) (t : Node) → HasNoFault s → HasDepth s i d → d ≤ 200 → TreeAt s i j t → HasWords t × (d + nesting t ≤ 200) × HasDepth s j d
+  tree_readable : (s : List ℕ) (i j d : ℕ) (t : Node) → HasNoFault s → HasDepth s i d → d ≤ 200 → TreeAt s i j t → HasPlainAtoms t × (d + nesting t ≤ 200) × HasDepth s j d
   tree_readable s i j d (atom o text) fine depth room h = (
-    run_words s i j text h.1 h.2,
+    run_plain s i j text h.1 h.2,
     omega arith,
     keeps_depth s i j d (omega (arith, h.1.nonempty)) (λ k low high. let b = h.1.each k low high in (λ e. absurd (omega (arith, b.0)), b.2, b.3)) depth,
   )
@@ -59,7 +59,7 @@ mutual
       let closed = depth_close s k d (inside_text s k (λ e. absurd (omega (arith, h.2.2)))) h.2.2 inner.2 in
       (inner.0, omega (arith, inner.1), subst (λ n. HasDepth s n d) (sym h.2.3) closed)
 
-  trees_readable : (s : List ℕ) (i j d : ℕ) (ts : Nodes) → HasNoFault s → HasDepth s i d → d ≤ 200 → TreesAt s i j ts → HaveWords ts × (d + nesting_inside ts ≤ 200) × HasDepth s j d
+  trees_readable : (s : List ℕ) (i j d : ℕ) (ts : Nodes) → HasNoFault s → HasDepth s i d → d ≤ 200 → TreesAt s i j ts → HavePlainAtoms ts × (d + nesting_inside ts ≤ 200) × HasDepth s j d
   trees_readable s i j d no_nodes fine depth room h =
       (tt, omega arith, keeps_depth s i j d h.ordered (λ k low high. separator_plain (read_at s k) (h.blank k low high)) depth)
   trees_readable s i j d (node t ts) fine depth room h =

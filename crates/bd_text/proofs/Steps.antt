@@ -6,12 +6,12 @@ use Rattle.bd_text.specs.Layout.{IsAllowed, IsSeparator, IsAtomByte, without_com
 use Rattle.bd_text.specs.Grammar.{IsBlank, IsRun, TreeAt, Spells}
 use Rattle.bd_text.specs.Faults.{HasDepth, IsFault, HasNoFault, IsFirstFault}
 use Rattle.bd_text.specs.Nodes.{atom, list, Nodes, no_nodes, add_node}
-use Rattle.bd_text.specs.inner.Progress.{IsReadTo, IsWord, IsComment}
+use Rattle.bd_text.specs.inner.Progress.{IsReadTo, IsAtomRun, IsComment}
 use Rattle.bd_text.specs.declared.code.Code.{Code}
 use Rattle.bd_text.specs.declared.code.Code.TheVariants.{ByteNotAllowed, Unbalanced, TooDeep}
 use Rattle.bd_text.proofs.Comments.{up_from, length-without_comments, IsOutside, IsInside, read_outside, read_semicolon, read_inside, leave_comment}
-use Rattle.bd_text.proofs.Counting.{IsFaultless, depth_open, depth_close, depth_other, no_fault_at, faultless_next}
-use Rattle.bd_text.proofs.Joining.{open_then_blank, open_then_tree, open_then_open, open_then_close}
+use Rattle.bd_text.proofs.Depths.{IsFaultless, depth_open, depth_close, depth_other, no_fault_at, faultless_next}
+use Rattle.bd_text.proofs.Adjacent.{open_then_blank, open_then_tree, open_then_open, open_then_close}
 
 pub past_end : (s : List ℕ) (i : ℕ) → length s ≤ i → read_at s i ≡ 0
 past_end s i past = get_or_past (without_comments s) i 0 (omega (arith, length-without_comments s))
@@ -83,7 +83,7 @@ no_atom_after s i out plain h = elim (cases_lt i (length s)) [
   | inr past ↦ let is = past_end s i past in absurd (omega (arith, h.0))
 ]
 
-pub step_atom : (s : List ℕ) (at end : ℕ) (parts : Nodes) (ls : List (ℕ × Nodes)) → IsReadTo s at parts ls → IsWord s at end
+pub step_atom : (s : List ℕ) (at end : ℕ) (parts : Nodes) (ls : List (ℕ × Nodes)) → IsReadTo s at parts ls → IsAtomRun s at end
     → IsReadTo s end (add_node parts (atom at (slice_range s at end))) ls
 step_atom s at end parts ls r w =
     let n = end - at in

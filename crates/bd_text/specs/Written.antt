@@ -45,20 +45,24 @@ abbrev mutual
 
 -- each atom has a byte, and only bytes of atoms
 abbrev mutual
-  pub HasWords : Node → Type 0
-  HasWords (atom offset text) = (0 < length text) × All IsAtomByte text
-  HasWords (list offset parts) = HaveWords parts
+  pub HasPlainAtoms : Node → Type 0
+  HasPlainAtoms (atom offset text) = (0 < length text) × All IsAtomByte text
+  HasPlainAtoms (list offset parts) = HavePlainAtoms parts
 
-  pub HaveWords : Nodes → Type 0
-  HaveWords no_nodes = Unit {0}
-  HaveWords (node t ts) = HasWords t × HaveWords ts
+  pub HavePlainAtoms : Nodes → Type 0
+  HavePlainAtoms no_nodes = Unit {0}
+  HavePlainAtoms (node t ts) = HasPlainAtoms t × HavePlainAtoms ts
+
+-- at most 200 lists are open at once
+abbrev pub AreShallow : Nodes → Type 0
+AreShallow ts = nesting_inside ts ≤ 200
 
 -- a tree that reading can give
 abbrev pub IsReadable : Node → Type 0
-IsReadable t = HasWords t × (nesting t ≤ 200)
+IsReadable t = HasPlainAtoms t × (nesting t ≤ 200)
 
 abbrev pub AreReadable : Nodes → Type 0
-AreReadable ts = HaveWords ts × (nesting_inside ts ≤ 200)
+AreReadable ts = HavePlainAtoms ts × AreShallow ts
 
 -- the tree with every offset 0: its shape and its atoms
 abbrev mutual

@@ -14,6 +14,3 @@ pub use fault::TextFault;
 pub use read::read_trees;
 pub use tree::{Bytes, Tree, Trees};
 pub use write::write_tree;
-
-#[cfg(test)]
-mod tests;

@@ -11,8 +11,9 @@ ghost use Rattle.bd_text.specs.Layout.{IsAllowed, IsAtomByte, IsSeparator};
 ghost use Rattle.bd_text.specs.Faults.{HasNoFault, IsFirstFault, OnBad};
 ghost use Rattle.bd_text.specs.Grammar.{Spells};
 ghost use Rattle.bd_text.specs.Nodes.{atom, add_node};
-ghost use Rattle.bd_text.specs.inner.Progress.{ClosesList, HasRead, IsComment, IsWord, openings_of};
+ghost use Rattle.bd_text.specs.inner.Progress.{ClosesList, HasRead, IsComment, IsAtomRun, openings_of};
 ghost use Rattle.bd_text.specs.View.{nodes_of, nodes_of_all};
+ghost use Rattle.bd_text.specs.Written.{AreShallow};
 
 use crate::{Bytes, Code, TextFault, Tree, Trees};
 use std::alloc::Global;
@@ -21,6 +22,7 @@ use std::mem;
 /// How many lists may be open at once.
 const MAX_DEPTH: usize = 200;
 
+/// A fault at an offset.
 fn bad(offset: usize, code: Code) -> TextFault
     ensures { result ≡ TextFault.Bad offset code }
 {
@@ -43,6 +45,7 @@ struct Reader {
 }
 
 impl Reader {
+    /// A reader that has read nothing.
     fn new(alloc: Global) -> Reader
         ensures parts { result.parts.items ≡ [] }
         ensures open_lists { result.open_lists.items ≡ [] }
@@ -114,7 +117,7 @@ impl Reader {
     fn read_atom(&mut self, bytes: &[u8], at: usize) -> Result<usize, TextFault>
         requires inside { at < length bytes.now }
         requires begins { IsAtomByte (slice_index bytes.now at) }
-        ensures ok { IfOk result (λ end. IsWord bytes.now at end
+        ensures ok { IfOk result (λ end. IsAtomRun bytes.now at end
             × (nodes_of_all self.new.parts.items
             ≡ add_node (nodes_of_all self.old.parts.items) (atom at (slice_range bytes.now at end)))
             × (self.new.open_lists.items ≡ self.old.open_lists.items)) }
@@ -145,6 +148,7 @@ impl Reader {
     }
 }
 
+/// Whether a byte separates trees.
 fn is_separator(byte: u8) -> bool
     ensures separator { IsTrue result → IsSeparator byte }
     ensures other { (result ≡ false) → ¬ IsSeparator byte }
@@ -152,6 +156,7 @@ fn is_separator(byte: u8) -> bool
     matches!(byte, b' ' | b'\t' | b'\r' | b'\n')
 }
 
+/// Whether a byte may stand in an atom.
 fn is_atom_byte(byte: u8) -> bool
     ensures atom_byte { IsTrue result → IsAtomByte byte }
     ensures other { (result ≡ false) → ¬ IsAtomByte byte }
@@ -159,6 +164,7 @@ fn is_atom_byte(byte: u8) -> bool
     matches!(byte, b'!'..=b'~') && !matches!(byte, b'(' | b')' | b';')
 }
 
+/// Whether a byte may stand in a text.
 fn is_allowed(byte: u8) -> bool
     ensures allowed { IsTrue result → IsAllowed byte }
     ensures other { (result ≡ false) → ¬ IsAllowed byte }
@@ -170,7 +176,7 @@ fn is_allowed(byte: u8) -> bool
 fn atom_end(bytes: &[u8], at: usize) -> usize
     requires inside { at < length bytes.now }
     requires begins { IsAtomByte (slice_index bytes.now at) }
-    ensures { IsWord bytes.now at result }
+    ensures { IsAtomRun bytes.now at result }
 {
     for end in at + 1..bytes.len() {
         if !is_atom_byte(bytes[end]) {
@@ -210,6 +216,7 @@ fn comment_end(bytes: &[u8], at: usize) -> Result<usize, TextFault>
 pub fn read_trees(alloc: Global, bytes: &[u8]) -> Result<Trees, TextFault>
     ensures no_fault { IfOk result (λ _. HasNoFault bytes.now) }
     ensures trees { IfOk result (λ trees. Spells bytes.now (nodes_of trees)) }
+    ensures shallow { IfOk result (λ trees. AreShallow (nodes_of trees)) }
     ensures fault { IfErr result (λ fault. OnBad fault (IsFirstFault bytes.now)) }
 {
     let mut reader = Reader::new(alloc);

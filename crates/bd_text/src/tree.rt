@@ -14,7 +14,7 @@ pub type Bytes = Sequence<u8>;
 #[derive(Debug, PartialEq, Eq, Drop)]
 #[cycle(tree)]
 pub enum Tree {
-    /// A word of the text.
+    /// A run of bytes other than parentheses, semicolons and separators.
     Atom {
         /// Where its first byte stands.
         offset: usize,

@@ -22,7 +22,7 @@ use Rattle.bd_typer.specs.Given.{IsMachineFile, IsInvFile}
 use Rattle.bd_typer.specs.Joined.{joined}
 use Rattle.bd_typer.proofs.Faultless.{in_file_ok}
 use Rattle.bd_typer.proofs.Lawfulness.{joined_lawful}
-use Rattle.bd_typer.proofs.Readings.{machine_file, inv_file}
+use Rattle.bd_typer.proofs.ReadFiles.{machine_file, inv_file}
 use Rattle.bd_typer.proofs.Sound.{then_ok}
 
 -- what joining returns is lawful

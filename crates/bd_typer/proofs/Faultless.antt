@@ -4,7 +4,7 @@ use Rattle.std.specs.List.{filter_map, cons_option, AllByRecursion}
 use Rattle.bd_text.specs.declared.code.Code.TheVariants.{DeclaredTwice, MissingOrTwice, NotInPipeline, FunctionDiffers}
 use Rattle.bd_model.specs.declared.design.Sort.TheVariants as sorts
 use Rattle.bd_model.specs.declared.design.Entry as entry
-use Rattle.bd_syntax.specs.Words.{is_word}
+use Rattle.bd_syntax.specs.Words.{same_text}
 use Rattle.bd_syntax.specs.Forms.{ItemView, latch_item, memory_item, input_item, function_item, predicate_item, let_item, next_item, flush_item, steps_item, exact_item, distinct_item, AstView}
 use Rattle.bd_syntax.specs.Reading.{Fault}
 use Rattle.bd_syntax.specs.declared.form.Spot.{Spot}
@@ -12,10 +12,10 @@ use Rattle.bd_typer.specs.declared.fault.Text.{Text}
 use Rattle.bd_typer.specs.Faults.{in_file, fault, faults_at, is_before, first_of, least, refused_by, without_faults}
 use Rattle.bd_typer.specs.Declarations.{declared_name, entry_name, next_name, offsets, name_faults, next_faults, count_faults, declaration_faults}
 use Rattle.bd_typer.specs.Across.{agrees, is_entry, offset_unless, missing_entry, differing_symbol, across_faults}
-use Rattle.bd_typer.specs.Names.{Names, no_names}
-use Rattle.bd_typer.specs.Repeats.{Texts, no_texts, with_text, with_names, repeated, fresh}
-use Rattle.bd_typer.proofs.Lists.{is_word-true}
-use Rattle.bd_typer.proofs.Scoping.{Agrees, declared_entry}
+use Rattle.bd_typer.specs.NameMap.{NameMap, no_names}
+use Rattle.bd_typer.specs.Repeats.{NameSet, no_texts, with_text, with_names, repeated, fresh}
+use Rattle.bd_typer.proofs.Lists.{same_text-true}
+use Rattle.bd_typer.proofs.DeclaredNames.{Agrees, declared_entry}
 
 pub in_file_ok : {A : Type 0} (file : Text) (r : Result A Fault) (x : A) → in_file file r ≡ Ok x → r ≡ Ok x
 in_file_ok file (Ok y) x h = let e : y ≡ x = cc h in ap Ok e
@@ -64,16 +64,16 @@ is_declared ast h =
     }
 
 -- names of which none is new stand in the set
-none_fresh : (given before : Texts) (names : List Spot) → ((q : List ℕ) → before q ≡ true → given q ≡ true) → fresh before names ≡ [] → AllByRecursion (λ (n : Spot). given n.text ≡ true) names
+none_fresh : (given before : NameSet) (names : List Spot) → ((q : List ℕ) → before q ≡ true → given q ≡ true) → fresh before names ≡ [] → AllByRecursion (λ (n : Spot). given n.text ≡ true) names
 none_fresh given before [] within h = tt
 none_fresh given before (name ∷ names) within h =
     let first = stands (before name.text) refl h in
     let there = within name.text first.0 in
     (there, none_fresh given (with_text before name.text) names (more there) first.1) where
       more : given name.text ≡ true → (q : List ℕ) → with_text before name.text q ≡ true → given q ≡ true
-      more there q = by_word (is_word name.text q) refl where
-        by_word : (b : Bool) → is_word name.text q ≡ b → cond b true (before q) ≡ true → given q ≡ true
-        by_word true e g = subst (λ t. given t ≡ true) (is_word-true name.text q e) there
+      more there q = by_word (same_text name.text q) refl where
+        by_word : (b : Bool) → same_text name.text q ≡ b → cond b true (before q) ≡ true → given q ≡ true
+        by_word true e g = subst (λ t. given t ≡ true) (same_text-true name.text q e) there
         by_word false e g = within q g
 
       stands : (b : Bool) → before name.text ≡ b → cond b (fresh (with_text before name.text) names) (name ∷ fresh (with_text before name.text) names) ≡ [] → (before name.text ≡ true) × (fresh (with_text before name.text) names ≡ [])
@@ -98,7 +98,7 @@ entries_named P (distinct_item offset names ∷ items) h = entries_named P items
 -- each latch and memory has a next
 pub entries_given : (items : List ItemView) → IsDeclared items → AllByRecursion (λ (e : entry.Entry). with_names no_texts (filter_map next_name items) e.name ≡ true) (filter_map declared_entry items)
 entries_given items h =
-    let given : Texts = with_names no_texts (filter_map next_name items) in
+    let given : NameSet = with_names no_texts (filter_map next_name items) in
     entries_named (λ q. given q ≡ true) items (none_fresh given given (filter_map entry_name items) (λ q g. g) h.nexts)
 
 -- ---- across files
@@ -121,7 +121,7 @@ agree_alone (steps_item offset count ∷ items) = (tt, agree_alone items)
 agree_alone (exact_item offset count when ∷ items) = (tt, agree_alone items)
 agree_alone (distinct_item offset names ∷ items) = (tt, agree_alone items)
 
-item_agrees : (pipe : Names) (item : ItemView) → differing_symbol pipe item ≡ None → Agrees pipe item
+item_agrees : (pipe : NameMap) (item : ItemView) → differing_symbol pipe item ≡ None → Agrees pipe item
 item_agrees pipe (latch_item offset name sort) h = tt
 item_agrees pipe (memory_item offset name) h = tt
 item_agrees pipe (input_item offset name sort idle) h = tt
@@ -134,17 +134,17 @@ item_agrees pipe (steps_item offset count) h = tt
 item_agrees pipe (exact_item offset count when) h = tt
 item_agrees pipe (distinct_item offset names) h = tt
 
-agree_all : (pipe : Names) (items : List ItemView) → filter_map (differing_symbol pipe) items ≡ [] → AllByRecursion (Agrees pipe) items
+agree_all : (pipe : NameMap) (items : List ItemView) → filter_map (differing_symbol pipe) items ≡ [] → AllByRecursion (Agrees pipe) items
 agree_all pipe [] h = tt
 agree_all pipe (item ∷ items) h =
     let p = none_kept (differing_symbol pipe item) (filter_map (differing_symbol pipe) items) h in
     (item_agrees pipe item p.0, agree_all pipe items p.1)
 
 -- the pipeline has this entry
-abbrev pub IsShared : Names → entry.Entry → Type 0
+abbrev pub IsShared : NameMap → entry.Entry → Type 0
 IsShared pipe e = is_entry e.sort (pipe e.name) ≡ true
 
-entries_shared : (pipe : Names) (items : List ItemView) → filter_map (missing_entry pipe) items ≡ [] → AllByRecursion (IsShared pipe) (filter_map declared_entry items)
+entries_shared : (pipe : NameMap) (items : List ItemView) → filter_map (missing_entry pipe) items ≡ [] → AllByRecursion (IsShared pipe) (filter_map declared_entry items)
 entries_shared pipe [] h = tt
 entries_shared pipe (latch_item offset name sort ∷ items) h =
     let p = none_kept (missing_entry pipe (latch_item offset name sort)) (filter_map (missing_entry pipe) items) h in
@@ -163,11 +163,11 @@ entries_shared pipe (exact_item offset count when ∷ items) h = entries_shared 
 entries_shared pipe (distinct_item offset names ∷ items) h = entries_shared pipe items h
 
 -- the specification's entries are the pipeline's, and its functions and predicates are alike
-pub record IsAcross (pipe : Names) (items : List ItemView) : Type 0 where
+pub record IsAcross (pipe : NameMap) (items : List ItemView) : Type 0 where
   pub agree : AllByRecursion (Agrees pipe) items
   pub shared : AllByRecursion (IsShared pipe) (filter_map declared_entry items)
 
-pub is_across : (pipe : Names) (items : List ItemView) → across_faults pipe items ≡ [] → IsAcross pipe items
+pub is_across : (pipe : NameMap) (items : List ItemView) → across_faults pipe items ≡ [] → IsAcross pipe items
 is_across pipe items h =
     let p = both_empty (faults_at NotInPipeline (filter_map (missing_entry pipe) items)) (faults_at FunctionDiffers (filter_map (differing_symbol pipe) items)) h in
     record {

@@ -8,7 +8,7 @@ use Rattle.bd_model.specs.Lawful.{Context, HasSort, LetsHaveSorts, IsWithinLimit
 use Rattle.bd_model.specs.declared.design.Sort.{Sort}
 use Rattle.bd_model.specs.declared.design.Sort.TheVariants as sorts
 use Rattle.bd_model.specs.declared.design.Symbol as symbol
-use Rattle.bd_syntax.specs.Words.{is_word}
+use Rattle.bd_syntax.specs.Words.{same_text}
 use Rattle.bd_syntax.specs.Forms.{Expression, ItemView, latch_item, memory_item, input_item, function_item, predicate_item, let_item, next_item, flush_item, steps_item, exact_item, distinct_item, InvView}
 use Rattle.bd_syntax.specs.WellFormed.{IsExpression, IsLimited, IsLimitedItem, IsItem}
 use Rattle.bd_syntax.specs.declared.head.Place.TheVariants as places
@@ -18,12 +18,12 @@ use Rattle.bd_typer.specs.declared.names.Meaning.TheVariants.{Entry, Input, Symb
 use Rattle.bd_typer.specs.Faults.{◌>>=◌}
 use Rattle.bd_typer.specs.Given.{IsInvFile}
 use Rattle.bd_typer.specs.Joined.{start, TypedInv, typed_inv}
-use Rattle.bd_typer.specs.Names.{Names, declare, shared_meaning, shared_names}
+use Rattle.bd_typer.specs.NameMap.{NameMap, declare, shared_meaning, shared_names}
 use Rattle.bd_typer.specs.Typing.{typed}
 use Rattle.bd_typer.specs.Walk.{Typed, with_local, typed_let, typed_item, typed_items}
 use Rattle.bd_typer.proofs.Lists.{get-left, get-end}
 use Rattle.bd_typer.proofs.Sound.{Fits, NamesFit, then_ok}
-use Rattle.bd_typer.proofs.Walking.{local_sorts, local_end, map_append, lets-push, all-push, typed_within}
+use Rattle.bd_typer.proofs.TypedItems.{local_sorts, local_end, map_append, lets-push, all-push, typed_within}
 
 -- the names that an invariant may use
 abbrev pub inv_names : List symbol.Symbol → List Sort → List LocalView → Context
@@ -55,9 +55,9 @@ module _ (symbols : List symbol.Symbol) (entries : List Sort) where
   )
   fits_more locals flags l uses Later h = tt
 
-  names_more : (names : Names) (locals : List LocalView) (flags : List Bool) (name : List ℕ) (l : LocalView) (uses : Bool) → NamesFit (inv_names symbols entries locals) flags false names → length flags ≡ length locals
+  names_more : (names : NameMap) (locals : List LocalView) (flags : List Bool) (name : List ℕ) (l : LocalView) (uses : Bool) → NamesFit (inv_names symbols entries locals) flags false names → length flags ≡ length locals
       → NamesFit (inv_names symbols entries (locals ++ l ∷ [])) (flags ++ uses ∷ []) false (declare names name (Local (length locals) l.sort uses))
-  names_more names locals flags name l uses fits count q m h = by_word (is_word name q) h where
+  names_more names locals flags name l uses fits count q m h = by_word (same_text name q) h where
     new : Fits (inv_names symbols entries (locals ++ l ∷ [])) (flags ++ uses ∷ []) false (Local (length locals) l.sort uses)
     new = (local_end locals l, subst (λ n. slice_get (flags ++ uses ∷ []) n ≡ Some uses) count (get-end flags uses))
 
@@ -107,7 +107,7 @@ module _ (symbols : List symbol.Symbol) (entries : List Sort) where
       let rest = items_are items p.0 u first.0 is.1 limited.1 p.2 in
       (rest.0, omega (arith, first.1, rest.1))
 
-  pub inv_is : (names : Names) (inv : Option InvView) (i : TypedInv) → NamesFit (inv_names symbols entries []) [] false names → IfSome inv IsInvFile → typed_inv names inv ≡ Ok i → InvIs symbols entries i.locals i.value
+  pub inv_is : (names : NameMap) (inv : Option InvView) (i : TypedInv) → NamesFit (inv_names symbols entries []) [] false names → IfSome inv IsInvFile → typed_inv names inv ≡ Ok i → InvIs symbols entries i.locals i.value
   unfolding typed_inv
   inv_is names None i fits given h =
       let e : record { locals = []; value = Truth true } ≡ i = cc h in
@@ -128,7 +128,7 @@ module _ (symbols : List symbol.Symbol) (entries : List Sort) where
       })
 
   -- the names that both machines give to an invariant
-  pub shared_fit : (pipe_locals spec_locals : List LocalView) (pipe_flags spec_flags : List Bool) (spec_entries pipe_inputs spec_inputs : List Sort) (pipe spec : Names)
+  pub shared_fit : (pipe_locals spec_locals : List LocalView) (pipe_flags spec_flags : List Bool) (spec_entries pipe_inputs spec_inputs : List Sort) (pipe spec : NameMap)
       → NamesFit (record { symbols = symbols; entries = entries; inputs = pipe_inputs; locals = local_sorts pipe_locals }) pipe_flags true pipe
       → NamesFit (record { symbols = symbols; entries = spec_entries; inputs = spec_inputs; locals = local_sorts spec_locals }) spec_flags true spec
       → NamesFit (inv_names symbols entries []) [] false (shared_names pipe spec)

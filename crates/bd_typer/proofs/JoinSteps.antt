@@ -1,21 +1,19 @@
 -- Joining files, step by step.
-use Rattle.std.proofs.Common.{◌≡◌, List, length, Some, Result, Ok, true, false, refl, ap, sym, ◌∙◌, subst}
+use Rattle.std.proofs.Common.{◌≡◌, List, length, Some, Ok, true, false, refl, ap, sym, ◌∙◌, subst}
 use Rattle.bd_model.specs.declared.design.Symbol as symbol
 use Rattle.bd_model.specs.declared.design.Sort.TheVariants as sorts
 use Rattle.bd_model.specs.ExprView.{ExprView}
 use Rattle.bd_syntax.specs.Forms.{ItemView, InvView}
 use Rattle.bd_syntax.specs.Reading.{Fails}
 use Rattle.bd_syntax.specs.declared.fault.FormFault.{FormFault}
-use Rattle.bd_typer.specs.declared.fault.TypeFault.{TypeFault}
-use Rattle.bd_typer.specs.declared.fault.TypeFault.TheVariants as faults
-use Rattle.bd_typer.specs.Faults.{◌>>=◌, FileFault, FailsIn}
-use Rattle.bd_typer.specs.Names.{Names, Scope, scope_of}
+use Rattle.bd_typer.specs.Faults.{◌>>=◌}
+use Rattle.bd_typer.specs.NameMap.{NameMap, Scope, scope_of}
 use Rattle.bd_typer.specs.Typing.{typed}
 use Rattle.bd_typer.specs.Walk.{Typed, typed_items}
 use Rattle.bd_typer.specs.Joined.{start, typed_machine, typed_inv}
 use Rattle.bd_typer.proofs.Loops.{fails_then}
 
-module _ (others : Names) (symbols : List symbol.Symbol) (items : List ItemView) (scope : Scope) (first : Typed) (scope-is : scope ≡ scope_of others symbols items) (first-is : first ≡ start scope.names (length scope.entries)) where
+module _ (others : NameMap) (symbols : List symbol.Symbol) (items : List ItemView) (scope : Scope) (first : Typed) (scope-is : scope ≡ scope_of others symbols items) (first-is : first ≡ start scope.names (length scope.entries)) where
   begins : first ≡ start (scope_of others symbols items).names (length (scope_of others symbols items).entries)
   begins = first-is ∙ ap (λ (s : Scope). start s.names (length s.entries)) scope-is
 
@@ -29,7 +27,7 @@ module _ (others : Names) (symbols : List symbol.Symbol) (items : List ItemView)
       ap (λ r. r >>= λ u. Ok (record { entries = (scope_of others symbols items).entries; symbols = (scope_of others symbols items).symbols; typed = u })) (subst (λ u. typed_items true u items ≡ Ok t) begins h)
       ∙ ap (λ (s : Scope). Ok (record { entries = s.entries; symbols = s.symbols; typed = t })) (sym scope-is)
 
-module _ (names : Names) (inv : InvView) (first : Typed) (first-is : first ≡ start names 0) where
+module _ (names : NameMap) (inv : InvView) (first : Typed) (first-is : first ≡ start names 0) where
   pub lets_fail : (fault : FormFault) → Fails fault (typed_items false first inv.items) → Fails fault (typed_inv names (Some inv))
   unfolding typed_inv
   lets_fail fault h = fails_then fault _ _ (subst (λ t. Fails fault (typed_items false t inv.items)) first-is h)
@@ -45,8 +43,3 @@ module _ (names : Names) (inv : InvView) (first : Typed) (first-is : first ≡ s
     pub inv_done : (e : ExprView) → typed t.names false sorts.Bool inv.value ≡ Ok e → typed_inv names (Some inv) ≡ Ok (record { locals = t.locals; value = e })
     unfolding typed_inv
     inv_done e h = rw (walked, h) refl
-
--- the first fault is that of all
-pub files_fail : {A B : Type 0} (fault : TypeFault) (r : Result A FileFault) (f : A → Result B FileFault) → FailsIn fault r → FailsIn fault (r >>= f)
-files_fail (faults.Bad file offset code) r f h = rw h refl
-files_fail faults.Memory r f h = tt

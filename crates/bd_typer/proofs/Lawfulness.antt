@@ -17,14 +17,14 @@ use Rattle.bd_typer.specs.Declarations.{declaration_faults}
 use Rattle.bd_typer.specs.Faults.{◌>>=◌, in_file, without_faults}
 use Rattle.bd_typer.specs.Given.{IsMachineFile, IsInvFile}
 use Rattle.bd_typer.specs.Joined.{declared_inv, declared, TypedMachine, typed_machine, TypedInv, typed_inv, flush_count, steps_count, first_count, assembled, joined}
-use Rattle.bd_typer.specs.Names.{no_names, shared_names}
+use Rattle.bd_typer.specs.NameMap.{no_names, shared_names}
 use Rattle.bd_typer.proofs.Faultless.{in_file_ok, none_of, IsDeclared, is_declared, agree_alone, IsAcross, is_across, IsShared, map_empty}
 use Rattle.bd_typer.proofs.Invariants.{InvIs, inv_is, shared_fit}
 use Rattle.bd_typer.proofs.Machines.{MachineIs, machine_is, machine_lawful, has_sort, symbols_stand, all_weaker, fixed_of, given_of}
-use Rattle.bd_typer.proofs.Points.{all_append, arities_small, names_well, names_different, visible_stands, visible_different}
-use Rattle.bd_typer.proofs.Scoping.{input_entry}
+use Rattle.bd_typer.proofs.DesignNames.{all_append, arities_small, names_well, names_different, visible_stands, visible_different}
+use Rattle.bd_typer.proofs.DeclaredNames.{input_entry}
 use Rattle.bd_typer.proofs.Sound.{then_ok}
-use Rattle.bd_typer.proofs.Walking.{IsPort, IsExact, IsGroup, port_entry, sorts_of, fits_now}
+use Rattle.bd_typer.proofs.TypedItems.{IsPort, IsExact, IsGroup, port_entry, sorts_of, fits_now}
 
 -- the items of a machine file have their parts
 parts_of : (place : Place) (items : List ItemView) → AllByRecursion (IsItem place) items → AllByRecursion HasParts items

@@ -2,26 +2,26 @@
 use Rattle.std.proofs.Common.{◌≡◌, ⊎_elim, inl, inr, ℕ, zero, suc, Bool, true, false, List, [], ◌∷◌, ◌++◌, length, Option, Some, None, refl, ap, arith}
 use Rattle.std.specs.Prelude.{◌⊎◌, ◌&&◌, nat_eq, slice_get}
 use Rattle.std.proofs.lemmas.Bool.{eqb-true}
-use Rattle.bd_syntax.specs.Words.{is_word}
+use Rattle.bd_syntax.specs.Words.{same_text}
 
 pub both_true : (a b : Bool) → (a && b) ≡ true → (a ≡ true) × (b ≡ true)
 both_true true true e = (refl, refl)
 both_true true false e = absurd (cc e)
 both_true false b e = absurd (cc e)
 
-pub is_word-true : (a b : List ℕ) → is_word a b ≡ true → a ≡ b
-is_word-true [] [] h = refl
-is_word-true [] (y ∷ ys) h = absurd (cc h)
-is_word-true (x ∷ xs) [] h = absurd (cc h)
-is_word-true (x ∷ xs) (y ∷ ys) h =
-    let p = both_true (nat_eq x y) (is_word xs ys) h in
+pub same_text-true : (a b : List ℕ) → same_text a b ≡ true → a ≡ b
+same_text-true [] [] h = refl
+same_text-true [] (y ∷ ys) h = absurd (cc h)
+same_text-true (x ∷ xs) [] h = absurd (cc h)
+same_text-true (x ∷ xs) (y ∷ ys) h =
+    let p = both_true (nat_eq x y) (same_text xs ys) h in
     let head : x ≡ y = eqb-true x y p.0 in
-    let tail : xs ≡ ys = is_word-true xs ys p.1 in
+    let tail : xs ≡ ys = same_text-true xs ys p.1 in
     rw (head, tail) refl
 
-pub is_word-same : (a : List ℕ) → is_word a a ≡ true
-is_word-same [] = refl
-is_word-same (x ∷ xs) = let p : nat_eq x x ≡ true = grind arith in rw (p, is_word-same xs) refl
+pub same_text-same : (a : List ℕ) → same_text a a ≡ true
+same_text-same [] = refl
+same_text-same (x ∷ xs) = let p : nat_eq x x ≡ true = grind arith in rw (p, same_text-same xs) refl
 
 -- what stands at a place stays there when a list grows
 pub get-left : {X : Type 0} (xs ys : List X) (n : ℕ) (x : X) → slice_get xs n ≡ Some x → slice_get (xs ++ ys) n ≡ Some x

@@ -16,13 +16,13 @@ use Rattle.bd_typer.specs.declared.names.Meaning.TheVariants.{Entry, Input, Symb
 use Rattle.bd_typer.specs.Declarations.{next_name}
 use Rattle.bd_typer.specs.Joined.{start, entry_place, TypedMachine, typed_machine, machine_of}
 use Rattle.bd_typer.specs.Across.{is_entry}
-use Rattle.bd_typer.specs.Names.{Names, no_names, Scope, scope_of}
-use Rattle.bd_typer.specs.Repeats.{no_texts, with_names, Texts}
+use Rattle.bd_typer.specs.NameMap.{NameMap, no_names, Scope, scope_of}
+use Rattle.bd_typer.specs.Repeats.{no_texts, with_names, NameSet}
 use Rattle.bd_typer.specs.Walk.{Typed, typed_items}
 use Rattle.bd_typer.proofs.Faultless.{IsDeclared, IsShared, entries_given}
-use Rattle.bd_typer.proofs.Scoping.{Stands, OthersStand, Agrees, IsScope, ScopeIs, scope_done, input_entry, declared_entry, entries_are, symbols_within}
+use Rattle.bd_typer.proofs.DeclaredNames.{Stands, OthersStand, Agrees, IsScope, ScopeIs, scope_done, input_entry, declared_entry, entries_are, symbols_within}
 use Rattle.bd_typer.proofs.Sound.{then_ok, same_sort-true}
-use Rattle.bd_typer.proofs.Walking.{Fixed, FixedStands, IsLetNow, WalkIs, IsTyped, context, sorts_of, local_sorts, port_entry, items_are, items_add}
+use Rattle.bd_typer.proofs.TypedItems.{Fixed, FixedStands, IsLetNow, WalkIs, IsTyped, context, sorts_of, local_sorts, port_entry, items_are, items_add}
 
 pub at_place : {X : Type 0} (P : X → Type 0) (xs : List X) (n : ℕ) (x : X) → AllByRecursion P xs → slice_get xs n ≡ Some x → P x
 at_place P [] n x h there = absurd (cc there)
@@ -68,15 +68,15 @@ port_sorts [] = refl
 port_sorts (p ∷ ports) = ap (λ ss. p.sort ∷ ss) (port_sorts ports)
 
 -- what is fixed of a machine file, where these are the symbols of the design
-abbrev pub fixed_of : List symbol.Symbol → List ItemView → TypedMachine → Names → Fixed
+abbrev pub fixed_of : List symbol.Symbol → List ItemView → TypedMachine → NameMap → Fixed
 fixed_of all items m names = record { symbols = all; entries = m.entries; inputs = filter_map input_entry items; names = names }
 
-abbrev pub given_of : List ItemView → Texts
+abbrev pub given_of : List ItemView → NameSet
 given_of items = with_names no_texts (filter_map next_name items)
 
-pub record MachineIs (all : List symbol.Symbol) (others : Names) (first : List symbol.Symbol) (items : List ItemView) (m : TypedMachine) : Type 0 where
-  pub names : Names
-  pub seen : Texts
+pub record MachineIs (all : List symbol.Symbol) (others : NameMap) (first : List symbol.Symbol) (items : List ItemView) (m : TypedMachine) : Type 0 where
+  pub names : NameMap
+  pub seen : NameSet
   pub scope : IsScope others first names m.entries (filter_map input_entry items) m.symbols seen
   pub stands : FixedStands (fixed_of all items m names)
   pub walk : WalkIs (fixed_of all items m names) m.typed m.typed (given_of items)
@@ -91,7 +91,7 @@ pub record MachineIs (all : List symbol.Symbol) (others : Names) (first : List s
 abbrev nothing_declared : List symbol.Symbol → Scope
 nothing_declared first = record { names = no_names; entries = []; inputs = 0; symbols = first }
 
-begins : (others : Names) (first : List symbol.Symbol) → ScopeIs others first (nothing_declared first) [] no_texts
+begins : (others : NameMap) (first : List symbol.Symbol) → ScopeIs others first (nothing_declared first) [] no_texts
 begins others first = record {
   scope-is = record {
     back = λ q m h. absurd (cc h);
@@ -128,7 +128,7 @@ walk_begins f final = record {
   nexts = λ q n s there meant. absurd (cc there);
 }
 
-module _ (all : List symbol.Symbol) (others : Names) (first : List symbol.Symbol) (items : List ItemView) (m : TypedMachine) where
+module _ (all : List symbol.Symbol) (others : NameMap) (first : List symbol.Symbol) (items : List ItemView) (m : TypedMachine) where
   pub machine_is : OthersStand others first → IsDeclared items → AllByRecursion (Agrees others) items → AllByRecursion HasParts items → AreLimited items → typed_machine others first items ≡ Ok m
       → ((n : ℕ) (y : symbol.Symbol) → slice_get m.symbols n ≡ Some y → slice_get all n ≡ Some y) → MachineIs all others first items m
   unfolding typed_machine
@@ -167,14 +167,14 @@ meant_entry s (Some (Symbol n a p)) h = absurd (cc h)
 meant_entry s (Some (Local n t u)) h = absurd (cc h)
 meant_entry s (Some Later) h = absurd (cc h)
 
-module _ (all : List symbol.Symbol) (others : Names) (first : List symbol.Symbol) (items : List ItemView) (m : TypedMachine) (is : MachineIs all others first items m) where
+module _ (all : List symbol.Symbol) (others : NameMap) (first : List symbol.Symbol) (items : List ItemView) (m : TypedMachine) (is : MachineIs all others first items m) where
   abbrev f : Fixed
   f = fixed_of all items m is.names
 
   abbrev IsLet : List ℕ → Option Meaning → Type 0
   IsLet q o = IsLetNow f m.typed.locals m.typed.flags q o
 
-  -- names in force behind the items mean what they meant before them, lets aside
+  -- names in force after the items mean what they meant before them, lets aside
   pub was_unknown : (q : List ℕ) → m.typed.names q ≡ None → is.names q ≡ None
   was_unknown q h = ⊎_elim (λ (p : m.typed.names q ≡ is.names q). sym p ∙ h) (λ (p : IsLet q (m.typed.names q)). absurd (subst (IsLet q) h p)) (is.walk.names q)
 
@@ -211,7 +211,7 @@ module _ (all : List symbol.Symbol) (others : Names) (first : List symbol.Symbol
       (λ n x there. is.walk.nexts x.name n x.sort (is.given n x there) (is.scope.entries_named n x there))
 
 -- a machine of a design that has its symbols
-module _ (d : DesignView) (others : Names) (first : List symbol.Symbol) (items : List ItemView) (m : TypedMachine) (is : MachineIs d.symbols others first items m) where
+module _ (d : DesignView) (others : NameMap) (first : List symbol.Symbol) (items : List ItemView) (m : TypedMachine) (is : MachineIs d.symbols others first items m) where
   pub context_is : (locals : List LocalView) → context (fixed_of d.symbols items m is.names) locals ≡ record (context_of d (machine_of m)) { locals = local_sorts locals }
   context_is locals = ap (λ (ins : List Sort). context_with ins locals) (inputs_are d.symbols others first items m is) where
     context_with : List Sort → List LocalView → Context

@@ -12,7 +12,7 @@ use Rattle.bd_syntax.specs.declared.form.Spot.{Spot}
 use Rattle.bd_syntax.specs.declared.fault.FormFault.{FormFault}
 use Rattle.bd_typer.specs.declared.operation.Operation.{Operation}
 use Rattle.bd_typer.specs.Faults.{◌>>=◌}
-use Rattle.bd_typer.specs.Names.{Names}
+use Rattle.bd_typer.specs.NameMap.{NameMap}
 use Rattle.bd_typer.specs.Typing.{operation, part_sort, built, typed, typed_parts}
 use Rattle.bd_typer.proofs.Loops.{fails_then}
 
@@ -23,7 +23,7 @@ nesting-part (f ∷ forms) zero d lt = omega arith
 nesting-part (f ∷ forms) (suc i) d lt = omega (arith, nesting-part forms i d (omega arith))
 
 -- a list whose operation is known
-module _ (names : Names) (inputs : Bool) (want : Sort) (offset : ℕ) (head : Spot) (parts : Expressions) where
+module _ (names : NameMap) (inputs : Bool) (want : Sort) (offset : ℕ) (head : Spot) (parts : Expressions) where
   pub no_operation : (fault : FormFault) → Fails fault (operation names want offset head (expression_count parts) (operator_of head.text)) → Fails fault (typed names inputs want (application offset head parts))
   no_operation fault h = fails_then fault _ _ h
 
@@ -35,7 +35,7 @@ module _ (names : Names) (inputs : Bool) (want : Sort) (offset : ℕ) (head : Sp
       → typed names inputs want (application offset head parts) ≡ Ok (built how xs)
   parts_done how xs is h = rw (is, h) refl
 
-module _ (names : Names) (inputs : Bool) (how : Operation) (want : Sort) (place : ℕ) (forms : List Form) (i : ℕ) (form : Form) (lt : i < length forms) (is : form ≡ get_or forms i form) where
+module _ (names : NameMap) (inputs : Bool) (how : Operation) (want : Sort) (place : ℕ) (forms : List Form) (i : ℕ) (form : Form) (lt : i < length forms) (is : form ≡ get_or forms i form) where
   part_first : typed_parts names inputs how want place (expressions_of_all (drop i forms))
       ≡ (typed names inputs (part_sort how want place) (expression_of form) >>= λ x. typed_parts names inputs how want (place + 1) (expressions_of_all (drop (i + 1) forms)) >>= λ xs. Ok (x ∷ xs))
   part_first =
@@ -49,5 +49,5 @@ module _ (names : Names) (inputs : Bool) (how : Operation) (want : Sort) (place 
       → typed_parts names inputs how want place (expressions_of_all (drop i forms)) ≡ (typed_parts names inputs how want (place + 1) (expressions_of_all (drop (i + 1) forms)) >>= λ xs. Ok (x ∷ xs))
   part_done x h = part_first ∙ ap (λ r. r >>= λ y. typed_parts names inputs how want (place + 1) (expressions_of_all (drop (i + 1) forms)) >>= λ xs. Ok (y ∷ xs)) h
 
-pub no_more_parts : (names : Names) (inputs : Bool) (how : Operation) (want : Sort) (place : ℕ) (forms : List Form) (i : ℕ) → length forms ≤ i → typed_parts names inputs how want place (expressions_of_all (drop i forms)) ≡ Ok []
+pub no_more_parts : (names : NameMap) (inputs : Bool) (how : Operation) (want : Sort) (place : ℕ) (forms : List Form) (i : ℕ) → length forms ≤ i → typed_parts names inputs how want place (expressions_of_all (drop i forms)) ≡ Ok []
 no_more_parts names inputs how want place forms i past = at_drop_all (λ fs. typed_parts names inputs how want place (expressions_of_all fs)) forms i past

@@ -7,7 +7,7 @@ use Rattle.bd_text.specs.Layout.{IsAllowed, read_at}
 use Rattle.bd_text.specs.Nodes.{Nodes}
 use Rattle.bd_text.specs.declared.code.Code.{Code}
 use Rattle.bd_text.specs.declared.code.Code.TheVariants.{ByteNotAllowed, Unbalanced, TooDeep}
-use Rattle.bd_text.proofs.Spelling.{some_reading-holds}
+use Rattle.bd_text.proofs.SomeReading.{some_reading-holds}
 use Rattle.bd_text.proofs.Steps.{past_end}
 use Rattle.bd_model.specs.DesignView.{DesignView}
 use Rattle.bd_typer.specs.declared.fault.Text.{Text}

@@ -10,8 +10,8 @@ use Rattle.bd_model.specs.Lawful.{Context, HasSort, HaveSort, uses_input, any_us
 use Rattle.bd_model.specs.declared.design.Sort.{Sort}
 use Rattle.bd_model.specs.declared.design.Sort.TheVariants as sorts
 use Rattle.bd_model.specs.declared.design.Symbol.{Symbol as SymbolOf}
-use Rattle.bd_syntax.specs.Words.{is_word, operator_of, operator_takes}
-use Rattle.bd_syntax.specs.Forms.{Expression, word, application, Expressions, no_expressions, expression, expression_count}
+use Rattle.bd_syntax.specs.Words.{same_text, operator_of, operator_takes}
+use Rattle.bd_syntax.specs.Forms.{Expression, leaf, application, Expressions, no_expressions, expression, expression_count}
 use Rattle.bd_syntax.specs.WellFormed.{IsHead, IsExpression, AreExpressions, expression_nesting, nesting_of_all, HasFewParts, HaveFewParts}
 use Rattle.bd_syntax.specs.declared.form.Spot.{Spot}
 use Rattle.bd_syntax.specs.declared.operator.Operator as operator
@@ -21,8 +21,8 @@ use Rattle.bd_typer.specs.declared.names.Meaning.TheVariants.{Entry, Input, Symb
 use Rattle.bd_typer.specs.declared.operation.Operation.{Operation}
 use Rattle.bd_typer.specs.declared.operation.Operation.TheVariants.{Operator, Apply}
 use Rattle.bd_typer.specs.Faults.{◌>>=◌}
-use Rattle.bd_typer.specs.Names.{Names}
-use Rattle.bd_typer.specs.Typing.{same_sort, of_sort, value_named, word_value, typed_word, operator_sort, symbol_sort, symbol_named, operation, part_sort, of_one_part, of_two_parts, of_three_parts, built, typed, typed_parts}
+use Rattle.bd_typer.specs.NameMap.{NameMap}
+use Rattle.bd_typer.specs.Typing.{same_sort, of_sort, value_named, leaf_value, typed_leaf, operator_sort, symbol_sort, symbol_named, operation, part_sort, of_one_part, of_two_parts, of_three_parts, built, typed, typed_parts}
 
 -- a meaning is that of something in the context
 abbrev pub Fits : Context → List Bool → Bool → Meaning → Type 0
@@ -33,7 +33,7 @@ Fits c flags inputs (Symbol number arity predicate) =
 Fits c flags inputs (Local number sort uses) = (slice_get c.locals number ≡ Some sort) × (slice_get flags number ≡ Some uses)
 Fits c flags inputs Later = Unit {0}
 
-abbrev pub NamesFit : Context → List Bool → Bool → Names → Type 0
+abbrev pub NamesFit : Context → List Bool → Bool → NameMap → Type 0
 NamesFit c flags inputs names = (text : List ℕ) (m : Meaning) → names text ≡ Some m → Fits c flags inputs m
 
 -- what holds of an expression that is typed
@@ -100,20 +100,20 @@ module _ (c : Context) (flags : List Bool) (inputs : Bool) where
       let fit = fits (Local n s u) refl in
       subst IsValue p.1 (fit.0, λ off. get_or_from_slice_get flags n u false fit.1 ∙ or_not inputs u p.0 off, omega arith, omega arith)
 
-  value_sound : (names : Names) (w : Spot) (v : ExprView × Sort) → ((k : Meaning) → names w.text ≡ Some k → Fits c flags inputs k) → word_value names inputs w ≡ Ok v → IsValue v
-  value_sound names w v fits h = by_word (is_word w.text (codes "true")) (is_word w.text (codes "false")) h where
+  value_sound : (names : NameMap) (w : Spot) (v : ExprView × Sort) → ((k : Meaning) → names w.text ≡ Some k → Fits c flags inputs k) → leaf_value names inputs w ≡ Ok v → IsValue v
+  value_sound names w v fits h = by_word (same_text w.text (codes "true")) (same_text w.text (codes "false")) h where
     by_word : (a b : Bool) → cond a (Ok (Truth true, sorts.Bool)) (cond b (Ok (Truth false, sorts.Bool)) (value_named inputs w.offset (names w.text))) ≡ Ok v → IsValue v
     by_word true b h = let e : (Truth true, sorts.Bool) ≡ v = cc h in subst IsValue e (refl, λ _. refl, omega arith, omega arith)
     by_word false true h = let e : (Truth false, sorts.Bool) ≡ v = cc h in subst IsValue e (refl, λ _. refl, omega arith, omega arith)
     by_word false false h = named_sound w.offset (names w.text) v fits h
 
-pub word_sound : (c : Context) (flags : List Bool) (names : Names) (inputs : Bool) (want : Sort) (w : Spot) (x : ExprView) → NamesFit c flags inputs names → typed_word names inputs want w ≡ Ok x → IsSound c flags inputs want (word w) x
-unfolding typed_word
-word_sound c flags names inputs want w x fits h =
-    let q = then_ok (word_value names inputs w) (λ value. of_sort want w.offset value.0 value.1) x h in
+pub leaf_sound : (c : Context) (flags : List Bool) (names : NameMap) (inputs : Bool) (want : Sort) (w : Spot) (x : ExprView) → NamesFit c flags inputs names → typed_leaf names inputs want w ≡ Ok x → IsSound c flags inputs want (leaf w) x
+unfolding typed_leaf
+leaf_sound c flags names inputs want w x fits h =
+    let q = then_ok (leaf_value names inputs w) (λ value. of_sort want w.offset value.0 value.1) x h in
     let v = value_sound c flags inputs names w q.0 (fits w.text) q.1 in
     let p = of_sort-ok want w.offset q.0.0 x q.0.1 q.2 in
-    subst (λ y. IsSound c flags inputs want (word w) y) p.1
+    subst (λ y. IsSound c flags inputs want (leaf w) y) p.1
     (record { sort = subst (HasSort c q.0.0) p.0 v.0; no_input = v.1; deep = v.2; wide = λ most few. omega (arith, v.3) })
 
 -- ---- parts
@@ -151,13 +151,13 @@ record FirstPart (c : Context) (flags : List Bool) (inputs : Bool) (want : ℕ �
   xs-is : xs ≡ x ∷ others
   count : expression_count rest ≡ n
   first : IsSound c flags inputs (want place) e x
-  behind : AreSound c flags inputs want (place + 1) rest others
+  further : AreSound c flags inputs want (place + 1) rest others
 
 module _ (c : Context) (flags : List Bool) (inputs : Bool) (want : ℕ → Sort) (place : ℕ) where
   first_part : (es : Expressions) (xs : List ExprView) (n : ℕ) → expression_count es ≡ n + 1 → AreSound c flags inputs want place es xs → FirstPart c flags inputs want place es xs n
   first_part no_expressions xs n count h = absurd (omega arith)
   first_part (expression e es) [] n count h = absurd h
-  first_part (expression e es) (x ∷ xs) n count h = record { e = e; rest = es; x = x; others = xs; es-is = refl; xs-is = refl; count = omega arith; first = h.0; behind = h.1 }
+  first_part (expression e es) (x ∷ xs) n count h = record { e = e; rest = es; x = x; others = xs; es-is = refl; xs-is = refl; count = omega arith; first = h.0; further = h.1 }
 
   no_part : (es : Expressions) (xs : List ExprView) → expression_count es ≡ 0 → AreSound c flags inputs want place es xs → (es ≡ no_expressions) × (xs ≡ [])
   no_part no_expressions [] count h = (refl, refl)
@@ -171,7 +171,7 @@ module _ (c : Context) (flags : List Bool) (inputs : Bool) (want : Sort) (offset
   one_sound : (f : ℕ → Sort) (es : Expressions) (xs : List ExprView) → expression_count es ≡ 1 → AreSound c flags inputs f 0 es xs → want ≡ sorts.Bool → f 0 ≡ sorts.Bool → IsSound c flags inputs want (application offset head es) (of_one_part xs)
   one_sound f es xs count h is fs =
       let p = first_part c flags inputs f 0 es xs 0 count h in
-      let q = no_part c flags inputs f 1 p.rest p.others p.count p.behind in
+      let q = no_part c flags inputs f 1 p.rest p.others p.count p.further in
       simp (p.es-is, p.xs-is, q.0, q.1) (record {
         sort = (is, subst (HasSort c p.x) fs p.first.sort);
         no_input = p.first.no_input;
@@ -189,8 +189,8 @@ module _ (c : Context) (flags : List Bool) (inputs : Bool) (want : Sort) (offset
       → IsSound c flags inputs want (application offset head es) (k xs)
   two_sound f g es xs count h sort uses deep wide k is =
       let p = first_part c flags inputs f 0 es xs 1 count h in
-      let q = first_part c flags inputs f 1 p.rest p.others 0 p.count p.behind in
-      let r = no_part c flags inputs f 2 q.rest q.others q.count q.behind in
+      let q = first_part c flags inputs f 1 p.rest p.others 0 p.count p.further in
+      let r = no_part c flags inputs f 2 q.rest q.others q.count q.further in
       simp (p.es-is, p.xs-is, q.es-is, q.xs-is, r.0, r.1, is p.x q.x) (record {
         sort = sort p.x q.x p.first.sort q.first.sort;
         no_input = λ off. uses p.x q.x ∙ or_none _ _ (p.first.no_input off) (q.first.no_input off);
@@ -207,9 +207,9 @@ module _ (c : Context) (flags : List Bool) (inputs : Bool) (want : Sort) (offset
       → IsSound c flags inputs want (application offset head es) (k xs)
   three_sound f g es xs count h sort uses deep wide k is =
       let p = first_part c flags inputs f 0 es xs 2 count h in
-      let q = first_part c flags inputs f 1 p.rest p.others 1 p.count p.behind in
-      let r = first_part c flags inputs f 2 q.rest q.others 0 q.count q.behind in
-      let n = no_part c flags inputs f 3 r.rest r.others r.count r.behind in
+      let q = first_part c flags inputs f 1 p.rest p.others 1 p.count p.further in
+      let r = first_part c flags inputs f 2 q.rest q.others 0 q.count q.further in
+      let n = no_part c flags inputs f 3 r.rest r.others r.count r.further in
       simp (p.es-is, p.xs-is, q.es-is, q.xs-is, r.es-is, r.xs-is, n.0, n.1, is p.x q.x r.x) (record {
         sort = sort p.x q.x r.x p.first.sort q.first.sort r.first.sort;
         no_input = λ off. uses p.x q.x r.x ∙ or_none _ _ (or_none _ _ (p.first.no_input off) (q.first.no_input off)) (r.first.no_input off);
@@ -260,10 +260,10 @@ module _ (c : Context) (flags : List Bool) (inputs : Bool) (want : Sort) (offset
       (fit.0, subst (λ (v : ℕ × Sort). slice_get c.symbols v.0 ≡ Some fit.0) q.1 fit.1, ap (λ (v : ℕ × Sort). v.1) (sym q.1) ∙ ap symbol_sort (sym fit.3), sym same ∙ sym fit.2)
 
 -- how a list goes on fits its parts
-abbrev Works : Context → Names → Sort → ℕ → Spot → Expressions → Operation → Type 0
+abbrev Works : Context → NameMap → Sort → ℕ → Spot → Expressions → Operation → Type 0
 Works c names want offset head es how = (flags : List Bool) (inputs : Bool) (xs : List ExprView) → NamesFit c flags inputs names → AreSound c flags inputs (part_sort how want) 0 es xs → IsSound c flags inputs want (application offset head es) (built how xs)
 
-operation_sound : (c : Context) (names : Names) (want : Sort) (offset : ℕ) (head : Spot) (es : Expressions) (op : Option operator.Operator) (how : Operation)
+operation_sound : (c : Context) (names : NameMap) (want : Sort) (offset : ℕ) (head : Spot) (es : Expressions) (op : Option operator.Operator) (how : Operation)
     → IsHead head.text (expression_count es) op → operation names want offset head (expression_count es) op ≡ Ok how → Works c names want offset head es how
 unfolding operation
 operation_sound c names want offset head es (Some op) how takes h flags inputs xs fits parts =
@@ -280,8 +280,8 @@ operation_sound c names want offset head es None how takes h flags inputs xs fit
 
 mutual
   -- a typed expression has the wanted sort, uses no input where none may be used, and is no larger than its form
-  pub typed_sound : (c : Context) (flags : List Bool) (names : Names) (inputs : Bool) (want : Sort) (e : Expression) (x : ExprView) → NamesFit c flags inputs names → IsExpression e → typed names inputs want e ≡ Ok x → IsSound c flags inputs want e x
-  typed_sound c flags names inputs want (word w) x fits is h = word_sound c flags names inputs want w x fits h
+  pub typed_sound : (c : Context) (flags : List Bool) (names : NameMap) (inputs : Bool) (want : Sort) (e : Expression) (x : ExprView) → NamesFit c flags inputs names → IsExpression e → typed names inputs want e ≡ Ok x → IsSound c flags inputs want e x
+  typed_sound c flags names inputs want (leaf w) x fits is h = leaf_sound c flags names inputs want w x fits h
   typed_sound c flags names inputs want (application offset head es) x fits is h =
       let p = then_ok (operation names want offset head (expression_count es) (operator_of head.text)) (λ how. typed_parts names inputs how want 0 es >>= λ xs. Ok (built how xs)) x h in
       let q = then_ok (typed_parts names inputs p.0 want 0 es) (λ xs. Ok (built p.0 xs)) x p.2 in
@@ -289,7 +289,7 @@ mutual
       subst (λ y. IsSound c flags inputs want (application offset head es) y) built-is
       (operation_sound c names want offset head es (operator_of head.text) p.0 is.0 p.1 flags inputs q.0 fits (parts_sound c flags names inputs p.0 want 0 es q.0 fits is.1 q.1))
 
-  parts_sound : (c : Context) (flags : List Bool) (names : Names) (inputs : Bool) (how : Operation) (want : Sort) (place : ℕ) (es : Expressions) (xs : List ExprView) → NamesFit c flags inputs names → AreExpressions es
+  parts_sound : (c : Context) (flags : List Bool) (names : NameMap) (inputs : Bool) (how : Operation) (want : Sort) (place : ℕ) (es : Expressions) (xs : List ExprView) → NamesFit c flags inputs names → AreExpressions es
       → typed_parts names inputs how want place es ≡ Ok xs → AreSound c flags inputs (part_sort how want) place es xs
   parts_sound c flags names inputs how want place no_expressions [] fits is h = tt
   parts_sound c flags names inputs how want place no_expressions (x ∷ xs) fits is h = absurd (cc h)

@@ -11,7 +11,7 @@ use Rattle.bd_syntax.specs.declared.form.Spot.{Spot}
 use Rattle.bd_typer.specs.declared.names.Meaning.{Meaning}
 use Rattle.bd_typer.specs.declared.names.Meaning.TheVariants.{Entry, Symbol}
 use Rattle.bd_typer.specs.Faults.{faults_at}
-use Rattle.bd_typer.specs.Names.{Names}
+use Rattle.bd_typer.specs.NameMap.{NameMap}
 use Rattle.bd_typer.specs.Typing.{same_sort}
 
 abbrev pub is_entry : Sort → Option Meaning → Bool
@@ -36,14 +36,14 @@ abbrev pub offset_unless : Bool → Spot → Option ℕ
 offset_unless ok name = if ok then None else Some name.offset
 
 -- a latch or memory that the pipeline doesn't have as the same kind with the same sort
-abbrev pub missing_entry : Names → ItemView → Option ℕ
+abbrev pub missing_entry : NameMap → ItemView → Option ℕ
 missing_entry pipe (latch_item offset name sort) = offset_unless (is_entry sort (pipe name.text)) name
 missing_entry pipe (memory_item offset name) =
     offset_unless (is_entry sorts.Memory (pipe name.text)) name
 missing_entry pipe _ = None
 
 -- a name that one of the files declares as a function or predicate, and the other as anything but that
-abbrev pub differing_symbol : Names → ItemView → Option ℕ
+abbrev pub differing_symbol : NameMap → ItemView → Option ℕ
 differing_symbol pipe (latch_item offset name sort) =
     offset_unless (not (is_symbol (pipe name.text))) name
 differing_symbol pipe (memory_item offset name) =
@@ -56,7 +56,7 @@ differing_symbol pipe (predicate_item offset name arity) =
     offset_unless (agrees arity true (pipe name.text)) name
 differing_symbol pipe _ = None
 
-abbrev pub across_faults : Names → List ItemView → List Fault
+abbrev pub across_faults : NameMap → List ItemView → List Fault
 across_faults pipe items =
     faults_at NotInPipeline (filter_map (missing_entry pipe) items)
     ++ faults_at FunctionDiffers (filter_map (differing_symbol pipe) items)

@@ -8,7 +8,7 @@ use Rattle.bd_syntax.specs.declared.form.Spot.{Spot}
 use Rattle.bd_syntax.specs.declared.ast.Kind.{Kind}
 use Rattle.bd_syntax.specs.declared.ast.Kind.TheVariants.{Pipeline, Specification}
 use Rattle.bd_typer.specs.Faults.{faults_at}
-use Rattle.bd_typer.specs.Repeats.{Texts, no_texts, with_names, repeated, fresh}
+use Rattle.bd_typer.specs.Repeats.{NameSet, no_texts, with_names, repeated, fresh}
 
 -- the name that an item declares
 abbrev pub declared_name : ItemView → Option Spot
@@ -49,7 +49,7 @@ abbrev pub offsets : List Spot → List ℕ
 offsets names = map (λ (name : Spot). name.offset) names
 
 -- a name that is declared in the file before, or known from elsewhere
-abbrev pub name_faults : Texts → List ItemView → List Fault
+abbrev pub name_faults : NameSet → List ItemView → List Fault
 name_faults known items =
     faults_at DeclaredTwice (offsets (repeated known (filter_map declared_name items)))
 
@@ -79,7 +79,7 @@ declaration_faults ast =
 
 -- the names that an invariant may not declare: those of the pipeline, and the specification's functions and
 -- predicates
-abbrev pub taken_names : AstView → AstView → Texts
+abbrev pub taken_names : AstView → AstView → NameSet
 taken_names pipe spec =
     with_names (with_names no_texts (filter_map declared_name pipe.items))
     (filter_map symbol_name spec.items)

@@ -14,7 +14,7 @@ use Rattle.bd_typer.specs.declared.names.Meaning.{Meaning}
 use Rattle.bd_typer.specs.declared.names.Meaning.TheVariants.{Entry}
 use Rattle.bd_typer.specs.Faults.{◌>>=◌, FileFault, in_file, without_faults}
 use Rattle.bd_typer.specs.Declarations.{declaration_faults, invariant_faults}
-use Rattle.bd_typer.specs.Names.{Names, no_names, scope_of, shared_names}
+use Rattle.bd_typer.specs.NameMap.{NameMap, no_names, scope_of, shared_names}
 use Rattle.bd_typer.specs.Typing.{typed}
 use Rattle.bd_typer.specs.Walk.{Typed, typed_items}
 use Rattle.bd_typer.specs.Across.{across_faults}
@@ -33,7 +33,7 @@ declared pipe spec inv = do
 
 -- ---- expressions
 
-abbrev pub start : Names → ℕ → Typed
+abbrev pub start : NameMap → ℕ → Typed
 start names entries = record {
   names = names;
   ports = [];
@@ -50,7 +50,7 @@ pub record TypedMachine : Type 0 where
   pub symbols : List symbol.Symbol
   pub typed : Typed
 
-unfoldable pub typed_machine : Names → List symbol.Symbol → List ItemView → Result TypedMachine Fault
+unfoldable pub typed_machine : NameMap → List symbol.Symbol → List ItemView → Result TypedMachine Fault
 typed_machine others symbols items = do
   t ← typed_items true (start (scope_of others symbols items).names (length (scope_of others symbols items).entries)) items
   Ok (record {
@@ -65,7 +65,7 @@ pub record TypedInv : Type 0 where
   pub value : ExprView
 
 -- an invariant that isn't given is true
-unfoldable pub typed_inv : Names → Option InvView → Result TypedInv Fault
+unfoldable pub typed_inv : NameMap → Option InvView → Result TypedInv Fault
 typed_inv names None = Ok (record { locals = []; value = Truth true })
 typed_inv names (Some inv) = do
   t ← typed_items false (start names 0) inv.items

@@ -4,7 +4,7 @@ pub mod Denotes
 pub mod Faults
 pub mod Given
 pub mod Joined
-pub mod Names
+pub mod NameMap
 pub mod Repeats
 pub mod Typing
 pub mod Walk

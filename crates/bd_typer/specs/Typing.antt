@@ -5,8 +5,8 @@ use Rattle.bd_model.specs.declared.design.Sort.{Sort}
 use Rattle.bd_model.specs.declared.design.Sort.TheVariants as sorts
 use Rattle.bd_model.specs.ExprView.{ExprView, Truth, views_of_list}
 use Rattle.bd_model.specs.ExprView as view
-use Rattle.bd_syntax.specs.Words.{is_word, operator_of}
-use Rattle.bd_syntax.specs.Forms.{Expression, word, application, Expressions, no_expressions, expression, expression_count}
+use Rattle.bd_syntax.specs.Words.{same_text, operator_of}
+use Rattle.bd_syntax.specs.Forms.{Expression, leaf, application, Expressions, no_expressions, expression, expression_count}
 use Rattle.bd_syntax.specs.Reading.{Fault, refused}
 use Rattle.bd_syntax.specs.declared.form.Spot.{Spot}
 use Rattle.bd_syntax.specs.declared.operator.Operator as operator
@@ -16,7 +16,7 @@ use Rattle.bd_typer.specs.declared.names.Meaning.TheVariants.{Entry, Input, Symb
 use Rattle.bd_typer.specs.declared.operation.Operation.{Operation}
 use Rattle.bd_typer.specs.declared.operation.Operation.TheVariants.{Operator, Apply}
 use Rattle.bd_typer.specs.Faults.{◌>>=◌}
-use Rattle.bd_typer.specs.Names.{Names}
+use Rattle.bd_typer.specs.NameMap.{NameMap}
 
 abbrev pub same_sort : Sort → Sort → Bool
 same_sort sorts.Bool sorts.Bool = true
@@ -41,16 +41,16 @@ value_named inputs offset (Some (Local number sort uses_input)) =
     else refused offset InputNotAllowed
 
 -- true, false or a name
-abbrev pub word_value : Names → Bool → Spot → Result (ExprView × Sort) Fault
-word_value names inputs w =
-    if is_word w.text (codes "true") then Ok (Truth true, sorts.Bool)
-    else (if is_word w.text (codes "false") then Ok (Truth false, sorts.Bool)
+abbrev pub leaf_value : NameMap → Bool → Spot → Result (ExprView × Sort) Fault
+leaf_value names inputs w =
+    if same_text w.text (codes "true") then Ok (Truth true, sorts.Bool)
+    else (if same_text w.text (codes "false") then Ok (Truth false, sorts.Bool)
     else value_named inputs w.offset (names w.text))
 
 -- one of them, of the wanted sort
-unfoldable pub typed_word : Names → Bool → Sort → Spot → Result ExprView Fault
-typed_word names inputs want w = do
-  value ← word_value names inputs w
+unfoldable pub typed_leaf : NameMap → Bool → Sort → Spot → Result ExprView Fault
+typed_leaf names inputs want w = do
+  value ← leaf_value names inputs w
   of_sort want w.offset value.0 value.1
 
 -- the sort of an operator's value, where this one is wanted
@@ -72,7 +72,7 @@ symbol_named offset parts (Some (Symbol number arity predicate)) =
 symbol_named offset parts (Some _) = refused offset WrongSort
 
 -- what a list does with its parts
-unfoldable pub operation : Names → Sort → ℕ → Spot → ℕ → Option operator.Operator → Result Operation Fault
+unfoldable pub operation : NameMap → Sort → ℕ → Spot → ℕ → Option operator.Operator → Result Operation Fault
 operation names want offset head parts (Some operator) =
     of_sort want offset (Operator operator) (operator_sort operator want)
 operation names want offset head parts None = do
@@ -126,15 +126,15 @@ built (Apply number) es = view.Apply number (views_of_list es)
 
 abbrev mutual
   -- an expression of the wanted sort: first the list, and then its parts from left to right
-  pub typed : Names → Bool → Sort → Expression → Result ExprView Fault
-  typed names inputs want (word w) = typed_word names inputs want w
+  pub typed : NameMap → Bool → Sort → Expression → Result ExprView Fault
+  typed names inputs want (leaf w) = typed_leaf names inputs want w
   typed names inputs want (application offset head parts) = do
     how ← operation names want offset head (expression_count parts) (operator_of head.text)
     es ← typed_parts names inputs how want 0 parts
     Ok (built how es)
 
   -- the parts from a place on
-  pub typed_parts : Names → Bool → Operation → Sort → ℕ → Expressions → Result (List ExprView) Fault
+  pub typed_parts : NameMap → Bool → Operation → Sort → ℕ → Expressions → Result (List ExprView) Fault
   typed_parts names inputs how want place no_expressions = Ok []
   typed_parts names inputs how want place (expression e es) = do
     x ← typed names inputs (part_sort how want place) e

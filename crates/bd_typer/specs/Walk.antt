@@ -12,14 +12,14 @@ use Rattle.bd_syntax.specs.declared.form.Spot.{Spot}
 use Rattle.bd_typer.specs.declared.names.Meaning.{Meaning}
 use Rattle.bd_typer.specs.declared.names.Meaning.TheVariants.{Entry, Symbol, Local}
 use Rattle.bd_typer.specs.Faults.{◌>>=◌}
-use Rattle.bd_typer.specs.Names.{Names, declare}
-use Rattle.bd_typer.specs.Repeats.{Texts, no_texts, with_text}
+use Rattle.bd_typer.specs.NameMap.{NameMap, declare}
+use Rattle.bd_typer.specs.Repeats.{NameSet, no_texts, with_text}
 use Rattle.bd_typer.specs.Typing.{typed}
 
 -- what the items gone through give: their inputs, lets, next values by entry, exact and distinct items; of
--- each let whether it uses an input; and what names mean behind them
+-- each let whether it uses an input; and what names mean after them
 pub record Typed : Type 0 where
-  pub names : Names
+  pub names : NameMap
   pub ports : List PortView
   pub locals : List LocalView
   pub flags : List Bool
@@ -74,7 +74,7 @@ constant_named offset (Some (Symbol number arity predicate)) =
 constant_named offset (Some _) = refused offset NotConstant
 
 -- names of constants, each named once
-abbrev pub constants : Names → Texts → List Spot → Result (List ℕ) Fault
+abbrev pub constants : NameMap → NameSet → List Spot → Result (List ℕ) Fault
 constants names before [] = Ok []
 constants names before (name ∷ rest) = do
   number ← constant_named name.offset (names name.text)

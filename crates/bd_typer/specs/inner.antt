@@ -1,4 +1,3 @@
-pub mod After
 pub mod Held
 pub mod Located
 pub mod Roles

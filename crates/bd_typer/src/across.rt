@@ -11,11 +11,12 @@ ghost use Rattle.bd_typer.specs.inner.Held.{meanings};
 ghost use Rattle.bd_typer.specs.inner.Located.{fault_at, least_offset};
 
 use crate::declarations::first_offset;
-use crate::names::{Meaning, Names};
+use crate::names::{Meaning, NameMap};
 use bd_model::Sort;
-use bd_syntax::{FormFault, Item};
+use bd_syntax::{FormFault, Item, bad};
 use bd_text::Code;
 
+/// Whether a name is a latch or memory of this sort.
 fn is_entry(sort: Sort, meaning: Option<Meaning>) -> bool
     ensures { result ≡ is_entry sort meaning }
 {
@@ -25,6 +26,7 @@ fn is_entry(sort: Sort, meaning: Option<Meaning>) -> bool
     }
 }
 
+/// Whether a name is a function or predicate.
 fn is_symbol(meaning: Option<Meaning>) -> bool
     ensures { result ≡ is_symbol meaning }
 {
@@ -49,7 +51,7 @@ fn agrees(wanted: u32, kind: bool, meaning: Option<Meaning>) -> bool
 }
 
 /// The offset of a latch or memory that the pipeline doesn't have as the same kind with the same sort.
-fn missing_entry(pipe: &Names<'_>, item: &Item) -> Option<usize>
+fn missing_entry(pipe: &NameMap<'_>, item: &Item) -> Option<usize>
     ensures { result ≡ missing_entry (meanings pipe.now) (item_view item.now) }
 {
     let (name, sort) = match item {
@@ -66,7 +68,7 @@ fn missing_entry(pipe: &Names<'_>, item: &Item) -> Option<usize>
 
 /// The offset of a name that one of the files declares as a function or predicate, and the other as anything but
 /// that.
-fn differing_symbol(pipe: &Names<'_>, item: &Item) -> Option<usize>
+fn differing_symbol(pipe: &NameMap<'_>, item: &Item) -> Option<usize>
     ensures { result ≡ differing_symbol (meanings pipe.now) (item_view item.now) }
 {
     let (name, same) = match item {
@@ -84,7 +86,8 @@ fn differing_symbol(pipe: &Names<'_>, item: &Item) -> Option<usize>
     if same { None } else { Some(name.offset) }
 }
 
-fn first_missing(pipe: &Names<'_>, items: &[Item]) -> Option<usize>
+/// The least offset of a missing entry.
+fn first_missing(pipe: &NameMap<'_>, items: &[Item]) -> Option<usize>
     ensures { result ≡ least_offset
         (filter_map (missing_entry (meanings pipe.now)) (map item_view items.now)) }
 {
@@ -95,7 +98,8 @@ fn first_missing(pipe: &Names<'_>, items: &[Item]) -> Option<usize>
     first
 }
 
-fn first_differing(pipe: &Names<'_>, items: &[Item]) -> Option<usize>
+/// The least offset of a differing symbol.
+fn first_differing(pipe: &NameMap<'_>, items: &[Item]) -> Option<usize>
     ensures { result ≡ least_offset
         (filter_map (differing_symbol (meanings pipe.now)) (map item_view items.now)) }
 {
@@ -119,11 +123,11 @@ fn refuse(missing: Option<usize>, differing: Option<usize>) -> Result<(), FormFa
     } else {
         Code::FunctionDiffers
     };
-    Err(FormFault::Bad { offset, code })
+    Err(bad(offset, code))
 }
 
 /// Tests the specification's declarations against the pipeline's.
-pub fn test_across(pipe: &Names<'_>, items: &[Item]) -> Result<(), FormFault>
+pub fn test_across(pipe: &NameMap<'_>, items: &[Item]) -> Result<(), FormFault>
     ensures { Gives (λ _. tt {0}) result
         (without_faults (across_faults (meanings pipe.now) (map item_view items.now))) }
 {

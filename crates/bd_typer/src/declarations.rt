@@ -16,8 +16,8 @@ ghost use Rattle.bd_typer.specs.inner.Held.{members};
 ghost use Rattle.bd_typer.specs.inner.Located.{fault_at, first_offset, least_offset};
 ghost use Rattle.bd_typer.specs.inner.Roles.{role_name, count_offset, counted_with, given, item_count};
 
-use crate::names::Texts;
-use bd_syntax::{Ast, FormFault, InvAst, Item, Kind, Spot};
+use crate::names::NameSet;
+use bd_syntax::{Ast, FormFault, InvAst, Item, Kind, Spot, bad};
 use bd_text::Code;
 use std::alloc::{AllocError, Global};
 
@@ -116,7 +116,7 @@ pub struct Scanned {
 
 /// Adds a name to a set, if there is one.
 fn see<'a>(
-    texts: &mut Texts<'a>,
+    texts: &mut NameSet<'a>,
     scanned: Scanned,
     name: Option<&'a Spot>,
 ) -> Result<Scanned, AllocError>
@@ -140,7 +140,7 @@ fn see<'a>(
 }
 
 /// Adds the names that items have in a role to a set.
-fn scan<'a>(texts: &mut Texts<'a>, role: Role, items: &'a [Item]) -> Result<Scanned, AllocError>
+fn scan<'a>(texts: &mut NameSet<'a>, role: Role, items: &'a [Item]) -> Result<Scanned, AllocError>
     ensures repeated { IfOk result (λ s. s.repeated ≡ least_offset (offsets
         (repeated (members texts.old) (filter_map (role_name role) (map item_view items.now))))) }
     ensures fresh { IfOk result (λ s. s.fresh ≡ least_offset (offsets
@@ -165,6 +165,7 @@ pub struct Counted {
     again: Option<usize>,
 }
 
+/// One offset more of what must stand once, if there is one.
 fn count(counted: Counted, offset: Option<usize>) -> Counted
     ensures { result ≡ counted_with counted offset }
 {
@@ -219,7 +220,7 @@ fn refuse(
     } else {
         Code::FlushOrSteps
     };
-    Err(FormFault::Bad { offset, code })
+    Err(bad(offset, code))
 }
 
 /// The least offset at which flush or steps are missing or given again.
@@ -242,8 +243,8 @@ pub fn test_machine(alloc: Global, ast: &Ast) -> Result<(), FormFault>
     ensures { Gives (λ _. tt {0}) result (without_faults (declaration_faults (ast_view ast.now))) }
 {
     let items = ast.items.as_slice();
-    let twice = scan(&mut Texts::new(alloc), Role::Declared, items)?.repeated;
-    let mut nexts = Texts::new(alloc);
+    let twice = scan(&mut NameSet::new(alloc), Role::Declared, items)?.repeated;
+    let mut nexts = NameSet::new(alloc);
     let again = scan(&mut nexts, Role::Next, items)?.repeated;
     let without = scan(&mut nexts, Role::Entry, items)?.fresh;
     refuse(twice, first_offset(again, without), counts(ast))
@@ -254,7 +255,7 @@ pub fn test_invariant(alloc: Global, pipe: &Ast, spec: &Ast, inv: &InvAst) -> Re
     ensures { Gives (λ _. tt {0}) result (without_faults
         (invariant_faults (ast_view pipe.now) (ast_view spec.now) (invariant_view inv.now))) }
 {
-    let mut taken = Texts::new(alloc);
+    let mut taken = NameSet::new(alloc);
     scan(&mut taken, Role::Declared, pipe.items.as_slice())?;
     scan(&mut taken, Role::Symbol, spec.items.as_slice())?;
     let twice = scan(&mut taken, Role::Declared, inv.items.as_slice())?.repeated;

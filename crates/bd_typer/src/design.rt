@@ -7,20 +7,20 @@ ghost use Rattle.bd_text.specs.Grammar.{Spells};
 ghost use Rattle.bd_text.specs.View.{nodes_of};
 ghost use Rattle.bd_model.specs.DesignView.{design_view};
 ghost use Rattle.bd_model.specs.Lawful.{IsLawful};
-ghost use Rattle.bd_syntax.specs.Forms.{ast_view};
+ghost use Rattle.bd_syntax.specs.Forms.{ast_view, invariant_view};
+ghost use Rattle.bd_syntax.specs.Reading.{machine_form};
 ghost use Rattle.bd_syntax.specs.WellFormed.{AreWithinLimits};
-ghost use Rattle.bd_syntax.specs.declared.ast.Kind.TheVariants.{Pipeline, Specification};
-ghost use Rattle.bd_typer.specs.Denotes.{Denotes, OnDesign, design_of_trees};
-ghost use Rattle.bd_typer.specs.Faults.{GivesIn};
-ghost use Rattle.bd_typer.specs.Given.{IsMachineFile};
-ghost use Rattle.bd_typer.specs.inner.After.{RestOfPipe, RestOfTexts, after_machine_forms, after_pipe_form};
+ghost use Rattle.bd_typer.specs.declared.fault.Text.TheVariants.{Inv};
+ghost use Rattle.bd_typer.specs.Denotes.{Denotes, OnDesign, design_of_trees, inv_form};
+ghost use Rattle.bd_typer.specs.Faults.{GivesIn, in_file};
+ghost use Rattle.bd_typer.specs.Given.{IsInvFile, IsMachineFile};
 ghost use Rattle.bd_typer.specs.inner.Located.{OnText};
 
 use crate::fault::{DesignFault, Text, TypeFault, located, text_located};
 use crate::joining::join;
 use bd_model::Design;
 use bd_syntax::laws::reads_within_limits;
-use bd_syntax::{Ast, Kind, read_invariant, read_machine};
+use bd_syntax::{Ast, InvAst, Kind, read_invariant, read_machine};
 use bd_text::{Trees, read_trees};
 use std::alloc::Global;
 
@@ -39,56 +39,23 @@ fn trees(alloc: Global, file: Text, bytes: &[u8]) -> Result<Trees, TypeFault>
     }
 }
 
-/// What is left once the forms of the machines have no fault.
-fn joined_forms(alloc: Global, pipe: &Ast, spec: &Ast, inv: &Trees) -> Result<Design, TypeFault>
-    requires pipe { IsMachineFile Pipeline (ast_view pipe.now) }
-    requires spec { IsMachineFile Specification (ast_view spec.now) }
-    requires inv { AreWithinLimits (nodes_of inv.now) }
-    ensures { GivesIn design_view result
-        (after_machine_forms (ast_view pipe.now) (ast_view spec.now) (Some (nodes_of inv.now))) }
+/// The forms of a machine's trees.
+fn machine(alloc: Global, file: Text, trees: &Trees, kind: Kind) -> Result<Ast, TypeFault>
+    requires { AreWithinLimits (nodes_of trees.now) }
+    ensures exact { GivesIn ast_view result (in_file file (machine_form kind (nodes_of trees.now))) }
+    ensures formed { IfOk result (λ ast. IsMachineFile kind (ast_view ast)) }
 {
-    match read_invariant(alloc, inv) {
-        Ok(read) => join(alloc, pipe, spec, Some(&read)),
-        Err(fault) => Err(located(Text::Inv, fault)),
-    }
+    located(file, read_machine(alloc, trees, kind))
 }
 
-/// The same where an invariant may be given.
-fn machine_forms(
-    alloc: Global,
-    pipe: &Ast,
-    spec: &Ast,
-    inv: Option<&Trees>,
-) -> Result<Design, TypeFault>
-    requires pipe { IsMachineFile Pipeline (ast_view pipe.now) }
-    requires spec { IsMachineFile Specification (ast_view spec.now) }
-    requires inv { IfSome inv (λ inv. AreWithinLimits (nodes_of inv.now)) }
-    ensures { GivesIn design_view result (after_machine_forms (ast_view pipe.now)
-        (ast_view spec.now) (option_map (λ inv. nodes_of inv.now) inv.entry)) }
+/// The forms of an invariant's trees.
+fn invariant(alloc: Global, trees: &Trees) -> Result<InvAst, TypeFault>
+    requires { AreWithinLimits (nodes_of trees.now) }
+    ensures exact { GivesIn (λ inv. Some (invariant_view inv)) result
+        (in_file Inv (inv_form (Some (nodes_of trees.now)))) }
+    ensures formed { IfOk result (λ inv. IsInvFile (invariant_view inv)) }
 {
-    match inv {
-        Some(inv) => joined_forms(alloc, pipe, spec, inv),
-        None => join(alloc, pipe, spec, None),
-    }
-}
-
-/// What is left once the form of the pipeline has no fault.
-fn pipe_form(
-    alloc: Global,
-    pipe: &Ast,
-    spec: &Trees,
-    inv: Option<&Trees>,
-) -> Result<Design, TypeFault>
-    requires pipe { IsMachineFile Pipeline (ast_view pipe.now) }
-    requires spec { AreWithinLimits (nodes_of spec.now) }
-    requires inv { IfSome inv (λ inv. AreWithinLimits (nodes_of inv.now)) }
-    ensures { GivesIn design_view result (after_pipe_form (ast_view pipe.now)
-        (nodes_of spec.now) (option_map (λ inv. nodes_of inv.now) inv.entry)) }
-{
-    match read_machine(alloc, spec, Kind::Specification) {
-        Ok(read) => machine_forms(alloc, pipe, &read, inv),
-        Err(fault) => Err(located(Text::Spec, fault)),
-    }
+    located(Text::Inv, read_invariant(alloc, trees))
 }
 
 /// The design that trees denote.
@@ -105,60 +72,14 @@ fn design_of_trees(
     ensures { GivesIn design_view result (design_of_trees (nodes_of pipe.now)
         (nodes_of spec.now) (option_map (λ inv. nodes_of inv.now) inv.entry)) }
 {
-    match read_machine(alloc, pipe, Kind::Pipeline) {
-        Ok(read) => pipe_form(alloc, &read, spec, inv),
-        Err(fault) => Err(located(Text::Pipe, fault)),
-    }
-}
-
-/// What is left once the texts of the machines have no fault.
-fn inv_text(alloc: Global, pipe: &Trees, spec: &Trees, inv: &[u8]) -> Result<Design, TypeFault>
-    requires pipe { AreWithinLimits (nodes_of pipe.now) }
-    requires spec { AreWithinLimits (nodes_of spec.now) }
-    requires inv { length inv.now ≤ 1048576 }
-    ensures { OnDesign result (RestOfTexts (nodes_of pipe.now) (nodes_of spec.now) (Some inv.now)) }
-{
-    match trees(alloc, Text::Inv, inv) {
-        Ok(read) => design_of_trees(alloc, pipe, spec, Some(&read)),
-        Err(fault) => Err(fault),
-    }
-}
-
-/// The same where an invariant may be given.
-fn machine_texts(
-    alloc: Global,
-    pipe: &Trees,
-    spec: &Trees,
-    inv: Option<&[u8]>,
-) -> Result<Design, TypeFault>
-    requires pipe { AreWithinLimits (nodes_of pipe.now) }
-    requires spec { AreWithinLimits (nodes_of spec.now) }
-    requires inv { IfSome inv (λ inv. length inv.now ≤ 1048576) }
-    ensures { OnDesign result (RestOfTexts (nodes_of pipe.now) (nodes_of spec.now)
-        (option_map (λ inv. inv.now) inv.entry)) }
-{
+    let pipe = machine(alloc, Text::Pipe, pipe, Kind::Pipeline)?;
+    let spec = machine(alloc, Text::Spec, spec, Kind::Specification)?;
     match inv {
-        Some(inv) => inv_text(alloc, pipe, spec, inv),
-        None => design_of_trees(alloc, pipe, spec, None),
-    }
-}
-
-/// What is left once the text of the pipeline has no fault.
-fn pipe_text(
-    alloc: Global,
-    pipe: &Trees,
-    spec: &[u8],
-    inv: Option<&[u8]>,
-) -> Result<Design, TypeFault>
-    requires pipe { AreWithinLimits (nodes_of pipe.now) }
-    requires spec { length spec.now ≤ 1048576 }
-    requires inv { IfSome inv (λ inv. length inv.now ≤ 1048576) }
-    ensures { OnDesign result (RestOfPipe (nodes_of pipe.now) spec.now
-        (option_map (λ inv. inv.now) inv.entry)) }
-{
-    match trees(alloc, Text::Spec, spec) {
-        Ok(read) => machine_texts(alloc, pipe, &read, inv),
-        Err(fault) => Err(fault),
+        None => join(alloc, &pipe, &spec, None),
+        Some(inv) => {
+            let inv = invariant(alloc, inv)?;
+            join(alloc, &pipe, &spec, Some(&inv))
+        }
     }
 }
 
@@ -169,9 +90,14 @@ fn denoted(alloc: Global, pipe: &[u8], spec: &[u8], inv: Option<&[u8]>) -> Resul
     requires inv { IfSome inv (λ inv. length inv.now ≤ 1048576) }
     ensures { OnDesign result (Denotes pipe.now spec.now (option_map (λ inv. inv.now) inv.entry)) }
 {
-    match trees(alloc, Text::Pipe, pipe) {
-        Ok(read) => pipe_text(alloc, &read, spec, inv),
-        Err(fault) => Err(fault),
+    let pipe = trees(alloc, Text::Pipe, pipe)?;
+    let spec = trees(alloc, Text::Spec, spec)?;
+    match inv {
+        None => design_of_trees(alloc, &pipe, &spec, None),
+        Some(inv) => {
+            let inv = trees(alloc, Text::Inv, inv)?;
+            design_of_trees(alloc, &pipe, &spec, Some(&inv))
+        }
     }
 }
 

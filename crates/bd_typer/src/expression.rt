@@ -5,21 +5,15 @@ ghost use Rattle.bd_model.specs.ExprView.{expr_view};
 ghost use Rattle.bd_syntax.specs.Forms.{expression_of};
 ghost use Rattle.bd_syntax.specs.Reading.{Gives, spot as spot_of};
 ghost use Rattle.bd_syntax.specs.Words.{operator_of};
-ghost use Rattle.bd_typer.specs.Typing.{of_sort, operation, symbol_named, typed, typed_word, value_named, word_value};
+ghost use Rattle.bd_typer.specs.Typing.{of_sort, operation, symbol_named, typed, typed_leaf, value_named, leaf_value};
 ghost use Rattle.bd_typer.specs.inner.Held.{lookup_names};
 
 use crate::names::{Lookup, Meaning};
 use crate::operation::{Operation, build, operator_sort};
 use bd_model::{Expr, Sort};
-use bd_syntax::{Form, FormFault, Operator, Spot};
+use bd_syntax::{Form, FormFault, Operator, Spot, bad};
 use bd_text::Code;
 use std::alloc::Global;
-
-pub fn bad(offset: usize, code: Code) -> FormFault
-    ensures { result ≡ FormFault.Bad offset code }
-{
-    FormFault::Bad { offset, code }
-}
 
 /// Tests that something has the wanted sort.
 fn of_sort(want: Sort, offset: usize, sort: Sort) -> Result<(), FormFault>
@@ -59,28 +53,28 @@ fn value_named(
 }
 
 /// What `true`, `false` or a name is as a value, and its sort.
-fn word_value(names: Lookup<'_>, inputs: bool, word: &Spot) -> Result<(Expr, Sort), FormFault>
+fn leaf_value(names: Lookup<'_>, inputs: bool, leaf: &Spot) -> Result<(Expr, Sort), FormFault>
     ensures { Gives (λ p. (expr_view p.0, p.1)) result
-        (word_value (lookup_names names.entry) inputs word.now) }
+        (leaf_value (lookup_names names.entry) inputs leaf.now) }
 {
-    let text = word.text.as_slice();
+    let text = leaf.text.as_slice();
     if text == b"true".as_slice() {
         Ok((Expr::Bool(true), Sort::Bool))
     } else if text == b"false".as_slice() {
         Ok((Expr::Bool(false), Sort::Bool))
     } else {
-        value_named(inputs, word.offset, names.get(text))
+        value_named(inputs, leaf.offset, names.get(text))
     }
 }
 
 /// One of them, of the wanted sort.
-#[tactic(auto, unfolding(crate::specs::Typing::typed_word))]
-fn word(names: Lookup<'_>, inputs: bool, want: Sort, word: &Spot) -> Result<Expr, FormFault>
+#[tactic(auto, unfolding(crate::specs::Typing::typed_leaf))]
+fn leaf(names: Lookup<'_>, inputs: bool, want: Sort, leaf: &Spot) -> Result<Expr, FormFault>
     ensures { Gives expr_view result
-        (typed_word (lookup_names names.entry) inputs want word.now) }
+        (typed_leaf (lookup_names names.entry) inputs want leaf.now) }
 {
-    let (value, sort) = word_value(names, inputs, word)?;
-    of_sort(want, word.offset, sort)?;
+    let (value, sort) = leaf_value(names, inputs, leaf)?;
+    of_sort(want, leaf.offset, sort)?;
     Ok(value)
 }
 
@@ -146,7 +140,7 @@ pub fn expression(
         (typed (lookup_names names.entry) inputs want (expression_of form.now)) }
 {
     match form {
-        Form::Atom(spot) => word(names, inputs, want, spot),
+        Form::Atom(spot) => leaf(names, inputs, want, spot),
         Form::List {
             offset,
             head,

@@ -2,7 +2,7 @@
 
 ghost use Rattle.std.specs.Prelude.{◌≡◌};
 ghost use Rattle.bd_typer.specs.declared.fault.TypeFault.TheVariants.{Memory};
-ghost use Rattle.bd_typer.specs.inner.Located.{located, text_located, first_offset};
+ghost use Rattle.bd_typer.specs.inner.Located.{located, text_located};
 
 use bd_syntax::FormFault;
 use bd_text::{Code, TextFault};
@@ -59,13 +59,14 @@ impl<T: Drop> From<AllocFailed<T>> for TypeFault {
     }
 }
 
-/// The fault of a file.
-pub fn located(file: Text, fault: FormFault) -> TypeFault
-    ensures { result ≡ located file fault }
+/// What a step on a file gave, a fault with the file.
+pub fn located<T>(file: Text, step: Result<T, FormFault>) -> Result<T, TypeFault>
+    ensures { result ≡ located file step }
 {
-    match fault {
-        FormFault::Bad { offset, code } => TypeFault::Bad { file, offset, code },
-        FormFault::Memory => TypeFault::Memory,
+    match step {
+        Ok(value) => Ok(value),
+        Err(FormFault::Bad { offset, code }) => Err(TypeFault::Bad { file, offset, code }),
+        Err(FormFault::Memory) => Err(TypeFault::Memory),
     }
 }
 

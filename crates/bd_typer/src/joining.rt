@@ -15,16 +15,15 @@ ghost use Rattle.bd_syntax.specs.declared.ast.Kind.TheVariants.{Pipeline, Specif
 ghost use Rattle.bd_typer.specs.Faults.{GivesIn};
 ghost use Rattle.bd_typer.specs.Given.{IsInvFile, IsMachineFile};
 ghost use Rattle.bd_typer.specs.Joined.{assembled, declared, entry_place, joined, machine_of, start, typed_inv, typed_machine};
-ghost use Rattle.bd_typer.specs.inner.After.{after_declarations, after_inv, after_machines, after_pipe};
 ghost use Rattle.bd_typer.specs.inner.Held.{inv_view, machine_view, meanings, meanings_within, typed_view};
-ghost use Rattle.bd_typer.specs.Names.{shared_names};
+ghost use Rattle.bd_typer.specs.NameMap.{shared_names};
 ghost use Rattle.bd_typer.specs.Walk.{typed_items};
 
 use crate::across::test_across;
 use crate::declarations::{Once, first_count, test_invariant, test_machine};
 use crate::expression::expression;
 use crate::fault::{Text, TypeFault, located};
-use crate::names::{Meaning, Names, Outer};
+use crate::names::{Meaning, NameMap, Outer};
 use crate::scope::{Scope, scope_of};
 use crate::walk::Typed;
 use bd_model::{
@@ -44,23 +43,16 @@ fn test_declared(
     ensures { GivesIn (λ _. tt {0}) result (declared (ast_view pipe.now) (ast_view spec.now)
         (option_map (λ inv. invariant_view inv.now) inv.entry)) }
 {
-    if let Err(fault) = test_machine(alloc, pipe) {
-        return Err(located(Text::Pipe, fault));
-    }
-    if let Err(fault) = test_machine(alloc, spec) {
-        return Err(located(Text::Spec, fault));
-    }
-    let Some(inv) = inv else {
-        return Ok(());
-    };
-    match test_invariant(alloc, pipe, spec, inv) {
-        Ok(()) => Ok(()),
-        Err(fault) => Err(located(Text::Inv, fault)),
+    located(Text::Pipe, test_machine(alloc, pipe))?;
+    located(Text::Spec, test_machine(alloc, spec))?;
+    match inv {
+        Some(inv) => located(Text::Inv, test_invariant(alloc, pipe, spec, inv)),
+        None => Ok(()),
     }
 }
 
 /// A walk that begins, over a machine of so many entries.
-fn start<'a>(alloc: Global, names: Names<'a>, entries: usize) -> Result<Typed<'a>, AllocError>
+fn start<'a>(alloc: Global, names: NameMap<'a>, entries: usize) -> Result<Typed<'a>, AllocError>
     ensures view { (outer : Option Outer) → IfOk result (λ t. typed_view outer t
         ≡ start (meanings_within outer (meanings names.entry)) entries) }
     ensures locals { IfOk result (λ t. length t.locals ≡ 0) }
@@ -91,7 +83,7 @@ pub struct TypedMachine<'a> {
 #[tactic(auto, unfolding(crate::specs::Joined::typed_machine))]
 fn typed_machine<'a>(
     alloc: Global,
-    others: &Names<'_>,
+    others: &NameMap<'_>,
     symbols: &mut Symbols,
     items: &'a [Item],
 ) -> Result<TypedMachine<'a>, FormFault>
@@ -115,11 +107,11 @@ pub struct TypedInv {
 }
 
 /// The lets and the expression of an invariant that is given.
-#[tactic(auto, unfolding(crate::specs::Joined::typed_inv), using(crate::proofs::Counting::item_count))]
+#[tactic(auto, unfolding(crate::specs::Joined::typed_inv), using(crate::proofs::GivenOnce::item_count))]
 fn given_inv(
     alloc: Global,
-    pipe: &Names<'_>,
-    spec: &Names<'_>,
+    pipe: &NameMap<'_>,
+    spec: &NameMap<'_>,
     inv: &InvAst,
 ) -> Result<TypedInv, FormFault>
     requires { IsLimitedInvAst (invariant_view inv.now) }
@@ -127,7 +119,7 @@ fn given_inv(
         (shared_names (meanings pipe.now) (meanings spec.now)) (Some (invariant_view inv.now))) }
 {
     let outer = Some(Outer { pipe, spec });
-    let mut typed = start(alloc, Names::new(alloc), 0)?;
+    let mut typed = start(alloc, NameMap::new(alloc), 0)?;
     typed.items(alloc, outer, false, inv.items.as_slice())?;
     let value = expression(alloc, typed.lookup(outer), false, Sort::Bool, &inv.value)?;
     let Typed { locals, .. } = typed;
@@ -138,8 +130,8 @@ fn given_inv(
 #[tactic(auto, unfolding(crate::specs::Joined::typed_inv))]
 fn typed_inv(
     alloc: Global,
-    pipe: &Names<'_>,
-    spec: &Names<'_>,
+    pipe: &NameMap<'_>,
+    spec: &NameMap<'_>,
     inv: Option<&InvAst>,
 ) -> Result<TypedInv, FormFault>
     requires { IfSome inv (λ inv. IsLimitedInvAst (invariant_view inv.now)) }
@@ -157,7 +149,7 @@ fn typed_inv(
 }
 
 /// For each entry of the specification its place in the pipeline.
-fn visible(alloc: Global, pipe: &Names<'_>, entries: &Entries) -> Result<Places, AllocError>
+fn visible(alloc: Global, pipe: &NameMap<'_>, entries: &Entries) -> Result<Places, AllocError>
     ensures { IfOk result (λ places. places
         ≡ map (λ (x : Entry). entry_place (meanings pipe.now x.name)) entries.now) }
 {
@@ -184,13 +176,14 @@ fn all_distinct(pipe: Distinct, spec: Distinct) -> Result<Distinct, AllocError>
 
 /// What a machine file gives to the design.
 #[derive(Drop)]
-pub struct Parts {
+pub struct MachineParts {
     machine: Machine,
     exact: Exacts,
     distinct: Distinct,
 }
 
-fn taken_apart(machine: TypedMachine<'_>) -> Parts
+/// What a machine file that was gone through gives to the design.
+fn machine_parts(machine: TypedMachine<'_>) -> MachineParts
     ensures machine { (symbols : List Symbol) →
         view_of result.machine ≡ machine_of (machine_view machine.entry symbols) }
     ensures exact { result.exact ≡ machine.entry.typed.exact }
@@ -205,7 +198,7 @@ fn taken_apart(machine: TypedMachine<'_>) -> Parts
         distinct,
         ..
     } = typed;
-    Parts {
+    MachineParts {
         machine: Machine {
             entries,
             ports,
@@ -231,8 +224,8 @@ fn assembled(
         (machine_view spec.entry symbols) (inv_view inv)) }
 {
     let visible = visible(alloc, &pipe.typed.names, &spec.entries)?;
-    let pipe = taken_apart(pipe);
-    let spec = taken_apart(spec);
+    let pipe = machine_parts(pipe);
+    let spec = machine_parts(spec);
     let distinct = all_distinct(pipe.distinct, spec.distinct)?;
     let TypedInv { locals, value } = inv;
     Ok(Design {
@@ -249,89 +242,6 @@ fn assembled(
     })
 }
 
-/// What is left once all expressions are typed.
-fn across(
-    alloc: Global,
-    items: (&[Item], &[Item]),
-    pipe: TypedMachine<'_>,
-    spec: TypedMachine<'_>,
-    symbols: Symbols,
-    inv: TypedInv,
-) -> Result<Design, TypeFault>
-    ensures { (before : List Symbol) → GivesIn design_view result (after_inv
-        (map item_view items.entry.0.now) (map item_view items.entry.1.now)
-        (machine_view pipe.entry before) (machine_view spec.entry symbols) (inv_view inv)) }
-{
-    match test_across(&pipe.typed.names, items.1) {
-        Ok(()) => Ok(assembled(alloc, items.0, pipe, spec, symbols, inv)?),
-        Err(fault) => Err(located(Text::Spec, fault)),
-    }
-}
-
-/// What is left once the machines are gone through.
-fn joined_machines(
-    alloc: Global,
-    items: (&[Item], &[Item]),
-    pipe: TypedMachine<'_>,
-    spec: TypedMachine<'_>,
-    symbols: Symbols,
-    inv: Option<&InvAst>,
-) -> Result<Design, TypeFault>
-    requires { IfSome inv (λ inv. IsLimitedInvAst (invariant_view inv.now)) }
-    ensures { (before : List Symbol) → GivesIn design_view result (after_machines
-        (map item_view items.entry.0.now) (map item_view items.entry.1.now)
-        (machine_view pipe.entry before) (machine_view spec.entry symbols)
-        (option_map (λ inv. invariant_view inv.now) inv.entry)) }
-{
-    match typed_inv(alloc, &pipe.typed.names, &spec.typed.names, inv) {
-        Ok(inv) => across(alloc, items, pipe, spec, symbols, inv),
-        Err(fault) => Err(located(Text::Inv, fault)),
-    }
-}
-
-/// What is left once the pipeline is gone through.
-fn joined_pipe(
-    alloc: Global,
-    items: (&[Item], &[Item]),
-    pipe: TypedMachine<'_>,
-    symbols: Symbols,
-    inv: Option<&InvAst>,
-) -> Result<Design, TypeFault>
-    requires room { length symbols + length items.1.now ≤ 2097152 }
-    requires inv { IfSome inv (λ inv. IsLimitedInvAst (invariant_view inv.now)) }
-    ensures { GivesIn design_view result (after_pipe
-        (map item_view items.entry.0.now) (map item_view items.entry.1.now)
-        (machine_view pipe.entry symbols)
-        (option_map (λ inv. invariant_view inv.now) inv.entry)) }
-{
-    let mut all = symbols;
-    match typed_machine(alloc, &pipe.typed.names, &mut all, items.1) {
-        Ok(spec) => joined_machines(alloc, items, pipe, spec, all, inv),
-        Err(fault) => Err(located(Text::Spec, fault)),
-    }
-}
-
-/// What is left once the declarations have no fault.
-fn joined_files(
-    alloc: Global,
-    items: (&[Item], &[Item]),
-    inv: Option<&InvAst>,
-) -> Result<Design, TypeFault>
-    requires pipe { length items.0.now ≤ 1048576 }
-    requires spec { length items.1.now ≤ 1048576 }
-    requires inv { IfSome inv (λ inv. IsLimitedInvAst (invariant_view inv.now)) }
-    ensures { GivesIn design_view result (after_declarations
-        (map item_view items.entry.0.now) (map item_view items.entry.1.now)
-        (option_map (λ inv. invariant_view inv.now) inv.entry)) }
-{
-    let mut symbols = Symbols::new(alloc);
-    let none = Names::new(alloc);
-    match typed_machine(alloc, &none, &mut symbols, items.0) {
-        Ok(pipe) => joined_pipe(alloc, items, pipe, symbols, inv),
-        Err(fault) => Err(located(Text::Pipe, fault)),
-    }
-}
-
 /// The design of files, or their first fault.
 #[tactic(auto, unfolding(crate::specs::Joined::joined))]
 fn joined(alloc: Global, pipe: &Ast, spec: &Ast, inv: Option<&InvAst>) -> Result<Design, TypeFault>
@@ -341,12 +251,19 @@ fn joined(alloc: Global, pipe: &Ast, spec: &Ast, inv: Option<&InvAst>) -> Result
     ensures { GivesIn design_view result (joined (ast_view pipe.now) (ast_view spec.now)
         (option_map (λ inv. invariant_view inv.now) inv.entry)) }
 {
+    test_declared(alloc, pipe, spec, inv)?;
     let pipe_items = pipe.items.as_slice();
     let spec_items = spec.items.as_slice();
-    match test_declared(alloc, pipe, spec, inv) {
-        Ok(()) => joined_files(alloc, (pipe_items, spec_items), inv),
-        Err(fault) => Err(fault),
-    }
+    let mut symbols = Symbols::new(alloc);
+    let none = NameMap::new(alloc);
+    let typed = typed_machine(alloc, &none, &mut symbols, pipe_items);
+    let pipe = located(Text::Pipe, typed)?;
+    let typed = typed_machine(alloc, &pipe.typed.names, &mut symbols, spec_items);
+    let spec = located(Text::Spec, typed)?;
+    let typed = typed_inv(alloc, &pipe.typed.names, &spec.typed.names, inv);
+    let inv = located(Text::Inv, typed)?;
+    located(Text::Spec, test_across(&pipe.typed.names, spec_items))?;
+    Ok(assembled(alloc, pipe_items, pipe, spec, symbols, inv)?)
 }
 
 /// The design that the forms of a pipeline, a specification and an invariant denote, or their first fault. The forms
@@ -358,7 +275,7 @@ fn joined(alloc: Global, pipe: &Ast, spec: &Ast, inv: Option<&InvAst>) -> Result
 /// by item: `E08` to `E10` and `E17`, and at the names of a distinct item `E08`, `E18` and `E07`; the first counts.
 /// The specification against the pipeline: `E15` at a latch or memory, `E16` at a name that one file declares as a
 /// function or predicate and the other as anything but that; the least offset counts, then the least code.
-#[tactic(auto, using(crate::proofs::Counting::item_count))]
+#[tactic(auto, using(crate::proofs::GivenOnce::item_count))]
 pub fn join(
     alloc: Global,
     pipe: &Ast,

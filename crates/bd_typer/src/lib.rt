@@ -23,6 +23,3 @@ mod walk;
 pub use design::design_of;
 pub use fault::{DesignFault, Text, TypeFault};
 pub use joining::join;
-
-#[cfg(test)]
-mod tests;

@@ -1,7 +1,7 @@
 //! What names mean, and sets of names.
 
 ghost use Rattle.std.specs.Prelude.{◌≡◌, OnOk, IfOk, not};
-ghost use Rattle.bd_typer.specs.Names.{no_names, declare, shared_names};
+ghost use Rattle.bd_typer.specs.NameMap.{no_names, declare, shared_names};
 ghost use Rattle.bd_typer.specs.Repeats.{no_texts, with_text};
 ghost use Rattle.bd_typer.specs.inner.Held.{lookup_names, meanings, members};
 
@@ -40,15 +40,16 @@ pub enum Meaning {
 
 /// What the names of a file mean.
 #[derive(Drop)]
-pub struct Names<'a> {
+pub struct NameMap<'a> {
     map: IndexMap<&'a [u8], Meaning>,
 }
 
-impl<'a> Names<'a> {
-    pub fn new(alloc: Global) -> Names<'a>
+impl<'a> NameMap<'a> {
+    /// No names.
+    pub fn new(alloc: Global) -> NameMap<'a>
         ensures { meanings result ≡ no_names }
     {
-        Names {
+        NameMap {
             map: IndexMap::new(alloc),
         }
     }
@@ -73,8 +74,8 @@ impl<'a> Names<'a> {
 /// The names of the machines that an invariant speaks of.
 #[derive(Clone, Copy)]
 pub struct Outer<'n> {
-    pub pipe: &'n Names<'n>,
-    pub spec: &'n Names<'n>,
+    pub pipe: &'n NameMap<'n>,
+    pub spec: &'n NameMap<'n>,
 }
 
 impl<'n> Outer<'n> {
@@ -95,10 +96,10 @@ impl<'n> Outer<'n> {
     }
 }
 
-/// The names of a file, and behind them those that it shares.
+/// The names of a file, and after them those that it shares.
 #[derive(Clone, Copy)]
 pub struct Lookup<'n> {
-    pub own: &'n Names<'n>,
+    pub own: &'n NameMap<'n>,
     pub outer: Option<Outer<'n>>,
 }
 
@@ -107,25 +108,26 @@ impl<'n> Lookup<'n> {
     pub fn get(self, name: &[u8]) -> Option<Meaning>
         ensures { result ≡ lookup_names self.entry name.now }
     {
-        match (self.own.get(name), self.outer) {
-            (Some(meaning), _) => Some(meaning),
-            (None, Some(outer)) => outer.get(name),
-            (None, None) => None,
+        match (self.outer, self.own.get(name)) {
+            (None, meaning) => meaning,
+            (Some(_), Some(meaning)) => Some(meaning),
+            (Some(outer), None) => outer.get(name),
         }
     }
 }
 
 /// A set of names.
 #[derive(Drop)]
-pub struct Texts<'a> {
+pub struct NameSet<'a> {
     set: IndexSet<&'a [u8]>,
 }
 
-impl<'a> Texts<'a> {
-    pub fn new(alloc: Global) -> Texts<'a>
+impl<'a> NameSet<'a> {
+    /// The empty set.
+    pub fn new(alloc: Global) -> NameSet<'a>
         ensures { members result ≡ no_texts }
     {
-        Texts {
+        NameSet {
             set: IndexSet::new(alloc),
         }
     }

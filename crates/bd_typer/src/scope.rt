@@ -2,10 +2,10 @@
 
 ghost use Rattle.std.specs.Prelude.{◌≡◌, ◌<◌, ◌≤◌, ◌+◌, List, length, map, OnOk, IfOk};
 ghost use Rattle.bd_syntax.specs.Forms.{item_view};
-ghost use Rattle.bd_typer.specs.Names.{scope_of, with_entry, with_input, with_item, with_symbol};
+ghost use Rattle.bd_typer.specs.NameMap.{scope_of, with_entry, with_input, with_item, with_symbol};
 ghost use Rattle.bd_typer.specs.inner.Held.{meanings, scope_view};
 
-use crate::names::{Meaning, Names};
+use crate::names::{Meaning, NameMap};
 use bd_model::{Entries, Entry, Name, Sort, Symbol, Symbols};
 use bd_syntax::{Item, Spot};
 use std::alloc::{AllocError, Global};
@@ -13,7 +13,7 @@ use std::alloc::{AllocError, Global};
 /// What the items of a machine file declare, apart from the symbols of the design.
 #[derive(Drop)]
 pub struct Scope<'a> {
-    pub names: Names<'a>,
+    pub names: NameMap<'a>,
     pub entries: Entries,
     pub inputs: u32,
 }
@@ -26,6 +26,7 @@ pub fn copied(alloc: Global, name: &Spot) -> Result<Name, AllocError>
 }
 
 impl<'a> Scope<'a> {
+    /// A latch or memory.
     fn entry(&mut self, alloc: Global, name: &'a Spot, sort: Sort) -> Result<(), AllocError>
         requires { length self.old.entries < 2097152 }
         ensures { (all : List Symbol) → OnOk result
@@ -39,6 +40,7 @@ impl<'a> Scope<'a> {
         Ok(())
     }
 
+    /// An input.
     fn input(&mut self, name: &'a Spot, sort: Sort) -> Result<(), AllocError>
         requires { self.old.inputs < 2097152 }
         ensures { (all : List Symbol) → OnOk result
@@ -57,7 +59,7 @@ impl<'a> Scope<'a> {
     fn symbol(
         &mut self,
         alloc: Global,
-        others: &Names<'_>,
+        others: &NameMap<'_>,
         symbols: &mut Symbols,
         name: &'a Spot,
         symbol: (u32, bool),
@@ -94,7 +96,7 @@ impl<'a> Scope<'a> {
     fn item(
         &mut self,
         alloc: Global,
-        others: &Names<'_>,
+        others: &NameMap<'_>,
         symbols: &mut Symbols,
         item: &'a Item,
     ) -> Result<(), AllocError>
@@ -121,10 +123,10 @@ impl<'a> Scope<'a> {
     }
 }
 
-/// What the items of a machine file declare; the symbols that the other file doesn't have come behind its own.
+/// What the items of a machine file declare; the symbols that the other file doesn't have come after its own.
 pub fn scope_of<'a>(
     alloc: Global,
-    others: &Names<'_>,
+    others: &NameMap<'_>,
     symbols: &mut Symbols,
     items: &'a [Item],
 ) -> Result<Scope<'a>, AllocError>
@@ -134,7 +136,7 @@ pub fn scope_of<'a>(
     ensures room { OnOk result (length symbols.new ≤ length symbols.old + length items.now) }
 {
     let mut scope = Scope {
-        names: Names::new(alloc),
+        names: NameMap::new(alloc),
         entries: Entries::new(alloc),
         inputs: 0,
     };

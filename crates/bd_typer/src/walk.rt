@@ -2,7 +2,7 @@
 
 ghost use Rattle.std.specs.Prelude.{◌≡◌, ◌<◌, ◌≤◌, ◌+◌, ◌++◌, ◌∷◌, [], OnOk, length, map, set};
 ghost use Rattle.bd_model.specs.Lawful.{uses_input};
-ghost use Rattle.bd_typer.specs.Names.{declare};
+ghost use Rattle.bd_typer.specs.NameMap.{declare};
 ghost use Rattle.bd_model.specs.ExprView.{expr_view};
 ghost use Rattle.bd_syntax.specs.Forms.{expression_of, item_view};
 ghost use Rattle.bd_syntax.specs.Reading.{Gives};
@@ -10,19 +10,19 @@ ghost use Rattle.bd_typer.specs.Repeats.{no_texts};
 ghost use Rattle.bd_typer.specs.Walk.{constant_named, constants, entry_named, typed_distinct, typed_exact, typed_input, typed_item, typed_items, typed_let, typed_next};
 ghost use Rattle.bd_typer.specs.inner.Held.{lookup_names, meanings, typed_view};
 
-use crate::expression::{bad, expression};
+use crate::expression::expression;
 use crate::inputs::uses_input;
-use crate::names::{Lookup, Meaning, Names, Outer, Texts};
+use crate::names::{Lookup, Meaning, NameMap, NameSet, Outer};
 use crate::scope::copied;
 use bd_model::{Distinct, Exact, Exacts, Expr, Local, Locals, Places, Port, Ports, Sort};
-use bd_syntax::{Form, FormFault, Item, Spot, Spots};
+use bd_syntax::{Form, FormFault, Item, Spot, Spots, bad};
 use bd_text::Code;
 use std::alloc::{AllocError, Global};
 
-/// What the items gone through give, and what names mean behind them.
+/// What the items gone through give, and what names mean after them.
 #[derive(Drop)]
 pub struct Typed<'a> {
-    pub names: Names<'a>,
+    pub names: NameMap<'a>,
     pub ports: Ports,
     pub locals: Locals,
     /// For each let whether it uses an input, directly or through other lets.
@@ -71,7 +71,7 @@ fn constants(alloc: Global, names: Lookup<'_>, spots: &Spots) -> Result<Places, 
     ensures { Gives (λ group. group) result (constants
         (lookup_names names.entry) no_texts spots.now) }
 {
-    let mut before = Texts::new(alloc);
+    let mut before = NameSet::new(alloc);
     let mut group = Vec::new(alloc);
     for spot in spots.as_slice() {
         let text = spot.text.as_slice();

@@ -38,7 +38,7 @@ HasRead source at reader =
     IsReadTo source at (nodes_of_all reader.parts.items) (openings_of reader.open_lists.items)
 
 -- atom bytes stand from an offset to the next, and no further one follows
-pub record IsWord (source : List ℕ) (at end : ℕ) : Type 0 where
+pub record IsAtomRun (source : List ℕ) (at end : ℕ) : Type 0 where
   pub nonempty : at < end
   pub within : end ≤ length source
   pub each : (k : ℕ) → at ≤ k → k < end → IsAtomByte (slice_index source k)

@@ -7,35 +7,35 @@ use Rattle.bd_model.specs.declared.design.Symbol as symbol
 use Rattle.bd_model.specs.ExprView.{expr_view}
 use Rattle.bd_model.specs.DesignView.{local_view, port_view, exact_view}
 use Rattle.bd_typer.specs.declared.names.Meaning.{Meaning}
-use Rattle.bd_typer.specs.declared.names.Names.{Names}
+use Rattle.bd_typer.specs.declared.names.NameMap.{NameMap}
 use Rattle.bd_typer.specs.declared.names.Outer.{Outer}
 use Rattle.bd_typer.specs.declared.names.Lookup.{Lookup}
-use Rattle.bd_typer.specs.declared.names.Texts.{Texts}
+use Rattle.bd_typer.specs.declared.names.NameSet.{NameSet}
 use Rattle.bd_typer.specs.declared.scope.Scope.{Scope}
 use Rattle.bd_typer.specs.declared.walk.Typed.{Typed}
-use Rattle.bd_typer.specs.Names as names
+use Rattle.bd_typer.specs.NameMap as names
 use Rattle.bd_typer.specs.Walk as walk
 use Rattle.bd_typer.specs.Joined as joined
 use Rattle.bd_typer.specs.declared.joining.TypedInv.{TypedInv}
 use Rattle.bd_typer.specs.declared.joining.TypedMachine.{TypedMachine}
 
-abbrev pub meanings : Names → List ℕ → Option Meaning
+abbrev pub meanings : NameMap → List ℕ → Option Meaning
 meanings names text = get_by (λ key. pointwise nat_eq text key.now) names.map
 
 -- what a text means in a file, else what it means outside
-abbrev pub or_outer : Option Meaning → Option Outer → List ℕ → Option Meaning
-or_outer (Some meaning) outer text = Some meaning
-or_outer None None text = None
-or_outer None (Some outer) text =
-    names.shared_names (meanings outer.pipe.now) (meanings outer.spec.now) text
+abbrev pub or_else : Option Meaning → Option Meaning → Option Meaning
+or_else (Some meaning) outer = Some meaning
+or_else None outer = outer
 
-abbrev pub meanings_within : Option Outer → names.Names → List ℕ → Option Meaning
-meanings_within outer own text = or_outer (own text) outer text
+abbrev pub meanings_within : Option Outer → names.NameMap → names.NameMap
+meanings_within None own = own
+meanings_within (Some outer) own = λ text.
+    or_else (own text) (names.shared_names (meanings outer.pipe.now) (meanings outer.spec.now) text)
 
 abbrev pub lookup_names : Lookup → List ℕ → Option Meaning
 lookup_names lookup = meanings_within lookup.outer (meanings lookup.own.now)
 
-abbrev pub members : Texts → List ℕ → Bool
+abbrev pub members : NameSet → List ℕ → Bool
 members texts text = contains_by (λ key. pointwise nat_eq text key.now) texts.set
 
 abbrev pub scope_view : Scope → List symbol.Symbol → names.Scope

@@ -1,5 +1,5 @@
 -- Faults with their file, as the program has them; and the least of offsets.
-use Rattle.std.specs.Prelude.{◌≡◌, ℕ, List, [], ◌∷◌, Option, Some, None, min}
+use Rattle.std.specs.Prelude.{◌≡◌, ℕ, List, [], ◌∷◌, Option, Some, None, Result, Ok, Err, min}
 use Rattle.std.specs.Option.{option_map}
 use Rattle.bd_text.specs.declared.code.Code.{Code}
 use Rattle.bd_syntax.specs.Reading.{Fault}
@@ -12,9 +12,10 @@ use Rattle.bd_typer.specs.declared.fault.Text.{Text}
 use Rattle.bd_typer.specs.declared.fault.TypeFault.{TypeFault}
 use Rattle.bd_typer.specs.declared.fault.TypeFault.TheVariants as faults
 
-abbrev pub located : Text → FormFault → TypeFault
-located file (forms.Bad offset code) = faults.Bad file offset code
-located file forms.Memory = faults.Memory
+abbrev pub located : {A : Type 0} → Text → Result A FormFault → Result A TypeFault
+located file (Ok x) = Ok x
+located file (Err (forms.Bad offset code)) = Err (faults.Bad file offset code)
+located file (Err forms.Memory) = Err faults.Memory
 
 abbrev pub text_located : Text → TextFault → TypeFault
 text_located file (texts.Bad offset code) = faults.Bad file offset code

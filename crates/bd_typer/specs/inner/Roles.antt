@@ -1,4 +1,4 @@
--- What items name, by the words of the program.
+-- What items name, in the program's own terms.
 use Rattle.std.specs.Prelude.{ℕ, Bool, true, false, List, [], ◌∷◌, Option, Some, None}
 use Rattle.std.specs.Borrow.{Bor}
 use Rattle.bd_syntax.specs.Forms.{ItemView}
@@ -26,7 +26,7 @@ abbrev pub item_count : Once → ItemView → Option ℕ
 item_count Flush = flush_count
 item_count Steps = steps_count
 
--- the name behind a reference, if there is one
+-- the name that a reference has, if there is one
 abbrev pub given : Option (Bor Spot) → List Spot
 given None = []
 given (Some name) = name.now ∷ []

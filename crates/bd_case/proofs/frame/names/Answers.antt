@@ -4,7 +4,7 @@ use Rattle.bd_model.specs.DesignView.{PortView, port_view}
 use Rattle.bd_model.specs.declared.design.Symbol.{Symbol}
 use Rattle.bd_model.specs.declared.design.Entry.{Entry}
 use Rattle.bd_model.specs.declared.design.Port.{Port}
-use Rattle.bd_case.proofs.Lines.{map_end}
+use Rattle.bd_case.proofs.Remaining.{map_end}
 use Rattle.bd_case.proofs.frame.names.Goals as goal
 
 pub returns : goal.returns

@@ -1,4 +1,4 @@
-use Rattle.std.proofs.Common.{◌≡◌, List, [], ◌++◌, ℕ, Bor, map, drop}
+use Rattle.std.proofs.Common.{◌≡◌, List, ◌++◌, ℕ, Bor, map, drop}
 use Rattle.bd_model.specs.declared.design.Symbol.{Symbol}
 use Rattle.bd_model.specs.declared.design.Entry.{Entry}
 use Rattle.bd_model.specs.declared.design.Port.{Port}

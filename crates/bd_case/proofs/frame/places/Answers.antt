@@ -1,6 +1,6 @@
-use Rattle.std.proofs.Common.{◌≡◌, ◌<◌, ◌≤◌, ◌-◌, List, [], ℕ, Bor, length, map, sym, arith}
+use Rattle.std.proofs.Common.{◌-◌, List, [], ℕ, Bor, map, sym, arith}
 use Rattle.std.proofs.lemmas.List.{get_or-map, length-map}
-use Rattle.bd_case.proofs.Lines.{place_step}
+use Rattle.bd_case.proofs.Remaining.{place_step}
 use Rattle.bd_case.proofs.frame.places.Goals as goal
 
 pub loop-at-preserved : goal.loop-at-preserved

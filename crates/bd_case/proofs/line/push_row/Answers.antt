@@ -1,6 +1,6 @@
 use Rattle.std.proofs.Common.{◌≡◌, ◌++◌, ◌∷◌, [], get_or, ap, ◌∙◌}
 use Rattle.std.specs.Fmt.{decimal}
-use Rattle.bd_case.proofs.Lines.{all_short, arg_step}
+use Rattle.bd_case.proofs.Remaining.{all_short, arg_step}
 use Rattle.bd_case.proofs.line.push_row.Goals as goal
 
 pub loop-arg-preserved : goal.loop-arg-preserved

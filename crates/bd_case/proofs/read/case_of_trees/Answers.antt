@@ -1,6 +1,6 @@
 use Rattle.std.proofs.Common.{◌+◌, length, ap, arith}
 use Rattle.bd_model.specs.DesignView.{design_view}
-use Rattle.bd_case.proofs.Rereading.{kinds_room}
+use Rattle.bd_case.proofs.CaseReadsBack.{kinds_room}
 use Rattle.bd_case.proofs.read.case_of_trees.Goals as goal
 
 pub case_from-requires : goal.case_from-requires

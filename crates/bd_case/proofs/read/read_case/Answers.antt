@@ -1,9 +1,9 @@
 use Rattle.bd_text.specs.View.{nodes_of}
-use Rattle.bd_syntax.proofs.Holding.{given_holds}
+use Rattle.bd_syntax.proofs.Results.{given_holds}
 use Rattle.bd_model.specs.DesignView.{design_view}
 use Rattle.bd_model.specs.Fits.{Fits}
 use Rattle.bd_case.specs.Reading.{case_form}
-use Rattle.bd_case.proofs.Fitting.{case_form-holds}
+use Rattle.bd_case.proofs.ReadCasesFit.{case_form-holds}
 use Rattle.bd_case.proofs.read.read_case.Goals as goal
 
 pub returns-in-Ok-clause-fits : goal.returns-in-Ok-clause-fits

@@ -1,7 +1,7 @@
 use Rattle.std.proofs.Common.{◌≡◌, drop}
 use Rattle.bd_text.specs.View.{nodes_of_all}
 use Rattle.bd_syntax.specs.Reading.{each_form}
-use Rattle.bd_syntax.proofs.Loop.{with_front}
+use Rattle.bd_syntax.proofs.EachForm.{with_front}
 use Rattle.bd_case.specs.Reading.{row_form}
 use Rattle.bd_case.proofs.value.rows.Given as goal
 

@@ -1,7 +1,7 @@
 use Rattle.std.proofs.lemmas.Result.{err_from_is_err_and}
 use Rattle.bd_text.specs.View.{nodes_of_all}
 use Rattle.bd_syntax.specs.Reading.{each_form}
-use Rattle.bd_syntax.proofs.Loop.{goes_on, ends, is_done}
+use Rattle.bd_syntax.proofs.EachForm.{goes_on, ends, is_done}
 use Rattle.bd_case.specs.Reading.{word_form}
 use Rattle.bd_case.proofs.value.words.Goals as goal
 

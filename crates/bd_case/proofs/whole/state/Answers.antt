@@ -5,7 +5,7 @@ use Rattle.std.specs.Slice.Iter.{iter_rest}
 use Rattle.bd_model.specs.declared.table.Table.{Table}
 use Rattle.bd_model.specs.declared.design.Entry.{Entry}
 use Rattle.bd_case.specs.Content.{value_of_table}
-use Rattle.bd_case.proofs.Pairs.{zip_end}
+use Rattle.bd_case.proofs.TwoLists.{zip_end}
 use Rattle.bd_case.proofs.whole.state.Goals as goal
 
 pub returns : goal.returns

@@ -1,18 +1,18 @@
-use Rattle.std.proofs.Common.{◌≡◌, ℕ, ◌+◌, List, [], ◌∷◌, length, Option, Some, None, Result, Ok, Err, refl, sym, ap, ◌∙◌, inl, inr, ◌⊎◌, arith}
+use Rattle.std.proofs.Common.{◌≡◌, ℕ, List, [], ◌∷◌, length, Option, Ok, refl, inl, inr, ◌⊎◌, arith}
 use Rattle.std.specs.Prelude.{IfOk}
 use Rattle.std.specs.Iterator.Adapters.{zip_first, zip_second}
 use Rattle.std.specs.Slice.Iter.{iter_rest}
 use Rattle.std.specs.Vec.Iter.{into_iter_items}
 use Rattle.std.proofs.lemmas.List.{nil_from_length}
-use Rattle.bd_syntax.specs.Reading.{Fault, ◌>>=◌}
-use Rattle.bd_syntax.proofs.Holding.{holds_then, anything}
+use Rattle.bd_syntax.specs.Reading.{◌>>=◌}
+use Rattle.bd_syntax.proofs.Results.{holds_then, anything}
 use Rattle.bd_model.specs.declared.table.Table.{Table}
 use Rattle.bd_case.specs.Reading.{given_or, whole_form}
-use Rattle.bd_case.specs.declared.kind.Kind.{Kind}
-use Rattle.bd_case.proofs.Pairs.{whole_end}
+use Rattle.bd_case.specs.declared.kind.EntryKind.{EntryKind}
+use Rattle.bd_case.proofs.TwoLists.{whole_end}
 use Rattle.bd_case.proofs.whole.whole.Goals as goal
 
-whole_count : (offset : ℕ) (ks : List Kind) (given : List (Option Table)) → length given ≡ length ks → IfOk (whole_form offset ks given) (λ ts. length ts ≡ length ks)
+whole_count : (offset : ℕ) (ks : List EntryKind) (given : List (Option Table)) → length given ≡ length ks → IfOk (whole_form offset ks given) (λ ts. length ts ≡ length ks)
 whole_count offset [] given e = refl
 whole_count offset (k ∷ ks) [] e = absurd (omega arith)
 whole_count offset (k ∷ ks) (g ∷ given) e =

@@ -2,7 +2,7 @@ use Rattle.std.proofs.Common.{◌≡◌, length}
 use Rattle.std.specs.Iterator.Adapters.{zip_first, zip_second}
 use Rattle.std.specs.Slice.Iter.{iter_rest}
 use Rattle.std.specs.Vec.Iter.{into_iter_items, into_iter_len}
-use Rattle.bd_syntax.proofs.Loop.{with_front}
+use Rattle.bd_syntax.proofs.EachForm.{with_front}
 use Rattle.bd_case.specs.Reading.{whole_form}
 use Rattle.bd_case.proofs.whole.whole.Given as goal
 

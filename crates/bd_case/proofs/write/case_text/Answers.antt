@@ -7,7 +7,7 @@ use Rattle.bd_model.specs.declared.case.Case.{Case}
 use Rattle.bd_case.specs.Content.{Has64Bits}
 use Rattle.bd_case.specs.Reads.{IsReading}
 use Rattle.bd_case.specs.Text.{text_of}
-use Rattle.bd_case.proofs.Readings.{text_reads}
+use Rattle.bd_case.proofs.OneReading.{text_reads}
 use Rattle.bd_case.proofs.write.case_text.Goals as goal
 
 text_is_read : {V E : Type 0} (items : V → List ℕ) (d : DesignView) (c : Case) (r : Result V E) → IsLawful d → Fits d c

@@ -1,6 +1,6 @@
 use Rattle.std.proofs.Common.{arith}
 use Rattle.bd_case.specs.Text.{entry_line}
-use Rattle.bd_case.proofs.Pairs.{symbols_end}
+use Rattle.bd_case.proofs.TwoLists.{symbols_end}
 use Rattle.bd_case.proofs.write.push_symbols.Goals as goal
 
 pub returns-clause-text : goal.returns-clause-text

@@ -1,9 +1,8 @@
-use Rattle.std.proofs.Common.{◌∙◌}
 use Rattle.std.proofs.lemmas.Slice.Zip.{either_empty_from_Zip}
 use Rattle.std.specs.Iterator.Adapters.{zip_first, zip_second}
 use Rattle.std.specs.Slice.Iter.{iter_rest}
 use Rattle.bd_case.specs.Text.{state_line}
-use Rattle.bd_case.proofs.Pairs.{state_end}
+use Rattle.bd_case.proofs.TwoLists.{state_end}
 use Rattle.bd_case.proofs.write.state_text.Goals as goal
 
 pub returns : goal.returns

@@ -6,7 +6,7 @@ use Rattle.bd_model.specs.DesignView.{PortView, port_view, design_view}
 use Rattle.bd_model.specs.Fits.{TableFits, scalar_sort, value_sort}
 use Rattle.bd_model.specs.declared.design.Entry.{Entry}
 use Rattle.bd_case.specs.Content.{IsShortTable, constant_table, table_of_value}
-use Rattle.bd_case.proofs.Fitting.{both_all}
+use Rattle.bd_case.proofs.ReadCasesFit.{both_all}
 use Rattle.bd_case.proofs.write.written.Goals as goal
 
 pub returns-clause-short : goal.returns-clause-short

@@ -9,7 +9,7 @@ use Rattle.bd_syntax.specs.Forms.{expression_of}
 use Rattle.bd_syntax.specs.Reading.{each_form, expression_form, spot}
 use Rattle.bd_syntax.proofs.Views.{expression_of-List}
 use Rattle.bd_syntax.proofs.Expressions.{arguments_fail, arguments_done, nesting-argument}
-use Rattle.bd_syntax.proofs.Loop.{goes_on, ends, is_done}
+use Rattle.bd_syntax.proofs.EachForm.{goes_on, ends, is_done}
 use Rattle.bd_syntax.proofs.expression.+expression.Goals as goal
 
 pub expression-requires : goal.expression-requires
@@ -25,7 +25,7 @@ returns-in_err-expression-in-List t c =
     let front = map expression_of c.loop-part.parts.items in
     let tree-is : node_of c.args.tree.now ≡ list c.in-List.offset (nodes_of c.in-List.parts) = ap node_of c.in-List.is ∙ node_of-List c.in-List.offset c.in-List.parts in
     let failed = ends expression_form parts front c.loop-part.part-index c.part-item.result (each_form expression_form (nodes_of_all parts)) c.in_err-expression-in-List.field-0.0 c.loop-part-test.true c.part-item.is c.in_err-expression-in-List.ensures c.loop-part.invariant in
-    rw (p.1, p.2, tree-is) (arguments_fail c.in-List.offset (nodes_of c.in-List.parts) (spot c.in_ok-list-in-List.list.at c.in_ok-list-in-List.list.word.now) _ c.in_ok-list-in-List.ensures.first c.in_ok-list-in-List.ensures.count (nodes_of_all parts) c.in_err-expression-in-List.field-0.0 c.in_ok-list-in-List.ensures.parts c.in_ok-test_head-in-List.ensures failed)
+    rw (p.1, p.2, tree-is) (arguments_fail c.in-List.offset (nodes_of c.in-List.parts) (spot c.in_ok-list-in-List.list.at c.in_ok-list-in-List.list.first.now) _ c.in_ok-list-in-List.ensures.first c.in_ok-list-in-List.ensures.count (nodes_of_all parts) c.in_err-expression-in-List.field-0.0 c.in_ok-list-in-List.ensures.parts c.in_ok-test_head-in-List.ensures failed)
 
 pub loop-part-preserved : goal.loop-part-preserved
 loop-part-preserved t c =
@@ -41,7 +41,7 @@ returns-after-loop-part t c =
     let front = map expression_of c.loop-part.parts.items in
     let tree-is : node_of c.args.tree.now ≡ list c.in-List.offset (nodes_of c.in-List.parts) = ap node_of c.in-List.is ∙ node_of-List c.in-List.offset c.in-List.parts in
     let read = is_done expression_form parts front c.loop-part.part-index (each_form expression_form (nodes_of_all parts)) c.loop-part-test.false c.loop-part.invariant in
-    let done = arguments_done c.in-List.offset (nodes_of c.in-List.parts) (spot c.in_ok-list-in-List.list.at c.in_ok-list-in-List.list.word.now) _ c.in_ok-list-in-List.ensures.first c.in_ok-list-in-List.ensures.count (nodes_of_all parts) front c.in_ok-list-in-List.ensures.parts c.in_ok-test_head-in-List.ensures read in
+    let done = arguments_done c.in-List.offset (nodes_of c.in-List.parts) (spot c.in_ok-list-in-List.list.at c.in_ok-list-in-List.list.first.now) _ c.in_ok-list-in-List.ensures.first c.in_ok-list-in-List.ensures.count (nodes_of_all parts) front c.in_ok-list-in-List.ensures.parts c.in_ok-test_head-in-List.ensures read in
     let made = expression_of-List c.in-List.offset c.in_ok-head-in-List.head c.from_vec.result in
     let head-is = c.in_ok-head-in-List.ensures in
     rw (tree-is, made, c.from_vec.ensures, done) (cc)

@@ -3,7 +3,7 @@ use Rattle.bd_text.specs.View.{node_of, nodes_of_all}
 use Rattle.bd_text.specs.Written.{nesting}
 use Rattle.bd_syntax.specs.Forms.{expression_of}
 use Rattle.bd_syntax.specs.Reading.{each_form, expression_form}
-use Rattle.bd_syntax.proofs.Loop.{with_front}
+use Rattle.bd_syntax.proofs.EachForm.{with_front}
 use Rattle.bd_syntax.proofs.expression.+expression.Given as goal
 
 abbrev pub decreases-expression : goal.decreases-expression

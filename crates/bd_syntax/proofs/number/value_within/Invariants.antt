@@ -6,5 +6,4 @@ abbrev pub invariant-loop-digit : goal.invariant-loop-digit
 invariant-loop-digit l = record {
   read : l.value ≡ number_of (take l.digit-index l.digits);
   small : l.value ≤ l.most;
-  bounded : l.most ≤ 64;
 }

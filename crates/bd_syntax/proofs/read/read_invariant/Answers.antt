@@ -4,7 +4,7 @@ use Rattle.bd_text.specs.View.{nodes_of}
 use Rattle.bd_syntax.specs.Forms.{invariant_view}
 use Rattle.bd_syntax.specs.Reading.{invariant_form}
 use Rattle.bd_syntax.specs.WellFormed.{IsInvAst, IsLimitedInvAst}
-use Rattle.bd_syntax.proofs.Holding.{given_holds}
+use Rattle.bd_syntax.proofs.Results.{given_holds}
 use Rattle.bd_syntax.proofs.WellFormed.{invariant_holds}
 use Rattle.bd_syntax.proofs.read.read_invariant.Goals as goal
 

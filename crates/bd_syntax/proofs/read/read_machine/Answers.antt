@@ -3,7 +3,7 @@ use Rattle.bd_text.specs.View.{nodes_of}
 use Rattle.bd_syntax.specs.Forms.{ast_view}
 use Rattle.bd_syntax.specs.Reading.{machine_form}
 use Rattle.bd_syntax.specs.WellFormed.{IsAst, AreLimited}
-use Rattle.bd_syntax.proofs.Holding.{given_holds}
+use Rattle.bd_syntax.proofs.Results.{given_holds}
 use Rattle.bd_syntax.proofs.WellFormed.{machine_holds}
 use Rattle.bd_syntax.proofs.read.read_machine.Goals as goal
 

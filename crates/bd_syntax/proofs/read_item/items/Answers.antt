@@ -4,7 +4,7 @@ use Rattle.std.proofs.lemmas.Result.{err_from_is_err_and}
 use Rattle.bd_text.specs.View.{nodes_of_all}
 use Rattle.bd_syntax.specs.Forms.{item_view}
 use Rattle.bd_syntax.specs.Reading.{each_form, item_form}
-use Rattle.bd_syntax.proofs.Loop.{goes_on, ends, is_done}
+use Rattle.bd_syntax.proofs.EachForm.{goes_on, ends, is_done}
 use Rattle.bd_syntax.proofs.read_item.items.Goals as goal
 
 pub returns-in_err-item : goal.returns-in_err-item

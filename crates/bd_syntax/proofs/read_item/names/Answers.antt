@@ -1,7 +1,7 @@
 use Rattle.std.proofs.lemmas.Result.{err_from_is_err_and}
 use Rattle.bd_text.specs.View.{nodes_of_all}
 use Rattle.bd_syntax.specs.Reading.{each_form, name_form}
-use Rattle.bd_syntax.proofs.Loop.{goes_on, ends, is_done}
+use Rattle.bd_syntax.proofs.EachForm.{goes_on, ends, is_done}
 use Rattle.bd_syntax.proofs.read_item.names.Goals as goal
 
 pub returns-in_err-name : goal.returns-in_err-name

@@ -1,4 +1,4 @@
-use Rattle.bd_text.proofs.Writing.{written_reads}
+use Rattle.bd_text.proofs.WrittenReads.{written_reads}
 use Rattle.bd_text.proofs.laws.reads_back.Goals as goal
 
 pub returns : goal.returns

@@ -1,4 +1,4 @@
-use Rattle.bd_text.proofs.Spelling.{some_reading-holds}
+use Rattle.bd_text.proofs.SomeReading.{some_reading-holds}
 use Rattle.bd_text.proofs.laws.some_reading.Goals as goal
 
 pub returns : goal.returns

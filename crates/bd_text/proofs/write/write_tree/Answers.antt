@@ -8,7 +8,7 @@ use Rattle.bd_text.proofs.write.write_tree.Goals as goal
 pub index-requires : goal.index-requires
 index-requires c =
     let trees = c.args.trees.now in
-    omega (arith, c.requires, trees.items.ok.0, ap node_count (nodes_of-items trees), node_count-nodes_of_all trees.items.items)
+    omega (arith, c.requires.which, trees.items.ok.0, ap node_count (nodes_of-items trees), node_count-nodes_of_all trees.items.items)
 
 pub returns : goal.returns
 returns c =
@@ -16,7 +16,7 @@ returns c =
     let tree = c.index.result.now in
     let which = c.args.which in
     let within : which < length trees.items.items =
-    omega (arith, c.requires, ap node_count (nodes_of-items trees), node_count-nodes_of_all trees.items.items) in
+    omega (arith, c.requires.which, ap node_count (nodes_of-items trees), node_count-nodes_of_all trees.items.items) in
     let found : node_at (nodes_of trees) which ≡ Some (node_of tree) =
     ap (λ ts. node_at ts which) (nodes_of-items trees) ∙ node_at-within trees.items.items which tree within
     ∙ ap (λ t. Some (node_of t)) (sym c.index.ensures) in

@@ -1,5 +1,5 @@
 use Rattle.bd_text.specs.declared.code.Code.TheVariants.{NotInPipeline, FunctionDiffers}
-use Rattle.bd_typer.proofs.Firsts.{least-two_codes}
+use Rattle.bd_typer.proofs.LeastFault.{least-two_codes}
 use Rattle.bd_typer.proofs.across.test_across.Goals as goal
 
 pub returns : goal.returns

@@ -3,7 +3,7 @@ use Rattle.std.specs.List.{filter_map}
 use Rattle.bd_text.specs.declared.code.Code.TheVariants.{FlushOrSteps}
 use Rattle.bd_syntax.specs.Forms.{item_view}
 use Rattle.bd_typer.specs.Declarations.{not_once, flush_offset, steps_offset}
-use Rattle.bd_typer.proofs.Firsts.{least-one_code}
+use Rattle.bd_typer.proofs.LeastFault.{least-one_code}
 use Rattle.bd_typer.proofs.declarations.counts.Goals as goal
 
 pub returns-in-Pipeline : goal.returns-in-Pipeline

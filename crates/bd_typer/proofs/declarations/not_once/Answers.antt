@@ -1,5 +1,5 @@
 use Rattle.bd_typer.specs.inner.Roles.{count_offset}
-use Rattle.bd_typer.proofs.Counting.{given_once, not_given}
+use Rattle.bd_typer.proofs.GivenOnce.{given_once, not_given}
 use Rattle.bd_typer.proofs.declarations.not_once.Goals as goal
 
 pub returns-then-counted : goal.returns-then-counted

@@ -1,6 +1,6 @@
 use Rattle.bd_typer.specs.inner.Held.{members}
 use Rattle.bd_typer.specs.inner.Roles.{role_name}
-use Rattle.bd_typer.proofs.Scanning.{repeated-more, fresh-more, set-more}
+use Rattle.bd_typer.proofs.RepeatedNames.{repeated-more, fresh-more, set-more}
 use Rattle.bd_typer.proofs.declarations.scan.Goals as goal
 
 pub loop-item-preserved : goal.loop-item-preserved

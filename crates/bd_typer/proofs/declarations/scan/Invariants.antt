@@ -4,7 +4,7 @@ use Rattle.bd_typer.specs.Repeats.{with_names, repeated, fresh}
 use Rattle.bd_typer.specs.inner.Held.{members}
 use Rattle.bd_typer.specs.inner.Located.{first_offset, least_offset}
 use Rattle.bd_typer.specs.inner.Roles.{role_name}
-use Rattle.bd_typer.proofs.Scanning.{names_from}
+use Rattle.bd_typer.proofs.RepeatedNames.{names_from}
 use Rattle.bd_typer.proofs.declarations.scan.Given as goal
 
 abbrev pub invariant-loop-item : goal.invariant-loop-item

@@ -4,7 +4,7 @@ use Rattle.bd_text.specs.declared.code.Code.TheVariants.{DeclaredTwice}
 use Rattle.bd_syntax.specs.Forms.{ast_view, item_view}
 use Rattle.bd_typer.specs.Declarations.{declared_name, offsets, taken_names}
 use Rattle.bd_typer.specs.Repeats.{repeated}
-use Rattle.bd_typer.proofs.Firsts.{least-alone}
+use Rattle.bd_typer.proofs.LeastFault.{least-alone}
 use Rattle.bd_typer.proofs.declarations.test_invariant.Goals as goal
 
 pub returns : goal.returns

@@ -4,7 +4,7 @@ use Rattle.bd_text.specs.declared.code.Code.TheVariants.{DeclaredTwice, MissingO
 use Rattle.bd_syntax.specs.Forms.{item_view}
 use Rattle.bd_typer.specs.Declarations.{count_faults, declared_name, entry_name, next_name, offsets}
 use Rattle.bd_typer.specs.Repeats.{no_texts, with_names, repeated, fresh}
-use Rattle.bd_typer.proofs.Firsts.{least-three}
+use Rattle.bd_typer.proofs.LeastFault.{least-three}
 use Rattle.bd_typer.proofs.declarations.test_machine.Goals as goal
 
 pub returns : goal.returns

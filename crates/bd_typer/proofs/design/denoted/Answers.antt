@@ -1,12 +1,25 @@
-use Rattle.std.specs.Option.{option_map}
+use Rattle.std.proofs.Common.{Some, Err}
+use Rattle.std.proofs.lemmas.Result.{err_from_is_err_and}
 use Rattle.bd_text.specs.View.{nodes_of}
-use Rattle.bd_typer.specs.declared.fault.Text.TheVariants.{Pipe}
-use Rattle.bd_typer.specs.inner.After.{RestOfPipe}
-use Rattle.bd_typer.proofs.Denoting.{on_fault, on_trees}
+use Rattle.bd_typer.specs.declared.fault.Text.TheVariants.{Pipe, Spec, Inv}
+use Rattle.bd_typer.specs.Denotes.{design_of_trees}
+use Rattle.bd_typer.proofs.DenotesOnce.{on_design, on_fault, on_trees}
 use Rattle.bd_typer.proofs.design.denoted.Goals as goal
 
-pub returns-in-Ok : goal.returns-in-Ok
-returns-in-Ok c = on_trees Pipe c.args.pipe.now c.pipe_text.result (λ r p. RestOfPipe p c.args.spec.now (option_map (λ inv. inv.now) c.args.inv) r) (nodes_of c.in-Ok.read) c.in-Ok.ensures.no_fault c.in-Ok.ensures.trees c.pipe_text.ensures
+pub returns-in_err-inv-in-Some : goal.returns-in_err-inv-in-Some
+returns-in_err-inv-in-Some c =
+    let q = err_from_is_err_and c.from_residual-in_err-inv-in-Some.result c.from_residual-in_err-inv-in-Some.ensures.1 in
+    let fault = c.in_err-inv-in-Some.field-0.0 in
+    rw (q.1, q.2, c.in-Some.is) (on_trees Pipe c.args.pipe.now (Err fault) _ (nodes_of c.in_ok-pipe.pipe) c.in_ok-pipe.ensures.no_fault c.in_ok-pipe.ensures.trees
+    (on_trees Spec c.args.spec.now (Err fault) _ (nodes_of c.in_ok-spec.spec) c.in_ok-spec.ensures.no_fault c.in_ok-spec.ensures.trees
+    (on_fault Inv c.in-Some.inv.now fault _ c.in_err-inv-in-Some.ensures.fault)))
 
-pub returns-in-Err : goal.returns-in-Err
-returns-in-Err c = on_fault Pipe c.args.pipe.now c.in-Err.fault (λ r p. RestOfPipe p c.args.spec.now (option_map (λ inv. inv.now) c.args.inv) r) c.in-Err.ensures.fault
+pub returns : goal.returns
+returns c =
+    let p = nodes_of c.in_ok-pipe.pipe in
+    let s = nodes_of c.in_ok-spec.spec in
+    let i = nodes_of c.in_ok-inv-in-Some.inv in
+    rw c.in-Some.is (on_trees Pipe c.args.pipe.now c.design_of_trees-in-Some.result _ p c.in_ok-pipe.ensures.no_fault c.in_ok-pipe.ensures.trees
+    (on_trees Spec c.args.spec.now c.design_of_trees-in-Some.result _ s c.in_ok-spec.ensures.no_fault c.in_ok-spec.ensures.trees
+    (on_trees Inv c.in-Some.inv.now c.design_of_trees-in-Some.result _ i c.in_ok-inv-in-Some.ensures.no_fault c.in_ok-inv-in-Some.ensures.trees
+    (on_design c.design_of_trees-in-Some.result (design_of_trees p s (Some i)) c.design_of_trees-in-Some.ensures))))

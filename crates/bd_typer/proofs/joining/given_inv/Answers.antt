@@ -3,7 +3,7 @@ use Rattle.bd_typer.specs.declared.names.Outer.{Outer}
 use Rattle.std.proofs.lemmas.Result.{err_from_is_err_and}
 use Rattle.bd_model.specs.ExprView.{expr_view}
 use Rattle.bd_syntax.specs.Forms.{invariant_view}
-use Rattle.bd_typer.specs.Names.{shared_names}
+use Rattle.bd_typer.specs.NameMap.{shared_names}
 use Rattle.bd_typer.specs.inner.Held.{meanings, typed_view}
 use Rattle.bd_typer.proofs.JoinSteps.{lets_fail, value_fails, inv_done}
 use Rattle.bd_typer.proofs.joining.given_inv.Goals as goal

@@ -1,4 +1,4 @@
-use Rattle.bd_typer.proofs.Denoting.{denotes_once}
+use Rattle.bd_typer.proofs.DenotesOnce.{denotes_once}
 use Rattle.bd_typer.proofs.laws.denotes_once.Goals as goal
 
 pub returns : goal.returns

@@ -1,7 +1,7 @@
 use Rattle.std.proofs.Common.{◌≡◌, ◌≤◌, ◌+◌, length, map, drop}
 use Rattle.std.specs.Prelude.{fold}
 use Rattle.bd_syntax.specs.Forms.{item_view}
-use Rattle.bd_typer.specs.Names.{with_item, scope_of}
+use Rattle.bd_typer.specs.NameMap.{with_item, scope_of}
 use Rattle.bd_typer.specs.inner.Held.{meanings, scope_view}
 use Rattle.bd_typer.proofs.scope.scope_of.Given as goal
 

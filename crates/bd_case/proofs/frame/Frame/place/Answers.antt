@@ -4,13 +4,13 @@ use Rattle.bd_model.specs.DesignView.{DesignView, design_view}
 use Rattle.bd_model.specs.Lawful.{all_names}
 use Rattle.bd_case.specs.Kinds.{kinds}
 use Rattle.bd_case.specs.Reading.{place_of}
-use Rattle.bd_case.specs.declared.kind.Kind.{Kind}
+use Rattle.bd_case.specs.declared.kind.EntryKind.{EntryKind}
 use Rattle.bd_case.specs.declared.kind.Version.{Version}
 use Rattle.bd_case.proofs.Places.{place_of-within}
-use Rattle.bd_case.proofs.Rereading.{names-kinds}
+use Rattle.bd_case.proofs.CaseReadsBack.{names-kinds}
 use Rattle.bd_case.proofs.frame.Frame.place.Goals as goal
 
-found_within : (version : Version) (d : DesignView) (ks : List Kind) (name : List ℕ) (r : Option ℕ) → ks ≡ kinds version d → r ≡ place_of name (all_names d) → IfSome r (λ i. i < length ks)
+found_within : (version : Version) (d : DesignView) (ks : List EntryKind) (name : List ℕ) (r : Option ℕ) → ks ≡ kinds version d → r ≡ place_of name (all_names d) → IfSome r (λ i. i < length ks)
 found_within version d ks name None same e = tt
 found_within version d ks name (Some i) same e = omega (arith, place_of-within name (all_names d) i (sym e), names-kinds version d, ap length same)
 

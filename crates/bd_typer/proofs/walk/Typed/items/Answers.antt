@@ -4,7 +4,7 @@ use Rattle.bd_model.specs.DesignView.{local_view}
 use Rattle.bd_syntax.specs.Forms.{item_view}
 use Rattle.bd_typer.specs.inner.Held.{typed_view}
 use Rattle.bd_typer.proofs.Steps.{walk_more}
-use Rattle.bd_typer.proofs.Walking.{item_adds}
+use Rattle.bd_typer.proofs.TypedItems.{item_adds}
 use Rattle.bd_typer.proofs.walk.Typed.items.Goals as goal
 
 pub loop-item-preserved : goal.loop-item-preserved

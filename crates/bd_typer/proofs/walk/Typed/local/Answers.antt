@@ -5,7 +5,7 @@ use Rattle.bd_model.specs.ExprView.{expr_view}
 use Rattle.bd_model.specs.Lawful.{uses_input}
 use Rattle.bd_syntax.specs.Forms.{expression_of}
 use Rattle.bd_typer.specs.declared.names.Meaning.TheVariants.{Local}
-use Rattle.bd_typer.specs.Names.{declare}
+use Rattle.bd_typer.specs.NameMap.{declare}
 use Rattle.bd_typer.specs.inner.Held.{meanings, meanings_within, typed_view}
 use Rattle.bd_typer.proofs.Steps.{kept, let_ok, within_declare}
 use Rattle.bd_typer.proofs.walk.Typed.local.Goals as goal
