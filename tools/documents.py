@@ -5,7 +5,8 @@
     tools/documents.py --check    says what is stale, and exits with 1 if anything is
 
 - docs/MAP.md: the last column of the table of crates, who uses each, follows from crates.txt.
-- docs/PROVED.md: the list of what `correct` rests on, by following the definitions that the promise of that name cites.
+- docs/PROVED.md: the list of what `correct` rests on, by following the definitions that the promise of that name cites;
+  and the table of every call, with the names of its contract's parts.
 - docs/DEFINITIONS.md: each public definition of crates/*/specs with the comment above it, under its module and what the
   head of the module's file says, its source among that; modules of specs/inner, which no public contract cites, are
   left out.
@@ -33,6 +34,8 @@ CORRECT = [
 LEFT_OUT = {("bd_app", name) for name in ("Replay", "Run", "Generate", "Cases", "Verdicts")}
 LIST = ("<!-- correct: made by tools/documents.py -->", "<!-- correct: to here -->")
 CALLS = ("<!-- calls: made by tools/documents.py -->", "<!-- calls: to here -->")
+USE = re.compile(r"(?:pub )?use Rattle\.(bd_\w+)\.specs\.([\w.]+?)(?:\.\{(.*)\})?(?: as (\w+))?$")
+NAMED = re.compile(r"`((?:crates/)?(?:bd_\w+|burch_dill)/[\w/.]+|(?:bench|tools|docs)/[\w.]+)`")
 FAULTS = re.compile(r"\b(AllocError|\w+Fault|LoadError|SaveError|AddError)\b")
 
 HEAD = """# Definitions
@@ -194,7 +197,7 @@ class Module:
 
     def read_imports(self):
         for line in self.lines:
-            found = re.match(r"(?:pub )?use Rattle\.(bd_\w+)\.specs\.([\w.]+?)(?:\.\{(.*)\})?(?: as (\w+))?$", line.strip())
+            found = USE.match(line.strip())
             if not found or found.group(2).startswith(("declared", "contracts")):
                 continue
             crate, module, names, alias = found.groups()
@@ -318,6 +321,8 @@ def exported(crate):
 
 def signatures(crate):
     """The public calls of a crate that take something, each with its name and the text of its contract."""
+    if crate == "bd_examples" or not (ROOT / "crates" / crate / "src/lib.rt").exists():
+        return []
     given, found = exported(crate), []
     for file in sorted((ROOT / "crates" / crate / "src").glob("*.rt")):
         owner, trait, lines = None, False, file.read_text().splitlines()
@@ -350,22 +355,22 @@ def contract(text):
 def calls_table():
     rows = ["| Call | Needs | Takes memory | Promises | After an error |", "|---|---|---|---|---|"]
     for crate in crates()[0]:
-        found = signatures(crate) if (ROOT / "crates" / crate / "src/lib.rt").exists() and crate != "bd_examples" else []
+        found = signatures(crate)
         if found:
             rows.append(f"| **{crate}** | | | | |")
         for name, text in found:
             needs, promises = contract(text)
             result = text.split("requires")[0].split("ensures")[0].split("->")[-1]
             memory = "yes" if FAULTS.search(result) or name == "run" else "no"
-            errors = [name for name, said in promises if re.search(r"\b(OnErr|IfErr|Err)\b", said) or re.match("err|refused|failed", name)]
-            cells = [
-                named(needs, "one"),
-                memory,
-                named([part for part in promises if part[0] not in errors or not part[0]], "one"),
-                ", ".join(f"`{name}`" for name in errors if name) or ("changes nothing" if memory == "yes" and "&mut" not in text else ""),
-            ]
-            rows.append(f"| `{name}` | " + " | ".join(cells) + " |")
+            failing = [part for part in promises if part[0] and says_of_error(*part)]
+            others = [part for part in promises if part not in failing]
+            after = named(failing, "") or ("changes nothing" if memory == "yes" and "&mut" not in text else "")
+            rows.append("| " + " | ".join([f"`{name}`", named(needs, "one"), memory, named(others, "one"), after]) + " |")
     return "\n".join(rows)
+
+
+def says_of_error(name, said):
+    return re.search(r"\b(OnErr|IfErr|Err)\b", said) or re.match("err|refused|failed", name)
 
 
 def named(clauses, alone):
@@ -379,11 +384,8 @@ def missing_files():
     """The files of crates and folders that a document names and that aren't there."""
     faults = []
     for document in [ROOT / "README.md", *sorted((ROOT / "docs").glob("*.md"))]:
-        for name in re.findall(r"`((?:crates/)?(?:bd_\w+|burch_dill)/[\w/.]+|(?:bench|tools|docs)/[\w.]+)`", document.read_text()):
-            path = name.removeprefix("crates/") if name.startswith("crates/") else name
-            if "NAME" in name:
-                continue
-            if not (ROOT / name).exists() and not (ROOT / "crates" / path).exists():
+        for name in NAMED.findall(document.read_text()):
+            if "NAME" not in name and not (ROOT / name).exists() and not (ROOT / "crates" / name).exists():
                 faults.append(f"{document.relative_to(ROOT)} names {name}, which isn't there")
     return faults
 
