@@ -1,0 +1,21 @@
+//! Tests of the way from a design to clauses, over public calls alone.
+#![tactic(auto)]
+
+#[cfg(test)]
+mod diverse;
+#[cfg(test)]
+mod function;
+#[cfg(test)]
+mod goal;
+#[cfg(test)]
+mod graphs;
+#[cfg(test)]
+mod memory;
+#[cfg(test)]
+mod swap;
+#[cfg(test)]
+mod symbolic;
+#[cfg(test)]
+mod terms;
+#[cfg(test)]
+mod texts;
