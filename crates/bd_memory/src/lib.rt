@@ -6,6 +6,3 @@ mod pass;
 mod reads;
 
 pub use pass::forward;
-
-#[cfg(test)]
-mod tests;
