@@ -6,9 +6,10 @@
 ghost use Rattle.std.specs.Prelude.{◌≡◌, [], IfOk};
 ghost use Rattle.bd_model.specs.DesignView.{design_view, machine_view};
 ghost use Rattle.bd_model.specs.Cycle.{step, idle_inputs, flush, look, flushed};
+ghost use Rattle.bd_model.specs.Value.{let_values};
 
 use crate::value::{Env, scalar, value, value_at, values};
-use bd_model::{Design, Inputs, Interp, Machine, Scalar, Sequence, State, Table, Value};
+use bd_model::{Design, Inputs, Interp, LetValues, Machine, Scalar, Sequence, State, Table, Value};
 use std::alloc::{AllocError, Global};
 
 /// One cycle of the pipeline: each entry takes the value of its next expression in this state, with these
@@ -59,19 +60,47 @@ pub fn flush(
 ) -> Result<State, AllocError>
     ensures { IfOk result (λ s. s ≡ flush (design_view design.now) interp.now state.now) }
 {
-    let interp = interp.as_slice();
     let mut flushed = state.clone()?;
     for _cycle in 0..design.flush {
-        let inputs = idle_inputs(alloc, &design.pipe, interp, flushed.as_slice())?;
-        flushed = cycle(
-            alloc,
-            &design.pipe,
-            interp,
-            flushed.as_slice(),
-            inputs.as_slice(),
-        )?;
+        let inputs = idle_inputs(alloc, design, interp, &flushed)?;
+        flushed = step(alloc, design, interp, &flushed, &inputs)?;
     }
     Ok(flushed)
+}
+
+/// The inputs of a flush cycle from this state: the values of the flush expressions.
+pub fn idle_inputs(
+    alloc: Global,
+    design: &Design,
+    interp: &Interp,
+    state: &State,
+) -> Result<Inputs, AllocError>
+    ensures { IfOk result (λ xs. xs
+        ≡ idle_inputs (design_view design.now).pipe interp.now state.now) }
+{
+    let locals = design.pipe.locals.as_slice();
+    let env = Env::new(alloc, locals, interp.as_slice(), state.as_slice(), &[])?;
+    let mut inputs = Vec::new(alloc);
+    for port in design.pipe.ports.as_slice() {
+        inputs.push(scalar(&env, &port.idle)?)?;
+    }
+    Ok(Sequence::from_vec(inputs))
+}
+
+/// The values of the pipeline's lets in a cycle.
+pub fn let_values(
+    alloc: Global,
+    design: &Design,
+    interp: &Interp,
+    state: &State,
+    inputs: &Inputs,
+) -> Result<LetValues, AllocError>
+    ensures { IfOk result (λ vs. vs ≡ let_values
+        interp.now state.now inputs.now (design_view design.now).pipe.locals) }
+{
+    let (interp, state, inputs) = (interp.as_slice(), state.as_slice(), inputs.as_slice());
+    let env = Env::new(alloc, design.pipe.locals.as_slice(), interp, state, inputs)?;
+    Ok(Sequence::from_vec(env.lets))
 }
 
 /// The visible entries, in the specification's order.
@@ -111,22 +140,4 @@ fn cycle(
 {
     let env = Env::new(alloc, machine.locals.as_slice(), interp, state, inputs)?;
     Ok(Sequence::from_vec(values(&env, &machine.nexts)?))
-}
-
-/// The values of the flush expressions.
-fn idle_inputs(
-    alloc: Global,
-    machine: &Machine,
-    interp: &[Table],
-    state: &[Value],
-) -> Result<Vec<Scalar>, AllocError>
-    ensures { IfOk result (λ v. v.items
-        ≡ idle_inputs (machine_view machine.now) interp.now state.now) }
-{
-    let env = Env::new(alloc, machine.locals.as_slice(), interp, state, &[])?;
-    let mut inputs = Vec::new(alloc);
-    for port in machine.ports.as_slice() {
-        inputs.push(scalar(&env, &port.idle)?)?;
-    }
-    Ok(inputs)
 }

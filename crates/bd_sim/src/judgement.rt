@@ -69,8 +69,8 @@ fn commutes(alloc: Global, design: &Design, case: &Case, next: &State) -> Result
     Ok(stands(counts.as_slice(), design.steps, &after, &reached))
 }
 
-/// The counts of the exact items whose condition is true: each must be the number of steps.
-fn exact_counts(alloc: Global, design: &Design, case: &Case) -> Result<Vec<u32>, AllocError>
+/// The counts of the exact items whose condition is true in the case's cycle: each must be the number of steps.
+pub fn exact_counts(alloc: Global, design: &Design, case: &Case) -> Result<Vec<u32>, AllocError>
     ensures { IfOk result (λ v. (j : ℕ) → AllByRecursion (λ n. n ≡ j) v.items
         ↔ IsAllowed (design_view design.now) case.now.interp case.now.state case.now.inputs j) }
 {
@@ -102,8 +102,8 @@ fn stands(counts: &[u32], count: u32, after: &State, reached: &State) -> bool
 }
 
 /// Whether two states can't be told apart.
-fn same(first: &[Value], second: &[Value]) -> bool
-    ensures { IsTrue result ↔ AllZip SameValue first.now second.now }
+pub fn same(first: &[Value], second: &[Value]) -> bool
+    ensures { IsTrue result ↔ Same first.now second.now }
 {
     if first.len() != second.len() {
         return false;

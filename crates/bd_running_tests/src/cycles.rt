@@ -1,0 +1,147 @@
+//! Values of expressions, cycles, flushes, steps and runs.
+use Held::{Bit, Memory, Word};
+use bd_examples::build::{case, design, expr, is_state, state, value};
+use bd_examples::cases::{GOING, PENDING, SEVEN_AT_FIVE};
+use bd_examples::designs::{STALLING_BIT, TWO_STAGE, WRITE_BACK};
+use bd_examples::draft::{CaseDraft, DesignDraft, Held};
+use bd_examples::forms::{EACH_FORM, FORMS, LETS, SEVENS};
+use bd_model::{Case, Design, State, States};
+use bd_sim::{eval, flush, look, spec_step, step, trace};
+use std::alloc::{AllocError, Global};
+use std::process::Abort;
+use std::test::Fail;
+
+/// That each form has the value that is wanted.
+fn each_form(
+    rt: &impl Abort,
+    alloc: Global,
+    design: &Design,
+    at: &Case,
+    lets: &State,
+) -> Result<(), AllocError> {
+    for (form, (draft, held)) in FORMS.iter().enumerate() {
+        let expr = expr(alloc, draft)?;
+        let found = eval(
+            alloc, design, &expr, &at.interp, &at.state, &at.inputs, lets,
+        )?;
+        assert!(rt; found == value(alloc, held)?, "form {form}");
+    }
+    Ok(())
+}
+
+fn on_sevens(rt: &impl Abort, alloc: Global) -> Result<(), AllocError> {
+    let design = design(alloc, &EACH_FORM)?;
+    let at = case(alloc, &SEVENS)?;
+    let lets = state(alloc, &LETS)?;
+    each_form(rt, alloc, &design, &at, &lets)
+}
+
+#[test]
+fn forms_are_valued(rt: HostRuntime) -> Result<(), Fail> {
+    on_sevens(&rt, rt.alloc())?;
+    Ok(())
+}
+
+fn traced(alloc: Global, of: &DesignDraft, from: &CaseDraft) -> Result<States, AllocError> {
+    let case = case(alloc, from)?;
+    trace(alloc, &design(alloc, of)?, &case, 2)
+}
+
+/// Whether the design goes through these states, the case's first.
+fn goes_through(
+    alloc: Global,
+    of: &DesignDraft,
+    from: &CaseDraft,
+    states: &[&[Held]],
+) -> Result<bool, AllocError> {
+    let reached = traced(alloc, of, from)?;
+    if reached.len() != states.len() {
+        return Ok(false);
+    }
+    for (state, wanted) in reached.as_slice().iter().zip(states) {
+        if !is_state(alloc, state, wanted)? {
+            return Ok(false);
+        }
+    }
+    Ok(true)
+}
+
+#[test]
+fn bit_trace(rt: HostRuntime) -> Result<(), Fail> {
+    let states: [&[Held]; 3] = [&[Bit(false)], &[Bit(true)], &[Bit(false)]];
+    assert!(rt; goes_through(rt.alloc(), &STALLING_BIT, &GOING, &states)?);
+    Ok(())
+}
+
+#[test]
+fn memory_trace(rt: HostRuntime) -> Result<(), Fail> {
+    let states: [&[Held]; 3] = [
+        &[Memory(0, &[(5, 7)]), Word(5)],
+        &[Memory(0, &[(5, 7), (5, 7)]), Word(5)],
+        &[Memory(0, &[(5, 7), (5, 7), (5, 7)]), Word(5)],
+    ];
+    assert!(rt; goes_through(rt.alloc(), &WRITE_BACK, &SEVEN_AT_FIVE, &states)?);
+    Ok(())
+}
+
+/// A call on the two stages, the case whose write is pending, and a state.
+#[derive(Clone, Copy)]
+enum Call {
+    Step,
+    Flush(&'static [Held]),
+    Look,
+    SpecStep(&'static [Held]),
+}
+
+const AFTER_A_CYCLE: &[Held] = &[
+    Word(2),
+    Memory(0, &[(7, 50), (7, 40)]),
+    Bit(true),
+    Word(8),
+    Word(9),
+    Word(50),
+];
+
+/// Calls, and the states that they give.
+static CALLS: [(Call, &[Held]); 4] = [
+    (Call::Step, AFTER_A_CYCLE),
+    (
+        Call::Flush(AFTER_A_CYCLE),
+        &[
+            Word(2),
+            Memory(0, &[(8, 60), (7, 50), (7, 40)]),
+            Bit(false),
+            Word(0),
+            Word(0),
+            Word(0),
+        ],
+    ),
+    (Call::Look, &[Word(1), Memory(0, &[(7, 40)])]),
+    (
+        Call::SpecStep(&[Word(1), Memory(0, &[(7, 50), (7, 40)])]),
+        &[Word(2), Memory(0, &[(8, 60), (7, 50), (7, 40)])],
+    ),
+];
+
+fn called(alloc: Global, design: &Design, at: &Case, call: Call) -> Result<State, AllocError> {
+    match call {
+        Call::Step => step(alloc, design, &at.interp, &at.state, &at.inputs),
+        Call::Flush(from) => flush(alloc, design, &at.interp, &state(alloc, from)?),
+        Call::Look => look(alloc, design, &at.state),
+        Call::SpecStep(from) => spec_step(alloc, design, &at.interp, &state(alloc, from)?),
+    }
+}
+
+fn with_write_pending(alloc: Global, call: Call) -> Result<State, AllocError> {
+    let at = case(alloc, &PENDING)?;
+    called(alloc, &design(alloc, &TWO_STAGE)?, &at, call)
+}
+
+#[test]
+fn pending_write_is_made(rt: HostRuntime) -> Result<(), Fail> {
+    for (call, wanted) in &CALLS {
+        let reached = with_write_pending(rt.alloc(), *call)?;
+        assert!(rt; is_state(rt.alloc(), &reached, wanted)?);
+    }
+    Ok(())
+}

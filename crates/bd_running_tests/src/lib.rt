@@ -1,0 +1,13 @@
+//! Tests of values, of the simulator, of files in memory and of generated texts, over public calls alone.
+#![tactic(auto)]
+
+#[cfg(test)]
+mod cycles;
+#[cfg(test)]
+mod devices;
+#[cfg(test)]
+mod generated;
+#[cfg(test)]
+mod judgements;
+#[cfg(test)]
+mod values;
