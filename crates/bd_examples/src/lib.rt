@@ -9,3 +9,4 @@ pub mod cases;
 pub mod designs;
 pub mod draft;
 pub mod forms;
+pub mod texts;
