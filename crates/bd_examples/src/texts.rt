@@ -109,7 +109,8 @@ pub const WRITE_BACK: &str = "(pipeline (memory m) (latch x word) (next m (write
 pub const KEEPING_MEMORY: &str = "(specification (memory m) (next m m))";
 
 /// Two writes, in one order and in the other.
-pub const SWAPPED_WRITES: &str = "(pipeline (memory m) (latch p word) (latch q word) (latch x word) \
+pub const SWAPPED_WRITES: &str =
+    "(pipeline (memory m) (latch p word) (latch q word) (latch x word) \
 (latch y word) (next m (write (write m p x) q y)) (next p p) (next q q) (next x x) (next y y) \
 (flush 0) (steps 1))";
 

@@ -51,7 +51,12 @@ impl Forwarding {
     }
 
     // The place of the next term of the old graph: one of no meaning for a memory and what isn't marked.
-    pub(crate) fn next(&mut self, old: &Graph, marks: &ReachedTerms, id: Id) -> Result<Id, AllocError>
+    pub(crate) fn next(
+        &mut self,
+        old: &Graph,
+        marks: &ReachedTerms,
+        id: Id,
+    ) -> Result<Id, AllocError>
         ghost root: { ℕ }
         requires holds { Holds old.now root self.old }
         requires next { id ≡ length self.old.places.items }

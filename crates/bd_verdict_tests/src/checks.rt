@@ -8,8 +8,8 @@ use bd_examples::texts::{
     CONSTANT_UNMENTIONED, CONSTANTS, CONSTANTS_ALIKE, DOUBLE_INCREMENT, DOUBLE_INCREMENT_IN_TWO,
     FIVE_STAGE, FORCED_COUNTS, FORCED_TO_NONE, INCREMENT, KEEPING_BIT, KEEPING_MEMORY,
     NO_STEP_ALLOWED, ONE_CONSTANT, ONE_STAGE, OPERAND_NOT_LOADED, OTHER_WRITES, Pieces,
-    STALE_OPERAND, STALLING_BIT, STANDING_BIT, SUBSET_OF_DLX, SWAPPED_WRITES,
-    TRANSITIVE_EQUALITY, TURNING_BIT, TWIN_VALID_BITS, TWO_STAGE, WRITE_BACK,
+    STALE_OPERAND, STALLING_BIT, STANDING_BIT, SUBSET_OF_DLX, SWAPPED_WRITES, TRANSITIVE_EQUALITY,
+    TURNING_BIT, TWIN_VALID_BITS, TWO_STAGE, WRITE_BACK,
 };
 use bd_files::{Page, Shelf};
 use std::alloc::{AllocError, Global};
@@ -169,7 +169,9 @@ pub static CHECKS: [Check; 29] = [
     Check {
         name: "no budget to meet an invariant",
         words: &["burch_dill", "check", "p", "s", "i", "--budget", "0"],
-        pipe: &["(pipeline (latch a bool) (latch b bool) (next a a) (next b b) (flush 0) (steps 0))"],
+        pipe: &[
+            "(pipeline (latch a bool) (latch b bool) (next a a) (next b b) (flush 0) (steps 0))",
+        ],
         spec: KEEPING_BIT,
         inv: "(invariant (and (or a b) (and (or a (not b)) (and (or (not a) b) (or (not a) (not b))))))",
         status: 4,
@@ -189,14 +191,18 @@ pub static CHECKS: [Check; 29] = [
     },
     Check {
         name: "a step exactly where it goes",
-        pipe: &["(pipeline (latch a bool) (input go bool false) (next a (ite go (not a) a)) (flush 0) \
-(steps 1) (exact 1 go) (exact 0 (not go)))"],
+        pipe: &[
+            "(pipeline (latch a bool) (input go bool false) (next a (ite go (not a) a)) (flush 0) \
+(steps 1) (exact 1 go) (exact 0 (not go)))",
+        ],
         ..RIGHT
     },
     Check {
         name: "no step where it goes",
-        pipe: &["(pipeline (latch a bool) (input go bool false) (next a (ite go (not a) a)) (flush 0) \
-(steps 1) (exact 0 go))"],
+        pipe: &[
+            "(pipeline (latch a bool) (input go bool false) (next a (ite go (not a) a)) (flush 0) \
+(steps 1) (exact 0 go))",
+        ],
         ..WRONG
     },
     Check {
@@ -223,8 +229,10 @@ pub static CHECKS: [Check; 29] = [
     },
     Check {
         name: "more steps than there are",
-        pipe: &["(pipeline (latch a bool) (input go bool false) (next a (ite go (not a) a)) (flush 0) \
-(steps 1) (exact 2 go))"],
+        pipe: &[
+            "(pipeline (latch a bool) (input go bool false) (next a (ite go (not a) a)) (flush 0) \
+(steps 1) (exact 2 go))",
+        ],
         ..WRONG
     },
     Check {
@@ -371,7 +379,12 @@ fn shows<'a>(
 }
 
 /// What the check prints, with these words after its own.
-fn printed_by(alloc: Global, check: &Check, pipe: &str, more: &[&str]) -> Result<Vec<u8>, AllocError> {
+fn printed_by(
+    alloc: Global,
+    check: &Check,
+    pipe: &str,
+    more: &[&str],
+) -> Result<Vec<u8>, AllocError> {
     let mut words = words_of(alloc, check.words)?;
     for word in more {
         words.push(String::from_str(alloc, word)?)?;
@@ -437,9 +450,11 @@ fn has_constants(alloc: Global) -> Result<bool, AllocError> {
         ..WRONG
     };
     let printed = printed_by(alloc, &check, pipe.as_str(), &[])?;
-    Ok(printed
-        .as_slice()
-        .starts_with(b"wrong commute\n(case 2\n (constant c "))
+    Ok(
+        printed
+            .as_slice()
+            .starts_with(b"wrong commute\n(case 2\n (constant c "),
+    )
 }
 
 #[test]
