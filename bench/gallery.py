@@ -62,14 +62,15 @@ def asked(program, files, inv, mode, folder):
 
 def other(solver, question):
     """What another solver says of the question, and its seconds."""
-    if shutil.which(solver) is None:
+    if shutil.which(solver[0]) is None:
         return None, "-"
     start = time.time()
     try:
-        said = subprocess.run([solver, question], capture_output=True, text=True, timeout=60, check=False).stdout.split()
+        done = subprocess.run([*solver, question], capture_output=True, text=True, timeout=60, check=False)
     except subprocess.TimeoutExpired:
         return None, ">60"
-    return ("correct" if said[-1:] == ["unsat"] else "wrong"), f"{time.time() - start:.2f}"
+    verdict = "correct" if done.stdout.split()[-1:] == ["unsat"] else "wrong"
+    return verdict, f"{time.time() - start:.2f}"
 
 
 def row(program, pipe, files, inv, verdicts, folder):
@@ -84,11 +85,11 @@ def row(program, pipe, files, inv, verdicts, folder):
     question = os.path.join(folder, "question.smt2")
     with open(question, "w", encoding="ascii") as file:
         subprocess.run([sys.executable, os.path.join(HERE, "smtlib.py"), *files, *inv], stdout=file, check=True)
-    for solver in ("z3", "cvc5"):
+    for solver in (["z3"], ["cvc5", "--incremental"]):
         said, took = other(solver, question)
         cells.append(took)
         if said and said != verdicts[0].split()[0]:
-            faults.append(f"{pipe}: {solver} says {said}")
+            faults.append(f"{pipe}: {solver[0]} says {said}")
     return cells, faults
 
 
