@@ -4,8 +4,6 @@ use crate::rows::{
     CHECK_WITHIN, REPLAY, Row, SAVES, STALLING, WITHIN, holds, holds_over, shelf_with, words_of,
 };
 use bd_examples::texts::{KEEPING_BIT, NO_STEP_ALLOWED, STALLING_BIT};
-use bd_gen::design_text;
-use bd_typer::design_of;
 use std::alloc::{AllocError, Global};
 use std::test::Fail;
 
@@ -226,28 +224,6 @@ fn names_the_device_that_failed(rt: HostRuntime) -> Result<(), Fail> {
             ..*row
         };
         assert!(rt; holds(rt.alloc(), &silent)?, "{}, silent", row.name);
-    }
-    Ok(())
-}
-
-/// Whether a generated pipeline is read without a fault.
-fn generates(alloc: Global, depth: u32, drop: u32) -> Result<bool, AllocError>
-    requires deep { 2 ≤ depth }
-    requires bounded { depth ≤ 12 }
-{
-    let (pipe, spec) = design_text(alloc, depth, drop)?;
-    if pipe.as_slice().len() > 1_048_576 || spec.as_slice().len() > 1_048_576 {
-        return Ok(false);
-    }
-    Ok(design_of(alloc, pipe.as_slice(), spec.as_slice(), None).is_ok())
-}
-
-#[test]
-fn reads_each_generated_pipeline(rt: HostRuntime) -> Result<(), Fail> {
-    for depth in 2..13 {
-        for drop in 0..12 {
-            assert!(rt; generates(rt.alloc(), depth, drop)?, "{depth} {drop}");
-        }
     }
     Ok(())
 }
