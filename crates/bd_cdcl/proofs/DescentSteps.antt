@@ -110,9 +110,9 @@ last_parts trail start d last = record {
     undecided : (a : Assigned) → a.reason ≡ None → a ≡ assigned a.literal None
     undecided a e = λ i. record { literal = a.literal; reason = e i }
 
--- the trail was taken back to level 0, where that was due
-pub restart_advances : (old new : Descent) (start : ℕ) → old.restarts ≡ true → new.restarts ≡ false → IsStartFrom old.watch.trail.entries 0 start → TakesBack old.watch new.watch start → Advances old new
-restart_advances old new start due done from backs = record {
+-- the trail was taken back to the start of a level, where that was due
+pub restart_advances : (old new : Descent) (place start : ℕ) → old.restarts ≡ true → new.restarts ≡ false → IsStartFrom old.watch.trail.entries place start → TakesBack old.watch new.watch start → Advances old new
+restart_advances old new place start due done from backs = record {
   watching = backs.watching;
   clauses = backs.clauses;
   limit = limit;

@@ -1,11 +1,10 @@
 -- The lesson of an analysis.
-use Rattle.std.proofs.Common.{◌≡◌, ℕ, ◌<◌, ◌≤◌, true, false, List, [], ◌∷◌, ◌++◌, Option, length, get_or, drop, map, reverse, refl, sym, ap, ◌∙◌, subst, arith}
+use Rattle.std.proofs.Common.{◌≡◌, ℕ, ◌<◌, ◌≤◌, true, false, List, [], ◌∷◌, ◌++◌, Option, get_or, drop, map, reverse, refl, sym, ap, ◌∙◌, subst, arith}
 use Rattle.std.specs.Prelude.{IfSome, IfNone, unwrap_or}
 use Rattle.std.proofs.lemmas.List.{map-append}
 use Rattle.bd_cnf.specs.Literal.{Literal, negate, has_literal, has_variable}
 use Rattle.bd_cnf.specs.Clause.{IsRising, SameLiterals, IsTautology}
 use Rattle.bd_cnf.specs.Standing.{Standing}
-use Rattle.bd_cnf.specs.Trail.{is_false}
 use Rattle.bd_cnf.proofs.Literals.{has_at}
 use Rattle.bd_lrat.specs.declared.line.Hint.{Hint}
 use Rattle.bd_lrat.specs.declared.line.Hint.TheVariants as hint
@@ -16,13 +15,13 @@ use Rattle.bd_watch.specs.Levels.{literals}
 use Rattle.bd_watch.specs.Trails.{IsDecisionAt, IsLastStart, IsStartFrom}
 use Rattle.bd_watch.specs.Watching.{front, IsAsserting, IsConflict}
 use Rattle.bd_watch.specs.Watch.{IsWatching}
-use Rattle.bd_watch.proofs.Parts.{has_behind, all_has, has_negated, negated_has}
+use Rattle.bd_watch.proofs.Parts.{all_has, has_negated, negated_has}
 use Rattle.bd_cdcl.specs.declared.analysis.Analysis.{Analysis}
 use Rattle.bd_cdcl.specs.declared.lesson.Lesson.{Lesson}
 use Rattle.bd_cdcl.specs.declared.lesson.Second.{Second}
 use Rattle.bd_cdcl.specs.inner.Analysis.{IsUnique}
 use Rattle.bd_cdcl.specs.inner.Deletions.{IsReduced}
-use Rattle.bd_cdcl.specs.inner.Analyses.{IsClear, Analyzed, IsSecond, IsLesson}
+use Rattle.bd_cdcl.specs.inner.Analyses.{Analyzed, IsSecond, IsLesson}
 use Rattle.bd_cdcl.proofs.AnalysisSteps.{analysis_follows, analysis_asserts, analysis_no_tautology}
 use Rattle.bd_cdcl.proofs.DeletedClauses.{propagate_in}
 use Rattle.bd_cdcl.proofs.LessonLevels.{asserting_at, floor_low, pair_there, two_there, rest_some, IsCut, is_cut}

@@ -4,13 +4,13 @@ use Rattle.std.specs.Prelude.{IsSomeAnd}
 use Rattle.std.specs.List.{All, Contains}
 use Rattle.std.specs.FinMap.{get, insert}
 use Rattle.std.proofs.lemmas.Bool.{false≢true}
-use Rattle.std.proofs.lemmas.List.Elements.{All-nil, All-push, All-weaker, All-contains, Contains-get_or, Contains-append_left, Contains-append_right, Contains-push, Contains-push_cases, Contains-append_cases}
+use Rattle.std.proofs.lemmas.List.Elements.{All-nil, All-push, All-contains, Contains-get_or, Contains-append_left, Contains-append_right, Contains-push, Contains-push_cases, Contains-append_cases}
 use Rattle.bd_cnf.specs.Literal.{Literal, negate, has_literal}
 use Rattle.bd_cnf.specs.Assignment.{value_of}
 use Rattle.std.specs.FinMap.{FinMap}
 use Rattle.std.specs.Ordering.{nat_cmp}
 use Rattle.bd_cnf.specs.Clause.{IsRising, IsWithin, SameLiterals, clause_value}
-use Rattle.bd_cnf.specs.Problem.{Problem, AreWithin}
+use Rattle.bd_cnf.specs.Problem.{Problem}
 use Rattle.bd_cnf.specs.Standing.{Standing, IsBelow}
 use Rattle.bd_cnf.specs.Trail.{open_literals, IsConsistent, IsClosed, AreClosed}
 use Rattle.bd_cnf.proofs.Literals.{has_at}

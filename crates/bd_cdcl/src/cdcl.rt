@@ -1,7 +1,7 @@
 //! A solver by watched literals and clauses of first unique implication points. It goes back to the
-//! second highest level of each, and now and then to level 0, where it deletes the clauses that are
-//! true for good. It ends, since each conflict above level 0 adds a clause of the budget, a return
-//! to level 0 comes only after one, and between two of these the variables without a value become
+//! second highest level of each, and now and then further, where it deletes the clauses that are true
+//! for good. It ends, since each conflict above level 0 adds a clause of the budget, such a return
+//! comes only after one, and between two of these the variables without a value become
 //! fewer.
 ghost use Rattle.std.specs.Prelude.{true};
 

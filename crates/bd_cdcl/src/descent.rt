@@ -33,7 +33,7 @@ pub(crate) struct Descent {
     guide: Guide,
     deletion: Deletion,
     learned: u32,
-    /// Whether the trail is to be taken back to level 0.
+    /// Whether a return is due.
     restarts: bool,
 }
 
@@ -108,7 +108,8 @@ impl Descent {
         self.watch.learn(clause.lits(), first, second)?;
         log.push(Line::Add { id, clause, hints })?;
         self.learned += 1;
-        self.restarts = self.guide.restarts.count(levels);
+        let due = self.guide.restarts.count(levels);
+        self.restarts = self.restarts || due;
         Ok(())
     }
 
@@ -131,7 +132,7 @@ impl Descent {
         Some(Lit::new(var, false))
     }
 
-    /// Goes back to level 0.
+    /// Goes back to level 0, but for decisions that would be made again.
     fn restart(&mut self)
         requires watching { IsWatching self.old.watch }
         requires due { self.old.restarts ≡ true }
@@ -140,7 +141,8 @@ impl Descent {
         ensures advanced { Advances self.old self.new }
     {
         self.restarts = false;
-        if let Some(start) = self.watch.trail().start_from(0) {
+        let place = self.guide.order.return_place(self.watch.trail());
+        if let Some(start) = self.watch.trail().start_from(place) {
             self.guide
                 .order
                 .release(&self.watch.trail().as_slice()[start..]);
@@ -167,8 +169,8 @@ impl Descent {
         }
     }
 
-    /// Goes on where all is propagated: back to level 0, where clauses are deleted, or by a
-    /// decision. Answers whether it could.
+    /// Goes on where all is propagated: by a return, and then clauses are deleted, or by a decision.
+    /// Answers whether it could.
     fn advance(&mut self, alloc: Global, log: &mut Log) -> Result<bool, AllocError>
         requires watching { IsWatching self.old.watch }
         requires propagated { IsPropagated self.old.watch }

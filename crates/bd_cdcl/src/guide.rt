@@ -1,5 +1,5 @@
-//! What a search is guided by, and no proof rests on: which variable is decided next, when the trail
-//! is taken back to level 0, and which literals of a learned clause the others imply.
+//! What a search is guided by, and no proof rests on: which variable is decided next, when a return
+//! is due, and which literals of a learned clause the others imply.
 use crate::order::VariableQueue;
 use crate::reach::Reach;
 use crate::restarts::Restarts;

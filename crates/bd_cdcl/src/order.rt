@@ -149,6 +149,24 @@ impl VariableQueue {
         }
     }
 
+    /// From which place on the trail is taken back for a return: the decisions before it would be made
+    /// again at once (van der Tak, Ramos and Heule, 2011).
+    pub(crate) fn return_place(&mut self, trail: &AssignmentTrail) -> usize {
+        let next = match self.propose(trail) {
+            Some((var, _)) => self.candidate(var as usize).map_or(0, |c| c.moved),
+            None => 0,
+        };
+        let entries = trail.as_slice();
+        for (place, entry) in entries.iter().enumerate() {
+            let var = entry.literal().variable();
+            let moved = self.candidate(var).map_or(0, |c| c.moved);
+            if entry.reason().is_none() && moved <= next {
+                return place;
+            }
+        }
+        entries.len()
+    }
+
     /// A variable that may have no value, and a sign for it.
     pub(crate) fn propose(&mut self, trail: &AssignmentTrail) -> Option<(u64, bool)> {
         for _ in 0..self.candidates.len() {

@@ -1,5 +1,5 @@
 -- What a pass over the clauses reports.
-use Rattle.std.specs.Prelude.{◌≡◌, ◌<◌, ◌≤◌, Bool, true, false, List, [], ◌∷◌, length}
+use Rattle.std.specs.Prelude.{◌≡◌, ◌<◌, ◌≤◌, Bool, true, false, List, length}
 use Rattle.std.specs.List.{All}
 use Rattle.bd_cnf.specs.Literal.{Literal}
 use Rattle.bd_lrat.specs.Database.{numbered}

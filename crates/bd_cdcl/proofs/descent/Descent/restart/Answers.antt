@@ -8,4 +8,5 @@ pub returns-in-Some-clause-advanced : goal.returns-in-Some-clause-advanced
 returns-in-Some-clause-advanced c =
     let d = c.args.self.now in
     let new : Descent = record { watch = c.go_back_to.new.self; analysis = d.analysis; guide = record { order = c.release.new.self; reach = d.guide.reach; restarts = d.guide.restarts }; deletion = d.deletion; learned = d.learned; restarts = false } in
-    restart_advances d new c.in-Some.start c.requires.due refl (subst (λ (t : LeveledTrail). IsStartFrom t.entries 0 c.in-Some.start) c.trail.ensures c.in-Some.ensures.some) c.go_back_to.ensures
+    restart_advances d new c.return_place-place.result c.in-Some.start c.requires.due refl
+    (subst (λ (t : LeveledTrail). IsStartFrom t.entries c.return_place-place.result c.in-Some.start) c.trail-2.ensures c.in-Some.ensures.some) c.go_back_to.ensures
