@@ -6,8 +6,12 @@ mod cycles;
 #[cfg(test)]
 mod devices;
 #[cfg(test)]
+mod diagrams;
+#[cfg(test)]
 mod generated;
 #[cfg(test)]
 mod judgements;
+#[cfg(test)]
+mod shrinking;
 #[cfg(test)]
 mod values;

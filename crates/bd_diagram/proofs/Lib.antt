@@ -1,0 +1,3 @@
+mod Flushed
+mod Compared
+mod Differing

@@ -1,0 +1,5 @@
+pub mod Flushes
+pub mod Differs
+pub mod Diagrams
+pub mod Laws
+pub mod inner

@@ -1,0 +1,14 @@
+use Rattle.std.proofs.Common.{sym, subst}
+use Rattle.bd_model.specs.DesignView.{design_view}
+use Rattle.bd_model.specs.declared.case.Case.{Case}
+use Rattle.bd_shrink.specs.Shrunk.{Shows}
+use Rattle.bd_shrink.proofs.Lowered.{shrunk}
+use Rattle.bd_shrink.proofs.shrinking.shrink.Goals as goal
+
+pub without_chunks-requires : goal.without_chunks-requires
+without_chunks-requires c =
+    let shows : Shows (design_view c.args.design.now) c.args.case.now c.args.which = record { fits = c.requires.fits; judged = c.requires.broken } in
+    subst (λ (k : Case). Shows (design_view c.args.design.now) k c.args.which) (sym c.in_ok-whole.ensures) shows
+
+pub returns : goal.returns
+returns c = shrunk (design_view c.args.design.now) c.args.case.now c.args.which c.in_ok-fates-2.fates.items _ _ c.as_slice.ensures.value c.in_ok-fates-2.ensures.shown c.in_ok-fates-2.ensures.small c.remnant_of.ensures

@@ -1,0 +1,3 @@
+pub mod Remnant
+pub mod Shrunk
+pub mod inner

@@ -1,0 +1,13 @@
+//! A case that breaks a condition, made small: rows are left out and values set to 0 as long as it breaks the same
+//! condition.
+#![tactic(auto)]
+
+mod chunks;
+mod fate;
+mod remnant;
+mod search;
+mod shrinking;
+mod whole;
+
+pub use fate::Fate;
+pub use shrinking::shrink;

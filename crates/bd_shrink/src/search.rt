@@ -1,0 +1,117 @@
+//! Whether less of a case shows the same.
+ghost use Rattle.std.specs.Prelude.{◌≡◌, ◌<◌, ◌↔◌, length, slice_get, slice_set, Some, IfOk, IfSome, IfNone, IsTrue, MatchOption};
+ghost use Rattle.bd_model.specs.DesignView.{design_view};
+ghost use Rattle.bd_shrink.specs.Remnant.{remnant};
+ghost use Rattle.bd_shrink.specs.Shrunk.{Shows, IsSmall};
+ghost use Rattle.bd_shrink.specs.inner.Asked.{ShowsBy, IsLowered, IsLeast};
+
+use crate::fate::Fate;
+use crate::remnant::remnant_of;
+use bd_model::{Case, Condition, Design, Judged, judged_once};
+use bd_sim::judge;
+use std::alloc::{AllocError, Global};
+
+/// What is asked of less and less of a case: whether it breaks this condition of the design.
+#[derive(Drop)]
+pub struct Question<'a> {
+    pub alloc: Global,
+    pub design: &'a Design,
+    pub case: &'a Case,
+    pub which: Condition,
+}
+
+/// Whether a case fits and is judged to break the condition.
+fn shows(question: &Question, case: &Case) -> Result<bool, AllocError>
+    ensures { IfOk result (λ b. IsTrue b
+        ↔ Shows (design_view question.now.design.now) case.now question.now.which) }
+{
+    judged_once();
+    if !question.design.fits(case) {
+        return Ok(false);
+    }
+    let judged = judge(question.alloc, question.design, case)?;
+    Ok(is_broken(judged, question.which))
+}
+
+fn is_broken(judged: Judged, which: Condition) -> bool
+    ensures { IsTrue result ↔ (judged ≡ Judged.Broken which) }
+{
+    match (judged, which) {
+        (Judged::Broken(Condition::Invariant), Condition::Invariant) => true,
+        (Judged::Broken(Condition::Commute), Condition::Commute) => true,
+        _ => false,
+    }
+}
+
+/// Whether what these fates leave of the case shows it.
+pub fn shows_by(question: &Question, fates: &[Fate]) -> Result<bool, AllocError>
+    ensures { IfOk result (λ b. IsTrue b ↔ ShowsBy question.now fates.now) }
+{
+    let left = remnant_of(question.alloc, question.case, fates)?;
+    shows(question, &left)
+}
+
+/// Fates that leave less at one place, if there are such by which it is still shown.
+pub fn lowered(question: &Question, fates: &Vec<Fate>) -> Result<Option<Vec<Fate>>, AllocError>
+    ensures { IfOk result (λ found. MatchOption found
+        (IsSmall (design_view question.now.design.now) question.now.case.now question.now.which
+        fates.now.items)
+        (λ less. IsLowered question.now fates.now.items less.items)) }
+{
+    for place in 0..fates.len() {
+        match lowered_at(question, fates, place)? {
+            Some(less) => return Ok(Some(less)),
+            None => {}
+        }
+    }
+    Ok(None)
+}
+
+fn lowered_at(
+    question: &Question,
+    fates: &Vec<Fate>,
+    place: usize,
+) -> Result<Option<Vec<Fate>>, AllocError>
+    requires { place < length fates.now.items }
+    ensures { IfOk result (λ found. MatchOption found
+        (IsLeast question.now fates.now.items place)
+        (λ less. IsLowered question.now fates.now.items less.items)) }
+{
+    match fates[place] {
+        Fate::Stays => match tried(question, fates, place, Fate::Gone)? {
+            Some(less) => Ok(Some(less)),
+            None => tried(question, fates, place, Fate::Zero),
+        },
+        Fate::Zero => tried(question, fates, place, Fate::Gone),
+        Fate::Gone => Ok(None),
+    }
+}
+
+fn tried(
+    question: &Question,
+    fates: &Vec<Fate>,
+    place: usize,
+    fate: Fate,
+) -> Result<Option<Vec<Fate>>, AllocError>
+    requires { place < length fates.now.items }
+    ensures { IfOk result (λ found. MatchOption found
+        (¬ ShowsBy question.now (slice_set fates.now.items place fate))
+        (λ less. (less.items ≡ slice_set fates.now.items place fate)
+        × ShowsBy question.now less.items)) }
+{
+    let less = with_fate(fates, place, fate)?;
+    if shows_by(question, less.as_slice())? {
+        Ok(Some(less))
+    } else {
+        Ok(None)
+    }
+}
+
+fn with_fate(fates: &Vec<Fate>, place: usize, fate: Fate) -> Result<Vec<Fate>, AllocError>
+    requires { place < length fates.now.items }
+    ensures { IfOk result (λ v. v.items ≡ slice_set fates.now.items place fate) }
+{
+    let mut less = fates.clone()?;
+    less[place] = fate;
+    Ok(less)
+}
