@@ -1,1 +1,2 @@
 pub mod ExampleLawful
+pub mod EndsEq

@@ -3,6 +3,7 @@
 
 #[cfg(test)]
 mod diverse;
+mod ends;
 #[cfg(test)]
 mod function;
 #[cfg(test)]
@@ -19,3 +20,5 @@ mod symbolic;
 mod terms;
 #[cfg(test)]
 mod texts;
+#[cfg(test)]
+mod transitive;

@@ -8,7 +8,7 @@ use Rattle.bd_model.specs.DesignView.{DesignView}
 use Rattle.bd_model.specs.Cycle.{flushed}
 use Rattle.bd_model.specs.Same.{Same}
 use Rattle.bd_model.specs.Fits.{scalar_sort, TableFits, KeepsApart, InterpFits, Fits}
-use Rattle.bd_model.specs.Lawful.{IsLawful, IsLawfulGroup, IsConstant}
+use Rattle.bd_model.specs.Lawful.{IsLawfulGroup, IsConstant}
 use Rattle.bd_model.specs.Conditions.{Abstraction, CommutesBy, KeepsInvariant, MeetsInvariant}
 use Rattle.bd_model.specs.declared.case.Case.{Case}
 use Rattle.bd_model.specs.declared.case.Condition.TheVariants as condition
@@ -22,6 +22,7 @@ use Rattle.bd_model.proofs.SameDecided.{same_values, same_values-Decides}
 use Rattle.bd_model.proofs.Settled.{Settled, IsTrue-settled, Commutes-settled}
 use Rattle.bd_terms.specs.Denotation.{truth, truth_of}
 use Rattle.bd_terms.proofs.Resting.{denoted-alike}
+use Rattle.bd_symbolic.specs.Widened.{HasLawfulSymbols}
 use Rattle.bd_goal.specs.Formula.{Corresponds, IsOutside, AgreesAt}
 use Rattle.bd_terms.specs.Valid.{IsValid, KeepsConstantsApart}
 use Rattle.bd_goal.specs.Claims.{case_world}
@@ -63,12 +64,12 @@ groups-apart d interp fits (group ∷ groups) lawful h = (
 )
 
 -- the world of a fitting case keeps the constants apart
-pub case_world-apart : (d : DesignView) (c : Case) (q : List ℕ) → IsLawful d → Fits d c → KeepsConstantsApart d (case_world c q)
+pub case_world-apart : (d : DesignView) (c : Case) (q : List ℕ) → HasLawfulSymbols d → Fits d c → KeepsConstantsApart d (case_world c q)
 case_world-apart d c q lawful fits = groups-apart d c.interp fits.interp d.distinct lawful.distinct fits.interp.apart
 
 -- A claim decides which cases are such where such a case makes it false with some addresses, and a case that makes it
 -- false is such.
-pub decides : (d : DesignView) (claim : Case → List ℕ → Type 0) (such : Case → Type 0) → IsLawful d
+pub decides : (d : DesignView) (claim : Case → List ℕ → Type 0) (such : Case → Type 0) → HasLawfulSymbols d
     → ((c : Case) → such c → (q : List ℕ) × (¬ claim c q)) → ((c : Case) (q : List ℕ) → Fits d c → ¬ claim c q → such c) → ClaimDecides d claim such
 decides d claim such lawful from to n nodes root g sorted known claims = record {
   valid = (λ valid c fits is. let found = from_case c fits is in found.2 (valid (case_world c found.0) found.1), always);

@@ -96,12 +96,12 @@ allows-all d old cur j i all past h = record {
 }
 
 -- the cycle stands for some number of steps up to i where the term is true
-pub record Commuting (d : DesignView) (abs : Abstraction) (old cur : List Node) (whens : List ℕ) (behind joined : SymState) (i any : ℕ) : Type 0 where
+pub record Commuting (d : DesignView) (abs : Abstraction) (old cur : List Node) (whens : List ℕ) (after joined : SymState) (i any : ℕ) : Type 0 where
   pub grows : GrowsKnown d (address_count d) old cur
   pub sorted : TermHasSort cur any sort.Bool
   pub conditions : AreConditions d cur whens
-  pub behind_sorted : IsVisible d cur behind
-  pub behind_shows : ShowsValues d cur behind.entries (λ c. abs c.interp (step d.pipe c.interp c.state c.inputs))
+  pub after_sorted : IsVisible d cur after
+  pub after_shows : ShowsValues d cur after.entries (λ c. abs c.interp (step d.pipe c.interp c.state c.inputs))
   pub joined_sorted : IsVisible d cur joined
   pub joined_shows : ShowsValues d cur joined.entries (λ c. spec_steps i d c.interp (abs c.interp c.state))
   pub claims : Claims d (λ c q. (j : ℕ) × (j ≤ i) × StandsAt d abs c q j) cur any
@@ -125,16 +125,16 @@ conditions-later d old new e whens h = record {
 }
 
 -- no steps
-pub commuting-none : (d : DesignView) (abs : Abstraction) (old cur new : List Node) (whens : List ℕ) (behind joined : SymState) (any : ℕ) → GrowsKnown d (address_count d) old cur → GrowsKnown d (address_count d) cur new
-    → AreConditions d cur whens → IsVisible d cur behind → ShowsValues d cur behind.entries (λ c. abs c.interp (step d.pipe c.interp c.state c.inputs))
+pub commuting-none : (d : DesignView) (abs : Abstraction) (old cur new : List Node) (whens : List ℕ) (after joined : SymState) (any : ℕ) → GrowsKnown d (address_count d) old cur → GrowsKnown d (address_count d) cur new
+    → AreConditions d cur whens → IsVisible d cur after → ShowsValues d cur after.entries (λ c. abs c.interp (step d.pipe c.interp c.state c.inputs))
     → IsVisible d cur joined → ShowsValues d cur joined.entries (λ c. abs c.interp c.state)
-    → TermHasSort new any sort.Bool → Claims d (λ c q. StandsAt d abs c q 0) new any → Commuting d abs old new whens behind joined 0 any
-commuting-none d abs old cur new whens behind joined any g f conditions vb sb vj sj s claims = record {
+    → TermHasSort new any sort.Bool → Claims d (λ c q. StandsAt d abs c q 0) new any → Commuting d abs old new whens after joined 0 any
+commuting-none d abs old cur new whens after joined any g f conditions vb sb vj sj s claims = record {
   grows = Known-trans d (address_count d) old cur new g f;
   sorted = s;
   conditions = conditions-later d cur new f.extends whens conditions;
-  behind_sorted = IsVisible-later d cur new f.extends behind vb;
-  behind_shows = ShowsValues-later d cur new f.extends behind.entries _ (inside_sorts cur behind.entries (entry_sorts d.spec) vb.sorted) sb;
+  after_sorted = IsVisible-later d cur new f.extends after vb;
+  after_shows = ShowsValues-later d cur new f.extends after.entries _ (inside_sorts cur after.entries (entry_sorts d.spec) vb.sorted) sb;
   joined_sorted = IsVisible-later d cur new f.extends joined vj;
   joined_shows = ShowsValues-later d cur new f.extends joined.entries _ (inside_sorts cur joined.entries (entry_sorts d.spec) vj.sorted) sj;
   claims = Claims-same d (λ c q. StandsAt d abs c q 0) (λ c q. (j : ℕ) × (j ≤ 0) × StandsAt d abs c q j) new any
@@ -163,24 +163,24 @@ up_to P i = (
   below j h n = omega (arith, h, n)
 
 -- one step more
-pub commuting-next : (d : DesignView) (abs : Abstraction) (old cur mid next new : List Node) (whens : List ℕ) (behind joined after : SymState) (i any one id : ℕ) → Commuting d abs old cur whens behind joined i any
-    → GrowsWithin d cur mid → IsVisible d mid after → DenotesSpecStep d cur mid joined after → GrowsKnown d (address_count d) mid next
+pub commuting-next : (d : DesignView) (abs : Abstraction) (old cur mid next new : List Node) (whens : List ℕ) (after joined stepped : SymState) (i any one id : ℕ) → Commuting d abs old cur whens after joined i any
+    → GrowsWithin d cur mid → IsVisible d mid stepped → DenotesSpecStep d cur mid joined stepped → GrowsKnown d (address_count d) mid next
     → TermHasSort next one sort.Bool → Claims d (λ c q. StandsAt d abs c q (suc i)) next one
     → Extends next new → AddsUses next new [] → TermHasSort new id sort.Bool → Denotes new id (λ w. Truth (truth w next any || truth w next one))
-    → Commuting d abs old new whens behind after (suc i) id
-commuting-next d abs old cur mid next new whens behind joined after i any one id h g va sa f so claimed e u s is =
+    → Commuting d abs old new whens after stepped (suc i) id
+commuting-next d abs old cur mid next new whens after joined stepped i any one id h g va sa f so claimed e u s is =
     let last : GrowsKnown d (address_count d) next new = Known-none d (address_count d) next new e u in
-    let behind_last : GrowsKnown d (address_count d) mid new = Known-trans d (address_count d) mid next new f last in
-    let whole : GrowsKnown d (address_count d) cur new = Known-trans d (address_count d) cur mid new (Known-within d (address_count d) cur mid g) behind_last in
+    let rest : GrowsKnown d (address_count d) mid new = Known-trans d (address_count d) mid next new f last in
+    let whole : GrowsKnown d (address_count d) cur new = Known-trans d (address_count d) cur mid new (Known-within d (address_count d) cur mid g) rest in
     let front : GrowsKnown d (address_count d) cur next = Known-trans d (address_count d) cur mid next (Known-within d (address_count d) cur mid g) f in
     record {
       grows = Known-trans d (address_count d) old cur new h.grows whole;
       sorted = s;
       conditions = conditions-later d cur new whole.extends whens h.conditions;
-      behind_sorted = IsVisible-later d cur new whole.extends behind h.behind_sorted;
-      behind_shows = ShowsValues-later d cur new whole.extends behind.entries _ (inside_sorts cur behind.entries (entry_sorts d.spec) h.behind_sorted.sorted) h.behind_shows;
-      joined_sorted = IsVisible-later d mid new behind_last.extends after va;
-      joined_shows = ShowsValues-later d mid new behind_last.extends after.entries _ (inside_sorts mid after.entries (entry_sorts d.spec) va.sorted) (step-shows d abs cur mid joined after i sa h.joined_shows);
+      after_sorted = IsVisible-later d cur new whole.extends after h.after_sorted;
+      after_shows = ShowsValues-later d cur new whole.extends after.entries _ (inside_sorts cur after.entries (entry_sorts d.spec) h.after_sorted.sorted) h.after_shows;
+      joined_sorted = IsVisible-later d mid new rest.extends stepped va;
+      joined_shows = ShowsValues-later d mid new rest.extends stepped.entries _ (inside_sorts mid stepped.entries (entry_sorts d.spec) va.sorted) (step-shows d abs cur mid joined stepped i sa h.joined_shows);
       claims =
           Claims-same d (λ c q. ((j : ℕ) × (j ≤ i) × StandsAt d abs c q j) ⊎ StandsAt d abs c q (suc i)) (λ c q. (j : ℕ) × (j ≤ suc i) × StandsAt d abs c q j) new id
           (λ c q fits. up_to (StandsAt d abs c q) i)
@@ -189,12 +189,12 @@ commuting-next d abs old cur mid next new whens behind joined after i any one id
     }
 
 -- that so many steps are allowed and the two states are equal
-pub stands-claimed : (d : DesignView) (g0 g1 g2 g3 : List Node) (behind joined : List ℕ) (j x y : ℕ) (r : Result ℕ AllocError) → Extends g0 g1 → Extends g1 g2 → TermHasSort g1 x sort.Bool → Claims d (λ c q. IsAllowed d c.interp c.state c.inputs j) g1 x
-    → AreInside g0 behind → AreInside g0 joined
-    → ((a b : Case → List Value) → ShowsValues d g1 behind a → ShowsValues d g1 joined b → Claims d (λ c q. EqualAt (λ m. m * (d.steps + 1) + j) q (a c) (b c)) g2 y)
+pub stands-claimed : (d : DesignView) (g0 g1 g2 g3 : List Node) (after joined : List ℕ) (j x y : ℕ) (r : Result ℕ AllocError) → Extends g0 g1 → Extends g1 g2 → TermHasSort g1 x sort.Bool → Claims d (λ c q. IsAllowed d c.interp c.state c.inputs j) g1 x
+    → AreInside g0 after → AreInside g0 joined
+    → ((a b : Case → List Value) → ShowsValues d g1 after a → ShowsValues d g1 joined b → Claims d (λ c q. EqualAt (λ m. m * (d.steps + 1) + j) q (a c) (b c)) g2 y)
     → IfOk r (λ id. Denotes g3 id (λ w. Truth (truth w g2 x && truth w g2 y)))
-    → IfOk r (λ id. (a b : Case → List Value) → ShowsValues d g0 behind a → ShowsValues d g0 joined b → Claims d (λ c q. IsAllowed d c.interp c.state c.inputs j × EqualAt (λ m. address_number d m j) q (a c) (b c)) g3 id)
-stands-claimed d g0 g1 g2 g3 behind joined j x y (Err e) e1 e2 s allowed ib ij same t = tt
-stands-claimed d g0 g1 g2 g3 behind joined j x y (Ok id) e1 e2 s allowed ib ij same t = λ a b ha hb.
+    → IfOk r (λ id. (a b : Case → List Value) → ShowsValues d g0 after a → ShowsValues d g0 joined b → Claims d (λ c q. IsAllowed d c.interp c.state c.inputs j × EqualAt (λ m. address_number d m j) q (a c) (b c)) g3 id)
+stands-claimed d g0 g1 g2 g3 after joined j x y (Err e) e1 e2 s allowed ib ij same t = tt
+stands-claimed d g0 g1 g2 g3 after joined j x y (Ok id) e1 e2 s allowed ib ij same t = λ a b ha hb.
     Claims-and d (λ c q. IsAllowed d c.interp c.state c.inputs j) (λ c q. EqualAt (λ m. address_number d m j) q (a c) (b c)) g2 g3 x y id (Claims-later d _ g1 g2 x sort.Bool e2 s allowed)
-    (same a b (ShowsValues-later d g0 g1 e1 behind a ib ha) (ShowsValues-later d g0 g1 e1 joined b ij hb)) t
+    (same a b (ShowsValues-later d g0 g1 e1 after a ib ha) (ShowsValues-later d g0 g1 e1 joined b ij hb)) t

@@ -10,7 +10,7 @@ use Rattle.bd_model.specs.Table.{row_value, at}
 use Rattle.bd_model.specs.Value.{truth, table_of, no_table, scalar_word}
 use Rattle.bd_model.specs.DesignView.{DesignView, PortView}
 use Rattle.bd_model.specs.Fits.{scalar_sort, value_sort, result_sort, RowFits, TableFits, DefaultsDiffer, KeepsApart, Fits}
-use Rattle.bd_model.specs.Lawful.{IsLawful, IsLawfulPort, IsLawfulGroup, IsConstant}
+use Rattle.bd_model.specs.Lawful.{IsLawfulGroup, IsConstant}
 use Rattle.bd_model.specs.declared.case.Case.{Case}
 use Rattle.bd_model.specs.declared.design.Sort.{Sort}
 use Rattle.bd_model.specs.declared.design.Sort.TheVariants as sort
@@ -30,6 +30,7 @@ use Rattle.bd_terms.specs.Graph.{Use}
 use Rattle.bd_terms.specs.Denotation.{World, applied}
 use Rattle.bd_symbolic.specs.World.{constant, slot_row, value_table}
 use Rattle.bd_symbolic.specs.DesignSymbols.{declared_use, function_use, entry_use, port_use, sort_use}
+use Rattle.bd_symbolic.specs.Widened.{HasLawfulSymbols}
 use Rattle.bd_goal.specs.Symbols.{IsKnown}
 use Rattle.bd_terms.specs.Valid.{KeepsConstantsApart}
 use Rattle.bd_goal.specs.Claims.{case_world}
@@ -215,14 +216,14 @@ scalar_sort-as sort.Word x h = refl
 scalar_sort-as sort.Memory x h = absurd (h refl)
 
 -- it fits
-pub case_of-fits : (d : DesignView) (w : World) → IsLawful d → KeepsConstantsApart d w → Fits d (case_of d w)
+pub case_of-fits : (d : DesignView) (w : World) → HasLawfulSymbols d → KeepsConstantsApart d w → Fits d (case_of d w)
 case_of-fits d w lawful apart = record {
   interp = record {
     tables = AllZip-numbered (λ (y : Symbol). Unit {0}) TableFits (symbol_table w) (λ f y _. table_as-fits y y.arity refl (w (symbol.Function f))) 0 d.symbols (each_any d.symbols);
     apart = groups-apart d w d.distinct lawful.distinct apart;
   };
   state = AllZip-numbered (λ (x : entry.Entry). Unit {0}) (λ (x : entry.Entry) v. value_sort v ≡ x.sort) (λ i (x : entry.Entry). value_in w i x.sort) (λ i x _. value_in-sort w i x.sort) 0 d.pipe.entries (each_any d.pipe.entries);
-  inputs = AllZip-numbered (IsLawfulPort d) (λ (p : PortView) x. scalar_sort x ≡ p.sort) (port_value w) (λ i p h. scalar_sort-as p.sort (at (w (symbol.Input i)) []) h.sort) 0 d.pipe.ports lawful.ports;
+  inputs = AllZip-numbered (λ (p : PortView). p.sort ≢ sort.Memory) (λ (p : PortView) x. scalar_sort x ≡ p.sort) (port_value w) (λ i p h. scalar_sort-as p.sort (at (w (symbol.Input i)) []) h) 0 d.pipe.ports lawful.inputs;
 }
 
 -- a symbol whose table is its value alone
@@ -273,14 +274,14 @@ entry_known d n w i u (Some x) there h =
     subst (GivesSame w (world_again d n w)) (same_Some _ u h)
     (entry-gives w (world_again d n w) i x.sort (ap value_table (get-numbered_zero (λ i (x : entry.Entry). value_in w i x.sort) d.pipe.entries i x (truth false) there)))
 
-port_known : (d : DesignView) (n : ℕ) (w : World) → IsLawful d → (i : ℕ) (u : Use) (o : Option PortView) → slice_get d.pipe.ports i ≡ o → port_use i o ≡ Some u → GivesSame w (world_again d n w) u
+port_known : (d : DesignView) (n : ℕ) (w : World) → HasLawfulSymbols d → (i : ℕ) (u : Use) (o : Option PortView) → slice_get d.pipe.ports i ≡ o → port_use i o ≡ Some u → GivesSame w (world_again d n w) u
 port_known d n w lawful i u None there h = absurd (cc h)
 port_known d n w lawful i u (Some p) there h =
     subst (GivesSame w (world_again d n w)) (same_Some _ u h)
-    (input-gives w (world_again d n w) i p.sort (AllByRecursion-get (IsLawfulPort d) d.pipe.ports i p lawful.ports there).sort
+    (input-gives w (world_again d n w) i p.sort (AllByRecursion-get (λ (p : PortView). p.sort ≢ sort.Memory) d.pipe.ports i p lawful.inputs there)
     (ap constant (get-numbered_zero (port_value w) d.pipe.ports i p (scalar.Bool false) there)))
 
-declared-gives : (d : DesignView) (n : ℕ) (w : World) → IsLawful d → (s : Sym) (u : Use) → declared_use d s ≡ Some u → GivesSame w (world_again d n w) u
+declared-gives : (d : DesignView) (n : ℕ) (w : World) → HasLawfulSymbols d → (s : Sym) (u : Use) → declared_use d s ≡ Some u → GivesSame w (world_again d n w) u
 declared-gives d n w lawful (symbol.Function f) u h = function_known d n w f u (slice_get d.symbols f) refl h
 declared-gives d n w lawful (symbol.Entry i) u h = entry_known d n w i u (slice_get d.pipe.entries i) refl h
 declared-gives d n w lawful (symbol.Input i) u h = port_known d n w lawful i u (slice_get d.pipe.ports i) refl h
@@ -288,7 +289,7 @@ declared-gives d n w lawful (symbol.Address i) u h = absurd (cc h)
 declared-gives d n w lawful (symbol.Var v) u h = absurd (cc h)
 
 -- and gives each symbol of the design, and the addresses, the same values
-pub known-gives : (d : DesignView) (n : ℕ) (w : World) → IsLawful d → (u : Use) → IsKnown d n u → GivesSame w (case_world (case_of d w) (words_of n w)) u
+pub known-gives : (d : DesignView) (n : ℕ) (w : World) → HasLawfulSymbols d → (u : Use) → IsKnown d n u → GivesSame w (case_world (case_of d w) (words_of n w)) u
 known-gives d n w lawful u (inl declared) = declared-gives d n w lawful u.symbol u declared
 known-gives d n w lawful u (inr (i, below, is)) =
     subst (GivesSame w (world_again d n w)) (sym is)

@@ -44,11 +44,11 @@ pub entry-count : (d : DesignView) (nodes : List Node) (state : SymState) → St
 entry-count d nodes state h = zip-length _ state.entries (entry_sorts d.pipe) h.entries ∙ length-map d.pipe.entries (λ (x : entry.Entry). x.sort)
 
 -- what is visible once the pipeline is flushed
-pub flushing-stands : (d : DesignView) (old new : List Node) (state behind visible : SymState) → StateHasSorts d.pipe new behind → DenotesFlush d old new state behind → visible.inputs ≡ []
-    → ((nodes : List Node) → HaveSorts nodes behind.entries (entry_sorts d.pipe) → HaveSorts nodes visible.entries (entry_sorts d.spec))
-    → ((w : World) (nodes : List Node) (values : List Value) → DenoteValues w nodes behind.entries values → DenoteValues w nodes visible.entries (look d values))
+pub flushing-stands : (d : DesignView) (old new : List Node) (state after visible : SymState) → StateHasSorts d.pipe new after → DenotesFlush d old new state after → visible.inputs ≡ []
+    → ((nodes : List Node) → HaveSorts nodes after.entries (entry_sorts d.pipe) → HaveSorts nodes visible.entries (entry_sorts d.spec))
+    → ((w : World) (nodes : List Node) (values : List Value) → DenoteValues w nodes after.entries values → DenoteValues w nodes visible.entries (look d values))
     → StandsFor d old new state (flushed d) visible
-flushing-stands d old new state behind visible sorted t none sorts looks = record {
+flushing-stands d old new state after visible sorted t none sorts looks = record {
   sorted = record { sorted = sorts new sorted.entries; inputs = none };
   shows = λ values shown. record {
     shows = λ c q fits. looks (case_world c q) new (flush d c.interp (values c)) (t.denotes (case_world c q) c.interp (values c) c.inputs (shown.shows c q fits));
@@ -105,9 +105,9 @@ invariant-claimed d old mid new state alone lets (Ok id) named entries inputs t 
 invariant-claimed d old mid new state alone lets (Err e) named entries inputs t = tt
 
 -- the call that takes what is visible of the flushed state
-pub flushing-stood : (d : DesignView) (old new : List Node) (state behind : SymState) (r : Result SymState AllocError) → StateHasSorts d.pipe new behind → DenotesFlush d old new state behind → IfOk r (λ visible. visible.inputs ≡ [])
-    → IfOk r (λ visible. (nodes : List Node) → HaveSorts nodes behind.entries (entry_sorts d.pipe) → HaveSorts nodes visible.entries (entry_sorts d.spec))
-    → IfOk r (λ visible. (w : World) (nodes : List Node) (values : List Value) → DenoteValues w nodes behind.entries values → DenoteValues w nodes visible.entries (look d values))
+pub flushing-stood : (d : DesignView) (old new : List Node) (state after : SymState) (r : Result SymState AllocError) → StateHasSorts d.pipe new after → DenotesFlush d old new state after → IfOk r (λ visible. visible.inputs ≡ [])
+    → IfOk r (λ visible. (nodes : List Node) → HaveSorts nodes after.entries (entry_sorts d.pipe) → HaveSorts nodes visible.entries (entry_sorts d.spec))
+    → IfOk r (λ visible. (w : World) (nodes : List Node) (values : List Value) → DenoteValues w nodes after.entries values → DenoteValues w nodes visible.entries (look d values))
     → IfOk r (λ visible. StandsFor d old new state (flushed d) visible)
-flushing-stood d old new state behind (Ok visible) sorted t none sorts looks = flushing-stands d old new state behind visible sorted t none sorts looks
-flushing-stood d old new state behind (Err e) sorted t none sorts looks = tt
+flushing-stood d old new state after (Ok visible) sorted t none sorts looks = flushing-stands d old new state after visible sorted t none sorts looks
+flushing-stood d old new state after (Err e) sorted t none sorts looks = tt

@@ -53,9 +53,9 @@ pub record ShowsCycle (d : DesignView) (nodes : List Node) (state next : SymStat
 
 pub cycle-first : (d : DesignView) (old new : List Node) (state next : SymState) → Extends old new → StateHasSorts d.pipe old state → DenotesCases d old state → StateHasSorts d.pipe new next → DenotesStep d old new state next → next.inputs ≡ state.inputs
     → ShowsCycle d new state next
-cycle-first d old new state next e sorted h behind t inputs = record {
+cycle-first d old new state next e sorted h after t inputs = record {
   state_sorted = StateHasSorts-later d old new e state sorted;
-  next_sorted = behind;
+  next_sorted = after;
   before = ShowsState-later d old new e state _ sorted (first-shows d old state h);
   after = next-shows d old new state next e sorted (first-shows d old state h) t inputs;
 }
@@ -69,34 +69,34 @@ cycle-later d old new state next e h = record {
 }
 
 -- the conditions and what the two states stand for
-pub record IsStarted (d : DesignView) (abs : Abstraction) (g0 g1 g2 g3 : List Node) (state next : SymState) (whens : List ℕ) (behind joined : SymState) : Type 0 where
+pub record IsStarted (d : DesignView) (abs : Abstraction) (g0 g1 g2 g3 : List Node) (state next : SymState) (whens : List ℕ) (after joined : SymState) : Type 0 where
   pub cycle : ShowsCycle d g0 state next
   pub first : GrowsWithin d g0 g1
   pub conditions : AreConditions d g1 whens
   pub second : GrowsWithin d g1 g2
-  pub behind_stands : StandsFor d g1 g2 next abs behind
+  pub after_stands : StandsFor d g1 g2 next abs after
   pub third : GrowsWithin d g2 g3
   pub joined_stands : StandsFor d g2 g3 state abs joined
 
-pub started-grows : (d : DesignView) (abs : Abstraction) (g0 g1 g2 g3 : List Node) (state next : SymState) (whens : List ℕ) (behind joined : SymState) → IsStarted d abs g0 g1 g2 g3 state next whens behind joined → GrowsWithin d g0 g3
-started-grows d abs g0 g1 g2 g3 state next whens behind joined h = Grows-trans d g0 g2 g3 (Grows-trans d g0 g1 g2 h.first h.second) h.third
+pub started-grows : (d : DesignView) (abs : Abstraction) (g0 g1 g2 g3 : List Node) (state next : SymState) (whens : List ℕ) (after joined : SymState) → IsStarted d abs g0 g1 g2 g3 state next whens after joined → GrowsWithin d g0 g3
+started-grows d abs g0 g1 g2 g3 state next whens after joined h = Grows-trans d g0 g2 g3 (Grows-trans d g0 g1 g2 h.first h.second) h.third
 
-pub started-conditions : (d : DesignView) (abs : Abstraction) (g0 g1 g2 g3 : List Node) (state next : SymState) (whens : List ℕ) (behind joined : SymState) → IsStarted d abs g0 g1 g2 g3 state next whens behind joined → AreConditions d g3 whens
-started-conditions d abs g0 g1 g2 g3 state next whens behind joined h = conditions-later d g1 g3 (Extends-trans g1 g2 g3 h.second.extends h.third.extends) whens h.conditions
+pub started-conditions : (d : DesignView) (abs : Abstraction) (g0 g1 g2 g3 : List Node) (state next : SymState) (whens : List ℕ) (after joined : SymState) → IsStarted d abs g0 g1 g2 g3 state next whens after joined → AreConditions d g3 whens
+started-conditions d abs g0 g1 g2 g3 state next whens after joined h = conditions-later d g1 g3 (Extends-trans g1 g2 g3 h.second.extends h.third.extends) whens h.conditions
 
 -- so far for no steps
-pub started-commuting : (d : DesignView) (abs : Abstraction) (g0 g1 g2 g3 g4 : List Node) (state next : SymState) (whens : List ℕ) (behind joined : SymState) (any : ℕ) → IsStarted d abs g0 g1 g2 g3 state next whens behind joined
+pub started-commuting : (d : DesignView) (abs : Abstraction) (g0 g1 g2 g3 g4 : List Node) (state next : SymState) (whens : List ℕ) (after joined : SymState) (any : ℕ) → IsStarted d abs g0 g1 g2 g3 state next whens after joined
     → GrowsKnown d (address_count d) g3 g4 → TermHasSort g4 any sort.Bool
-    → ((a b : Case → List Value) → ShowsValues d g3 behind.entries a → ShowsValues d g3 joined.entries b
+    → ((a b : Case → List Value) → ShowsValues d g3 after.entries a → ShowsValues d g3 joined.entries b
     → Claims d (λ c q. IsAllowed d c.interp c.state c.inputs 0 × EqualAt (λ m. address_number d m 0) q (a c) (b c)) g4 any)
-    → Commuting d abs g0 g4 whens behind joined 0 any
-started-commuting d abs g0 g1 g2 g3 g4 state next whens behind joined any h g s claims =
-    let vb = IsVisible-later d g2 g3 h.third.extends behind h.behind_stands.sorted in
-    let nb = h.behind_stands.shows (λ c. step d.pipe c.interp c.state c.inputs) (ShowsState-later d g0 g1 h.first.extends next _ h.cycle.next_sorted h.cycle.after) in
-    let sb = ShowsValues-later d g2 g3 h.third.extends behind.entries _ (inside_sorts g2 behind.entries (entry_sorts d.spec) h.behind_stands.sorted.sorted) nb in
+    → Commuting d abs g0 g4 whens after joined 0 any
+started-commuting d abs g0 g1 g2 g3 g4 state next whens after joined any h g s claims =
+    let vb = IsVisible-later d g2 g3 h.third.extends after h.after_stands.sorted in
+    let nb = h.after_stands.shows (λ c. step d.pipe c.interp c.state c.inputs) (ShowsState-later d g0 g1 h.first.extends next _ h.cycle.next_sorted h.cycle.after) in
+    let sb = ShowsValues-later d g2 g3 h.third.extends after.entries _ (inside_sorts g2 after.entries (entry_sorts d.spec) h.after_stands.sorted.sorted) nb in
     let sj = h.joined_stands.shows (λ c. c.state) (ShowsState-later d g0 g2 (Extends-trans g0 g1 g2 h.first.extends h.second.extends) state _ h.cycle.state_sorted h.cycle.before) in
-    commuting-none d abs g0 g3 g4 whens behind joined any (Known-within d (address_count d) g0 g3 (started-grows d abs g0 g1 g2 g3 state next whens behind joined h)) g
-    (started-conditions d abs g0 g1 g2 g3 state next whens behind joined h) vb sb h.joined_stands.sorted sj s
+    commuting-none d abs g0 g3 g4 whens after joined any (Known-within d (address_count d) g0 g3 (started-grows d abs g0 g1 g2 g3 state next whens after joined h)) g
+    (started-conditions d abs g0 g1 g2 g3 state next whens after joined h) vb sb h.joined_stands.sorted sj s
     (claims (λ c. abs c.interp (step d.pipe c.interp c.state c.inputs)) (λ c. abs c.interp c.state) sb sj)
 
 -- memories that are read at the address of their number
@@ -108,18 +108,18 @@ plain-address q a b =
       once m = omega arith
 
 -- one step more
-pub commuting-more : (d : DesignView) (abs : Abstraction) (old cur mid next new : List Node) (whens : List ℕ) (behind joined after : SymState) (i any one id : ℕ) → Commuting d abs old cur whens behind joined i any
-    → GrowsWithin d cur mid → IsVisible d mid after → DenotesSpecStep d cur mid joined after → GrowsKnown d (address_count d) mid next → TermHasSort next one sort.Bool
-    → ((a b : Case → List Value) → ShowsValues d mid behind.entries a → ShowsValues d mid after.entries b
+pub commuting-more : (d : DesignView) (abs : Abstraction) (old cur mid next new : List Node) (whens : List ℕ) (after joined stepped : SymState) (i any one id : ℕ) → Commuting d abs old cur whens after joined i any
+    → GrowsWithin d cur mid → IsVisible d mid stepped → DenotesSpecStep d cur mid joined stepped → GrowsKnown d (address_count d) mid next → TermHasSort next one sort.Bool
+    → ((a b : Case → List Value) → ShowsValues d mid after.entries a → ShowsValues d mid stepped.entries b
     → Claims d (λ c q. IsAllowed d c.interp c.state c.inputs (i + 1) × EqualAt (λ m. address_number d m (i + 1)) q (a c) (b c)) next one)
     → Extends next new → AddsUses next new [] → TermHasSort new id sort.Bool → Denotes new id (λ w. Truth (truth w next any || truth w next one))
-    → Commuting d abs old new whens behind after (i + 1) id
-commuting-more d abs old cur mid next new whens behind joined after i any one id h g va sa f so claims e u s is =
+    → Commuting d abs old new whens after stepped (i + 1) id
+commuting-more d abs old cur mid next new whens after joined stepped i any one id h g va sa f so claims e u s is =
     let more : i + 1 ≡ suc i = omega arith in
-    let behind_shows = ShowsValues-later d cur mid g.extends behind.entries _ (inside_sorts cur behind.entries (entry_sorts d.spec) h.behind_sorted.sorted) h.behind_shows in
-    let after_shows = step-shows d abs cur mid joined after i sa h.joined_shows in
-    let claimed = claims (λ c. abs c.interp (step d.pipe c.interp c.state c.inputs)) (λ c. spec_steps (suc i) d c.interp (abs c.interp c.state)) behind_shows after_shows in
-    subst (λ k. Commuting d abs old new whens behind after k id) (sym more)
-    (commuting-next d abs old cur mid next new whens behind joined after i any one id h g va sa f so
+    let after_shows = ShowsValues-later d cur mid g.extends after.entries _ (inside_sorts cur after.entries (entry_sorts d.spec) h.after_sorted.sorted) h.after_shows in
+    let stepped_shows = step-shows d abs cur mid joined stepped i sa h.joined_shows in
+    let claimed = claims (λ c. abs c.interp (step d.pipe c.interp c.state c.inputs)) (λ c. spec_steps (suc i) d c.interp (abs c.interp c.state)) after_shows stepped_shows in
+    subst (λ k. Commuting d abs old new whens after stepped k id) (sym more)
+    (commuting-next d abs old cur mid next new whens after joined stepped i any one id h g va sa f so
     (subst (λ k. Claims d (λ c q. IsAllowed d c.interp c.state c.inputs k × EqualAt (λ m. address_number d m k) q (abs c.interp (step d.pipe c.interp c.state c.inputs)) (spec_steps (suc i) d c.interp (abs c.interp c.state))) next one) more claimed)
     e u s is)

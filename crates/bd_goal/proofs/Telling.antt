@@ -117,8 +117,8 @@ get-listed f (suc n) zero h = refl
 get-listed f (suc n) (suc i) h = get-listed (λ i. f (suc i)) n i (omega (arith, h))
 
 -- the state after a case's cycle, by an abstraction
-abbrev behind : DesignView → Abstraction → Case → List Value
-behind d abs c = abs c.interp (step d.pipe c.interp c.state c.inputs)
+abbrev after : DesignView → Abstraction → Case → List Value
+after d abs c = abs c.interp (step d.pipe c.interp c.state c.inputs)
 
 -- the specification's state after j steps
 abbrev joined : DesignView → Abstraction → Case → ℕ → List Value
@@ -127,23 +127,23 @@ joined d abs c j = spec_steps j d c.interp (abs c.interp c.state)
 -- the word of an address: one that tells the memory of its number from the one after so many steps
 abbrev pub told_word : DesignView → Abstraction → Case → ℕ → ℕ
 told_word d abs c i =
-    telling (memory_at (behind d abs c) (i / (d.steps + 1))) (memory_at (joined d abs c (i % (d.steps + 1))) (i / (d.steps + 1)))
+    telling (memory_at (after d abs c) (i / (d.steps + 1))) (memory_at (joined d abs c (i % (d.steps + 1))) (i / (d.steps + 1)))
 
 -- words for all addresses that tell apart what the case tells apart
 abbrev pub told_words : DesignView → Abstraction → Case → List ℕ
-told_words d abs c = listed (told_word d abs c) (length (memories (behind d abs c)) * (d.steps + 1))
+told_words d abs c = listed (told_word d abs c) (length (memories (after d abs c)) * (d.steps + 1))
 
-told_at : (d : DesignView) (abs : Abstraction) (c : Case) (m j : ℕ) → j ≤ d.steps → m < length (memories (behind d abs c))
-    → slice_index_or (told_words d abs c) (address_number d m j) 0 ≡ telling (memory_at (behind d abs c) m) (memory_at (joined d abs c j) m)
+told_at : (d : DesignView) (abs : Abstraction) (c : Case) (m j : ℕ) → j ≤ d.steps → m < length (memories (after d abs c))
+    → slice_index_or (told_words d abs c) (address_number d m j) 0 ≡ telling (memory_at (after d abs c) m) (memory_at (joined d abs c j) m)
 told_at d abs c m j few within =
     let n : ℕ = d.steps + 1 in
     let small : j < n = omega (arith, few) in
-    let inside : m * n + j < n * length (memories (behind d abs c)) = mul-add-lt m n j (length (memories (behind d abs c))) within small in
+    let inside : m * n + j < n * length (memories (after d abs c)) = mul-add-lt m n j (length (memories (after d abs c))) within small in
     let quotient : (m * n + j) / n ≡ m = div-mul-add m n j small in
     let rest : (m * n + j) % n ≡ j = mod-mul-add m n j small in
-    get-listed (told_word d abs c) (length (memories (behind d abs c)) * n) (m * n + j) (omega (arith, inside))
-    ∙ ap (λ i. telling (memory_at (behind d abs c) i) (memory_at (joined d abs c ((m * n + j) % n)) i)) quotient
-    ∙ ap (λ i. telling (memory_at (behind d abs c) m) (memory_at (joined d abs c i) m)) rest
+    get-listed (told_word d abs c) (length (memories (after d abs c)) * n) (m * n + j) (omega (arith, inside))
+    ∙ ap (λ i. telling (memory_at (after d abs c) i) (memory_at (joined d abs c ((m * n + j) % n)) i)) quotient
+    ∙ ap (λ i. telling (memory_at (after d abs c) m) (memory_at (joined d abs c i) m)) rest
 
 -- a cycle that stands for some number of steps as far as these words show does so
 pub told_commutes : (d : DesignView) (abs : Abstraction) (c : Case) → CommutesAt d abs c (told_words d abs c) → CommutesBy d abs c.interp c.state c.inputs
@@ -152,7 +152,7 @@ told_commutes d abs c (j, few, stands) = (
   few,
   (
     stands.0,
-    Same-EqualFrom (λ m. slice_index_or (told_words d abs c) (address_number d m j) 0) 0 (behind d abs c) (joined d abs c j)
+    Same-EqualFrom (λ m. slice_index_or (told_words d abs c) (address_number d m j) 0) 0 (after d abs c) (joined d abs c j)
         (λ i within. ap (λ n. slice_index_or (told_words d abs c) (address_number d n j) 0) (first i) ∙ told_at d abs c i j few within) stands.1,
   ),
 ) where
@@ -162,7 +162,7 @@ told_commutes d abs c (j, few, stands) = (
 -- a cycle that stands for some number of steps does so as far as any words show
 pub CommutesAt-any : (d : DesignView) (abs : Abstraction) (c : Case) (q : List ℕ) → CommutesBy d abs c.interp c.state c.inputs → CommutesAt d abs c q
 CommutesAt-any d abs c q (j, few, stands) =
-    (j, few, (stands.0, EqualFrom-Same (λ m. slice_index_or q (address_number d m j) 0) 0 (behind d abs c) (joined d abs c j) stands.1))
+    (j, few, (stands.0, EqualFrom-Same (λ m. slice_index_or q (address_number d m j) 0) 0 (after d abs c) (joined d abs c j) stands.1))
 
 -- words that tell apart the memories of two states
 abbrev pub told_pairs : List Value → List Value → List ℕ

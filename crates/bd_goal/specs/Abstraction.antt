@@ -22,15 +22,15 @@ abstraction_of d (abstraction.Given lets parts) =
     values_by (map local_view lets) (list_of_views (expr_views parts))
 
 -- the sorts in force in an invariant's place, after these lets
-abbrev pub context_behind : DesignView → List LocalView → Context
-context_behind d lets =
+abbrev pub context_after : DesignView → List LocalView → Context
+context_after d lets =
     record (inv_context d) { locals = map (λ (l : LocalView). l.sort) lets }
 
 -- the lets have their sorts, and there is one expression for each visible entry, of its sort
 pub record IsLawfulGiven (d : DesignView) (locals : List LocalView) (exprs : List ExprView) :
     Type 0 where
   pub lets : LetsHaveSorts (without_lets (inv_context d)) locals
-  pub parts : AllZip (λ (x : entry.Entry) e. HasSort (context_behind d locals) e x.sort) d.spec.entries exprs
+  pub parts : AllZip (λ (x : entry.Entry) e. HasSort (context_after d locals) e x.sort) d.spec.entries exprs
 
 abbrev pub IsLawfulAbstraction : DesignView → Abstraction → Type 0
 IsLawfulAbstraction d abstraction.Flushing = Unit {0}

@@ -1,7 +1,6 @@
 -- What the roots decide: validity of the formula stands for correspondence of every case (Burch and Dill 1994).
 use Rattle.std.specs.Prelude.{ℕ, List}
 use Rattle.bd_model.specs.DesignView.{DesignView}
-use Rattle.bd_model.specs.Lawful.{IsLawful}
 use Rattle.bd_model.specs.Cycle.{flushed}
 use Rattle.bd_model.specs.Same.{Same}
 use Rattle.bd_model.specs.Conditions.{Abstraction, BreaksBy, MeetsInvariant}
@@ -10,6 +9,7 @@ use Rattle.bd_model.specs.declared.case.Condition.{Condition}
 use Rattle.bd_model.specs.declared.design.Sort.TheVariants as sort
 use Rattle.bd_terms.specs.declared.node.Node.{Node}
 use Rattle.bd_terms.specs.Graph.{HasSort, IsGraph}
+use Rattle.bd_symbolic.specs.Widened.{HasLawfulSymbols}
 use Rattle.bd_goal.specs.Symbols.{ReachesKnown}
 use Rattle.bd_goal.specs.Formula.{Corresponds, IsOutside, AgreesAt}
 use Rattle.bd_goal.specs.Claims.{Claims, Decides}
@@ -35,15 +35,17 @@ ClaimDecides d claim such =
 -- the correspondence formula decides whether a case breaks a condition
 abbrev pub GoalDecides : Type 0
 GoalDecides =
-    (d : DesignView) (abs : Abstraction) → IsLawful d → ClaimDecides d (Corresponds d abs) (BreaksSome d abs)
+    (d : DesignView) (abs : Abstraction) → HasLawfulSymbols d
+    → ClaimDecides d (Corresponds d abs) (BreaksSome d abs)
 
 -- the formula that the invariant is false decides whether a case meets it
 abbrev pub MeetsDecides : Type 0
 MeetsDecides =
-    (d : DesignView) → IsLawful d
+    (d : DesignView) → HasLawfulSymbols d
     → ClaimDecides d (IsOutside d) (λ c. MeetsInvariant d c.interp c.state)
 
 -- the formula of agreement decides whether an abstraction and flushing can be told apart
 abbrev pub AgreeDecides : Type 0
 AgreeDecides =
-    (d : DesignView) (abs : Abstraction) → IsLawful d → ClaimDecides d (AgreesAt d abs) (Differs d abs)
+    (d : DesignView) (abs : Abstraction) → HasLawfulSymbols d
+    → ClaimDecides d (AgreesAt d abs) (Differs d abs)

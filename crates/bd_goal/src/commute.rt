@@ -43,7 +43,7 @@ pub(crate) fn commutes(
     requires state { StateHasSorts (design_view design.now).pipe graph.old state.now }
     requires next { StateHasSorts (design_view design.now).pipe graph.old next.now }
     requires before { ShowsState (design_view design.now) graph.old state.now (λ c. c.state) }
-    requires behind { ShowsState (design_view design.now) graph.old next.now
+    requires after { ShowsState (design_view design.now) graph.old next.now
         (λ c. step (design_view design.now).pipe c.interp c.state c.inputs) }
     ensures sorted { IfOk result (λ id. HasSort graph.new id sort.Bool) }
     ensures denotes { IfOk result (λ id. Claims (design_view design.now)
@@ -53,16 +53,16 @@ pub(crate) fn commutes(
         (address_count (design_view design.now)) graph.old graph.new }
 {
     let whens = conditions(alloc, graph, design, state)?;
-    let behind = abstracted(alloc, graph, design, abs, next)?;
+    let after = abstracted(alloc, graph, design, abs, next)?;
     let mut joined = abstracted(alloc, graph, design, abs, state)?;
-    let mut any = stands(graph, design, &whens, &behind.entries, &joined.entries, 0)?;
+    let mut any = stands(graph, design, &whens, &after.entries, &joined.entries, 0)?;
     for done in 0..design.steps {
         joined = sym_spec_step(alloc, graph, design, &joined)?;
         let one = stands(
             graph,
             design,
             &whens,
-            &behind.entries,
+            &after.entries,
             &joined.entries,
             done + 1,
         )?;
@@ -76,19 +76,19 @@ fn stands(
     graph: &mut Graph,
     design: &Design,
     whens: &TermIds,
-    behind: &TermIds,
+    after: &TermIds,
     joined: &TermIds,
     j: u32,
 ) -> Result<Id, AllocError>
     requires lawful { IsLawful (design_view design.now) }
     requires words { KeepsAddresses graph.old }
     requires whens { AreConditions (design_view design.now) graph.old whens.now }
-    requires behind { HaveSorts graph.old behind.now (entry_sorts (design_view design.now).spec) }
+    requires after { HaveSorts graph.old after.now (entry_sorts (design_view design.now).spec) }
     requires joined { HaveSorts graph.old joined.now (entry_sorts (design_view design.now).spec) }
     requires few { j ≤ design.now.steps }
     ensures sorted { IfOk result (λ id. HasSort graph.new id sort.Bool) }
     ensures denotes { IfOk result (λ id. (a b : Case → List Value)
-        → ShowsValues (design_view design.now) graph.old behind.now a
+        → ShowsValues (design_view design.now) graph.old after.now a
         → ShowsValues (design_view design.now) graph.old joined.now b
         → Claims (design_view design.now)
         (λ c q. IsAllowed (design_view design.now) c.interp c.state c.inputs j
@@ -98,7 +98,7 @@ fn stands(
         (address_count (design_view design.now)) graph.old graph.new }
 {
     let allowed = allowed(graph, design, whens, j)?;
-    let same = equal(graph, design, behind, joined, j, design.steps + 1)?;
+    let same = equal(graph, design, after, joined, j, design.steps + 1)?;
     graph.mk_and(allowed, same)
 }
 

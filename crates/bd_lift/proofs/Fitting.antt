@@ -14,13 +14,14 @@ use Rattle.bd_model.specs.declared.table.Scalar.TheVariants as scalar
 use Rattle.bd_model.specs.declared.table.Table.{Table}
 use Rattle.bd_model.specs.declared.case.Case.{Case}
 use Rattle.bd_model.specs.Fits.{Fits, KeepsApart, TableFits, result_sort, scalar_sort, value_sort}
-use Rattle.bd_model.specs.Lawful.{IsConstant, IsLawful, IsLawfulGroup, IsLawfulPort}
+use Rattle.bd_model.specs.Lawful.{IsConstant, IsLawfulGroup}
 use Rattle.bd_model.specs.Value.{no_table, scalar_word, table_of}
 use Rattle.bd_terms.specs.declared.node.Node.{Node}
 use Rattle.bd_terms.specs.declared.node.Sym.{Sym}
 use Rattle.bd_terms.specs.declared.node.Sym.TheVariants.{Function, Entry, Input}
 use Rattle.bd_terms.specs.Graph.{Use, uses}
 use Rattle.bd_terms.proofs.Places.{AllByRecursion-get}
+use Rattle.bd_symbolic.specs.Widened.{HasLawfulSymbols}
 use Rattle.bd_function.specs.declared.flat.FlatRow.{FlatRow}
 use Rattle.bd_function.specs.declared.flat.FlatSym.{FlatSym}
 use Rattle.bd_function.specs.declared.symbol_tables.SymTable.{SymTable}
@@ -50,7 +51,7 @@ AllByRecursion-of P Q (x ∷ xs) h f = (f x (0, omega arith, refl) h.0, AllByRec
 
 -- what is needed of a formula, its values and its symbols
 pub record IsSettled (d : DesignView) (nodes : List Node) (syms : List FlatSym) (order : Order) (atoms : List (Atom × Bool)) (classes : List ℕ) (v : ℕ → Scalar) : Type 0 where
-  pub lawful : IsLawful d
+  pub lawful : HasLawfulSymbols d
   pub known : AreKnown d nodes syms
   pub root : ℕ
   pub flat : IsFlat nodes root syms
@@ -227,7 +228,7 @@ module _ (d : DesignView) (nodes : List Node) (syms : List FlatSym) (order : Ord
         (λ i j x at e. entry-sort x.sort (world_of_tables tables (Entry j))));
     inputs = subst (AllZip (λ (p : PortView) x. scalar_sort x ≡ p.sort) d.pipe.ports) (sym b.ports)
         (AllZip-numbered (λ (p : PortView) x. scalar_sort x ≡ p.sort) (λ i (p : PortView). scalar_as p.sort (world_of_tables tables (Input i)).default) 0 d.pipe.ports
-        (λ i j p at e. scalar_as-sort p.sort (world_of_tables tables (Input j)).default (AllByRecursion-get (IsLawfulPort d) d.pipe.ports i p s.lawful.ports at).sort));
+        (λ i j p at e. scalar_as-sort p.sort (world_of_tables tables (Input j)).default (AllByRecursion-get (λ (q : PortView). q.sort ≢ sort.Memory) d.pipe.ports i p s.lawful.inputs at)));
   }
 
   -- and each of its rows counts

@@ -9,4 +9,6 @@ pub mod FirstRows
 pub mod Known
 pub mod Fitting
 pub mod Worlds
+pub mod Repeating
+pub mod Cutting
 pub mod Denoting

@@ -11,7 +11,6 @@ use Rattle.bd_model.specs.declared.table.Row.{Row}
 use Rattle.bd_model.specs.declared.table.Table.{Table}
 use Rattle.bd_model.specs.declared.case.Case.{Case}
 use Rattle.bd_model.specs.Fits.{result_sort}
-use Rattle.bd_model.specs.Lawful.{IsLawfulPort}
 use Rattle.bd_model.specs.Table.{at}
 use Rattle.bd_model.specs.Value.{scalar_word, truth}
 use Rattle.bd_terms.specs.declared.node.Node.{Node}
@@ -119,7 +118,7 @@ module _ (d : DesignView) (nodes : List Node) (syms : List FlatSym) (order : Ord
       ∙ get-numbered (λ m (z : PortView). scalar_as z.sort (world_of_tables tables (Input m)).default) 0 d.pipe.ports i i x.0 (scalar.Bool false) x.1 (omega arith)
       ∙ ap (scalar_as x.0.sort) (has-enough d nodes syms order atoms classes v s tables alike (Input i)).default in
       ap (λ z. at (constant z) args) (held ∙ ap (λ (t : Table). scalar_as x.0.sort t.default) own)
-      ∙ input-alike x.0.sort (map (row_of v nodes) h.rows) (AllByRecursion-get (IsLawfulPort d) d.pipe.ports i x.0 s.lawful.ports x.1).sort rows (has-row v nodes h.rows r q) args
+      ∙ input-alike x.0.sort (map (row_of v nodes) h.rows) (AllByRecursion-get (λ (p : PortView). p.sort ≡ sort.Memory → ⊥) d.pipe.ports i x.0 s.lawful.inputs x.1) rows (has-row v nodes h.rows r q) args
       ∙ ap (λ t. at t args) (sym own)
   alike-by h p r q (Address i) e own args =
       let k = s.known.each h p r q in

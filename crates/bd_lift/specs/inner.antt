@@ -1,3 +1,4 @@
 pub mod Built
+pub mod Cut
 pub mod First
 pub mod Steps

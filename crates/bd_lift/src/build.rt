@@ -1,15 +1,19 @@
 //! The case that tables make. It starts as the case of no table, and takes the tables from the last one on, so that
 //! the first one of a symbol counts.
-ghost use Rattle.std.specs.Prelude.{◌≡◌, ◌≤◌, ◌+◌, ◌*◌, ℕ, List, [], map, length, slice_get, slice_set, IfOk, OnOk, Some};
-ghost use Rattle.bd_model.specs.DesignView.{design_view, port_view};
+ghost use Rattle.std.specs.Prelude.{◌≡◌, ◌≤◌, ◌+◌, ◌*◌, ℕ, false, List, [], map, length, slice_get, slice_set, IfOk, OnOk, Some};
+ghost use Rattle.bd_model.specs.DesignView.{design_view};
 ghost use Rattle.bd_model.specs.Fits.{result_sort};
 ghost use Rattle.bd_model.specs.Value.{no_table};
 ghost use Rattle.bd_model.specs.declared.design.Symbol.{Symbol as TheSymbol};
 ghost use Rattle.bd_model.specs.declared.design.Entry.{Entry as TheEntry};
 ghost use Rattle.bd_model.specs.declared.design.Port.{Port as ThePort};
+ghost use Rattle.bd_model.specs.declared.design.Sort.{Sort as TheSort};
+ghost use Rattle.bd_model.specs.declared.table.Scalar.TheVariants as scalar;
+ghost use Rattle.bd_symbolic.specs.States.{port_sorts};
+ghost use Rattle.bd_symbolic.specs.Widened.{repeated, widened};
 ghost use Rattle.bd_terms.specs.Denotation.{World};
 ghost use Rattle.bd_function.specs.Tables.{world_of_tables};
-ghost use Rattle.bd_lift.specs.inner.Built.{IsBuilt, entry_value, function_table, functions_of, inputs_of, scalar_as, slot_of, state_of, with_table};
+ghost use Rattle.bd_lift.specs.inner.Built.{IsBuilt, entry_value, function_table, functions_of, scalar_as, slot_of, state_of, with_table};
 
 use crate::decode::own_number;
 use bd_function::{FlatTables, SymTable};
@@ -28,21 +32,23 @@ struct Building {
     inputs: Vec<Scalar>,
 }
 
-/// The case of these tables, where so many classes are words.
+/// The case of these tables, with inputs for each of the cycles, where so many classes are words.
 pub(crate) fn case_of(
     alloc: Global,
     design: &Design,
+    cycles: u32,
     classes: usize,
     tables: FlatTables,
 ) -> Result<Case, AllocError>
     ensures { IfOk result (λ c.
-        IsBuilt (design_view design.now) classes (world_of_tables tables)
+        IsBuilt (widened (design_view design.now) cycles) classes (world_of_tables tables)
         c.interp c.state c.inputs) }
 {
-    let mut case = blank(alloc, design, classes)?;
+    let sorts = input_sorts(alloc, design.pipe.ports.as_slice(), cycles)?;
+    let mut case = blank(alloc, design, &sorts, classes)?;
     let mut rest = tables.into_vec();
     while let Some(table) = rest.pop() {
-        place(alloc, design, classes, &mut case, table)?;
+        place(alloc, design, &sorts, classes, &mut case, table)?;
     }
     let Building {
         interp,
@@ -56,16 +62,39 @@ pub(crate) fn case_of(
     })
 }
 
-// The case of no table.
-fn blank(alloc: Global, design: &Design, classes: usize) -> Result<Building, AllocError>
-    ensures { IfOk result (λ b.
-        IsBuilt (design_view design.now) classes (world_of_tables [])
+// The sort of each input, once for each cycle.
+fn input_sorts(alloc: Global, ports: &[Port], cycles: u32) -> Result<Vec<Sort>, AllocError>
+    ensures { IfOk result (λ sorts.
+        sorts.items ≡ repeated cycles (map (λ (p : ThePort). p.sort) ports.now)) }
+{
+    let mut sorts = Vec::new(alloc);
+    for _ in 0..cycles {
+        for port in ports {
+            sorts.push(port.sort)?;
+        }
+    }
+    Ok(sorts)
+}
+
+// The case of no table, where inputs have these sorts.
+fn blank(
+    alloc: Global,
+    design: &Design,
+    sorts: &[Sort],
+    classes: usize,
+) -> Result<Building, AllocError>
+    ensures { IfOk result (λ b. (cycles : ℕ) →
+        sorts.now ≡ port_sorts (widened (design_view design.now) cycles).pipe →
+        IsBuilt (widened (design_view design.now) cycles) classes (world_of_tables [])
         b.interp.items b.state.items b.inputs.items) }
 {
+    let interp = blank_interp(alloc, design.symbols.as_slice(), classes)?;
+    let state = blank_state(alloc, design.pipe.entries.as_slice())?;
+    let inputs = blank_inputs(alloc, sorts)?;
     Ok(Building {
-        interp: blank_interp(alloc, design.symbols.as_slice(), classes)?,
-        state: blank_state(alloc, design.pipe.entries.as_slice())?,
-        inputs: blank_inputs(alloc, design.pipe.ports.as_slice())?,
+        interp,
+        state,
+        inputs,
     })
 }
 
@@ -92,13 +121,13 @@ fn blank_state(alloc: Global, entries: &[Entry]) -> Result<Vec<Value>, AllocErro
     Ok(values)
 }
 
-fn blank_inputs(alloc: Global, ports: &[Port]) -> Result<Vec<Scalar>, AllocError>
+fn blank_inputs(alloc: Global, sorts: &[Sort]) -> Result<Vec<Scalar>, AllocError>
     ensures { IfOk result (λ scalars.
-        scalars.items ≡ inputs_of (world_of_tables []) (map port_view ports.now)) }
+        scalars.items ≡ map (λ s. scalar_as s (scalar.Bool false)) sorts.now) }
 {
-    let mut scalars = Vec::with_capacity(alloc, ports.len())?;
-    for port in ports {
-        scalars.push(scalar_as(port.sort, Scalar::Bool(false)))?;
+    let mut scalars = Vec::with_capacity(alloc, sorts.len())?;
+    for sort in sorts {
+        scalars.push(scalar_as(*sort, Scalar::Bool(false)))?;
     }
     Ok(scalars)
 }
@@ -117,16 +146,21 @@ fn blank_table(alloc: Global) -> Table
 fn place(
     alloc: Global,
     design: &Design,
+    sorts: &[Sort],
     classes: usize,
     case: &mut Building,
     table: SymTable,
 ) -> Result<(), AllocError>
-    requires { (w : World) × IsBuilt (design_view design.now) classes w
+    requires { (cycles : ℕ) × (w : World) ×
+        (sorts.now ≡ port_sorts (widened (design_view design.now) cycles).pipe) ×
+        IsBuilt (widened (design_view design.now) cycles) classes w
         case.old.interp.items case.old.state.items case.old.inputs.items }
-    ensures { OnOk result ((w : World) →
-        IsBuilt (design_view design.now) classes w
+    ensures { OnOk result ((cycles : ℕ) (w : World) →
+        sorts.now ≡ port_sorts (widened (design_view design.now) cycles).pipe →
+        IsBuilt (widened (design_view design.now) cycles) classes w
         case.old.interp.items case.old.state.items case.old.inputs.items →
-        IsBuilt (design_view design.now) classes (with_table w table.sym table.table)
+        IsBuilt (widened (design_view design.now) cycles) classes
+        (with_table w table.sym table.table)
         case.new.interp.items case.new.state.items case.new.inputs.items) }
 {
     let SymTable { sym, table } = table;
@@ -140,8 +174,7 @@ fn place(
             place_entry(alloc, &mut case.state, entries, i as usize, &table)
         }
         Sym::Input(i) => {
-            let ports = design.pipe.ports.as_slice();
-            place_input(&mut case.inputs, ports, i as usize, table.default);
+            place_input(&mut case.inputs, sorts, i as usize, table.default);
             Ok(())
         }
         Sym::Address(_) | Sym::Var(_) => Ok(()),
@@ -185,14 +218,14 @@ fn place_entry(
     Ok(())
 }
 
-fn place_input(inputs: &mut Vec<Scalar>, ports: &[Port], i: usize, value: Scalar)
-    requires { length inputs.old.items ≡ length ports.now }
-    ensures there { (p : ThePort) → slice_get ports.now i ≡ Some p →
-        inputs.new.items ≡ slice_set inputs.old.items i (scalar_as p.sort value) }
-    ensures other { length ports.now ≤ i → inputs.new.items ≡ inputs.old.items }
+fn place_input(inputs: &mut Vec<Scalar>, sorts: &[Sort], i: usize, value: Scalar)
+    requires { length inputs.old.items ≡ length sorts.now }
+    ensures there { (s : TheSort) → slice_get sorts.now i ≡ Some s →
+        inputs.new.items ≡ slice_set inputs.old.items i (scalar_as s value) }
+    ensures other { length sorts.now ≤ i → inputs.new.items ≡ inputs.old.items }
 {
-    if i < ports.len() {
-        inputs[i] = scalar_as(ports[i].sort, value);
+    if i < sorts.len() {
+        inputs[i] = scalar_as(sorts[i], value);
     }
 }
 

@@ -18,9 +18,10 @@ use Rattle.bd_terms.proofs.Graphs.{sort_at-get}
 use Rattle.bd_terms.proofs.Denotations.{denoted-get}
 use Rattle.bd_memory.specs.declared.reads.ReadKey.{ReadKey}
 use Rattle.bd_memory.specs.inner.Reads.{known}
-use Rattle.bd_memory.specs.inner.Forwarding.{Grows, IsForwarding, Means, is_plain, place, word_at}
+use Rattle.bd_walk.specs.inner.Carrying.{Means}
+use Rattle.bd_memory.specs.inner.Forwarding.{Grows, IsForwarding, is_plain, place, word_at}
 use Rattle.bd_memory.proofs.Plain.{Gives-IsPlain, IsPlain-empty}
-use Rattle.bd_memory.proofs.Moving.{Moves}
+use Rattle.bd_walk.proofs.Renaming.{IsRenamed}
 
 pub Means-Extends : (old new : List Node) → Extends old new → (id : ℕ) (s : Sort) (value : World → Denoted) → Means old id s value → Means new id s value
 Means-Extends old new e id s value m = record {
@@ -66,7 +67,7 @@ Grows-trans a b c more p q = record {
 }
 
 -- the next term, built
-pub next-Means : (old new new' : List Node) (here : ℕ) (node n : Node) → IsGraph old → slice_get old here ≡ Some node → Moves old new node n → (r : Result ℕ AllocError)
+pub next-Means : (old new new' : List Node) (here : ℕ) (node n : Node) → IsGraph old → slice_get old here ≡ Some node → IsRenamed old new node n → (r : Result ℕ AllocError)
     → IfOk r (λ id. Denotes new' id (λ w. node_value w (values w new) n)) → IfOk r (λ id. HasSort new' id (node_sort (sorts new) n))
     → IfOk r (λ id. Means new' id (sort_at old here) (λ w. denoted w old here))
 next-Means old new new' here node n g there m (Ok id) d s = record {
@@ -76,13 +77,13 @@ next-Means old new new' here node n g there m (Ok id) d s = record {
 next-Means old new new' here node n g there m (Err x) d s = tt
 
 pub next-IsForwarding : (old : List Node) (root : ℕ) (new new' : List Node) (places : List ℕ) (reads : List (ReadKey × ℕ)) (here : ℕ) (node n : Node)
-    → IsForwarding old root new places reads → slice_get old here ≡ Some node → Reaches old root here → Moves old new node n → (r : Result ℕ AllocError)
+    → IsForwarding old root new places reads → slice_get old here ≡ Some node → Reaches old root here → IsRenamed old new node n → is_plain n ≡ true → (r : Result ℕ AllocError)
     → IfOk r (λ id. Gives new new' id (simplified new n)) → Extends new new' → AddsUses new new' (node_uses n) → IsGraph new'
     → OnOk r (IsForwarding old root new' places reads)
-next-IsForwarding old root new new' places reads here node n f there reach m (Ok id) h e a g =
-    IsForwarding-Grows old root new new' places reads (node_uses n) f (Grows-Gives new new' (node_uses n) id n m.plain h e a g)
+next-IsForwarding old root new new' places reads here node n f there reach m plain (Ok id) h e a g =
+    IsForwarding-Grows old root new new' places reads (node_uses n) f (Grows-Gives new new' (node_uses n) id n plain h e a g)
     (λ u p. record { id = here; node = node; reached = reach; there = there; applies = subst (λ l. Contains l u) m.uses p })
-next-IsForwarding old root new new' places reads here node n f there reach m (Err x) h e a g = tt
+next-IsForwarding old root new new' places reads here node n f there reach m plain (Err x) h e a g = tt
 
 -- a symbol that a reached term applies keeps its arity and sort in the new graph
 pub reached-KeepsSymbol : (old : List Node) (root : ℕ) (new : List Node) (places : List ℕ) (reads : List (ReadKey × ℕ)) → IsForwarding old root new places reads

@@ -5,9 +5,9 @@ use Rattle.bd_terms.specs.declared.node.Node.{Node}
 use Rattle.bd_terms.specs.Graph.{HasSort}
 use Rattle.bd_memory.specs.declared.reads.ReadKey.{ReadKey}
 use Rattle.bd_memory.specs.declared.forwarding.Forwarding.{Forwarding}
-use Rattle.bd_memory.specs.declared.forwarding.Step.TheVariants.{Waits, Word as Given}
+use Rattle.bd_memory.specs.declared.forwarding.ReadState.TheVariants.{Waits, Word as Given}
 use Rattle.bd_memory.specs.inner.Reads.{is_read, known}
-use Rattle.bd_memory.specs.inner.Forwarding.{Holds, IsForwarding, IsStep}
+use Rattle.bd_memory.specs.inner.Forwarding.{Holds, IsForwarding, IsReadState}
 use Rattle.bd_memory.proofs.Growing.{IsForwarding-keep}
 use Rattle.bd_memory.proofs.Waiting.{IsWaiting, IsWaiting-pop, IsWaiting-push, kept-cases, kept-there, missing, missing-less}
 
@@ -20,7 +20,7 @@ pub record IsReading (old : List Node) (root : ℕ) (places : List ℕ) (f : For
 -- the one at hand waits
 pub IsReading-push : (old : List Node) (root : ℕ) (places : List ℕ) (f f' : Forwarding) (b top : ℕ) (waiting waiting' : List ℕ) (here below : ℕ) → IsReading old root places f b top waiting here
     → Holds old root f' → HasSort f'.graph b sort.Word → f'.places.items ≡ f.places.items → f'.reads ≡ f.reads
-    → IsStep old f' here b (Waits below) → waiting' ≡ waiting ++ here ∷ [] → IsReading old root places f' b top waiting' below
+    → IsReadState old f' here b (Waits below) → waiting' ≡ waiting ++ here ∷ [] → IsReading old root places f' b top waiting' below
 IsReading-push old root places f f' b top waiting waiting' here below r h a same reads s e = record {
   holds = h;
   address = a;
@@ -33,7 +33,7 @@ IsReading-push old root places f f' b top waiting waiting' here below r h a same
 
 -- its read is kept
 pub kept-Holds : (old : List Node) (root : ℕ) (f : Forwarding) (reads : List (ReadKey × ℕ)) (b here id : ℕ)
-    → Holds old root f → HasSort f.graph b sort.Word → IsStep old f here b (Given id)
+    → Holds old root f → HasSort f.graph b sort.Word → IsReadState old f here b (Given id)
     → ((n a : ℕ) → known reads n a ≡ (if is_read here b n a then Some id else known f.reads n a))
     → IsForwarding old root f.graph f.places.items reads
 kept-Holds old root f reads b here id h a s k =

@@ -7,7 +7,7 @@ use Rattle.std.proofs.lemmas.List.{length-take-le}
 use Rattle.bd_model.specs.declared.design.Sort.{Sort}
 use Rattle.bd_model.specs.declared.design.Sort.TheVariants as sort
 use Rattle.bd_terms.specs.declared.node.Node.{Node}
-use Rattle.bd_terms.specs.declared.node.Node.TheVariants.{Read, Write, Init}
+use Rattle.bd_terms.specs.declared.node.Node.TheVariants.{Read}
 use Rattle.bd_terms.specs.Graph.{HasSort, IsGraph, children, sort_at}
 use Rattle.bd_terms.specs.Reaches.{Reaches, Root}
 use Rattle.bd_terms.specs.Denotation.{Word, contents, denoted, word, word_of}
@@ -16,7 +16,8 @@ use Rattle.bd_terms.proofs.Reaching.{children-below, children-inside}
 use Rattle.bd_terms.proofs.Denotations.{denoted-get}
 use Rattle.bd_memory.specs.declared.reads.ReadKey.{ReadKey}
 use Rattle.bd_memory.specs.declared.forwarding.Forwarding.{Forwarding}
-use Rattle.bd_memory.specs.inner.Forwarding.{Follows, Holds, IsForwarding, Means, place, word_at}
+use Rattle.bd_walk.specs.inner.Carrying.{Means}
+use Rattle.bd_memory.specs.inner.Forwarding.{Follows, Holds, IsForwarding, place, word_at}
 use Rattle.bd_memory.proofs.Plain.{Bool-no_memory, Word-no_memory}
 use Rattle.bd_memory.proofs.Moving.{child-means, passed-mean}
 use Rattle.bd_memory.proofs.Growing.{IsForwarding-push}
@@ -34,7 +35,7 @@ pub next-child : (old : List Node) (root : ℕ) (new : List Node) (places : List
     → (c : ℕ) (s : Sort) → Contains (children node) c → HasSort old c s → s ≢ sort.Memory → (c' : ℕ) → c' ≡ place places c → Means new c' s (λ w. denoted w old c)
 next-child old root new places reads f node there r c s p h apart c' e =
     subst (λ x. Means new x s (λ w. denoted w old c)) (sym e)
-    (child-means old new (place places) (children node)
+    (child-means old new places (children node)
     (passed-mean old root new places reads f (length places) node there r (λ k q. children-below old f.source (length places) node there k q))
     c s p h apart)
 
@@ -55,13 +56,6 @@ next-read old root new' places places' reads' m a a' g there reach e (Ok id) mea
       };
     }
 next-read old root new' places places' reads' m a a' g there reach e (Err x) means f' same = tt
-
--- memories are no next terms
-pub no-write : (old : List Node) → IsGraph old → (here m a d : ℕ) → slice_get old here ≡ Some (Write m a d) → sort_at old here ≢ sort.Memory → ⊥
-no-write old g here m a d there apart = apart (sort_at-get old g here (Write m a d) there)
-
-pub no-init : (old : List Node) → IsGraph old → (here e : ℕ) → slice_get old here ≡ Some (Init e) → sort_at old here ≢ sort.Memory → ⊥
-no-init old g here e there apart = apart (sort_at-get old g here (Init e) there)
 
 -- so many terms are passed
 pub record IsPassed (old : List Node) (root : ℕ) (f : Forwarding) (index : ℕ) : Type 0 where

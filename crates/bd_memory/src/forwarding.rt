@@ -6,7 +6,8 @@ ghost use Rattle.bd_terms.specs.declared.node.Node.TheVariants as node;
 ghost use Rattle.bd_terms.specs.Graph.{HasSort, IsGraph, sort_at};
 ghost use Rattle.bd_terms.specs.Reaches.{Reaches};
 ghost use Rattle.bd_terms.specs.Denotation.{Word, denoted, word as word_in};
-ghost use Rattle.bd_memory.specs.inner.Forwarding.{Follows, Grows, Holds, IsStep, MarksReached, Means, place, word_at};
+ghost use Rattle.bd_walk.specs.inner.Carrying.{Means};
+ghost use Rattle.bd_memory.specs.inner.Forwarding.{Follows, Grows, Holds, IsReadState, MarksReached, place, word_at};
 
 use crate::reads::Reads;
 use bd_model::Sort;
@@ -24,7 +25,7 @@ pub(crate) struct Forwarding {
 
 // The read of a memory waits for the read of one below it, or is this word.
 #[derive(Drop)]
-pub(crate) enum Step {
+pub(crate) enum ReadState {
     Waits(Id),
     Word(Id),
 }
@@ -89,55 +90,15 @@ impl Forwarding {
         ensures places { OnOk result (self.new.places.items ≡ self.old.places.items) }
     {
         match node {
-            Node::True => self.graph.mk_true(),
-            Node::Not(a) => {
-                let a = self.place(*a);
-                self.graph.mk_not(a)
-            }
-            Node::And(a, b) => {
-                let (a, b) = (self.place(*a), self.place(*b));
-                self.graph.mk_and(a, b)
-            }
-            Node::Or(a, b) => {
-                let (a, b) = (self.place(*a), self.place(*b));
-                self.graph.mk_or(a, b)
-            }
-            Node::Ite(control, yes, no) => {
-                let (control, yes) = (self.place(*control), self.place(*yes));
-                let no = self.place(*no);
-                self.graph.mk_ite(control, yes, no)
-            }
-            Node::Eq(a, b) => {
-                let (a, b) = (self.place(*a), self.place(*b));
-                self.graph.mk_eq(a, b)
-            }
-            Node::App(sym, args) => {
-                let args = self.arguments(args.as_slice())?;
-                self.graph.mk_app(*sym, &args)
-            }
-            Node::Pred(sym, args) => {
-                let args = self.arguments(args.as_slice())?;
-                self.graph.mk_pred(*sym, &args)
-            }
             Node::Read(memory, address) => {
                 let address = self.place(*address);
                 self.read(old, *memory, address)
             }
-            Node::Write(..) => Ok(Id::default()),
-            Node::Init(_) => Ok(Id::default()),
+            _ => {
+                let node = node.renamed(&self.places)?;
+                self.graph.build(node)
+            }
         }
-    }
-
-    // The new places of arguments.
-    fn arguments(&self, args: &[Id]) -> Result<Vec<Id>, AllocError>
-        requires { All (λ a. a < length self.now.places.items) args.now }
-        ensures { IfOk result (λ places. places.items ≡ map (place self.now.places.items) args.now) }
-    {
-        let mut places = Vec::new(*self.places.allocator());
-        for arg in args {
-            places.push(self.place(*arg))?;
-        }
-        Ok(places)
     }
 
     // The read of a memory of the old graph at an address of the new one. Memories whose reads wait for that of
@@ -160,12 +121,12 @@ impl Forwarding {
         let mut waiting: Vec<Id> = Vec::new(*self.places.allocator());
         let mut here = memory;
         loop {
-            match self.step(old, here, address)? {
-                Step::Waits(below) => {
+            match self.read_from_below(old, here, address)? {
+                ReadState::Waits(below) => {
                     waiting.push(here)?;
                     here = below;
                 }
-                Step::Word(word) => {
+                ReadState::Word(word) => {
                     self.reads.keep(here, address, word)?;
                     match waiting.pop() {
                         Some(above) => here = above,
@@ -177,14 +138,19 @@ impl Forwarding {
     }
 
     // The read of a memory, from the reads of those right below it.
-    fn step(&mut self, old: &Graph, memory: Id, address: Id) -> Result<Step, AllocError>
+    fn read_from_below(
+        &mut self,
+        old: &Graph,
+        memory: Id,
+        address: Id,
+    ) -> Result<ReadState, AllocError>
         ghost root: { ℕ }
         requires holds { Holds old.now root self.old }
         requires reached { Reaches old.now root memory }
         requires sorted { HasSort old.now memory sort.Memory }
         requires passed { memory < length self.old.places.items }
         requires address { HasSort self.old.graph address sort.Word }
-        ensures step { IfOk result (IsStep old.now self.new memory address) }
+        ensures step { IfOk result (IsReadState old.now self.new memory address) }
         ensures holds { OnOk result (Holds old.now root self.new) }
         ensures address { OnOk result (HasSort self.new.graph address sort.Word) }
         ensures places { OnOk result (self.new.places.items ≡ self.old.places.items) }
@@ -193,26 +159,26 @@ impl Forwarding {
         match old.node(memory) {
             Node::Write(below, at, word) => {
                 let Some(rest) = self.reads.get(*below, address) else {
-                    return Ok(Step::Waits(*below));
+                    return Ok(ReadState::Waits(*below));
                 };
                 let at = self.place(*at);
                 let word = self.place(*word);
-                Ok(Step::Word(written(&mut self.graph, at, word, address, rest)?))
+                Ok(ReadState::Word(written(&mut self.graph, at, word, address, rest)?))
             }
             Node::Ite(control, yes, no) => {
                 let Some(if_so) = self.reads.get(*yes, address) else {
-                    return Ok(Step::Waits(*yes));
+                    return Ok(ReadState::Waits(*yes));
                 };
                 let Some(if_not) = self.reads.get(*no, address) else {
-                    return Ok(Step::Waits(*no));
+                    return Ok(ReadState::Waits(*no));
                 };
                 let control = self.place(*control);
-                Ok(Step::Word(self.graph.mk_ite(control, if_so, if_not)?))
+                Ok(ReadState::Word(self.graph.mk_ite(control, if_so, if_not)?))
             }
             Node::Init(entry) => {
-                Ok(Step::Word(self.graph.mk_app(Sym::Entry(*entry), &[address])?))
+                Ok(ReadState::Word(self.graph.mk_app(Sym::Entry(*entry), &[address])?))
             }
-            _ => Ok(Step::Word(address)),
+            _ => Ok(ReadState::Word(address)),
         }
     }
 }

@@ -4,7 +4,8 @@
 ghost use Rattle.std.specs.Prelude.{◌≡◌, ℕ, IfOk};
 ghost use Rattle.bd_model.specs.declared.design.Sort.TheVariants as sort;
 ghost use Rattle.bd_terms.specs.Graph.{HasSort, IsGraph};
-ghost use Rattle.bd_memory.specs.Forward.{AppliesReached, DenotesSame, HasNoMemory};
+ghost use Rattle.bd_memory.specs.Forward.{HasNoMemory};
+ghost use Rattle.bd_walk.specs.Carried.{AppliesReached, DenotesSame};
 ghost use Rattle.bd_memory.specs.inner.Forwarding.{MarksReached};
 
 use crate::forwarding::Forwarding;

@@ -11,3 +11,4 @@ pub mod Gathering
 pub mod Firsts
 pub mod Cycles
 pub mod Forms
+pub mod Widening

@@ -1,17 +1,16 @@
 -- The map of atoms to the variables of their rows.
-use Rattle.std.proofs.Common.{◌≡◌, ℕ, ◌+◌, ◌<◌, ◌≤◌, Bool, true, false, cond, eqb, List, [], ◌∷◌, ◌++◌, Contains, Option, None, Some, refl, ap, sym, ◌∙◌, subst, inl, inr, arith}
+use Rattle.std.proofs.Common.{◌≡◌, ℕ, Bool, true, false, cond, List, [], ◌∷◌, ◌++◌, Contains, Option, None, Some, refl, ap, sym, ◌∙◌, subst, inl, inr}
 use Rattle.std.specs.Prelude.{if◌then◌else◌, SomeIff}
 use Rattle.std.specs.Map.{lookup}
-use Rattle.std.proofs.lemmas.Bool.{eq-eqb, false≢true, ne_eqb}
-use Rattle.std.proofs.lemmas.List.Elements.{All-push, All-weaker, All-contains, All-contains_itself, Contains-append_left, Contains-push, Contains-push_cases}
+use Rattle.std.proofs.lemmas.Bool.{false≢true}
+use Rattle.std.proofs.lemmas.List.Elements.{Contains-append_left, Contains-push, Contains-push_cases}
 use Rattle.std.proofs.lemmas.Option.{none-some, same_Some}
 use Rattle.bd_prop.specs.declared.atom.Atom.{Atom}
 use Rattle.bd_prop.specs.Values.{is_atom}
 use Rattle.bd_prop.proofs.Same.{atom_eq, atom_eq-refl, atom_same}
 use Rattle.bd_prop.proofs.Values.{atom_eq-is}
 use Rattle.bd_tseitin.specs.declared.row.AtomVar.{AtomVar}
-use Rattle.bd_tseitin.specs.Rows.{Agree, AreRows, HasAtom}
-use Rattle.bd_verify.specs.declared.numbers.Numbers.{Numbers}
+use Rattle.bd_tseitin.specs.Rows.{HasAtom}
 use Rattle.bd_verify.specs.inner.Numbers.{Finds}
 
 pub lookup-atom : {X : Type 0} → (es : List (Atom × X)) (q : Atom) → lookup (atom_eq q) es ≡ lookup (is_atom q) es

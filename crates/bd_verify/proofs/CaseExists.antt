@@ -4,10 +4,10 @@ use Rattle.std.proofs.Math.Seq.{take-length}
 use Rattle.std.proofs.lemmas.Option.{slice_get-get_or}
 use Rattle.bd_model.specs.DesignView.{DesignView}
 use Rattle.bd_model.specs.Fits.{Fits}
-use Rattle.bd_model.specs.Lawful.{IsLawful}
 use Rattle.bd_model.specs.declared.case.Case.{Case}
 use Rattle.bd_model.specs.declared.table.Scalar.{Scalar}
 use Rattle.bd_model.specs.declared.table.Scalar.TheVariants as scalar
+use Rattle.bd_symbolic.specs.Widened.{HasLawfulSymbols}
 use Rattle.bd_terms.specs.declared.node.Node.{Node}
 use Rattle.bd_terms.specs.declared.node.Node.TheVariants.{True}
 use Rattle.bd_terms.specs.Denotation.{World}
@@ -57,7 +57,7 @@ pub record HasCase (d : DesignView) (nodes : List Node) (syms : List FlatSym) (o
   pub lifted : IsLifted nodes syms order atoms case
 
 module _ (d : DesignView) (nodes : List Node) (root : ℕ) (syms : List FlatSym) (order : Order) (atoms : List (Atom × Bool)) where
-  pub case-exists : IsLawful d → IsGraph nodes → AreKnown d nodes syms → IsFlat nodes root syms → IsOrder order → MeetsTriangles order (value_at (edge_truths atoms order.edges))
+  pub case-exists : HasLawfulSymbols d → IsGraph nodes → AreKnown d nodes syms → IsFlat nodes root syms → IsOrder order → MeetsTriangles order (value_at (edge_truths atoms order.edges))
       → TellsApart d syms order (value_at (edge_truths atoms order.edges)) → HasCase d nodes syms order atoms
   case-exists lawful g known flat is meets apart =
       let c : HasClasses order (value_at (edge_truths atoms order.edges)) = classes-exist order is (value_at (edge_truths atoms order.edges)) meets in

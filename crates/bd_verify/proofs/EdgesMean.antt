@@ -1,12 +1,10 @@
 -- What a formula with its edges' clauses means.
-use Rattle.std.proofs.Common.{◌≡◌, ◌≢◌, ◌↔◌, ◌⊎◌, ℕ, ◌+◌, ◌<◌, ◌≤◌, Bool, true, false, not, ◌&&◌, ◌||◌, cond, eqb, List, [], ◌∷◌, ◌++◌, All, Contains, length, get_or, map, refl, ap, sym, ◌∙◌, inl, inr, ⊎_elim, subst, arith}
-use Rattle.std.specs.Prelude.{slice_index}
+use Rattle.std.proofs.Common.{◌≡◌, ◌↔◌, ℕ, ◌<◌, ◌≤◌, Bool, true, false, not, ◌&&◌, ◌||◌, cond, eqb, List, [], ◌∷◌, ◌++◌, All, Contains, length, get_or, map, refl, ap, sym, ◌∙◌, inl, inr, ⊎_elim, subst, arith}
 use Rattle.std.proofs.lemmas.Bool.{and_from, and_parts, eq-eqb, eqb-true, ne_eqb, not-true, not_from_false}
-use Rattle.std.proofs.lemmas.List.{get_or-map, length-map}
+use Rattle.std.proofs.lemmas.List.{get_or-map}
 use Rattle.std.proofs.lemmas.List.Elements.{All-append, All-contains, All-contains_itself, All-cons, All-from_get_or, All-head, All-nil, All-tail, All-weaker, Contains-append_cases, Contains-append_right, Contains-get_or, Contains-push_cases}
 use Rattle.std.proofs.lemmas.List.Folds.{list_all-append}
-use Rattle.bd_cnf.specs.Literal.{Literal}
-use Rattle.bd_cnf.specs.Clause.{IsWithin, Satisfies, clause_value, clauses_value}
+use Rattle.bd_cnf.specs.Clause.{Satisfies, clause_value, clauses_value}
 use Rattle.bd_cnf.specs.Problem.{AreWithin, Problem}
 use Rattle.bd_prop.specs.declared.atom.Atom.{Atom}
 use Rattle.bd_transitive.specs.declared.graph.Edge.{Edge}
@@ -15,13 +13,13 @@ use Rattle.bd_transitive.specs.Orders.{IsOrder}
 use Rattle.bd_transitive.specs.Triangle.{MeetsTriangles, edge_value as number_value, value_at}
 use Rattle.bd_transitive.proofs.Ends.{no_edge}
 use Rattle.bd_transitive.proofs.Meeting.{meets_alike}
-use Rattle.bd_transitive.proofs.TriangleClauses.{clauses_meet, clauses_within}
+use Rattle.bd_transitive.proofs.TriangleClauses.{clauses_meet}
 use Rattle.bd_tseitin.specs.declared.row.AtomVar.{AtomVar}
 use Rattle.bd_tseitin.specs.Rows.{Agree, AreRows}
 use Rattle.bd_tseitin.proofs.Further.{clauses_value-same}
-use Rattle.bd_verify.specs.Kept.{AddsEdges, AddsRows, AreVariables, IsFurtherRow, denial, edge_row}
+use Rattle.bd_verify.specs.Kept.{AddsEdges, AreVariables, IsFurtherRow, denial, edge_row}
 use Rattle.bd_verify.specs.inner.Edges.{AreFalse, MeansEdges, edge_value, edge_values}
-use Rattle.bd_verify.proofs.AddedRows.{AddsRows-keeps, AreVariables-all, one-row}
+use Rattle.bd_verify.proofs.AddedRows.{AddsRows-keeps, one-row}
 
 or-false : (b : Bool) → (b || false) ≡ b
 or-false true = refl

@@ -1,5 +1,5 @@
 -- The variables of a formula with its edges' clauses.
-use Rattle.std.proofs.Common.{◌≡◌, ℕ, ◌+◌, ◌<◌, ◌≤◌, ◌++◌, false, List, [], ◌∷◌, All, map, sym, subst, arith}
+use Rattle.std.proofs.Common.{ℕ, ◌≤◌, ◌++◌, false, List, [], ◌∷◌, All, map, arith}
 use Rattle.std.proofs.lemmas.List.Elements.{All-append, All-cons, All-head, All-nil, All-tail, All-weaker}
 use Rattle.bd_cnf.specs.Literal.{Literal, literal}
 use Rattle.bd_cnf.specs.Clause.{IsWithin}

@@ -1,6 +1,6 @@
 -- What a root's flat formula decides.
 use lib.Pointwise.{pointwise}
-use Rattle.std.proofs.Common.{◌≡◌, ◌≢◌, ℕ, ◌+◌, ◌<◌, IsTrue, if◌then◌else◌, inl, inr, List, [], ◌∷◌, length, get_or, slice_get, Option, Some, Contains, refl, ap, sym, ◌∙◌, arith, nat_eq}
+use Rattle.std.proofs.Common.{◌≡◌, ◌≢◌, ℕ, ◌+◌, ◌<◌, IsTrue, if◌then◌else◌, inl, inr, List, [], ◌∷◌, length, get_or, slice_get, Option, Some, Contains, ap, sym, ◌∙◌, arith, nat_eq}
 use Rattle.std.specs.List.{AllPairs}
 use Rattle.std.proofs.lemmas.Bool.{cases_order, false≢true}
 use Rattle.std.proofs.lemmas.List.{get_or_default}
@@ -17,7 +17,8 @@ use Rattle.bd_terms.specs.Denotation.{World, applied, denoted, truth, truth_of, 
 use Rattle.bd_terms.specs.Graph.{HasSort, IsGraph, Use}
 use Rattle.bd_terms.proofs.Places.{AllByRecursion-get}
 use Rattle.bd_terms.proofs.Symbols.{uses-get}
-use Rattle.bd_memory.specs.Forward.{AppliesReached, DenotesSame}
+use Rattle.bd_walk.specs.Carried.{AppliesReached, DenotesSame}
+use Rattle.bd_walk.proofs.Composing.{AppliesReached-trans, DenotesSame-trans, HasSortsReached-none}
 use Rattle.bd_function.specs.declared.flat.FlatRow.{FlatRow}
 use Rattle.bd_function.specs.declared.flat.FlatSym.{FlatSym}
 use Rattle.bd_function.specs.Flat.{AreApplications, Flattens, HasAllApplications, IsChosen, IsFlat, KeepsFirst, ReachesNoMemory, arguments, first_value, under}
@@ -31,11 +32,11 @@ use Rattle.bd_goal.specs.Claims.{case_world}
 use Rattle.bd_goal.specs.Symbols.{IsKnown as IsKnownOf}
 use Rattle.bd_lift.specs.Lifted.{AreKnown, IsKnown}
 use Rattle.bd_lift.proofs.Denoting.{lifted-denotes}
-use Rattle.bd_model.specs.declared.case.Case.{Case}
 use Rattle.bd_verify.specs.declared.verdict.Mode.{Mode}
 use Rattle.bd_verify.specs.declared.verdict.Mode.TheVariants as mode
+use Rattle.bd_verify.specs.Decided.{IsKnownRoot}
 use Rattle.bd_verify.specs.Kept.{AreMarks, IsFlatOf}
-use Rattle.bd_verify.specs.inner.Questions.{Asks, AsksFlat, KeepsWordsApart, MarksPositive}
+use Rattle.bd_verify.specs.inner.Questions.{FollowsRoot, KeepsWordsApart, MarksPositive}
 use Rattle.bd_verify.proofs.Entries.{Contains-at, at-Contains, one-entry}
 use Rattle.bd_verify.proofs.MarkedApart.{marked-apart}
 
@@ -87,8 +88,8 @@ module _ (d : DesignView) (nodes : List Node) (root : ℕ) (syms : List FlatSym)
       pairs-apart (λ f. applied w (symbol.Function f) []) e.group pairs e.f e.g e.has_f e.has_g (constants-different edge e)
       (sym (constant-value e.f edge.from e.from) ∙ same ∙ constant-value e.g edge.to e.to)
 
-module _ (d : DesignView) (such : Case → Type 0) (old : List Node) (old_root : ℕ) (plain : List Node) (plain_root : ℕ) (nodes : List Node) (root : ℕ) (syms : List FlatSym) (marked : Option (List ℕ))
-    (old_graph : IsGraph old) (asks : Asks d such old old_root) (denotes : DenotesSame old old_root plain plain_root) (sorted : HasSort plain plain_root sort.Bool) (reached : AppliesReached old old_root plain)
+module _ (d : DesignView) (old : List Node) (old_root : ℕ) (plain : List Node) (plain_root : ℕ) (nodes : List Node) (root : ℕ) (syms : List FlatSym) (marked : Option (List ℕ))
+    (known : IsKnownRoot d old old_root) (denotes : DenotesSame old old_root plain plain_root) (sorted : HasSort plain plain_root sort.Bool) (reached : AppliesReached old old_root plain)
     (g : IsGraph plain) (none : ReachesNoMemory plain plain_root) (flattens : Flattens plain plain_root nodes root syms) (rows : AreApplications plain plain_root nodes syms) (all : HasAllApplications plain plain_root nodes syms)
     (chosen : (w : World) (choice : ℕ → Scalar) → IsChosen plain plain_root nodes syms w choice) (flat : IsFlat nodes root syms) (flat_graph : IsGraph nodes) (marks : MarksPositive plain plain_root syms marked) where
   flat-known : AreKnown d nodes syms
@@ -98,7 +99,7 @@ module _ (d : DesignView) (such : Case → Type 0) (old : List Node) (old_root :
         let u = a.reached in
         record {
           applied = a.applied;
-          known = known-use d asks.count a.applied (asks.known.known a.applied (reached.reached a.applied (uses-get plain u.id u.node u.there a.applied u.applies)));
+          known = known-use d known.count a.applied (known.known.known a.applied (reached.reached a.applied (uses-get plain u.id u.node u.there a.applied u.applies)));
           same = a.same;
           arity = a.arity;
           variable = a.variable;
@@ -119,19 +120,16 @@ module _ (d : DesignView) (such : Case → Type 0) (old : List Node) (old_root :
         λ h. k.false_ (sym (ap truth_of (flattens.means k.new c.values c.keeps)) ∙ h),
       )
 
-  pub asks-flat : AsksFlat d such nodes root syms marked
-  asks-flat = record {
+  pub follows-root : FollowsRoot d old old_root nodes root syms marked
+  follows-root = record {
     graph = flat_graph;
     known = flat-known;
-    from_case = λ c fits is.
-        let found = (asks.decides old_graph).from_case c fits is in
-        let w : World = case_world c found.0 in
-        flat-values w found.1 (λ h. found.2 (sym (ap truth_of (denotes.same w)) ∙ h));
-    to_case = λ order atoms c fits l fails.
+    from_world = λ w apart fails. flat-values w apart (λ h. fails (sym (ap truth_of (denotes.same w)) ∙ h));
+    to_case = λ order atoms c l fails h.
         let w : World = case_world c l.addresses in
         let same : denoted w plain plain_root ≡ denoted (under l.values) nodes root =
         lifted-denotes plain plain_root nodes root syms order atoms c g sorted.inside flattens all flat l in
-        (asks.decides old_graph).to_case c l.addresses w fits (record { alike = λ u r args. refl }) (λ h. fails (sym (ap truth_of same) ∙ ap truth_of (denotes.same w) ∙ h));
+        fails (sym (ap truth_of same) ∙ ap truth_of (denotes.same w) ∙ h);
   }
 
 marks-positive : (m : Mode) (old : List Node) (old_root : ℕ) (syms : List FlatSym) (marked : Option (List ℕ)) → AreMarks m old old_root syms marked → MarksPositive old old_root syms marked
@@ -140,11 +138,15 @@ marks-positive mode.Plain old old_root syms marked none = record {
 }
 marks-positive mode.Diverse old old_root syms marked all = record { each = λ x is. (all x).0 is }
 
--- a flat formula decides what its root does
-pub flat-decides : (d : DesignView) (such : Case → Type 0) (is_root : List Node → ℕ → Type 0) (m : Mode) (nodes : List Node) (root : ℕ) (syms : List FlatSym) (marked : Option (List ℕ))
-    → ((terms : List Node) (term : ℕ) → is_root terms term → Asks d such terms term) → IsFlatOf is_root m nodes root syms marked → AsksFlat d such nodes root syms marked
-flat-decides d such is_root m nodes root syms marked asks f =
+-- a flat formula follows its root
+pub flat-follows : (d : DesignView) (is_root : List Node → ℕ → Type 0) (m : Mode) (nodes : List Node) (root : ℕ) (syms : List FlatSym) (marked : Option (List ℕ))
+    → (f : IsFlatOf is_root m nodes root syms marked) → IsKnownRoot d f.terms f.term → FollowsRoot d f.terms f.term nodes root syms marked
+flat-follows d is_root m nodes root syms marked f known =
     let p = f.memories in
+    let o = f.order in
     let k = f.functions in
-    asks-flat d such f.terms f.term f.plain f.plain_root nodes root syms marked f.graph (asks f.terms f.term f.asked) p.denotes p.sorted p.reached p.graph
-    (ReachesNoMemory-all f.plain p.graph f.plain_root p.sorted.inside p.none.no_memory) k.flattens k.rows k.all_rows k.chosen k.flat k.graph (marks-positive m f.plain f.plain_root syms marked f.marks)
+    follows-root d f.terms f.term f.plain f.plain_root nodes root syms marked known
+    (DenotesSame-trans f.terms f.term f.built f.built_root f.plain f.plain_root p.denotes o.denotes) o.sorted
+    (AppliesReached-trans f.terms f.term f.built f.built_root f.plain p.reached o.reached) o.graph
+    (ReachesNoMemory-all f.plain o.graph f.plain_root o.sorted.inside
+    (HasSortsReached-none f.built p.graph f.built_root f.plain p.sorted.inside o.sorts sort.Memory p.none.no_memory)) k.flattens k.rows k.all_rows k.chosen k.flat k.graph (marks-positive m f.plain f.plain_root syms marked f.marks)

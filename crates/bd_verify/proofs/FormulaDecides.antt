@@ -6,12 +6,13 @@ use Rattle.std.proofs.lemmas.List.{get_or-map, take-append-drop}
 use Rattle.std.proofs.lemmas.List.Elements.{All-cons, All-nil, Contains-append_left}
 use Rattle.std.proofs.lemmas.Option.{same_Some}
 use Rattle.bd_model.specs.DesignView.{DesignView}
-use Rattle.bd_model.specs.Lawful.{IsConstant as IsConstantOf, IsLawful, IsLawfulGroup}
+use Rattle.bd_model.specs.Lawful.{IsConstant as IsConstantOf, IsLawfulGroup}
 use Rattle.bd_model.specs.Fits.{result_sort}
 use Rattle.bd_model.specs.Value.{scalar_word}
 use Rattle.bd_model.specs.declared.design.Sort.TheVariants as sort
 use Rattle.bd_model.specs.declared.design.Symbol.{Symbol}
 use Rattle.bd_model.specs.declared.table.Scalar.{Scalar}
+use Rattle.bd_symbolic.specs.Widened.{HasLawfulSymbols}
 use Rattle.bd_terms.specs.declared.node.Node.{Node}
 use Rattle.bd_terms.specs.declared.node.Sym.TheVariants as symbol
 use Rattle.bd_terms.specs.Denotation.{truth}
@@ -106,7 +107,7 @@ none-long : {X : Type 0} (xs : List X) → length xs ≡ 0 → xs ≡ []
 none-long [] e = refl
 none-long (x ∷ xs) e = absurd (omega (arith, e))
 
-module _ (d : DesignView) (nodes : List Node) (root : ℕ) (syms : List FlatSym) (marked : Option (List ℕ)) (lawful : IsLawful d) (known : AreKnown d nodes syms) (flat : IsFlat nodes root syms) where
+module _ (d : DesignView) (nodes : List Node) (root : ℕ) (syms : List FlatSym) (marked : Option (List ℕ)) (lawful : HasLawfulSymbols d) (known : AreKnown d nodes syms) (flat : IsFlat nodes root syms) where
   -- the first application of a constant has its vertex, unless it is marked
   constant-of : (f : ℕ) (s : FlatSym) (q : FlatRow) → IsConstantOf d f → Contains syms s → s.sym ≡ symbol.Function f → slice_get s.rows 0 ≡ Some q → has_mark marked q.var ≡ false → IsConstant nodes syms marked f q.var
   constant-of f s q c p e first unmarked =
@@ -257,7 +258,7 @@ module _ (prop : List PropNode) (prop_root : ℕ) (first : Problem) (rows : List
 
 -- the formula of a flat one decides what the flat one does
 pub formula-decides : (d : DesignView) (nodes : List Node) (root : ℕ) (syms : List FlatSym) (marked : Option (List ℕ)) (order : Order) (formula : Problem) (rows : List AtomVar)
-    → IsLawful d → AreKnown d nodes syms → IsFlat nodes root syms → IsFormulaOf d nodes root syms marked order formula rows → Formulates d nodes root syms marked order formula rows
+    → HasLawfulSymbols d → AreKnown d nodes syms → IsFlat nodes root syms → IsFormulaOf d nodes root syms marked order formula rows → Formulates d nodes root syms marked order formula rows
 formula-decides d nodes root syms marked order formula rows lawful known flat f =
     let e = f.encoded in
     let o = f.ordered in

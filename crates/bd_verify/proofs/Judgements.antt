@@ -21,7 +21,7 @@ use Rattle.bd_verify.specs.declared.verdict.Verdict.{Verdict}
 use Rattle.bd_verify.specs.declared.verdict.Verdict.TheVariants.{Correct, Wrong, Void, Undecided}
 use Rattle.bd_verify.specs.declared.verdict.Work.{Work}
 use Rattle.bd_verify.specs.Verdict.{IsAsked, Says}
-use Rattle.bd_verify.specs.inner.Decided.{IsFound}
+use Rattle.bd_verify.specs.inner.Answered.{IsFound}
 
 -- where no case breaks a condition the design is right
 pub right-unless : (d : DesignView) → IsLawful d → ((c : Case) → Fits d c → IsAsked question.Breaks d c → ⊥) → IsRight d

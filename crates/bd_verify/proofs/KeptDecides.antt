@@ -1,17 +1,20 @@
 -- What the kept formula decides, and a solver's answer to it.
-use Rattle.std.proofs.Common.{◌≡◌, ◌↔◌, ℕ, zero, suc, Bool, true, false, cond, IsTrue, List, [], ◌∷◌, All, Contains, get_or, slice_get, Option, Some, unwrap_or, refl, ap, sym, ◌∙◌, subst, arith, eqb}
+use Rattle.std.proofs.Common.{◌≡◌, ◌↔◌, ℕ, zero, suc, Bool, true, false, cond, IsTrue, List, [], ◌∷◌, All, Contains, get_or, slice_get, Option, Some, unwrap_or, refl, ap, sym, ◌∙◌, arith, eqb}
 use Rattle.std.specs.List.{list_any}
 use Rattle.std.specs.Map.{lookup}
 use Rattle.std.proofs.lemmas.Bool.{eq-eqb, eqb-true, false_from_ne_true, or_right, or_left, true≢false}
 use Rattle.std.proofs.lemmas.List.Elements.{All-contains}
 use Rattle.std.proofs.lemmas.Option.{same_Some, slice_get-get_or}
 use Rattle.bd_model.specs.DesignView.{DesignView}
-use Rattle.bd_model.specs.Fits.{Fits}
-use Rattle.bd_model.specs.Lawful.{IsLawful}
 use Rattle.bd_model.specs.Value.{scalar_truth, scalar_word}
 use Rattle.bd_model.specs.declared.case.Case.{Case}
 use Rattle.bd_model.specs.declared.table.Scalar.{Scalar}
+use Rattle.bd_symbolic.specs.Widened.{HasLawfulSymbols}
+use Rattle.bd_symbolic.proofs.Widening.{lawful-symbols}
 use Rattle.bd_terms.specs.declared.node.Node.{Node}
+use Rattle.bd_terms.specs.Graph.{IsGraph}
+use Rattle.bd_goal.specs.Claims.{Decides, case_world}
+use Rattle.bd_goal.proofs.Deciding.{case_world-apart}
 use Rattle.bd_function.specs.declared.flat.FlatSym.{FlatSym}
 use Rattle.bd_function.specs.Flat.{IsFlat}
 use Rattle.bd_prop.specs.declared.atom.Atom.{Atom}
@@ -37,20 +40,16 @@ use Rattle.bd_tseitin.specs.Rows.{Agree, AreRows}
 use Rattle.bd_equality.specs.Edges.{IsEdge, IsVertex}
 use Rattle.bd_equality.specs.Encoding.{AgreesWith, KeepsMarkedApart}
 use Rattle.bd_lift.specs.Decoded.{AreDecoded, decoded_word, edge_truths}
-use Rattle.bd_lift.specs.Lifted.{AreKnown, IsLifted}
+use Rattle.bd_lift.specs.Lifted.{IsLifted}
 use Rattle.bd_lift.proofs.Deciding.{words-alone, words-edge}
-use Rattle.bd_verify.specs.declared.verdict.Question.{Question}
-use Rattle.bd_cdcl.specs.declared.solver.Found.{Found}
-use Rattle.bd_verify.specs.declared.verdict.Work.{Work}
 use Rattle.bd_verify.specs.declared.verdict.Mode.{Mode}
-use Rattle.bd_verify.specs.Kept.{IsKept, IsKeptOf, IsRootOf}
+use Rattle.bd_verify.specs.Kept.{IsKeptOf, IsRootOf}
 use Rattle.bd_verify.specs.Laws.{KeptDecides, PositiveHaveNoEdge, SpentIsBounded}
-use Rattle.bd_verify.specs.Verdict.{IsAsked, IsWorkOf, Keeps}
-use Rattle.bd_verify.specs.inner.Questions.{Asks, AsksFlat, Formulates, IsAdmitted}
-use Rattle.bd_verify.specs.inner.Reduced.{HasFlatOf, HasFormulaOf}
-use Rattle.bd_verify.specs.declared.reduction.Reduction.{Reduction}
-use Rattle.bd_verify.proofs.RootDecides.{root-decides}
-use Rattle.bd_verify.proofs.FlatDecides.{flat-decides}
+use Rattle.bd_verify.specs.Decided.{IsFalseIn, IsKnownRoot, KeepsRoot}
+use Rattle.bd_verify.specs.Verdict.{IsAsked, Keeps}
+use Rattle.bd_verify.specs.inner.Questions.{DecidesRoot, FollowsRoot, Formulates, IsAdmitted}
+use Rattle.bd_verify.proofs.RootDecides.{root-decides, root-known}
+use Rattle.bd_verify.proofs.FlatDecides.{flat-follows}
 use Rattle.bd_verify.proofs.FormulaDecides.{StandsIn, end-vertex, formula-decides, stands-in}
 use Rattle.bd_verify.proofs.CaseExists.{HasCase, case-exists}
 
@@ -122,78 +121,72 @@ decoded-apart nodes marked order atoms v is ends d = record {
       (sym (ap scalar_word (d.by.words x p)) ∙ same ∙ ap scalar_word (d.by.words y q));
 }
 
-module _ (d : DesignView) (such : Case → Type 0) (nodes : List Node) (root : ℕ) (syms : List FlatSym) (marked : Option (List ℕ)) (order : Order) (formula : Problem) (rows : List AtomVar)
-    (asks : AsksFlat d such nodes root syms marked) (f : Formulates d nodes root syms marked order formula rows) where
-  -- a case that is lifted from admitted values is such
-  pub lifted-asked : (atoms : List (Atom × Bool)) (c : Case) → Fits d c → IsLifted nodes syms order atoms c → IsAdmitted d nodes root syms marked order f.given (truth_of atoms) → such c
-  lifted-asked atoms c fits l admitted =
-      asks.to_case order atoms c fits l
-      (admitted.refutes l.values (decoded-apart nodes marked order atoms l.values f.is_order f.ends l.decoded)
-      (decoded-agree nodes marked order atoms f.given l.values f.is_order f.vertices f.ordered l.decoded))
+module _ (d : DesignView) (old : List Node) (old_root : ℕ) (nodes : List Node) (root : ℕ) (syms : List FlatSym) (marked : Option (List ℕ)) (order : Order) (formula : Problem) (rows : List AtomVar)
+    (follows : FollowsRoot d old old_root nodes root syms marked) (f : Formulates d nodes root syms marked order formula rows) where
+  -- in the world of a case that is lifted from admitted values the root is false
+  pub lifted-fails : (atoms : List (Atom × Bool)) (c : Case) → IsLifted nodes syms order atoms c → IsAdmitted d nodes root syms marked order f.given (truth_of atoms) → IsFalseIn old old_root c
+  lifted-fails atoms c l admitted = (
+    l.addresses,
+    follows.to_case order atoms c l
+        (admitted.refutes l.values (decoded-apart nodes marked order atoms l.values f.is_order f.ends l.decoded)
+        (decoded-agree nodes marked order atoms f.given l.values f.is_order f.vertices f.ordered l.decoded)),
+  )
 
-  pub case-from : IsLawful d → IsFlat nodes root syms → AreRows formula.vars rows → (a : ℕ → Bool) → Satisfies a formula.clauses → (c : Case) × Fits d c × such c
-  case-from lawful flat are a sat =
-      let atoms : List (Atom × Bool) = given_values a rows in
-      let admitted = f.down a (truth_of atoms) sat (agree-given formula.vars rows are a) in
-      let h : HasCase d nodes syms order atoms = case-exists d nodes root syms order atoms lawful asks.graph asks.known flat f.is_order admitted.triangles admitted.constants in
-      (h.case, h.fits, lifted-asked atoms h.case h.fits h.lifted admitted)
-
-  pub from-case : (c : Case) → Fits d c → such c → (a : ℕ → Bool) × Satisfies a formula.clauses
-  from-case c fits is = let v = asks.from_case c fits is in f.up v.0 v.1 v.2
-
-  pub keeps : IsLawful d → IsFlat nodes root syms → AreRows formula.vars rows → Keeps d such formula
-  keeps lawful flat are = record {
-    decides = (λ s. case-from lawful flat are s.0 s.1, λ c. from-case c.0 c.1 c.2);
+  pub decides-root : HasLawfulSymbols d → IsFlat nodes root syms → AreRows formula.vars rows → DecidesRoot d old old_root formula
+  decides-root lawful flat are = record {
+    to_case = λ a sat.
+        let atoms : List (Atom × Bool) = given_values a rows in
+        let admitted = f.down a (truth_of atoms) sat (agree-given formula.vars rows are a) in
+        let h : HasCase d nodes syms order atoms = case-exists d nodes root syms order atoms lawful follows.graph follows.known flat f.is_order admitted.triangles admitted.constants in
+        (h.case, h.fits, lifted-fails atoms h.case h.lifted admitted);
+    from_world = λ w apart fails. let v = follows.from_world w apart fails in f.up v.0 v.1 v.2;
   }
 
+-- the formula that is kept of a root decides where the root is false
+pub kept-decides-root : (d : DesignView) (is_root : List Node → ℕ → Type 0) (m : Mode) (formula : Problem) → HasLawfulSymbols d → (k : IsKeptOf d is_root m formula) → IsKnownRoot d k.flat.terms k.flat.term
+    → DecidesRoot d k.flat.terms k.flat.term formula
+kept-decides-root d is_root m formula lawful k known =
+    let follows = flat-follows d is_root m k.nodes k.root k.syms k.marked k.flat known in
+    let f = formula-decides d k.nodes k.root k.syms k.marked k.order formula k.rows lawful follows.known k.flat.functions.flat k.formula_is in
+    decides-root d k.flat.terms k.flat.term k.nodes k.root k.syms k.marked k.order formula k.rows follows f lawful k.flat.functions.flat k.formula_is.adds.numbered.are
+
+-- so it is satisfiable exactly where the root is false in some world that keeps the constants apart
+pub keeps-root : (d : DesignView) (nodes : List Node) (root : ℕ) (formula : Problem) → HasLawfulSymbols d → DecidesRoot d nodes root formula → KeepsRoot d nodes root formula
+keeps-root d nodes root formula lawful h = record {
+  decides = (
+    λ s. let found = h.to_case s.0 s.1 in (case_world found.0 found.2.0, case_world-apart d found.0 found.2.0 lawful found.1, found.2.1),
+    λ w. h.from_world w.0 w.1 w.2,
+  );
+}
+
+-- and exactly where some fitting case is such, if the root decides that
+pub keeps-such : (d : DesignView) (such : Case → Type 0) (nodes : List Node) (root : ℕ) (formula : Problem) → DecidesRoot d nodes root formula → Decides d such nodes root → Keeps d such formula
+keeps-such d such nodes root formula h decides = record {
+  decides = (
+    λ s.
+        let found = h.to_case s.0 s.1 in
+        (found.0, found.1, decides.to_case found.0 found.2.0 (case_world found.0 found.2.0) found.1 (record { alike = λ u r args. refl }) found.2.1),
+    λ c. let found = decides.from_case c.0 c.1 c.2 in h.from_world (case_world c.0 found.0) found.1 found.2,
+  );
+}
+
 -- the formula that is kept of a root that decides whether some case is such decides it too
-pub kept-decides-of : (d : DesignView) (such : Case → Type 0) (is_root : List Node → ℕ → Type 0) (m : Mode) (formula : Problem) → IsLawful d
-    → ((terms : List Node) (term : ℕ) → is_root terms term → Asks d such terms term) → IsKeptOf d is_root m formula → Keeps d such formula
-kept-decides-of d such is_root m formula lawful asks k =
-    let flat = flat-decides d such is_root m k.nodes k.root k.syms k.marked asks k.flat in
-    let f = formula-decides d k.nodes k.root k.syms k.marked k.order formula k.rows lawful flat.known k.flat.functions.flat k.formula_is in
-    keeps d such k.nodes k.root k.syms k.marked k.order formula k.rows flat f lawful k.flat.functions.flat k.formula_is.adds.numbered.are
+pub kept-decides-of : (d : DesignView) (such : Case → Type 0) (is_root : List Node → ℕ → Type 0) (m : Mode) (formula : Problem) → HasLawfulSymbols d
+    → ((terms : List Node) (term : ℕ) → is_root terms term → IsKnownRoot d terms term) → ((terms : List Node) (term : ℕ) → is_root terms term → IsGraph terms → Decides d such terms term)
+    → IsKeptOf d is_root m formula → Keeps d such formula
+kept-decides-of d such is_root m formula lawful known decides k =
+    let f = k.flat in
+    keeps-such d such f.terms f.term formula (kept-decides-root d is_root m formula lawful k (known f.terms f.term f.asked)) (decides f.terms f.term f.asked f.graph)
 
 pub kept-decides : KeptDecides
-kept-decides d asked m formula lawful k = kept-decides-of d (IsAsked asked d) (IsRootOf d asked) m formula lawful (root-decides d lawful asked) k
+kept-decides d asked m formula lawful k =
+    kept-decides-of d (IsAsked asked d) (IsRootOf d asked) m formula (lawful-symbols d lawful) (root-known d asked) (root-decides d lawful asked) k
 
 -- in diverse mode no edge has an end whose symbol is positive
 pub positive-have-no-edge : PositiveHaveNoEdge
 positive-have-no-edge d asked nodes root syms marked order formula rows flat f x end is =
     let vertex : IsVertex nodes marked x = end-vertex nodes marked f.edges f.encoded.vertices x ((f.ordered.vertices x).0 (f.ordered.is_order.ends x end)) in
     true≢false (sym ((flat.marks x).1 is) ∙ vertex.unmarked)
-
--- a question's formula, as it is reduced, is the kept one
-pub kept-of : (d : DesignView) (asked : Question) (m : Mode) (r : Reduction) → HasFlatOf d asked m r → HasFormulaOf d r → IsKept d asked m r.formula.cnf
-kept-of d asked m r flat formula = record {
-  nodes = r.flat.graph;
-  root = r.flat.root;
-  syms = r.flat.syms;
-  marked = r.marked;
-  flat = flat;
-  order = r.order;
-  rows = r.formula.atoms;
-  formula_is = formula;
-}
-
-pub known-of : (d : DesignView) (asked : Question) (m : Mode) (r : Reduction) → IsLawful d → HasFlatOf d asked m r → AreKnown d r.flat.graph r.flat.syms
-known-of d asked m r lawful flat = (flat-decides d (IsAsked asked d) (IsRootOf d asked) m r.flat.graph r.flat.root r.flat.syms r.marked (root-decides d lawful asked) flat).known
-
--- where it is refuted no case is such
-pub kept-refuted : (d : DesignView) → IsLawful d → (asked : Question) (m : Mode) (budget : ℕ) (p : Problem) (log : List Line) → IsKept d asked m p → IsLaw p budget found.Refuted log
-    → (c : Case) → Fits d c → IsAsked asked d c → ⊥
-kept-refuted d lawful asked m budget p log kept law c fits is =
-    let sat = (kept-decides d asked m p lawful kept).decides.1 (c, fits, is) in
-    refuted p budget log law sat.0 sat.1
-
--- the work of a question, where it has the formula and the log
-pub work-of : (d : DesignView) (lawful : IsLawful d) (asked : Question) (m : Mode) (budget : ℕ) (answer : Found) (p : Problem) (log : List Line) (w : Work) → w.cnf ≡ p → w.log ≡ log → IsKept d asked m p
-    → IsLaw p budget answer log → IsWorkOf d asked m budget answer w
-work-of d lawful asked m budget answer p log w cnf is kept law = record {
-  kept = subst (IsKept d asked m) (sym cnf) kept;
-  keeps = subst (Keeps d (IsAsked asked d)) (sym cnf) (kept-decides d asked m p lawful kept);
-  law = subst (λ l. IsLaw w.cnf budget answer l) (sym is) (subst (λ q. IsLaw q budget answer log) (sym cnf) law);
-}
 
 pub spent-is-bounded : SpentIsBounded
 spent-is-bounded d m budget asked work h = spent_is_short work.cnf budget work.log h.law

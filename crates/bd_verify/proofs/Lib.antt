@@ -10,6 +10,7 @@ pub mod MarkedApart
 pub mod FlatDecides
 pub mod FormulaDecides
 pub mod KeptDecides
+pub mod RootAnswers
 pub mod Judgements
 pub mod WordsAgree
 pub mod Results

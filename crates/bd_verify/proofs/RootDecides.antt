@@ -7,8 +7,9 @@ use Rattle.bd_model.specs.Lawful.{IsLawful}
 use Rattle.bd_model.specs.Conditions.{MeetsInvariant}
 use Rattle.bd_model.specs.declared.design.Sort.TheVariants as sort
 use Rattle.bd_terms.specs.declared.node.Node.{Node}
-use Rattle.bd_terms.specs.Graph.{HasSort}
-use Rattle.bd_goal.specs.Claims.{Claims}
+use Rattle.bd_symbolic.proofs.Widening.{lawful-symbols}
+use Rattle.bd_terms.specs.Graph.{HasSort, IsGraph}
+use Rattle.bd_goal.specs.Claims.{Claims, Decides}
 use Rattle.bd_goal.specs.Formula.{Corresponds, IsOutside, address_count}
 use Rattle.bd_goal.specs.Laws.{BreaksSome}
 use Rattle.bd_goal.specs.Symbols.{AppliesKnown, ReachesKnown}
@@ -16,9 +17,9 @@ use Rattle.bd_goal.proofs.Deciding.{breaks_from, breaks_to, decides, meets_from,
 use Rattle.bd_goal.proofs.Known.{AppliesKnown-empty}
 use Rattle.bd_verify.specs.declared.verdict.Question.{Question}
 use Rattle.bd_verify.specs.declared.verdict.Question.TheVariants as question
-use Rattle.bd_verify.specs.Kept.{IsRootOf}
+use Rattle.bd_verify.specs.Decided.{IsKnownRoot}
+use Rattle.bd_verify.specs.Kept.{IsRootOf, addresses_of}
 use Rattle.bd_verify.specs.Verdict.{IsAsked}
-use Rattle.bd_verify.specs.inner.Questions.{Asks}
 
 -- a graph of no term applies what is known
 pub known-empty : (d : DesignView) (n : ℕ) (old : List Node) → old ≡ [] → AppliesKnown d n old
@@ -41,16 +42,13 @@ root-meets d asked nodes old empty e (Ok root) sorted claims known = subst (λ q
 })
 root-meets d asked nodes old empty e (Err error) sorted claims known = tt
 
-pub root-decides : (d : DesignView) → IsLawful d → (asked : Question) (nodes : List Node) (root : ℕ) → IsRootOf d asked nodes root → Asks d (IsAsked asked d) nodes root
-root-decides d lawful question.Breaks nodes root r = record {
-  sorted = r.sorted;
-  decides = λ g. decides d (Corresponds d (flushed d)) (BreaksSome d (flushed d)) lawful (breaks_from d (flushed d)) (breaks_to d (flushed d)) (address_count d) nodes root g r.sorted r.known r.claims;
-  count = address_count d;
-  known = r.known;
-}
-root-decides d lawful question.Meets nodes root r = record {
-  sorted = r.sorted;
-  decides = λ g. decides d (IsOutside d) (λ c. MeetsInvariant d c.interp c.state) lawful (meets_from d) (meets_to d) 0 nodes root g r.sorted r.known r.claims;
-  count = 0;
-  known = r.known;
-}
+-- a question's root reaches what is known
+pub root-known : (d : DesignView) (asked : Question) (nodes : List Node) (root : ℕ) → IsRootOf d asked nodes root → IsKnownRoot d nodes root
+root-known d asked nodes root r = record { sorted = r.sorted; count = addresses_of asked d; known = r.known }
+
+-- and decides it
+pub root-decides : (d : DesignView) → IsLawful d → (asked : Question) (nodes : List Node) (root : ℕ) → IsRootOf d asked nodes root → IsGraph nodes → Decides d (IsAsked asked d) nodes root
+root-decides d lawful question.Breaks nodes root r g =
+    decides d (Corresponds d (flushed d)) (BreaksSome d (flushed d)) (lawful-symbols d lawful) (breaks_from d (flushed d)) (breaks_to d (flushed d)) (address_count d) nodes root g r.sorted r.known r.claims
+root-decides d lawful question.Meets nodes root r g =
+    decides d (IsOutside d) (λ c. MeetsInvariant d c.interp c.state) (lawful-symbols d lawful) (meets_from d) (meets_to d) 0 nodes root g r.sorted r.known r.claims

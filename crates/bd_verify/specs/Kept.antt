@@ -14,7 +14,9 @@ use Rattle.bd_terms.specs.Graph.{HasSort, IsGraph}
 use Rattle.bd_goal.specs.Claims.{Claims}
 use Rattle.bd_goal.specs.Formula.{Corresponds, IsOutside, address_count}
 use Rattle.bd_goal.specs.Symbols.{ReachesKnown}
-use Rattle.bd_memory.specs.Forward.{AppliesReached, DenotesSame, HasNoMemory}
+use Rattle.bd_memory.specs.Forward.{HasNoMemory}
+use Rattle.bd_walk.specs.Carried.{AppliesReached, DenotesSame, HasSortsReached}
+use Rattle.bd_walk.specs.Ordered.{IsInWalkOrder}
 use Rattle.bd_function.specs.declared.flat.FlatSym.{FlatSym}
 use Rattle.bd_function.specs.Flat.{AreApplications, Flattens, HasAllApplications, IsChosen, IsFlat}
 use Rattle.bd_diverse.specs.Marked.{HasVariable}
@@ -64,6 +66,16 @@ pub record RemovesMemories (old : List Node) (old_root : ℕ) (nodes : List Node
   pub denotes : DenotesSame old old_root nodes root
   pub reached : AppliesReached old old_root nodes
 
+-- the terms stand in the order in which a depth-first walk from the old root finishes them, so that in whichever order
+-- they were made, they come to the same formula; the new root denotes what the old one does
+pub record OrdersTerms (old : List Node) (old_root : ℕ) (nodes : List Node) (root : ℕ) : Type 0 where
+  pub graph : IsGraph nodes
+  pub sorted : HasSort nodes root sort.Bool
+  pub order : IsInWalkOrder old old_root nodes root
+  pub denotes : DenotesSame old old_root nodes root
+  pub sorts : HasSortsReached old old_root nodes
+  pub reached : AppliesReached old old_root nodes
+
 -- the flat root has a variable for each application that the old one reaches
 pub record RemovesFunctions (old : List Node) (old_root : ℕ) (nodes : List Node) (root : ℕ) (syms : List FlatSym) : Type 0 where
   pub graph : IsGraph nodes
@@ -93,9 +105,12 @@ pub record IsFlatOf (is_root : List Node → ℕ → Type 0) (m : Mode) (nodes :
   pub term : ℕ
   pub graph : IsGraph terms
   pub asked : is_root terms term
+  pub built : List Node
+  pub built_root : ℕ
+  pub memories : RemovesMemories terms term built built_root
   pub plain : List Node
   pub plain_root : ℕ
-  pub memories : RemovesMemories terms term plain plain_root
+  pub order : OrdersTerms built built_root plain plain_root
   pub functions : RemovesFunctions plain plain_root nodes root syms
   pub marks : AreMarks m plain plain_root syms marked
 

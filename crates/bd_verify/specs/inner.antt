@@ -1,5 +1,5 @@
 pub mod Numbers
 pub mod Edges
 pub mod Questions
-pub mod Decided
+pub mod Answered
 pub mod Reduced

@@ -1,81 +1,120 @@
-//! What an honest solver makes of a question.
-ghost use Rattle.std.specs.Prelude.{◌≡◌, IfOk};
+//! What an honest solver makes of a root: the way from it to the formula that is kept of it, and back.
+ghost use Rattle.std.specs.Prelude.{◌≡◌, ℕ, List, IfOk, length};
 ghost use Rattle.bd_cnf.specs.Assignment.{value_of};
 ghost use Rattle.bd_cnf.specs.Clause.{Satisfies};
 ghost use Rattle.bd_lift.specs.Lifted.{AreKnown};
-ghost use Rattle.bd_model.specs.Fits.{Fits};
 ghost use Rattle.bd_model.specs.DesignView.{design_view};
-ghost use Rattle.bd_model.specs.Lawful.{IsLawful};
+ghost use Rattle.bd_symbolic.specs.Widened.{HasLawfulSymbols, widened};
+ghost use Rattle.bd_terms.specs.declared.node.Node.{Node as TheNode};
+ghost use Rattle.bd_verify.specs.Decided.{Falsifies, IsDecided, IsKnownRoot};
 ghost use Rattle.bd_verify.specs.declared.verdict.Mode.{Mode as AnyMode};
-ghost use Rattle.bd_verify.specs.declared.verdict.Question.{Question as Asked};
-ghost use Rattle.bd_verify.specs.inner.Decided.{IsDecided};
-ghost use Rattle.bd_verify.specs.Verdict.{IsAsked};
 ghost use Rattle.bd_verify.specs.inner.Reduced.{HasFlatOf, HasFormulaOf};
 
 use crate::reduction::{Reduction, reduced};
-use crate::verdict::{Mode, Question, Work};
+use crate::verdict::{Mode, Work};
 use bd_cdcl::{Found, HonestSolver};
 use bd_cnf::Assignment;
-use bd_lift::lift;
+use bd_lift::lift_trail;
 use bd_lrat::Log;
-use bd_model::{Case, Design};
+use bd_model::{Design, Trail};
+use bd_terms::{Graph, Id};
 use bd_tseitin::{Formula, inputs_of};
 use std::alloc::{AllocError, Global};
 
-/// Whether some fitting case is such as is asked.
-#[derive(Drop)]
-pub(crate) enum Decision {
-    /// None is.
-    None(Work),
-    /// This one is.
-    Some(Case, Work),
+/// Whether a root is true in every world that keeps the constants apart.
+#[derive(Debug, Drop)]
+pub enum Decided {
+    /// It is.
+    Valid(Work),
+    /// It is false in the world of this trail.
+    False(Trail, Work),
     /// The budget was spent.
     Spent(Work),
 }
 
-/// Whether some fitting case is such as is asked, by any honest solver.
-pub(crate) fn decide<S: HonestSolver>(
+/// Whether a root over the symbols of a design, with its inputs once for each cycle, is true in every world that keeps
+/// the constants apart, by any honest solver, which may add `budget` clauses.
+pub fn decide<S: HonestSolver>(
     alloc: Global,
     solver: &mut S,
     design: &Design,
+    graph: &Graph,
+    root: Id,
+    cycles: u32,
     budget: u32,
-    asked: Question,
-    mode: Mode,
-) -> Result<Decision, AllocError>
-    requires { IsLawful (design_view design.now) }
-    ensures { IfOk result (IsDecided (design_view design.now) asked mode budget) }
+) -> Result<Decided, AllocError>
+    requires lawful { HasLawfulSymbols (design_view design.now) }
+    requires known { IsKnownRoot (widened (design_view design.now) cycles) graph.now root }
+    ensures { IfOk result
+        (IsDecided (design_view design.now) cycles graph.now root Mode.Plain budget) }
 {
-    let reduction = reduced(alloc, design, asked, mode)?;
+    decide_by(
+        alloc,
+        solver,
+        design,
+        graph,
+        root,
+        cycles,
+        budget,
+        Mode::Plain,
+    )
+}
+
+/// The same in either mode.
+pub(crate) fn decide_by<S: HonestSolver>(
+    alloc: Global,
+    solver: &mut S,
+    design: &Design,
+    graph: &Graph,
+    root: Id,
+    cycles: u32,
+    budget: u32,
+    mode: Mode,
+) -> Result<Decided, AllocError>
+    requires lawful { HasLawfulSymbols (design_view design.now) }
+    requires known { IsKnownRoot (widened (design_view design.now) cycles) graph.now root }
+    ensures { IfOk result
+        (IsDecided (design_view design.now) cycles graph.now root mode budget) }
+{
+    let reduction = reduced(alloc, design, graph, root, mode)?;
     let mut log = Log::new(alloc);
     match solver.solve(&reduction.formula.cnf, budget, &mut log)? {
         Found::Model(assignment) => {
-            let case = lifted(alloc, design, &reduction, &assignment)?;
-            Ok(Decision::Some(case, work(reduction, log)))
+            let trail = lifted(alloc, design, &reduction, &assignment, cycles)?;
+            Ok(Decided::False(trail, work(reduction, log)))
         }
-        Found::Refuted => Ok(Decision::None(work(reduction, log))),
-        Found::Spent => Ok(Decision::Spent(work(reduction, log))),
+        Found::Refuted => Ok(Decided::Valid(work(reduction, log))),
+        Found::Spent => Ok(Decided::Spent(work(reduction, log))),
     }
 }
 
-/// The case that a model of the formula stands for.
+/// The trail that a model of the formula stands for.
 fn lifted(
     alloc: Global,
     design: &Design,
     reduction: &Reduction,
     model: &Assignment,
-) -> Result<Case, AllocError>
-    requires lawful { IsLawful (design_view design.now) }
-    requires known { AreKnown (design_view design.now) reduction.now.flat.graph
-        reduction.now.flat.syms }
-    requires formula { HasFormulaOf (design_view design.now) reduction.now }
+    cycles: u32,
+) -> Result<Trail, AllocError>
+    requires lawful { HasLawfulSymbols (design_view design.now) }
+    requires known { AreKnown (widened (design_view design.now) cycles)
+        reduction.now.flat.graph reduction.now.flat.syms }
+    requires formula { HasFormulaOf (widened (design_view design.now) cycles) reduction.now }
     requires model { Satisfies (value_of model.now) reduction.now.formula.cnf.clauses }
-    ensures fits { IfOk result (λ c. Fits (design_view design.now) c) }
-    ensures asked { IfOk result (λ c. (asked : Asked) (mode : AnyMode) →
-        HasFlatOf (design_view design.now) asked mode reduction.now →
-        IsAsked asked (design_view design.now) c) }
+    ensures { IfOk result (λ t. (nodes : List TheNode) (root : ℕ) (mode : AnyMode) →
+        IsKnownRoot (widened (design_view design.now) cycles) nodes root →
+        HasFlatOf nodes root mode reduction.now →
+        Falsifies (design_view design.now) cycles nodes root t) }
 {
     let values = inputs_of(alloc, &reduction.formula, model)?;
-    lift(alloc, design, &reduction.flat, &reduction.order, &values)
+    lift_trail(
+        alloc,
+        design,
+        &reduction.flat,
+        &reduction.order,
+        &values,
+        cycles,
+    )
 }
 
 fn work(reduction: Reduction, log: Log) -> Work

@@ -1,14 +1,18 @@
 //! The verdict on a design, and what the answer of a solver comes to, once it is checked.
 #![tactic(auto)]
 
+mod asking;
 mod deciding;
 mod edges;
+mod formula;
 mod laws;
 mod numbers;
 mod reduction;
 mod settling;
 mod verdict;
 
+pub use deciding::{Decided, decide};
+pub use formula::kept;
 pub use laws::{kept_decides, positive_have_no_edge, spent_is_bounded, verdicts_agree};
 pub use settling::{Settled, settle};
 pub use verdict::{Mode, Question, Verdict, Work, verify};

@@ -1,24 +1,27 @@
-//! From a question to the formula that is kept of it, layer by layer.
-ghost use Rattle.std.specs.Prelude.{◌≡◌, ◌<◌, [], IfOk, length, option_copied};
+//! From a root to the formula that is kept of it, layer by layer.
+ghost use Rattle.std.specs.Prelude.{◌<◌, ℕ, IfOk, length, option_copied};
 ghost use Rattle.bd_model.specs.DesignView.{design_view};
-ghost use Rattle.bd_model.specs.Lawful.{IsLawful};
-ghost use Rattle.bd_verify.specs.Kept.{AreMarks, IsFlatOf, IsFormulaOf, IsRootOf};
+ghost use Rattle.bd_model.specs.declared.design.Sort.TheVariants as sort;
+ghost use Rattle.bd_symbolic.specs.Widened.{widened};
+ghost use Rattle.bd_terms.specs.Graph.{HasSort};
+ghost use Rattle.bd_verify.specs.Decided.{IsThis};
+ghost use Rattle.bd_verify.specs.Kept.{AreMarks, IsFlatOf, IsFormulaOf};
 ghost use Rattle.bd_verify.specs.inner.Reduced.{HasFlatOf, HasFormulaOf};
 
 use crate::edges::with_edges;
-use crate::verdict::{Mode, Question};
+use crate::verdict::Mode;
 use bd_diverse::{marked, positive};
 use bd_equality::encode;
 use bd_function::{Flat, Marked, flatten};
-use bd_goal::{goal, meets};
 use bd_memory::forward;
 use bd_model::Design;
 use bd_terms::{Graph, Id};
 use bd_transitive::{Order, order};
 use bd_tseitin::{Formula, clauses};
+use bd_walk::in_walk_order;
 use std::alloc::{AllocError, Global};
 
-/// The formula that is kept of a question, and what leads from its assignments back to a case.
+/// The formula that is kept of a root, and what leads from its assignments back to a case.
 #[derive(Drop)]
 pub(crate) struct Reduction {
     pub flat: Flat,
@@ -28,18 +31,20 @@ pub(crate) struct Reduction {
     pub formula: Formula,
 }
 
-/// The formula of a question.
+/// The formula of a root, over inputs of as many cycles as it may reach.
 pub(crate) fn reduced(
     alloc: Global,
     design: &Design,
-    asked: Question,
+    graph: &Graph,
+    root: Id,
     mode: Mode,
 ) -> Result<Reduction, AllocError>
-    requires { IsLawful (design_view design.now) }
-    ensures flat { IfOk result (HasFlatOf (design_view design.now) asked mode) }
-    ensures formula { IfOk result (HasFormulaOf (design_view design.now)) }
+    requires { HasSort graph.now root sort.Bool }
+    ensures flat { IfOk result (HasFlatOf graph.now root mode) }
+    ensures formula { IfOk result (λ r. (cycles : ℕ) →
+        HasFormulaOf (widened (design_view design.now) cycles) r) }
 {
-    let (flat, marked) = flat_of(alloc, design, asked, mode)?;
+    let (flat, marked) = flat_of(alloc, graph, root, mode)?;
     let (order, formula) = formula_of(alloc, design, &flat, marked.as_ref())?;
     Ok(Reduction {
         flat,
@@ -56,8 +61,9 @@ fn formula_of(
     flat: &Flat,
     marked: Option<&Marked>,
 ) -> Result<(Order, Formula), AllocError>
-    ensures { IfOk result (λ r.
-        IsFormulaOf (design_view design.now) flat.now.graph flat.now.root flat.now.syms
+    ensures { IfOk result (λ r. (cycles : ℕ) →
+        IsFormulaOf (widened (design_view design.now) cycles)
+        flat.now.graph flat.now.root flat.now.syms
         (option_copied marked.entry) r.0 r.1.cnf r.1.atoms) }
 {
     let encoded = encode(alloc, flat, &design.distinct, marked)?;
@@ -69,23 +75,23 @@ fn formula_of(
     Ok((order, formula))
 }
 
-/// The question without memories and functions, and in diverse mode the variables that are taken as different from all
+/// The root without memories and functions, and in diverse mode the variables that are taken as different from all
 /// others.
 fn flat_of(
     alloc: Global,
-    design: &Design,
-    asked: Question,
+    graph: &Graph,
+    root: Id,
     mode: Mode,
 ) -> Result<(Flat, Option<Marked>), AllocError>
-    requires { IsLawful (design_view design.now) }
-    ensures { IfOk result (λ r. IsFlatOf (IsRootOf (design_view design.now) asked) mode
+    requires { HasSort graph.now root sort.Bool }
+    ensures { IfOk result (λ r. IsFlatOf (IsThis graph.now root) mode
         r.0.graph r.0.root r.0.syms r.1) }
 {
-    let mut graph = Graph::new(alloc);
-    let root = root_of(alloc, &mut graph, design, asked)?;
-    let (plain, root) = forward(alloc, &graph, root)?;
-    let flat = flatten(alloc, &plain, root)?;
-    let marked = marks(alloc, &plain, root, &flat, mode)?;
+    prove!(root.index() < graph.len());
+    let (built, built_root) = forward(alloc, graph, root)?;
+    let (plain, plain_root) = in_walk_order(alloc, &built, built_root)?;
+    let flat = flatten(alloc, &plain, plain_root)?;
+    let marked = marks(alloc, &plain, plain_root, &flat, mode)?;
     Ok((flat, marked))
 }
 
@@ -106,25 +112,5 @@ fn marks(
             let symbols = positive(alloc, plain, root)?;
             Ok(Some(marked(alloc, flat, &symbols)?))
         }
-    }
-}
-
-/// The term of the question.
-fn root_of(
-    alloc: Global,
-    graph: &mut Graph,
-    design: &Design,
-    asked: Question,
-) -> Result<Id, AllocError>
-    requires lawful { IsLawful (design_view design.now) }
-    requires empty { graph.old ≡ [] }
-    ensures { IfOk result (IsRootOf (design_view design.now) asked graph.new) }
-{
-    match asked {
-        Question::Breaks => {
-            let goal = goal(alloc, graph, design)?;
-            Ok(goal.root)
-        }
-        Question::Meets => meets(alloc, graph, design),
     }
 }

@@ -6,9 +6,9 @@ ghost use Rattle.bd_model.specs.Conditions.{IsJudged, MeetsInvariant, SomeCaseMe
 ghost use Rattle.bd_model.specs.Lawful.{IsLawful};
 ghost use Rattle.bd_model.specs.Right.{IsRight};
 ghost use Rattle.bd_verify.specs.Verdict.{HasWork, Says};
-ghost use Rattle.bd_verify.specs.inner.Decided.{IsFound};
+ghost use Rattle.bd_verify.specs.inner.Answered.{IsFound};
 
-use crate::deciding::{Decision, decide};
+use crate::asking::{Decision, ask};
 use bd_cdcl::HonestSolver;
 use bd_cnf::Cnf;
 use bd_lrat::Log;
@@ -89,7 +89,7 @@ pub fn verify<S: HonestSolver>(
     if !given {
         return breaks(alloc, solver, design, budget, None, mode);
     }
-    match decide(alloc, solver, design, budget, Question::Meets, mode)? {
+    match ask(alloc, solver, design, budget, Question::Meets, mode)? {
         Decision::None(work) => Ok(Verdict::Void(work)),
         Decision::Some(case, _) => breaks(alloc, solver, design, budget, Some(case), mode),
         Decision::Spent(work) => Ok(Verdict::Undecided(Question::Meets, work)),
@@ -110,7 +110,7 @@ fn breaks<S: HonestSolver>(
         × MeetsInvariant (design_view design.now) c.interp c.state) }
     ensures { IfOk result (IsFound (design_view design.now) mode budget met) }
 {
-    match decide(alloc, solver, design, budget, Question::Breaks, mode)? {
+    match ask(alloc, solver, design, budget, Question::Breaks, mode)? {
         Decision::None(work) => Ok(Verdict::Correct(met, work)),
         Decision::Some(case, work) => {
             let condition = broken(judge(alloc, design, &case)?);

@@ -1,18 +1,18 @@
 -- What is forwarded so far.
 use Rattle.std.specs.Prelude.{◌≡◌, ◌≢◌, ◌↔◌, IsTrue, ℕ, ◌<◌, List, None, Some, length, slice_index_or, slice_get, Bool, true, false}
-use Rattle.bd_model.specs.declared.design.Sort.{Sort}
 use Rattle.bd_model.specs.declared.design.Sort.TheVariants as sort
 use Rattle.bd_terms.specs.declared.node.Node.{Node}
 use Rattle.bd_terms.specs.declared.node.Node.TheVariants.{Read, Write, Init}
 use Rattle.bd_terms.specs.Graph.{AddsUses, Extends, Use, HasSort, IsGraph, sort_at}
 use Rattle.bd_terms.specs.Reaches.{Reaches}
-use Rattle.bd_terms.specs.Denotation.{World, Denoted, Denotes, Word, contents, denoted, word}
-use Rattle.bd_memory.specs.Forward.{AppliesReached}
+use Rattle.bd_terms.specs.Denotation.{World, Denoted, Word, contents, denoted, word}
+use Rattle.bd_walk.specs.Carried.{AppliesReached}
+use Rattle.bd_walk.specs.inner.Carrying.{Means}
 use Rattle.bd_memory.specs.inner.Reads.{known}
 use Rattle.bd_memory.specs.declared.reads.ReadKey.{ReadKey}
 use Rattle.bd_memory.specs.declared.forwarding.Forwarding.{Forwarding}
-use Rattle.bd_memory.specs.declared.forwarding.Step.{Step}
-use Rattle.bd_memory.specs.declared.forwarding.Step.TheVariants.{Waits, Word as Given}
+use Rattle.bd_memory.specs.declared.forwarding.ReadState.{ReadState}
+use Rattle.bd_memory.specs.declared.forwarding.ReadState.TheVariants.{Waits, Word as Given}
 
 -- neither a read nor a write nor first contents
 abbrev pub is_plain : Node → Bool
@@ -23,11 +23,6 @@ is_plain _ = true
 
 pub record IsPlain (nodes : List Node) : Type 0 where
   pub plain : (id : ℕ) (node : Node) → slice_get nodes id ≡ Some node → is_plain node ≡ true
-
--- a term of this sort that denotes this
-pub record Means (nodes : List Node) (id : ℕ) (s : Sort) (value : World → Denoted) : Type 0 where
-  pub sorted : HasSort nodes id s
-  pub denotes : Denotes nodes id value
 
 -- the word that a memory of the old graph has at an address of the new one
 abbrev pub word_at : List Node → List Node → ℕ → ℕ → World → Denoted
@@ -52,9 +47,9 @@ abbrev pub Holds : List Node → ℕ → Forwarding → Type 0
 Holds old root f = IsForwarding old root f.graph f.places.items f.reads
 
 -- the read of the memory at the address waits for that of a memory below it, or is this word
-abbrev pub IsStep : List Node → Forwarding → ℕ → ℕ → Step → Type 0
-IsStep old f m b (Waits c) = (c < m) × HasSort old c sort.Memory × Reaches old m c × (known f.reads c b ≡ None)
-IsStep old f m b (Given id) = Means f.graph id sort.Word (word_at old f.graph m b)
+abbrev pub IsReadState : List Node → Forwarding → ℕ → ℕ → ReadState → Type 0
+IsReadState old f m b (Waits c) = (c < m) × HasSort old c sort.Memory × Reaches old m c × (known f.reads c b ≡ None)
+IsReadState old f m b (Given id) = Means f.graph id sort.Word (word_at old f.graph m b)
 
 -- the graph grew by plain terms that apply no more than these
 pub record Grows (new new' : List Node) (more : List Use) : Type 0 where

@@ -1,12 +1,14 @@
--- A question's flat formula and formula, as they are kept together.
+-- A root's flat formula and formula, as they are kept together.
+use Rattle.std.specs.Prelude.{ℕ, List}
 use Rattle.bd_model.specs.DesignView.{DesignView}
+use Rattle.bd_terms.specs.declared.node.Node.{Node}
 use Rattle.bd_verify.specs.declared.reduction.Reduction.{Reduction}
 use Rattle.bd_verify.specs.declared.verdict.Mode.{Mode}
-use Rattle.bd_verify.specs.declared.verdict.Question.{Question}
-use Rattle.bd_verify.specs.Kept.{IsFlatOf, IsFormulaOf, IsRootOf}
+use Rattle.bd_verify.specs.Decided.{IsThis}
+use Rattle.bd_verify.specs.Kept.{IsFlatOf, IsFormulaOf}
 
-abbrev pub HasFlatOf : DesignView → Question → Mode → Reduction → Type 0
-HasFlatOf d asked mode r = IsFlatOf (IsRootOf d asked) mode r.flat.graph r.flat.root r.flat.syms r.marked
+abbrev pub HasFlatOf : List Node → ℕ → Mode → Reduction → Type 0
+HasFlatOf nodes root mode r = IsFlatOf (IsThis nodes root) mode r.flat.graph r.flat.root r.flat.syms r.marked
 
 abbrev pub HasFormulaOf : DesignView → Reduction → Type 0
 HasFormulaOf d r = IsFormulaOf d r.flat.graph r.flat.root r.flat.syms r.marked r.order r.formula.cnf r.formula.atoms

@@ -30,12 +30,12 @@ pub stands-requires-clause-words : goal.stands-requires-clause-words
 stands-requires-clause-words c =
     let d = design_view c.args.design.now in
     let abs = abstraction_of d c.args.abs.now in
-    let started : IsStarted d abs c.args.graph.now c.conditions.new.graph c.abstracted.new.graph c.abstracted-2.new.graph c.args.state.now c.args.next.now c.in_ok-whens.whens c.in_ok-behind.behind c.in_ok-joined.joined = record {
-      cycle = record { state_sorted = c.requires.state; next_sorted = c.requires.next; before = c.requires.before; after = c.requires.behind };
+    let started : IsStarted d abs c.args.graph.now c.conditions.new.graph c.abstracted.new.graph c.abstracted-2.new.graph c.args.state.now c.args.next.now c.in_ok-whens.whens c.in_ok-after.after c.in_ok-joined.joined = record {
+      cycle = record { state_sorted = c.requires.state; next_sorted = c.requires.next; before = c.requires.before; after = c.requires.after };
       first = c.conditions.ensures.grows;
       conditions = c.in_ok-whens.ensures.whens;
       second = c.abstracted.ensures.grows;
-      behind_stands = c.in_ok-behind.ensures.shown;
+      after_stands = c.in_ok-after.ensures.shown;
       third = c.abstracted-2.ensures.grows;
       joined_stands = c.in_ok-joined.ensures.shown;
     } in
@@ -45,19 +45,19 @@ pub stands-requires-clause-whens : goal.stands-requires-clause-whens
 stands-requires-clause-whens c =
     let d = design_view c.args.design.now in
     let abs = abstraction_of d c.args.abs.now in
-    let started : IsStarted d abs c.args.graph.now c.conditions.new.graph c.abstracted.new.graph c.abstracted-2.new.graph c.args.state.now c.args.next.now c.in_ok-whens.whens c.in_ok-behind.behind c.in_ok-joined.joined = record {
-      cycle = record { state_sorted = c.requires.state; next_sorted = c.requires.next; before = c.requires.before; after = c.requires.behind };
+    let started : IsStarted d abs c.args.graph.now c.conditions.new.graph c.abstracted.new.graph c.abstracted-2.new.graph c.args.state.now c.args.next.now c.in_ok-whens.whens c.in_ok-after.after c.in_ok-joined.joined = record {
+      cycle = record { state_sorted = c.requires.state; next_sorted = c.requires.next; before = c.requires.before; after = c.requires.after };
       first = c.conditions.ensures.grows;
       conditions = c.in_ok-whens.ensures.whens;
       second = c.abstracted.ensures.grows;
-      behind_stands = c.in_ok-behind.ensures.shown;
+      after_stands = c.in_ok-after.ensures.shown;
       third = c.abstracted-2.ensures.grows;
       joined_stands = c.in_ok-joined.ensures.shown;
     } in
     started-conditions d abs _ _ _ _ _ _ _ _ _ started
 
-pub stands-requires-clause-behind : goal.stands-requires-clause-behind
-stands-requires-clause-behind c = HaveSorts-later _ _ c.abstracted-2.ensures.grows.extends _ _ c.in_ok-behind.ensures.shown.sorted.sorted
+pub stands-requires-clause-after : goal.stands-requires-clause-after
+stands-requires-clause-after c = HaveSorts-later _ _ c.abstracted-2.ensures.grows.extends _ _ c.in_ok-after.ensures.shown.sorted.sorted
 
 pub stands-requires-clause-joined : goal.stands-requires-clause-joined
 stands-requires-clause-joined c = c.in_ok-joined.ensures.shown.sorted.sorted
@@ -65,8 +65,8 @@ stands-requires-clause-joined c = c.in_ok-joined.ensures.shown.sorted.sorted
 pub returns-in_err-whens-clause-grows : goal.returns-in_err-whens-clause-grows
 returns-in_err-whens-clause-grows c = Known-within (design_view c.args.design.now) _ _ _ c.conditions.ensures.grows
 
-pub returns-in_err-behind-clause-grows : goal.returns-in_err-behind-clause-grows
-returns-in_err-behind-clause-grows c = Known-within (design_view c.args.design.now) _ _ _ (Grows-trans (design_view c.args.design.now) _ _ _ c.conditions.ensures.grows c.abstracted.ensures.grows)
+pub returns-in_err-after-clause-grows : goal.returns-in_err-after-clause-grows
+returns-in_err-after-clause-grows c = Known-within (design_view c.args.design.now) _ _ _ (Grows-trans (design_view c.args.design.now) _ _ _ c.conditions.ensures.grows c.abstracted.ensures.grows)
 
 pub returns-in_err-joined-clause-grows : goal.returns-in_err-joined-clause-grows
 returns-in_err-joined-clause-grows c =
@@ -76,12 +76,12 @@ pub returns-in_err-any-clause-grows : goal.returns-in_err-any-clause-grows
 returns-in_err-any-clause-grows c =
     let d = design_view c.args.design.now in
     let abs = abstraction_of d c.args.abs.now in
-    let started : IsStarted d abs c.args.graph.now c.conditions.new.graph c.abstracted.new.graph c.abstracted-2.new.graph c.args.state.now c.args.next.now c.in_ok-whens.whens c.in_ok-behind.behind c.in_ok-joined.joined = record {
-      cycle = record { state_sorted = c.requires.state; next_sorted = c.requires.next; before = c.requires.before; after = c.requires.behind };
+    let started : IsStarted d abs c.args.graph.now c.conditions.new.graph c.abstracted.new.graph c.abstracted-2.new.graph c.args.state.now c.args.next.now c.in_ok-whens.whens c.in_ok-after.after c.in_ok-joined.joined = record {
+      cycle = record { state_sorted = c.requires.state; next_sorted = c.requires.next; before = c.requires.before; after = c.requires.after };
       first = c.conditions.ensures.grows;
       conditions = c.in_ok-whens.ensures.whens;
       second = c.abstracted.ensures.grows;
-      behind_stands = c.in_ok-behind.ensures.shown;
+      after_stands = c.in_ok-after.ensures.shown;
       third = c.abstracted-2.ensures.grows;
       joined_stands = c.in_ok-joined.ensures.shown;
     } in
@@ -91,16 +91,16 @@ pub loop-done-init : goal.loop-done-init
 loop-done-init c =
     let d = design_view c.args.design.now in
     let abs = abstraction_of d c.args.abs.now in
-    let started : IsStarted d abs c.args.graph.now c.conditions.new.graph c.abstracted.new.graph c.abstracted-2.new.graph c.args.state.now c.args.next.now c.in_ok-whens.whens c.in_ok-behind.behind c.in_ok-joined.joined = record {
-      cycle = record { state_sorted = c.requires.state; next_sorted = c.requires.next; before = c.requires.before; after = c.requires.behind };
+    let started : IsStarted d abs c.args.graph.now c.conditions.new.graph c.abstracted.new.graph c.abstracted-2.new.graph c.args.state.now c.args.next.now c.in_ok-whens.whens c.in_ok-after.after c.in_ok-joined.joined = record {
+      cycle = record { state_sorted = c.requires.state; next_sorted = c.requires.next; before = c.requires.before; after = c.requires.after };
       first = c.conditions.ensures.grows;
       conditions = c.in_ok-whens.ensures.whens;
       second = c.abstracted.ensures.grows;
-      behind_stands = c.in_ok-behind.ensures.shown;
+      after_stands = c.in_ok-after.ensures.shown;
       third = c.abstracted-2.ensures.grows;
       joined_stands = c.in_ok-joined.ensures.shown;
     } in
-    subst (λ ws. Commuting d abs c.args.graph.now c.stands.new.graph ws c.in_ok-behind.behind c.in_ok-joined.joined 0 c.in_ok-any.any) (sym c.whens.view_is)
+    subst (λ ws. Commuting d abs c.args.graph.now c.stands.new.graph ws c.in_ok-after.after c.in_ok-joined.joined 0 c.in_ok-any.any) (sym c.whens.view_is)
     (started-commuting d abs _ _ _ _ _ _ _ _ _ _ _ started c.stands.ensures.grows c.in_ok-any.ensures.sorted c.in_ok-any.ensures.denotes)
 
 pub sym_spec_step-requires-clause-keeps : goal.sym_spec_step-requires-clause-keeps
@@ -122,8 +122,8 @@ stands-requires-in-loop-done-clause-whens c =
     let d = design_view c.args.design.now in
     subst (AreConditions d c.sym_spec_step.new.graph) c.whens.view_is (conditions-later d _ _ c.sym_spec_step.ensures.grows.extends _ c.loop-done.invariant.conditions)
 
-pub stands-requires-in-loop-done-clause-behind : goal.stands-requires-in-loop-done-clause-behind
-stands-requires-in-loop-done-clause-behind c = HaveSorts-later _ _ c.sym_spec_step.ensures.grows.extends _ _ c.loop-done.invariant.behind_sorted.sorted
+pub stands-requires-in-loop-done-clause-after : goal.stands-requires-in-loop-done-clause-after
+stands-requires-in-loop-done-clause-after c = HaveSorts-later _ _ c.sym_spec_step.ensures.grows.extends _ _ c.loop-done.invariant.after_sorted.sorted
 
 pub returns-clause-sorted : goal.returns-clause-sorted
 returns-clause-sorted c = c.loop-done.invariant.sorted
@@ -161,6 +161,6 @@ returns-in_err-any-2-clause-grows c =
 pub loop-done-preserved : goal.loop-done-preserved
 loop-done-preserved c =
     let d = design_view c.args.design.now in
-    commuting-more d (abstraction_of d c.args.abs.now) _ _ _ _ _ _ c.in_ok-behind.behind _ _ c.loop-done.done _ _ _ c.loop-done.invariant c.sym_spec_step.ensures.grows
+    commuting-more d (abstraction_of d c.args.abs.now) _ _ _ _ _ _ c.in_ok-after.after _ _ c.loop-done.done _ _ _ c.loop-done.invariant c.sym_spec_step.ensures.grows
     (record { sorted = c.in_ok-joined-2.ensures.sorted; inputs = c.in_ok-joined-2.ensures.inputs }) c.in_ok-joined-2.ensures.denotes c.stands-in-loop-done.ensures.grows c.in_ok-one.ensures.sorted c.in_ok-one.ensures.denotes
     c.mk_or.ensures.extends c.mk_or.ensures.uses c.in_ok-any-2.ensures.sorted c.in_ok-any-2.ensures.denotes

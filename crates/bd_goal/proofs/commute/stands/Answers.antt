@@ -14,7 +14,7 @@ equal-requires-clause-addresses c =
     KeepsAddresses-Known d 0 _ _ (Known-none d 0 _ _ c.allowed.ensures.extends c.allowed.ensures.uses) c.requires.words
 
 pub equal-requires-clause-ours : goal.equal-requires-clause-ours
-equal-requires-clause-ours c = HaveSorts-later _ _ c.allowed.ensures.extends _ _ c.requires.behind
+equal-requires-clause-ours c = HaveSorts-later _ _ c.allowed.ensures.extends _ _ c.requires.after
 
 pub equal-requires-clause-theirs : goal.equal-requires-clause-theirs
 equal-requires-clause-theirs c = HaveSorts-later _ _ c.allowed.ensures.extends _ _ c.requires.joined
@@ -25,8 +25,8 @@ mk_and-requires-clause-first c = HasSort-Extends _ _ c.equal.ensures.grows.exten
 pub returns-clause-denotes : goal.returns-clause-denotes
 returns-clause-denotes c =
     let d = design_view c.args.design.now in
-    stands-claimed d _ _ _ _ c.args.behind.now c.args.joined.now c.args.j _ _ _ c.allowed.ensures.extends c.equal.ensures.grows.extends c.in_ok-allowed.ensures.sorted c.in_ok-allowed.ensures.denotes
-    (inside_sorts _ _ (entry_sorts d.spec) c.requires.behind) (inside_sorts _ _ (entry_sorts d.spec) c.requires.joined) c.in_ok-same.ensures.denotes c.mk_and.ensures.denotes
+    stands-claimed d _ _ _ _ c.args.after.now c.args.joined.now c.args.j _ _ _ c.allowed.ensures.extends c.equal.ensures.grows.extends c.in_ok-allowed.ensures.sorted c.in_ok-allowed.ensures.denotes
+    (inside_sorts _ _ (entry_sorts d.spec) c.requires.after) (inside_sorts _ _ (entry_sorts d.spec) c.requires.joined) c.in_ok-same.ensures.denotes c.mk_and.ensures.denotes
 
 pub returns-clause-grows : goal.returns-clause-grows
 returns-clause-grows c =

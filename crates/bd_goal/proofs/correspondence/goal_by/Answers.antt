@@ -69,8 +69,8 @@ commutes-requires-clause-before c =
     let late : ShowsCycle d c.invariant-2.new.graph c.in_ok-state.state c.in_ok-next.next = cycle-later d _ _ _ _ (Extends-trans _ _ _ c.invariant.ensures.grows.extends c.invariant-2.ensures.grows.extends) cycle in
     late.before
 
-pub commutes-requires-clause-behind : goal.commutes-requires-clause-behind
-commutes-requires-clause-behind c =
+pub commutes-requires-clause-after : goal.commutes-requires-clause-after
+commutes-requires-clause-after c =
     let d = design_view c.args.design.now in
     let cycle : ShowsCycle d c.sym_step.new.graph c.in_ok-state.state c.in_ok-next.next =
     cycle-first d _ _ _ _ c.sym_step.ensures.grows.extends c.in_ok-state.ensures.sorted c.in_ok-state.ensures.denotes c.in_ok-next.ensures.sorted c.in_ok-next.ensures.denotes c.in_ok-next.ensures.inputs in

@@ -1,67 +1,24 @@
--- The case of the tables of the decoded values.
-use Rattle.std.proofs.Common.{length, Result, Ok, Err, IfOk, sym, subst}
-use Rattle.bd_model.specs.DesignView.{design_view}
+-- A case is a trail of one cycle.
+use Rattle.std.proofs.Common.{IfOk, sym, subst}
+use Rattle.bd_model.specs.DesignView.{DesignView, design_view}
 use Rattle.bd_model.specs.Fits.{Fits}
-use Rattle.bd_model.specs.declared.case.Case.{Case}
-use Rattle.bd_function.specs.Tables.{sym_tables, world_of_tables}
-use Rattle.bd_function.specs.Values.{scalar_of}
-use Rattle.bd_transitive.specs.Triangle.{AgreesWithClasses, MeetsTriangles, class_of, value_at}
-use Rattle.bd_lift.specs.Counting.{EachRowCounts}
-use Rattle.bd_lift.specs.Lifted.{IsLifted}
-use Rattle.bd_lift.specs.inner.Built.{IsBuilt}
-use Rattle.bd_lift.specs.inner.First.{AreAlike}
-use Rattle.bd_lift.proofs.Decoding.{AreDecodedBy-sorts}
-use Rattle.bd_lift.proofs.Fitting.{IsSettled, built-counts, built-fits-alike}
-use Rattle.bd_lift.proofs.Worlds.{built-lifted-alike}
+use Rattle.bd_symbolic.proofs.Widening.{lawful-symbols, widened-once}
+use Rattle.bd_transitive.specs.Triangle.{value_at}
+use Rattle.bd_lift.specs.Decoded.{edge_truths}
+use Rattle.bd_lift.specs.Lifted.{AreKnown, TellsApart}
 use Rattle.bd_lift.proofs.lifting.lift.Goals as goal
-use Rattle.bd_lift.proofs.lifting.lift.Goals.{After-case_of}
 
-pub classes-requires-clause-meets : goal.classes-requires-clause-meets
-classes-requires-clause-meets c = subst (λ l. MeetsTriangles c.args.order.now (value_at l)) (sym c.in_ok-edges.ensures) c.requires.triangles
+pub lifted-requires-clause-lawful : goal.lifted-requires-clause-lawful
+lifted-requires-clause-lawful c = lawful-symbols (design_view c.args.design.now) c.requires.lawful
 
-if_ok : {X E : Type 0} → (P Q : X → Type 0) (r : Result X E) → IfOk r P → ((x : X) → P x → Q x) → IfOk r Q
-if_ok P Q (Ok x) h f = f x h
-if_ok P Q (Err e) h f = tt
+pub lifted-requires-clause-known : goal.lifted-requires-clause-known
+lifted-requires-clause-known c =
+    subst (λ (d : DesignView). AreKnown d c.args.flat.now.graph c.args.flat.now.syms) (sym (widened-once (design_view c.args.design.now))) c.requires.known
 
-settled : (c : After-case_of) → IsSettled (design_view c.args.design.now) c.args.flat.now.graph c.args.flat.now.syms c.args.order.now c.args.values.now c.in_ok-classes.classes (scalar_of c.in_ok-decoded.decoded)
-settled c = record {
-  lawful = c.requires.lawful;
-  known = c.requires.known;
-  root = c.args.flat.now.root;
-  flat = c.args.flat.now.flat;
-  order_is = c.requires.order;
-  are = record {
-    agrees = subst (λ l. AgreesWithClasses c.args.order.now.edges (value_at l) (class_of c.args.order.now.vertices c.in_ok-classes.classes)) c.in_ok-edges.ensures c.in_ok-classes.ensures.agrees;
-    below = c.in_ok-classes.ensures.below;
-  };
-  by = c.in_ok-decoded.ensures;
-  sorts = AreDecodedBy-sorts c.args.flat.now.graph c.args.order.now c.args.values.now c.in_ok-classes.classes (scalar_of c.in_ok-decoded.decoded) c.in_ok-decoded.ensures;
-  apart = c.requires.constants;
-}
-
-built : (c : After-case_of) → IfOk c.case_of.result (λ (k : Case). IsBuilt (design_view c.args.design.now) (length c.args.order.now.vertices) (world_of_tables c.in_ok-first.first) k.interp k.state k.inputs)
-built c = subst (λ n. IfOk c.case_of.result (λ (k : Case). IsBuilt (design_view c.args.design.now) n (world_of_tables c.in_ok-first.first) k.interp k.state k.inputs)) c.len.ensures c.case_of.ensures
-
-alike : (c : After-case_of) → AreAlike (sym_tables (scalar_of c.in_ok-decoded.decoded) c.args.flat.now.graph c.args.flat.now.syms) c.in_ok-first.first
-alike c = subst (λ ts. AreAlike ts c.in_ok-first.first) c.in_ok-tables.ensures.exact c.in_ok-first.ensures.alike
+pub lifted-requires-clause-constants : goal.lifted-requires-clause-constants
+lifted-requires-clause-constants c =
+    subst (λ (d : DesignView). TellsApart d c.args.flat.now.syms c.args.order.now (value_at (edge_truths c.args.values.now c.args.order.now.edges)))
+    (sym (widened-once (design_view c.args.design.now))) c.requires.constants
 
 pub returns-clause-fits : goal.returns-clause-fits
-returns-clause-fits c =
-    let s = goal.at.returns-clause-fits c in
-    let k = s.After-case_of in
-    if_ok _ (λ x. Fits (design_view c.args.design.now) x) c.case_of.result (built k) (λ x b.
-    built-fits-alike (design_view c.args.design.now) c.args.flat.now.graph c.args.flat.now.syms c.args.order.now c.args.values.now c.in_ok-classes.classes (scalar_of c.in_ok-decoded.decoded) (settled k) c.in_ok-first.first (alike k) x b)
-
-pub returns-clause-lifted : goal.returns-clause-lifted
-returns-clause-lifted c =
-    let s = goal.at.returns-clause-lifted c in
-    let k = s.After-case_of in
-    if_ok _ (λ x. IsLifted c.args.flat.now.graph c.args.flat.now.syms c.args.order.now c.args.values.now x) c.case_of.result (built k) (λ x b.
-    built-lifted-alike (design_view c.args.design.now) c.args.flat.now.graph c.args.flat.now.syms c.args.order.now c.args.values.now c.in_ok-classes.classes (scalar_of c.in_ok-decoded.decoded) (settled k) c.in_ok-first.first (alike k) x b)
-
-pub returns-clause-counts : goal.returns-clause-counts
-returns-clause-counts c =
-    let s = goal.at.returns-clause-counts c in
-    let k = s.After-case_of in
-    if_ok _ (λ x. EachRowCounts x) c.case_of.result (built k) (λ x b.
-    built-counts (design_view c.args.design.now) c.args.flat.now.graph c.args.flat.now.syms c.args.order.now c.args.values.now c.in_ok-classes.classes (scalar_of c.in_ok-decoded.decoded) (settled k) c.in_ok-first.first (alike k) c.in_ok-first.ensures.differ x b)
+returns-clause-fits c = subst (λ (d : DesignView). IfOk c.lifted.result (λ x. Fits d x)) (widened-once (design_view c.args.design.now)) c.lifted.ensures.fits

@@ -3,7 +3,7 @@ use Rattle.std.proofs.Common.{◌∙◌, subst, sym}
 use Rattle.bd_model.specs.declared.design.Sort.TheVariants as sort
 use Rattle.bd_terms.specs.Graph.{HasSort}
 use Rattle.bd_terms.proofs.Growth.{HasSort-Extends, sort_at-Extends}
-use Rattle.bd_memory.proofs.Stepping.{written-Grows, written-Means}
+use Rattle.bd_memory.proofs.FromBelow.{written-Grows, written-Means}
 use Rattle.bd_memory.proofs.forwarding.written.Goals as goal
 
 pub mk_ite-requires-clause-no : goal.mk_ite-requires-clause-no

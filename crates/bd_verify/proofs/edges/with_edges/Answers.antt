@@ -1,4 +1,4 @@
-use Rattle.std.proofs.Common.{◌≡◌, ◌≢◌, ℕ, ◌+◌, ◌<◌, ◌≤◌, ◌++◌, All, AllPairs, Contains, List, length, map, ap, sym, ◌∙◌, subst, arith}
+use Rattle.std.proofs.Common.{◌≡◌, ◌≢◌, ◌+◌, ◌<◌, ◌≤◌, ◌++◌, All, AllPairs, length, map, ap, sym, ◌∙◌, subst, arith}
 use Rattle.bd_cnf.specs.Problem.{AreWithin}
 use Rattle.bd_transitive.specs.Clauses.{AreTriangleClauses}
 use Rattle.bd_tseitin.specs.Rows.{AreRows}

@@ -1,4 +1,4 @@
-use Rattle.std.proofs.Common.{Contains, inr, sym, subst}
+use Rattle.std.proofs.Common.{Contains, inr, subst}
 use Rattle.bd_verify.specs.Kept.{AddsEdges}
 use Rattle.bd_verify.proofs.FormulaDecides.{ordered-by}
 use Rattle.bd_verify.proofs.reduction.formula_of.Goals as goal
@@ -10,7 +10,7 @@ with_edges-requires-clause-apart c = λ edge has.
     ordered-by _ order.edges e.edges c.in_ok-order.ensures.given edge ((c.in_ok-encoded.ensures.edges edge).1 (inr (subst (λ l. Contains l edge) c.as_slice.ensures has)))
 
 pub returns : goal.returns
-returns c =
+returns c = λ cycles.
     let e = c.in_ok-encoded.encoded in
     let h = c.in_ok-encoded.ensures in
     let first = c.in_ok-formula.formula in

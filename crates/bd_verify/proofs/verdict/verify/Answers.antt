@@ -1,6 +1,6 @@
 use Rattle.std.proofs.Common.{◌∙◌, Some, IfOk, None, subst, sym, true≢false}
 use Rattle.bd_model.specs.DesignView.{design_view}
-use Rattle.bd_verify.specs.inner.Decided.{IsDecided, IsFound}
+use Rattle.bd_verify.specs.inner.Answered.{IsAnswered, IsFound}
 use Rattle.bd_verify.specs.declared.verdict.Question.TheVariants as question
 use Rattle.bd_verify.proofs.Judgements.{holds-found, right-found, says-result}
 use Rattle.bd_verify.proofs.verdict.verify.Goals as goal
@@ -17,7 +17,7 @@ returns-in-Some-clause-correct g c = λ k work e.
 pub returns-in-Some-clause-holds : goal.returns-in-Some-clause-holds
 returns-in-Some-clause-holds g c = λ k work e.
     let d = design_view c.args.design.now in
-    let found = subst (IsDecided d question.Meets c.args.mode c.args.budget) c.in-Some.is c.in_ok-work.ensures in
+    let found = subst (IsAnswered d question.Meets c.args.mode c.args.budget) c.in-Some.is c.in_ok-work.ensures in
     holds-found d c.args.mode c.args.budget c.in-Some.case k work found.0 found.1 (subst (λ r. IfOk r (IsFound d c.args.mode c.args.budget (Some c.in-Some.case))) e c.breaks-in-Some.ensures)
 
 pub returns-then-not-given-clause-says : goal.returns-then-not-given-clause-says
@@ -27,5 +27,5 @@ returns-then-not-given-clause-says g c =
 pub returns-in-Some-clause-says : goal.returns-in-Some-clause-says
 returns-in-Some-clause-says g c =
     let d = design_view c.args.design.now in
-    let found = subst (IsDecided d question.Meets c.args.mode c.args.budget) c.in-Some.is c.in_ok-work.ensures in
+    let found = subst (IsAnswered d question.Meets c.args.mode c.args.budget) c.in-Some.is c.in_ok-work.ensures in
     says-result d c.args.mode c.args.budget c.args.given (Some c.in-Some.case) c.breaks-in-Some.result c.requires.lawful (λ yes. (c.in-Some.case, found.0, found.1)) c.breaks-in-Some.ensures

@@ -3,8 +3,8 @@ use Rattle.bd_memory.proofs.Waiting.{missing}
 use Rattle.bd_memory.proofs.Loop.{IsReading}
 use Rattle.bd_memory.proofs.forwarding.Forwarding.read.Given as goal
 
-abbrev pub ghost-step : goal.ghost-step
-ghost-step g a = g.root
+abbrev pub ghost-read_from_below : goal.ghost-read_from_below
+ghost-read_from_below g a = g.root
 
 abbrev pub invariant-loop-waiting : goal.invariant-loop-waiting
 invariant-loop-waiting g l =

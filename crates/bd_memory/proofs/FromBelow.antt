@@ -18,7 +18,8 @@ use Rattle.bd_terms.proofs.Growth.{sort_at-Extends}
 use Rattle.bd_terms.specs.Simplified.{Gives, simplified}
 use Rattle.bd_memory.specs.declared.reads.ReadKey.{ReadKey}
 use Rattle.bd_memory.specs.inner.Reads.{known}
-use Rattle.bd_memory.specs.inner.Forwarding.{Grows, IsForwarding, Means, place, word_at}
+use Rattle.bd_walk.specs.inner.Carrying.{Means}
+use Rattle.bd_memory.specs.inner.Forwarding.{Grows, IsForwarding, place, word_at}
 use Rattle.bd_memory.proofs.Plain.{Bool-no_memory, Word-no_memory}
 use Rattle.bd_memory.proofs.Moving.{child-means, passed-mean}
 use Rattle.bd_memory.proofs.Growing.{Grows-Gives, Grows-trans, Means-value, word_at-Extends}
@@ -29,7 +30,7 @@ pub below-Means : (old : List Node) (root : ℕ) (new : List Node) (places : Lis
     → (c : ℕ) (s : Sort) → Contains (children node) c → HasSort old c s → (s ≡ sort.Memory → ⊥) → (c' : ℕ) → c' ≡ place places c → Means new c' s (λ w. denoted w old c)
 below-Means old root new places reads f m node there r inside c s p h apart c' e =
     subst (λ x. Means new x s (λ w. denoted w old c)) (sym e)
-    (child-means old new (place places) (children node)
+    (child-means old new places (children node)
     (passed-mean old root new places reads f m node there r (λ k q. let below = children-below old f.source m node there k q in omega (arith, below, inside)))
     c s p h apart)
 

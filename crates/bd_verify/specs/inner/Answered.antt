@@ -8,20 +8,20 @@ use Rattle.bd_model.specs.declared.case.Judged.TheVariants as judged
 use Rattle.bd_cdcl.specs.declared.solver.Found.TheVariants as found
 use Rattle.bd_verify.specs.declared.verdict.Mode.{Mode}
 use Rattle.bd_verify.specs.declared.verdict.Question.{Question}
-use Rattle.bd_verify.specs.declared.deciding.Decision.{Decision}
-use Rattle.bd_verify.specs.declared.deciding.Decision.TheVariants as decision
+use Rattle.bd_verify.specs.declared.asking.Decision.{Decision}
+use Rattle.bd_verify.specs.declared.asking.Decision.TheVariants as decision
 use Rattle.bd_verify.specs.declared.verdict.Question.TheVariants as question
 use Rattle.bd_verify.specs.declared.verdict.Verdict.{Verdict}
 use Rattle.bd_verify.specs.declared.verdict.Verdict.TheVariants.{Correct, Wrong, Void, Undecided}
 use Rattle.bd_verify.specs.Verdict.{IsAsked, IsWorkOf}
 
 -- no case is such; this one is; or the budget is spent
-abbrev pub IsDecided : DesignView → Question → Mode → ℕ → Decision → Type 0
-IsDecided d asked mode budget (decision.None work) =
+abbrev pub IsAnswered : DesignView → Question → Mode → ℕ → Decision → Type 0
+IsAnswered d asked mode budget (decision.None work) =
     ((c : Case) → Fits d c → ¬ IsAsked asked d c) × IsWorkOf d asked mode budget found.Refuted work
-IsDecided d asked mode budget (decision.Some c work) =
+IsAnswered d asked mode budget (decision.Some c work) =
     Fits d c × IsAsked asked d c × ((model : _) × IsWorkOf d asked mode budget (found.Model model) work)
-IsDecided d asked mode budget (decision.Spent work) = IsWorkOf d asked mode budget found.Spent work
+IsAnswered d asked mode budget (decision.Spent work) = IsWorkOf d asked mode budget found.Spent work
 
 -- the verdict where it is asked whether a case breaks a condition: the case that is carried is this one, and none is such;
 -- or the case is judged to break the condition

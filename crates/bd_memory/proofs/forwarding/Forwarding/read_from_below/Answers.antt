@@ -9,8 +9,8 @@ use Rattle.bd_terms.proofs.Growth.{HasSort-Extends}
 use Rattle.bd_terms.proofs.Reaching.{children-below}
 use Rattle.bd_memory.proofs.Plain.{Bool-no_memory, Word-no_memory}
 use Rattle.bd_memory.proofs.Growing.{Grows-Gives, IsForwarding-Grows, reached-KeepsSymbol}
-use Rattle.bd_memory.proofs.Stepping.{below-Means, init-Means, ite-Means, ite-sorts, memory-node, waits, write-Means}
-use Rattle.bd_memory.proofs.forwarding.Forwarding.step.Goals as goal
+use Rattle.bd_memory.proofs.FromBelow.{below-Means, init-Means, ite-Means, ite-sorts, memory-node, waits, write-Means}
+use Rattle.bd_memory.proofs.forwarding.Forwarding.read_from_below.Goals as goal
 
 pub returns-in_default-get-clause-step : goal.returns-in_default-get-clause-step
 returns-in_default-get-clause-step g c =

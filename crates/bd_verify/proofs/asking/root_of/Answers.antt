@@ -1,6 +1,6 @@
 use Rattle.bd_model.specs.DesignView.{design_view}
 use Rattle.bd_verify.proofs.RootDecides.{known-empty, root-breaks, root-meets}
-use Rattle.bd_verify.proofs.reduction.root_of.Goals as goal
+use Rattle.bd_verify.proofs.asking.root_of.Goals as goal
 
 pub returns-in_ok-goal-in-Breaks : goal.returns-in_ok-goal-in-Breaks
 returns-in_ok-goal-in-Breaks c =

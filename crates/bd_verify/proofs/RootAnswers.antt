@@ -1,0 +1,147 @@
+-- What a solver's answer says of a root, and where the root decides a question, of cases.
+use Rattle.std.proofs.Common.{◌≡◌, ℕ, List, Option, inl, inr, refl, sym, subst}
+use Rattle.bd_model.specs.DesignView.{DesignView}
+use Rattle.bd_model.specs.Fits.{Fits}
+use Rattle.bd_model.specs.Lawful.{IsLawful}
+use Rattle.bd_model.specs.declared.case.Case.{Case}
+use Rattle.bd_model.specs.declared.case.Trail.{Trail}
+use Rattle.bd_model.proofs.Settled.{IsTrue-settled}
+use Rattle.bd_symbolic.specs.Widened.{HasLawfulSymbols, case_of_trail, widened}
+use Rattle.bd_symbolic.proofs.Widening.{trail-fits, widened-once, widened-symbols}
+use Rattle.bd_terms.specs.declared.node.Node.{Node}
+use Rattle.bd_terms.specs.Denotation.{truth}
+use Rattle.bd_terms.specs.Graph.{IsGraph}
+use Rattle.bd_terms.specs.Valid.{IsValid}
+use Rattle.bd_goal.specs.Claims.{case_world}
+use Rattle.bd_function.specs.declared.flat.FlatSym.{FlatSym}
+use Rattle.bd_cnf.specs.Problem.{Problem}
+use Rattle.bd_lrat.specs.declared.line.Line.{Line}
+use Rattle.bd_cdcl.specs.Law.{IsLaw}
+use Rattle.bd_cdcl.specs.declared.solver.Found.{Found}
+use Rattle.bd_cdcl.specs.declared.solver.Found.TheVariants as found
+use Rattle.bd_lift.specs.Lifted.{AreKnown}
+use Rattle.bd_verify.specs.declared.reduction.Reduction.{Reduction}
+use Rattle.bd_verify.specs.declared.verdict.Mode.{Mode}
+use Rattle.bd_verify.specs.declared.verdict.Question.{Question}
+use Rattle.bd_verify.specs.declared.verdict.Work.{Work}
+use Rattle.bd_verify.specs.Decided.{Falsifies, IsKnownRoot, IsRootWork, IsThis, KeepsRoot}
+use Rattle.bd_verify.specs.Kept.{IsFlatOf, IsKept, IsKeptOf, IsRootOf}
+use Rattle.bd_verify.specs.Verdict.{IsAsked, IsWorkOf}
+use Rattle.bd_verify.specs.inner.Questions.{DecidesRoot, FollowsRoot}
+use Rattle.bd_verify.specs.inner.Reduced.{HasFlatOf, HasFormulaOf}
+use Rattle.bd_verify.proofs.FlatDecides.{flat-follows}
+use Rattle.bd_verify.proofs.KeptDecides.{keeps-root, kept-decides, kept-decides-root, refuted}
+use Rattle.bd_verify.proofs.RootDecides.{root-decides, root-known}
+
+-- what is known of this root is known of the terms that it is of
+this-known : (d : DesignView) (nodes : List Node) (root : ℕ) (terms : List Node) (term : ℕ) → IsThis nodes root terms term → IsKnownRoot d nodes root → IsKnownRoot d terms term
+this-known d nodes root terms term is known = subst (λ t. IsKnownRoot d t term) (sym is.0) (subst (IsKnownRoot d nodes) (sym is.1) known)
+
+-- a flat formula of this root follows it
+pub this-follows : (d : DesignView) (old : List Node) (old_root : ℕ) (m : Mode) (nodes : List Node) (root : ℕ) (syms : List FlatSym) (marked : Option (List ℕ)) → IsFlatOf (IsThis old old_root) m nodes root syms marked
+    → IsKnownRoot d old old_root → FollowsRoot d old old_root nodes root syms marked
+this-follows d old old_root m nodes root syms marked f known =
+    subst (λ t. FollowsRoot d t old_root nodes root syms marked) f.asked.0
+    (subst (λ q. FollowsRoot d f.terms q nodes root syms marked) f.asked.1
+    (flat-follows d (IsThis old old_root) m nodes root syms marked f (this-known d old old_root f.terms f.term f.asked known)))
+
+-- the formula that is kept of this root decides where it is false
+pub this-decides : (d : DesignView) (nodes : List Node) (root : ℕ) (m : Mode) (formula : Problem) → HasLawfulSymbols d → IsKnownRoot d nodes root → IsKeptOf d (IsThis nodes root) m formula → DecidesRoot d nodes root formula
+this-decides d nodes root m formula lawful known k =
+    let f = k.flat in
+    subst (λ t. DecidesRoot d t root formula) f.asked.0
+    (subst (λ q. DecidesRoot d f.terms q formula) f.asked.1
+    (kept-decides-root d (IsThis nodes root) m formula lawful k (this-known d nodes root f.terms f.term f.asked known)))
+
+-- a root's formula, as it is reduced, is the kept one
+pub kept-of : (d : DesignView) (nodes : List Node) (root : ℕ) (m : Mode) (r : Reduction) → HasFlatOf nodes root m r → HasFormulaOf d r → IsKeptOf d (IsThis nodes root) m r.formula.cnf
+kept-of d nodes root m r flat formula = record {
+  nodes = r.flat.graph;
+  root = r.flat.root;
+  syms = r.flat.syms;
+  marked = r.marked;
+  flat = flat;
+  order = r.order;
+  rows = r.formula.atoms;
+  formula_is = formula;
+}
+
+pub known-of : (d : DesignView) (nodes : List Node) (root : ℕ) (m : Mode) (r : Reduction) → IsKnownRoot d nodes root → HasFlatOf nodes root m r → AreKnown d r.flat.graph r.flat.syms
+known-of d nodes root m r known flat = (this-follows d nodes root m r.flat.graph r.flat.root r.flat.syms r.marked flat known).known
+
+module _ (d : DesignView) (cycles : ℕ) (nodes : List Node) (root : ℕ) (m : Mode) (lawful : HasLawfulSymbols d) (known : IsKnownRoot (widened d cycles) nodes root) (p : Problem) (kept : IsKeptOf (widened d cycles) (IsThis nodes root) m p)
+    (budget : ℕ) (log : List Line) where
+  decides : DecidesRoot (widened d cycles) nodes root p
+  decides = this-decides (widened d cycles) nodes root m p (widened-symbols d cycles lawful) known kept
+
+  -- where the formula is refuted the root is valid
+  pub refuted-valid : IsLaw p budget found.Refuted log → IsValid d nodes root
+  refuted-valid law w apart = elim (IsTrue-settled (truth w nodes root)) [
+    | inl holds ↦ holds
+    | inr fails ↦ let sat = decides.from_world w apart fails in absurd (refuted p budget log law sat.0 sat.1)
+  ]
+
+  -- the work of the root, where it has the formula and the log
+  pub root-work : (answer : Found) (w : Work) → w.cnf ≡ p → w.log ≡ log → IsLaw p budget answer log → IsRootWork d cycles nodes root m budget answer w
+  root-work answer w cnf is law = record {
+    kept = subst (IsKeptOf (widened d cycles) (IsThis nodes root) m) (sym cnf) kept;
+    keeps = subst (KeepsRoot d nodes root) (sym cnf) (record { decides = (keeps-root (widened d cycles) nodes root p (widened-symbols d cycles lawful) decides).decides });
+    law = subst (λ l. IsLaw w.cnf budget answer l) (sym is) (subst (λ q. IsLaw q budget answer log) (sym cnf) law);
+  }
+
+-- what is kept of a root is kept of each root like it
+kept-weaker : (d : DesignView) (P Q : List Node → ℕ → Type 0) (m : Mode) (formula : Problem) → ((terms : List Node) (term : ℕ) → P terms term → Q terms term) → IsKeptOf d P m formula → IsKeptOf d Q m formula
+kept-weaker d P Q m formula weaker k = record {
+  nodes = k.nodes;
+  root = k.root;
+  syms = k.syms;
+  marked = k.marked;
+  flat = record {
+    terms = k.flat.terms;
+    term = k.flat.term;
+    graph = k.flat.graph;
+    asked = weaker k.flat.terms k.flat.term k.flat.asked;
+    built = k.flat.built;
+    built_root = k.flat.built_root;
+    memories = k.flat.memories;
+    plain = k.flat.plain;
+    plain_root = k.flat.plain_root;
+    order = k.flat.order;
+    functions = k.flat.functions;
+    marks = k.flat.marks;
+  };
+  order = k.order;
+  rows = k.rows;
+  formula_is = k.formula_is;
+}
+
+module _ (d : DesignView) (lawful : IsLawful d) (asked : Question) (nodes : List Node) (root : ℕ) (is : IsRootOf d asked nodes root) where
+  -- a question's root reaches what is known where inputs stand once
+  pub asked-known : IsKnownRoot (widened d 1) nodes root
+  asked-known = subst (λ e. IsKnownRoot e nodes root) (sym (widened-once d)) (root-known d asked nodes root is)
+
+  -- and what is kept of it is kept of the question
+  pub asked-kept : (m : Mode) (formula : Problem) → IsKeptOf (widened d 1) (IsThis nodes root) m formula → IsKept d asked m formula
+  asked-kept m formula k =
+      kept-weaker d (IsThis nodes root) (IsRootOf d asked) m formula
+      (λ terms term this. subst (λ t. IsRootOf d asked t term) (sym this.0) (subst (IsRootOf d asked nodes) (sym this.1) is))
+      (subst (λ e. IsKeptOf e (IsThis nodes root) m formula) (widened-once d) k)
+
+  -- its work is that of the question
+  pub asked-work : (m : Mode) (budget : ℕ) (answer : Found) (w : Work) → IsRootWork d 1 nodes root m budget answer w → IsWorkOf d asked m budget answer w
+  asked-work m budget answer w h =
+      let kept = asked-kept m w.cnf h.kept in
+      record { kept = kept; keeps = kept-decides d asked m w.cnf lawful kept; law = h.law }
+
+  -- where it is valid no case is such
+  pub asked-none : IsGraph nodes → IsValid d nodes root → (c : Case) → Fits d c → IsAsked asked d c → ⊥
+  asked-none g valid = (root-decides d lawful asked nodes root is g).valid.0 valid
+
+  -- and the case of a trail of one cycle in whose world it is false is such
+  pub asked-some : IsGraph nodes → (t : Trail) → Falsifies d 1 nodes root t → Fits d (case_of_trail t) × IsAsked asked d (case_of_trail t)
+  asked-some g t h =
+      let fits : Fits d (case_of_trail t) =
+      subst (λ e. Fits e (case_of_trail t)) (widened-once d) (subst (λ n. Fits (widened d n) (case_of_trail t)) h.counted (trail-fits d t h.fits)) in (
+        fits,
+        (root-decides d lawful asked nodes root is g).to_case (case_of_trail t) h.fails.0 (case_world (case_of_trail t) h.fails.0) fits (record { alike = λ u r args. refl }) h.fails.1,
+      )

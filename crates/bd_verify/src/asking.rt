@@ -1,0 +1,88 @@
+//! What an honest solver makes of a question, by the root that decides it.
+ghost use Rattle.std.specs.Prelude.{◌≡◌, [], IfOk, length};
+ghost use Rattle.bd_model.specs.DesignView.{design_view};
+ghost use Rattle.bd_model.specs.Lawful.{IsLawful};
+ghost use Rattle.bd_symbolic.specs.Widened.{case_of_trail};
+ghost use Rattle.bd_verify.specs.Kept.{IsRootOf};
+ghost use Rattle.bd_verify.specs.inner.Answered.{IsAnswered};
+
+use crate::deciding::{Decided, decide_by};
+use crate::verdict::{Mode, Question, Work};
+use bd_cdcl::HonestSolver;
+use bd_goal::{goal, meets};
+use bd_model::{Case, Design, Trail};
+use bd_terms::{Graph, Id};
+use std::alloc::{AllocError, Global};
+
+/// Whether some fitting case is such as is asked.
+#[derive(Drop)]
+pub(crate) enum Decision {
+    /// None is.
+    None(Work),
+    /// This one is.
+    Some(Case, Work),
+    /// The budget was spent.
+    Spent(Work),
+}
+
+/// Whether some fitting case is such as is asked, by any honest solver.
+pub(crate) fn ask<S: HonestSolver>(
+    alloc: Global,
+    solver: &mut S,
+    design: &Design,
+    budget: u32,
+    asked: Question,
+    mode: Mode,
+) -> Result<Decision, AllocError>
+    requires { IsLawful (design_view design.now) }
+    ensures { IfOk result (IsAnswered (design_view design.now) asked mode budget) }
+{
+    let mut graph = Graph::new(alloc);
+    let root = root_of(alloc, &mut graph, design, asked)?;
+    match decide_by(alloc, solver, design, &graph, root, 1, budget, mode)? {
+        Decided::Valid(work) => Ok(Decision::None(work)),
+        Decided::False(trail, work) => Ok(Decision::Some(one_cycle(trail), work)),
+        Decided::Spent(work) => Ok(Decision::Spent(work)),
+    }
+}
+
+/// The root that decides the question.
+pub(crate) fn root_of(
+    alloc: Global,
+    graph: &mut Graph,
+    design: &Design,
+    asked: Question,
+) -> Result<Id, AllocError>
+    requires lawful { IsLawful (design_view design.now) }
+    requires empty { graph.old ≡ [] }
+    ensures { IfOk result (IsRootOf (design_view design.now) asked graph.new) }
+{
+    match asked {
+        Question::Breaks => {
+            let goal = goal(alloc, graph, design)?;
+            Ok(goal.root)
+        }
+        Question::Meets => meets(alloc, graph, design),
+    }
+}
+
+/// The case of a trail of one cycle.
+fn one_cycle(trail: Trail) -> Case
+    requires { length trail.inputs ≡ 1 }
+    ensures { result ≡ case_of_trail trail }
+{
+    let Trail {
+        interp,
+        state,
+        inputs,
+    } = trail;
+    let mut lists = inputs.into_vec();
+    match lists.pop() {
+        Some(inputs) => Case {
+            interp,
+            state,
+            inputs,
+        },
+        None => unreachable!(),
+    }
+}

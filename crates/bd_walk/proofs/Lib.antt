@@ -1,0 +1,5 @@
+pub mod Walking
+pub mod Closing
+pub mod Renaming
+pub mod Carrying
+pub mod Composing

@@ -1,0 +1,4 @@
+pub mod Walk
+pub mod Carried
+pub mod Ordered
+pub mod inner
