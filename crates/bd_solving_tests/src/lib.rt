@@ -8,6 +8,8 @@ mod formulas;
 #[cfg(test)]
 mod logs;
 #[cfg(test)]
+mod proof_texts;
+#[cfg(test)]
 mod propagation;
 #[cfg(test)]
 mod solvers;

@@ -1,0 +1,29 @@
+-- What is said of a design and a textual proof over its kept formula (Burch and Dill 1994; textual LRAT).
+use Rattle.std.specs.Prelude.{◌≡◌, ℕ, List, Ok, Err}
+use Rattle.bd_cnf.specs.Problem.{Problem}
+use Rattle.bd_model.specs.DesignView.{DesignView}
+use Rattle.bd_proof_text.specs.declared.fault.Fault.{Fault}
+use Rattle.bd_proof_text.specs.ProofText.{fault, proof_text}
+use Rattle.bd_proof_text.specs.Tokens.{place}
+use Rattle.bd_verify.specs.declared.verdict.Mode.TheVariants.{Plain}
+use Rattle.bd_verify.specs.declared.verdict.Question.TheVariants.{Breaks}
+use Rattle.bd_verify.specs.declared.verdict.Work.{Work}
+use Rattle.bd_verify.specs.Kept.{IsKept}
+use Rattle.bd_foreign.specs.declared.fault.ProofFault.{ProofFault}
+use Rattle.bd_foreign.specs.declared.fault.ProofFault.TheVariants as proof
+
+-- the work is the kept formula of the question whether a case breaks a condition, and just the lines that the text has
+-- over it, up to the one that ends the proof
+pub record IsReadFrom (d : DesignView) (bytes : List ℕ) (work : Work) : Type 0 where
+  pub kept : IsKept d Breaks Plain work.cnf
+  pub lines : proof_text work.cnf bytes ≡ Ok work.log
+
+-- the text has this first fault over the kept formula
+pub record HasFault (d : DesignView) (bytes : List ℕ) (e : Fault) (cnf : Problem) : Type 0 where
+  pub kept : IsKept d Breaks Plain cnf
+  pub first : proof_text cnf bytes ≡ Err e
+
+-- the fault that is answered, unless memory ran out
+abbrev pub IsFaultOf : DesignView → List ℕ → ProofFault → Type 0
+IsFaultOf d bytes (proof.Bad line column cause cnf) = HasFault d bytes (fault (place line column) cause) cnf
+IsFaultOf d bytes proof.Memory = Unit {0}

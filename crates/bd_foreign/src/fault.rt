@@ -1,0 +1,29 @@
+//! Why a text is no proof.
+ghost use Rattle.std.specs.Prelude.{◌≡◌};
+ghost use Rattle.bd_foreign.specs.declared.fault.ProofFault.TheVariants.{Memory};
+
+use bd_cnf::Cnf;
+use bd_proof_text::Why;
+use std::alloc::AllocError;
+
+/// Why a text is no proof that a design is right.
+#[derive(Debug, Drop)]
+pub enum ProofFault {
+    /// Its first fault over this formula, the kept one. Lines and columns count from 1, columns in bytes.
+    Bad {
+        line: u64,
+        column: u64,
+        why: Why,
+        cnf: Cnf,
+    },
+    /// Out of memory.
+    Memory,
+}
+
+impl From<AllocError> for ProofFault {
+    ghost from_gives = { λ _ fault. fault ≡ Memory };
+
+    fn from(_error: AllocError) -> ProofFault {
+        ProofFault::Memory
+    }
+}
