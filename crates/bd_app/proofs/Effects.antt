@@ -12,12 +12,12 @@ use Rattle.bd_app.specs.declared.answer.Answer.{Answer}
 use Rattle.bd_app.specs.declared.answer.Which.{Which}
 use Rattle.bd_app.specs.declared.answer.Which.TheVariants as which
 use Rattle.bd_app.specs.declared.answer.Ended.{Ended}
-use Rattle.bd_app.specs.declared.answer.Ended.TheVariants.{Refused, Device, Memory}
+use Rattle.bd_app.specs.declared.answer.Ended.TheVariants.{Refused, BadText, Device, Memory}
 use Rattle.bd_app.specs.inner.Done.{IsDone, IsFault}
 use Rattle.bd_app.specs.inner.Loaded.{IsLoadFault, Loads}
 use Rattle.bd_app.specs.inner.Saved.{IsSaveFault, Saves}
-use Rattle.bd_app.proofs.Passing.{IfSome-both, IfSome-weaker, no_error, passed, rose_after}
-use Rattle.bd_app.proofs.Saving.{keeps_same}
+use Rattle.bd_app.proofs.Results.{IfSome-both, IfSome-weaker, no_error, passed, rose_after}
+use Rattle.bd_app.proofs.Saves.{keeps_same}
 use Rattle.bd_app.proofs.Verdicts.{no_device, no_verdict, same_verdict, verdict_reports, verdict_saves}
 
 -- ---- nothing happened but reading
@@ -93,16 +93,19 @@ load_failed {T} m a b e r is l = passed (λ z. IsDone m a b z) r e is (record { 
 -- why texts are refused, where no file is too long
 abbrev pub AreTextsRefused : Meaning → Option Held → Ended → Type 0
 AreTextsRefused m held (Refused file offset code) = IfSome held (λ h. m.IsTextFault h file offset code)
+AreTextsRefused m held (BadText line column why cnf) = IfSome held (λ h. m.IsProofFault h line column why cnf)
 AreTextsRefused m held Memory = Unit {0}
 AreTextsRefused m held _ = ⊥
 
 texts_quiet : (m : Meaning) (held : Option Held) (e : Ended) → AreTextsRefused m held e → IsQuiet e
 texts_quiet m held (Refused file offset code) fault = record { no_device = λ w is. cc is; no_verdict = λ v is. no_verdict (Refused file offset code) v (λ h. h) is }
+texts_quiet m held (BadText line column why cnf) fault = record { no_device = λ w is. cc is; no_verdict = λ v is. no_verdict (BadText line column why cnf) v (λ h. h) is }
 texts_quiet m held Memory fault = record { no_device = λ w is. cc is; no_verdict = λ v is. no_verdict Memory v (λ h. h) is }
 texts_quiet m held _ fault = absurd fault
 
 texts_fault : (m : Meaning) (held : Option Held) (e : Ended) → IfSome held (λ h. AreShort h m.files) → AreTextsRefused m held e → IsFault m held e
 texts_fault m held (Refused file offset code) short fault = IfSome-both _ _ _ held (λ h s f. inr (s, f)) short fault
+texts_fault m held (BadText line column why cnf) short fault = IfSome-both _ _ _ held (λ h s f. (s, f)) short fault
 texts_fault m held Memory short fault = tt
 texts_fault m held _ short fault = absurd fault
 

@@ -1,8 +1,8 @@
-pub mod Passing
-pub mod Loading
-pub mod Taking
-pub mod Saving
+pub mod Results
+pub mod Loads
+pub mod WordValues
+pub mod Saves
 pub mod Verdicts
 pub mod Effects
 pub mod Sources
-pub mod Printing
+pub mod Answered

@@ -7,27 +7,29 @@ use Rattle.bd_model.specs.declared.case.Case.{Case}
 use Rattle.bd_model.specs.declared.table.Value.{Value}
 use Rattle.bd_typer.specs.Denotes.{Denotes}
 use Rattle.bd_typer.specs.Faults.{FileFault}
-use Rattle.bd_app.specs.Cases.{CaseNames, CaseSources, case_meaning}
+use Rattle.bd_typer.specs.declared.fault.Text.TheVariants as text
+use Rattle.bd_app.specs.Cases.{case_meaning}
 use Rattle.bd_app.specs.Check.{Check, CheckSources, check_asked, check_meaning}
-use Rattle.bd_app.specs.Files.{HoldsShort, IsEither, KeepsAllBut}
+use Rattle.bd_app.specs.Files.{HoldsShort, IsEither, KeepsAllBut, TextNames}
 use Rattle.bd_app.specs.Generate.{Gen, gen_asked, gen_lead, gen_meaning, generated}
 use Rattle.bd_app.specs.Meaning.{FilesSeen, IsVerdictFor}
+use Rattle.bd_app.specs.Recheck.{Recheck, recheck_meaning}
 use Rattle.bd_app.specs.Replay.{IsJudgement}
 use Rattle.bd_app.specs.Run.{IsTrace, cycle_text, cycles_text}
-use Rattle.bd_app.specs.Sources.{IsDesign, Sources}
+use Rattle.bd_app.specs.Sources.{IsDesign, Sources, TextSources}
 use Rattle.bd_app.specs.Verdicts.{ended_by, verdict_words, work_of, IsVerdictReport}
 use Rattle.bd_app.specs.declared.answer.Answer.{Answer}
 use Rattle.bd_app.specs.declared.answer.Ended.{Ended}
-use Rattle.bd_app.specs.declared.answer.Ended.TheVariants.{Refused, Memory}
+use Rattle.bd_app.specs.declared.answer.Ended.TheVariants.{Refused, BadText, Memory}
 use Rattle.bd_app.specs.declared.verdict.Asked.{Asked}
 use Rattle.bd_app.specs.declared.verdict.ShownVerdict.{ShownVerdict}
-use Rattle.bd_app.specs.inner.Done.{AreDesign, AreRefused, IsCaseRefused, IsDone, IsShownOf, IsVerdictOn, OnCase, OnSources}
+use Rattle.bd_app.specs.inner.Done.{AreDesign, AreRefused, IsBadProof, IsCaseRefused, IsDone, IsProvedBy, IsSaidOf, IsShownOf, IsVerdictOn, OnSources, OnText}
 use Rattle.bd_app.specs.inner.Saved.{Saves}
 use Rattle.bd_app.proofs.Effects.{AreTextsRefused, IsQuiet, Stand, memory_after, none_saved, quiet_done, texts_refused, unchanged, verdict_done}
-use Rattle.bd_app.proofs.Loading.{case_short, sources_short}
-use Rattle.bd_app.proofs.Passing.{IfSome-all, IfSome-both, IfSome-weaker, no_error, passed}
-use Rattle.bd_app.proofs.Saving.{keeps_same}
-use Rattle.bd_app.proofs.Verdicts.{no_ran, no_replayed, verdict_report}
+use Rattle.bd_app.proofs.Loads.{sources_short, text_short}
+use Rattle.bd_app.proofs.Results.{IfSome-all, IfSome-both, IfSome-weaker, no_error, passed}
+use Rattle.bd_app.proofs.Saves.{keeps_same}
+use Rattle.bd_app.proofs.Verdicts.{no_proved, no_ran, no_replayed, verdict_report}
 
 -- the same texts denote the same
 pub denotes_same : (p u s v : List ℕ) (i j : Option (List ℕ)) (r : Result DesignView FileFault) → p ≡ u → s ≡ v → i ≡ j → Denotes p s i r → Denotes u v j r
@@ -40,8 +42,8 @@ is_design held AreGiven s d given design = IfSome-weaker _ _ held (λ h g. recor
 
 -- ---- questions on a case
 
-module _ (names : CaseNames) (Says : DesignView → Case → Ended → List ℕ → Type 0) (held : Option Held) (s : Sources) (bytes : List ℕ)
-    (given : IfSome held (λ h. CaseSources names h s)) (case : IfSome held (λ h. HoldsShort h names.case bytes)) where
+module _ (names : TextNames) (Says : DesignView → Case → Ended → List ℕ → Type 0) (held : Option Held) (s : Sources) (bytes : List ℕ)
+    (given : IfSome held (λ h. TextSources names h s)) (case : IfSome held (λ h. HoldsShort h (text.Case, names.text) bytes)) where
   design_refused : (e : Ended) → AreRefused s e → AreTextsRefused (case_meaning names Says) held e
   design_refused (Refused file offset code) fault = IfSome-weaker _ _ held (λ h g. inl (record { sources = s; given = g; denoted = fault })) given
   design_refused Memory fault = tt
@@ -63,9 +65,9 @@ module _ (names : CaseNames) (Says : DesignView → Case → Ended → List ℕ 
   any_refused e fault = elim fault [ inl h ↦ design_refused e h | inr h ↦ case_refused h.0 e h.1 h.2 ]
 
 -- the answer to a question on a case, from what is said of its bytes
-pub case_done : (names : CaseNames) (Says : DesignView → Case → Ended → List ℕ → Type 0) (a b : FilesSeen) (s : Sources) (bytes : List ℕ) (r : Result Answer Ended)
-    → ((d : DesignView) (c : Case) (e : Ended) (report : List ℕ) → Says d c e report → IsQuiet e) → Stand a b → IfSome a.held (λ h. CaseSources names h s)
-    → IfSome a.held (λ h. HoldsShort h names.case bytes) → OnSources Says s bytes r → IsDone (case_meaning names Says) a b r
+pub case_done : (names : TextNames) (Says : DesignView → Case → Ended → List ℕ → Type 0) (a b : FilesSeen) (s : Sources) (bytes : List ℕ) (r : Result Answer Ended)
+    → ((d : DesignView) (c : Case) (e : Ended) (report : List ℕ) → Says d c e report → IsQuiet e) → Stand a b → IfSome a.held (λ h. TextSources names h s)
+    → IfSome a.held (λ h. HoldsShort h (text.Case, names.text) bytes) → OnSources (IsSaidOf Says) IsCaseRefused s bytes r → IsDone (case_meaning names Says) a b r
 case_done names Says a b s bytes (Ok answer) quiet stand given case on =
     let said = on.said.2 in
     quiet_done (case_meaning names Says) a b answer stand (quiet _ _ _ _ said.says) (record {
@@ -81,7 +83,7 @@ case_done names Says a b s bytes (Ok answer) quiet stand given case on =
       says = said.says;
     })
 case_done names Says a b s bytes (Err e) quiet stand given case on =
-    texts_refused (case_meaning names Says) a b e stand (IfSome-both _ _ _ a.held (λ h g c. case_short h names s bytes g c) given case)
+    texts_refused (case_meaning names Says) a b e stand (IfSome-both _ _ _ a.held (λ h g c. text_short h text.Case names s bytes g c) given case)
     (any_refused names Says a.held s bytes given case e on.refused)
 
 pub judgement_quiet : (d : DesignView) (c : Case) (e : Ended) (report : List ℕ) → IsJudgement d c e report → IsQuiet e
@@ -96,13 +98,14 @@ trace_quiet cycles d c e report is = record {
   no_verdict = λ v same. no_ran v (sym same ∙ is.ended);
 }
 
--- from a case of a design to one of sources
-pub on_sources : (Says : DesignView → Case → Ended → List ℕ → Type 0) (s : Sources) (d : DesignView) (bytes : List ℕ) (r : Result Answer Ended) → AreDesign s d → OnCase Says d bytes r → OnSources Says s bytes r
-on_sources Says s d bytes (Ok a) design on = record { said = (d, design, on.said); refused = tt }
-on_sources Says s d bytes (Err e) design on = record { said = tt; refused = inr (d, design, on.refused) }
+-- from a text on a design to one on sources
+module _ (Said : DesignView → List ℕ → Answer → Type 0) (IsTextRefused : DesignView → List ℕ → Ended → Type 0) (s : Sources) (bytes : List ℕ) where
+  pub on_sources : (d : DesignView) (r : Result Answer Ended) → AreDesign s d → OnText Said IsTextRefused d bytes r → OnSources Said IsTextRefused s bytes r
+  on_sources d (Ok a) design on = record { said = (d, design, on.said); refused = tt }
+  on_sources d (Err e) design on = record { said = tt; refused = inr (d, design, on.refused) }
 
-pub sources_refused : (Says : DesignView → Case → Ended → List ℕ → Type 0) (s : Sources) (bytes : List ℕ) (e : Ended) (r : Result Answer Ended) → IsErrAnd r (λ y. y ≡ e) → AreRefused s e → OnSources Says s bytes r
-sources_refused Says s bytes e r is fault = passed (λ z. OnSources Says s bytes z) r e is (record { said = tt; refused = inl fault })
+  pub sources_refused : (e : Ended) (r : Result Answer Ended) → IsErrAnd r (λ y. y ≡ e) → AreRefused s e → OnSources Said IsTextRefused s bytes r
+  sources_refused e r is fault = passed (λ z. OnSources Said IsTextRefused s bytes z) r e is (record { said = tt; refused = inl fault })
 
 pub next_state : (d : DesignView) (n : ℕ) (states : List (List Value)) (x e : List Value) (text after whole : List ℕ) → n < length states → x ≡ get_or states n e
     → after ≡ text ++ cycle_text d n x → text ++ cycles_text d n (drop n states) ≡ whole → after ++ cycles_text d (n + 1) (drop (n + 1) states) ≡ whole
@@ -110,6 +113,48 @@ next_state d n states x e text after whole lt at is before =
     let next : drop n states ≡ x ∷ drop (n + 1) states = drop-cons states n e lt ∙ ap₂ (λ y ys. y ∷ ys) (sym at) (ap (λ k. drop k states) (sym (add-one n))) in
     ap (λ t. t ++ cycles_text d (n + 1) (drop (n + 1) states)) is ∙ append_assoc text (cycle_text d n x) (cycles_text d (n + 1) (drop (n + 1) states))
     ∙ ap (λ s. text ++ cycles_text d n s) (sym next) ∙ before
+
+-- ---- proofs from elsewhere
+
+module _ (q : Recheck) (held : Option Held) (s : Sources) (bytes : List ℕ) (given : IfSome held (λ h. TextSources q h s)) (proof : IfSome held (λ h. HoldsShort h (text.Proof, q.text) bytes)) where
+  recheck_refused : (e : Ended) → AreRefused s e → AreTextsRefused (recheck_meaning q) held e
+  recheck_refused (Refused file offset code) fault = IfSome-weaker _ _ held (λ h g. record { sources = s; given = g; denoted = fault }) given
+  recheck_refused Memory fault = tt
+  recheck_refused _ fault = absurd fault
+
+  bad_proof : (d : DesignView) (e : Ended) → AreDesign s d → IsBadProof d bytes e → AreTextsRefused (recheck_meaning q) held e
+  bad_proof d (BadText line column why cnf) design fault = IfSome-both _ _ _ held (λ h g p. record {
+    design = d;
+    denoted = record { sources = s; given = g; denoted = design };
+    bytes = bytes;
+    given = p;
+    says = fault;
+  }) given proof
+  bad_proof d Memory design fault = tt
+  bad_proof d _ design fault = absurd fault
+
+  proof_refused : (e : Ended) → AreRefused s e ⊎ ((d : DesignView) × AreDesign s d × IsBadProof d bytes e) → AreTextsRefused (recheck_meaning q) held e
+  proof_refused e fault = elim fault [ inl h ↦ recheck_refused e h | inr h ↦ bad_proof h.0 e h.1 h.2 ]
+
+-- the answer to a proof, from what is said of its bytes
+pub recheck_done : (q : Recheck) (a b : FilesSeen) (s : Sources) (bytes : List ℕ) (r : Result Answer Ended) → Stand a b → IfSome a.held (λ h. TextSources q h s)
+    → IfSome a.held (λ h. HoldsShort h (text.Proof, q.text) bytes) → OnSources IsProvedBy IsBadProof s bytes r → IsDone (recheck_meaning q) a b r
+recheck_done q a b s bytes (Ok answer) stand given proof on =
+    let said = on.said.2 in
+    quiet_done (recheck_meaning q) a b answer stand (record { no_device = λ w same. cc (said.ended, same); no_verdict = λ v same. no_proved v said.work (sym same ∙ said.ended) }) (record {
+      work = said.work;
+      ended = said.ended;
+      proves = IfSome-both _ _ _ a.held (λ h g p. record {
+        design = on.said.0;
+        denoted = record { sources = s; given = g; denoted = on.said.1 };
+        bytes = bytes;
+        given = p;
+        says = said.proves;
+      }) given proof;
+      words = said.words;
+    })
+recheck_done q a b s bytes (Err e) stand given proof on =
+    texts_refused (recheck_meaning q) a b e stand (IfSome-both _ _ _ a.held (λ h g p. text_short h text.Proof q s bytes g p) given proof) (proof_refused q a.held s bytes given proof e on.refused)
 
 -- ---- checks
 

@@ -19,7 +19,7 @@ use Rattle.bd_app.specs.Verdicts.{IsVerdict, IsVerdictReport, MayGive, ended_by,
 use Rattle.bd_app.specs.declared.answer.Answer.{Answer}
 use Rattle.bd_app.specs.declared.answer.Which.{Which}
 use Rattle.bd_app.specs.declared.answer.Ended.{Ended}
-use Rattle.bd_app.specs.declared.answer.Ended.TheVariants.{Correct, Wrong, Void, Undecided, Replayed, Ran, Usage, Memory, Device}
+use Rattle.bd_app.specs.declared.answer.Ended.TheVariants.{Correct, Wrong, Void, Undecided, Replayed, Ran, Proved, Usage, Memory, Device}
 use Rattle.bd_app.specs.declared.verdict.Asked.{Asked}
 use Rattle.bd_app.specs.declared.verdict.ShownVerdict.{ShownVerdict}
 use Rattle.bd_app.specs.inner.Done.{IsShown}
@@ -64,6 +64,12 @@ verdict_saves (verdict.Correct c work) is = is
 verdict_saves (verdict.Wrong k c work) is = is
 verdict_saves (verdict.Void work) is = is
 verdict_saves (verdict.Undecided asked work) is = is
+
+pub no_proved : (v : Verdict) (work : Work) → ended_by v ≢ Proved work
+no_proved (verdict.Correct c w) work is = cc is
+no_proved (verdict.Wrong k c w) work is = cc is
+no_proved (verdict.Void w) work is = cc is
+no_proved (verdict.Undecided asked w) work is = cc is
 
 verdict_in : Ended → Option Verdict
 verdict_in (Correct c work) = Some (verdict.Correct c work)

@@ -9,7 +9,8 @@ use Rattle.bd_typer.specs.declared.fault.Text.TheVariants as text
 use Rattle.bd_app.specs.declared.answer.Which.{Which}
 use Rattle.bd_app.specs.declared.answer.Which.TheVariants as which
 use Rattle.bd_app.specs.declared.answer.Ended.{Ended}
-use Rattle.bd_app.specs.declared.answer.Ended.TheVariants.{Correct, Wrong, Void, Undecided, Replayed, Ran, Usage, Refused, Device, Memory}
+use Rattle.bd_app.specs.declared.answer.Ended.TheVariants.{Correct, Wrong, Void, Undecided, Replayed, Ran, Proved, Usage, Refused, BadText, Device, Memory}
+use Rattle.bd_app.specs.ProofFaults.{proof_line}
 
 abbrev pub status_of : Ended → ℕ
 status_of (Correct c work) = 0
@@ -20,8 +21,10 @@ status_of (Replayed judged.Holds) = 0
 status_of (Replayed judged.Outside) = 8
 status_of (Replayed (judged.Broken k)) = 1
 status_of Ran = 0
+status_of (Proved work) = 0
 status_of Usage = 2
 status_of (Refused t offset code) = 3
+status_of (BadText line column why cnf) = 3
 status_of (Device w) = 5
 status_of Memory = 6
 
@@ -29,6 +32,7 @@ status_of Memory = 6
 abbrev pub HasReport : Ended → Type 0
 HasReport Usage = ⊥
 HasReport (Refused t offset code) = ⊥
+HasReport (BadText line column why cnf) = ⊥
 HasReport (Device w) = ⊥
 HasReport Memory = ⊥
 HasReport _ = Unit {0}
@@ -37,8 +41,10 @@ HasReport _ = Unit {0}
 abbrev pub SavesNothing : Ended → Type 0
 SavesNothing (Replayed j) = Unit {0}
 SavesNothing Ran = Unit {0}
+SavesNothing (Proved work) = Unit {0}
 SavesNothing Usage = Unit {0}
 SavesNothing (Refused file offset code) = Unit {0}
+SavesNothing (BadText line column why cnf) = Unit {0}
 SavesNothing (Device which.Load) = Unit {0}
 SavesNothing _ = ⊥
 
@@ -48,13 +54,14 @@ abbrev pub usage : List ℕ
 usage =
     codes "usage: burch_dill check PIPE SPEC [INV] [--budget N] [--cnf FILE] [--lrat FILE] "
     ++ codes "[--diverse] | replay PIPE SPEC CASE [INV] | run PIPE SPEC CASE CYCLES "
-    ++ codes "| gen DEPTH DROP"
+    ++ codes "| gen DEPTH DROP | recheck PIPE SPEC PROOF [INV]"
 
 abbrev pub file_word : Text → List ℕ
 file_word text.Pipe = codes "pipe"
 file_word text.Spec = codes "spec"
 file_word text.Inv = codes "inv"
 file_word text.Case = codes "case"
+file_word text.Proof = codes "proof"
 
 abbrev pub device_text : Which → List ℕ
 device_text which.Load = codes "cannot read"
@@ -74,6 +81,7 @@ refusal_line file offset code =
 abbrev pub fault_line_of : Ended → List ℕ
 fault_line_of Usage = usage ++ 10 ∷ []
 fault_line_of (Refused t offset code) = refusal_line t offset code
+fault_line_of (BadText line column why cnf) = proof_line line column why
 fault_line_of (Device w) = device_text w ++ 10 ∷ []
 fault_line_of Memory = codes "out of memory" ++ 10 ∷ []
 fault_line_of _ = []

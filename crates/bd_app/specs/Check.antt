@@ -5,7 +5,7 @@ use Rattle.clap.specs.Walk.{Row, first_of}
 use Rattle.bd_files.specs.Devices.{Held}
 use Rattle.bd_verify.specs.declared.verdict.Mode.{Mode}
 use Rattle.bd_app.specs.Files.{design_files}
-use Rattle.bd_app.specs.Meaning.{Meaning}
+use Rattle.bd_app.specs.Meaning.{Meaning, no_proof}
 use Rattle.bd_app.specs.Sources.{HoldSources, IsDesign, IsDesignFault, Sources}
 use Rattle.bd_app.specs.Verdicts.{IsVerdictAnswer}
 use Rattle.bd_app.specs.Words.{Name, budget_option, flag, given, machines_command, mode_at, number_at, option, ◌>>=◌}
@@ -80,5 +80,6 @@ check_meaning q = record {
   Asks = λ held d. IsDesign (CheckSources q held) d;
   verdict = Some (check_asked q);
   IsTextFault = λ held file offset code. IsDesignFault (CheckSources q held) file offset code;
+  IsProofFault = no_proof;
   IsAnswer = IsVerdictAnswer (λ held d. IsDesign (CheckSources q held) d) (check_asked q) true [];
 }

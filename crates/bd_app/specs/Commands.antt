@@ -10,6 +10,7 @@ use Rattle.clap.specs.Kinds.{Kinds}
 use Rattle.bd_app.specs.Meaning.{Meaning}
 use Rattle.bd_app.specs.Check.{Check, check_command, check_meaning, check_question}
 use Rattle.bd_app.specs.Generate.{Gen, gen_command, gen_meaning, gen_question}
+use Rattle.bd_app.specs.Recheck.{Recheck, recheck_command, recheck_meaning, recheck_question}
 use Rattle.bd_app.specs.Replay.{Replay, replay_command, replay_meaning, replay_question}
 use Rattle.bd_app.specs.Run.{Run, run_command, run_meaning, run_question}
 use Rattle.bd_app.specs.Words.{◌>>=◌}
@@ -20,6 +21,7 @@ pub data Question : Type 0 where
   replay : Replay → Question
   run : Run → Question
   gen : Gen → Question
+  recheck : Recheck → Question
 
 -- what it means
 abbrev pub meaning_of : Question → Meaning
@@ -27,6 +29,7 @@ meaning_of (check q) = check_meaning q
 meaning_of (replay q) = replay_meaning q
 meaning_of (run q) = run_meaning q
 meaning_of (gen q) = gen_meaning q
+meaning_of (recheck q) = recheck_meaning q
 
 -- a command: its words, and the question of their values
 pub record Command : Type 0 where
@@ -40,6 +43,7 @@ commands =
     ∷ record { shape = replay_command; question = λ rows. option_map replay (replay_question rows) }
     ∷ record { shape = run_command; question = λ rows. option_map run (run_question rows) }
     ∷ record { shape = gen_command; question = λ rows. option_map gen (gen_question rows) }
+    ∷ record { shape = recheck_command; question = λ rows. option_map recheck (recheck_question rows) }
     ∷ []
 
 unfoldable pub command_line : App

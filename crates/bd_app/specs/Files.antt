@@ -7,9 +7,10 @@ use Rattle.bd_files.specs.Devices.{Blame, Held, Holds, KeepsOthers}
 use Rattle.bd_files.specs.declared.devices.FileCall.TheVariants as call
 use Rattle.bd_lrat.specs.Text.{lrat as lrat_text}
 use Rattle.bd_verify.specs.declared.verdict.Work.{Work}
-use Rattle.bd_app.specs.Words.{Name}
+use Rattle.bd_app.specs.Words.{Name, given}
+use Rattle.bd_app.specs.declared.load.TextFiles.{TextFiles}
 use Rattle.bd_typer.specs.declared.fault.Text.{Text}
-use Rattle.bd_typer.specs.declared.fault.Text.TheVariants.{Pipe, Spec, Inv, Case}
+use Rattle.bd_typer.specs.declared.fault.Text.TheVariants.{Pipe, Spec, Inv, Proof}
 
 -- ---- files that are read
 
@@ -25,20 +26,40 @@ one_if text (Some name) = (text, name) ∷ []
 abbrev pub design_files : Name → Name → Option Name → List File
 design_files pipe spec inv = (Pipe, pipe) ∷ (Spec, spec) ∷ one_if Inv inv
 
--- those of a case
-abbrev pub case_files : Name → Name → Name → Option Name → List File
-case_files pipe spec case inv =
-    (Pipe, pipe) ∷ (Spec, spec) ∷ (Case, case) ∷ one_if Inv inv
+-- the names of the files of a design and of a text on it, a case or a proof
+pub record TextNames : Type 0 where
+  pub pipe : Name
+  pub spec : Name
+  pub text : Name
+  pub inv : Option Name
 
--- these bytes are held under the name, at most 1,048,576
-abbrev pub HoldsShort : Held → Name → List ℕ → Type 0
-HoldsShort held name bytes = (held name ≡ Some bytes) × (length bytes ≤ 1048576)
+abbrev pub text_names : TextFiles → TextNames
+text_names files = record {
+  pipe = files.pipe.now;
+  spec = files.spec.now;
+  text = files.text.now;
+  inv = given files.inv;
+}
+
+-- these files, in the order of the words
+abbrev pub text_files : Text → TextNames → List File
+text_files text names =
+    (Pipe, names.pipe) ∷ (Spec, names.spec) ∷ (text, names.text) ∷ one_if Inv names.inv
+
+-- the most bytes of a file
+abbrev pub most_bytes : Text → ℕ
+most_bytes Proof = 67108864
+most_bytes _ = 1048576
+
+-- these bytes are held under the file's name, not too many
+abbrev pub HoldsShort : Held → File → List ℕ → Type 0
+HoldsShort held file bytes = (held file.1 ≡ Some bytes) × (length bytes ≤ most_bytes file.0)
 
 abbrev pub IsShort : Held → File → Type 0
-IsShort held file = (bytes : List ℕ) × HoldsShort held file.1 bytes
+IsShort held file = (bytes : List ℕ) × HoldsShort held file bytes
 
 abbrev pub IsLong : Held → File → Type 0
-IsLong held file = (bytes : List ℕ) × (held file.1 ≡ Some bytes) × (1048576 < length bytes)
+IsLong held file = (bytes : List ℕ) × (held file.1 ≡ Some bytes) × (most_bytes file.0 < length bytes)
 
 -- each of the files is held, and none is too long
 abbrev pub AreShort : Held → List File → Type 0

@@ -6,7 +6,7 @@ use Rattle.clap.specs.Walk.{Row}
 use Rattle.bd_gen.specs.Pipeline.{pipeline_text}
 use Rattle.bd_gen.specs.Specification.{specification_text}
 use Rattle.bd_verify.specs.declared.verdict.Mode.TheVariants.{Plain}
-use Rattle.bd_app.specs.Meaning.{Meaning}
+use Rattle.bd_app.specs.Meaning.{Meaning, no_proof}
 use Rattle.bd_app.specs.Sources.{IsDesign, IsDesignFault, Sources}
 use Rattle.bd_app.specs.Verdicts.{IsVerdictAnswer}
 use Rattle.bd_app.specs.Words.{command, in_range, number_at, required, ◌>>=◌}
@@ -66,6 +66,7 @@ gen_meaning q = record {
   Asks = λ held d. IsDesign (λ s. s ≡ generated q) d;
   verdict = Some gen_asked;
   IsTextFault = λ held file offset code. IsDesignFault (λ s. s ≡ generated q) file offset code;
+  IsProofFault = no_proof;
   IsAnswer =
       IsVerdictAnswer (λ held d. IsDesign (λ s. s ≡ generated q) d) gen_asked false (gen_lead q);
 }

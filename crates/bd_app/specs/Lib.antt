@@ -1,5 +1,6 @@
 pub mod Words
 pub mod Files
+pub mod ProofFaults
 pub mod Sources
 pub mod Answer
 pub mod Verdicts
@@ -7,6 +8,7 @@ pub mod Meaning
 pub mod Cases
 pub mod Check
 pub mod Generate
+pub mod Recheck
 pub mod Replay
 pub mod Run
 pub mod Commands

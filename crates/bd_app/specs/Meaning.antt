@@ -2,13 +2,15 @@
 -- its answers say; and what is left of the files after it.
 use Rattle.std.specs.Prelude.{◌≡◌, ◌≢◌, ◌⊎◌, ◌≤◌, ℕ, List, Option, Some, IfSome}
 use Rattle.bd_model.specs.DesignView.{DesignView}
+use Rattle.bd_cnf.specs.Problem.{Problem}
 use Rattle.bd_files.specs.Devices.{Blame, Held, Rose}
+use Rattle.bd_proof_text.specs.declared.fault.Why.{Why}
 use Rattle.bd_text.specs.declared.code.Code.{Code}
 use Rattle.bd_text.specs.declared.code.Code.TheVariants.{TooLong}
 use Rattle.bd_typer.specs.declared.fault.Text.{Text}
 use Rattle.bd_verify.specs.declared.verdict.Verdict.{Verdict}
 use Rattle.bd_app.specs.Answer.{SavesNothing}
-use Rattle.bd_app.specs.Files.{AreSaved, AreSavedUpTo, AreShort, BlamesOneOf, BlamesSaveOf, File, IsEither, IsFirstLong, KeepsAllBut}
+use Rattle.bd_app.specs.Files.{AreSaved, AreSavedUpTo, AreShort, BlamesOneOf, BlamesSaveOf, File, IsEither, IsFirstLong, KeepsAllBut, most_bytes}
 use Rattle.bd_app.specs.Verdicts.{IsVerdict, ended_by, work_of}
 use Rattle.bd_app.specs.Words.{Name}
 use Rattle.bd_app.specs.declared.answer.Which.TheVariants.{Load, Save}
@@ -28,6 +30,8 @@ pub record Meaning : Type 1 where
   pub verdict : Option Asked
   -- the first fault of the texts, where no file is too long
   pub IsTextFault : Held → Text → ℕ → Code → Type 0
+  -- the first fault of a proof over a formula, where the other texts have none
+  pub IsProofFault : Held → ℕ → ℕ → Why → Problem → Type 0
   -- an answer that is no fault, and its report
   pub IsAnswer : Option Held → Ended → List ℕ → Type 0
 
@@ -37,7 +41,7 @@ pub record Meaning : Type 1 where
 pub record IsTooLong (held : Held) (files : List File) (file : Text) (offset : ℕ) (code : Code) :
     Type 0 where
   pub first : IsFirstLong held files file
-  pub at_limit : offset ≡ 1048576
+  pub at_limit : offset ≡ most_bytes file
   pub too_long : code ≡ TooLong
 
 -- why a file is refused: it is too long, or none is and a text has a fault
@@ -45,6 +49,15 @@ abbrev pub IsRefused : Meaning → Held → Text → ℕ → Code → Type 0
 IsRefused m held file offset code =
     IsTooLong held m.files file offset code
     ⊎ (AreShort held m.files × m.IsTextFault held file offset code)
+
+-- why a proof is refused: no file is too long, and it has this first fault
+abbrev pub IsProofRefused : Meaning → Held → ℕ → ℕ → Why → Problem → Type 0
+IsProofRefused m held line column why cnf =
+    AreShort held m.files × m.IsProofFault held line column why cnf
+
+-- no proof is read
+abbrev pub no_proof : Held → ℕ → ℕ → Why → Problem → Type 0
+no_proof held line column why cnf = ⊥
 
 -- ---- verdicts
 

@@ -7,7 +7,9 @@ use Rattle.bd_model.specs.Right.{IsRight}
 use Rattle.bd_model.specs.declared.case.Case.{Case}
 use Rattle.bd_model.specs.declared.case.Condition.{Condition}
 use Rattle.bd_model.specs.declared.case.Judged.TheVariants.{Broken, Holds}
+use Rattle.bd_cnf.specs.Problem.{Problem}
 use Rattle.bd_files.specs.Devices.{Held, Rose, Appends, AppendsPrefix, PutsOrFaults}
+use Rattle.bd_proof_text.specs.declared.fault.Why.{Why}
 use Rattle.bd_text.specs.declared.code.Code.{Code}
 use Rattle.bd_typer.specs.declared.fault.Text.{Text}
 use Rattle.bd_verify.specs.Verdict.{HasWork}
@@ -16,11 +18,11 @@ use Rattle.bd_verify.specs.declared.verdict.Verdict.{Verdict}
 use Rattle.bd_verify.specs.declared.verdict.Work.{Work}
 use Rattle.bd_app.specs.Answer.{HasReport, fault_line_of}
 use Rattle.bd_app.specs.Commands.{Question, meaning_of, taken}
-use Rattle.bd_app.specs.Meaning.{Effects, FilesSeen, IsRefused, IsSaved, Meaning}
+use Rattle.bd_app.specs.Meaning.{Effects, FilesSeen, IsProofRefused, IsRefused, IsSaved, Meaning}
 use Rattle.bd_app.specs.Verdicts.{MayGive, ended_by}
 use Rattle.bd_app.specs.declared.answer.Which.TheVariants.{Out}
 use Rattle.bd_app.specs.declared.answer.Ended.{Ended}
-use Rattle.bd_app.specs.declared.answer.Ended.TheVariants.{Correct, Wrong, Void, Undecided, Usage, Refused, Device, Memory}
+use Rattle.bd_app.specs.declared.answer.Ended.TheVariants.{Correct, Wrong, Void, Undecided, Proved, Usage, Refused, BadText, Device, Memory}
 use Rattle.bd_app.specs.declared.verdict.Asked.{Asked}
 
 -- a sink as a caller sees it
@@ -54,6 +56,7 @@ pub record Headline (held : Option Held) (words : List (List ℕ)) (e : Ended) :
       ForDesign held words (λ d. Fits d c × IsJudged d c (Broken k))
   pub void : (work : Work) → e ≡ Void work →
       ForDesign held words (λ d. ¬ SomeCaseMeetsInvariant d)
+  pub proved : (work : Work) → e ≡ Proved work → ForDesign held words IsRight
   -- a case that is carried by a correct verdict shows that some state meets the invariant
   pub holds : (c : Case) (work : Work) → e ≡ Correct (Some c) work →
       ForDesign held words (λ d. Fits d c × IsJudged d c Holds)
@@ -74,6 +77,8 @@ pub record IsAnswered (m : Meaning) (e : Ended) (files files' : FilesSeen) (out 
     Type 0 where
   pub refused : (file : Text) (offset : ℕ) (code : Code) → e ≡ Refused file offset code →
       IfSome files.held (λ held. IsRefused m held file offset code)
+  pub bad_text : (line column : ℕ) (why : Why) (cnf : Problem) → e ≡ BadText line column why cnf →
+      IfSome files.held (λ held. IsProofRefused m held line column why cnf)
   pub printed : HasReport e → (report : List ℕ)
       × Appends out.written out'.written report × m.IsAnswer files.held e report
   -- where the output failed, a prefix of the report of an answer that is true went out, after what

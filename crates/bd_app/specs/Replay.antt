@@ -8,16 +8,17 @@ use Rattle.bd_model.specs.declared.case.Case.{Case}
 use Rattle.bd_model.specs.declared.case.Condition.TheVariants as condition
 use Rattle.bd_model.specs.declared.case.Judged.{Judged}
 use Rattle.bd_model.specs.declared.case.Judged.TheVariants as judged
-use Rattle.bd_app.specs.Cases.{CaseNames, case_meaning}
+use Rattle.bd_app.specs.Cases.{case_meaning}
+use Rattle.bd_app.specs.Files.{TextNames, text_names}
 use Rattle.bd_app.specs.Meaning.{Meaning}
-use Rattle.bd_app.specs.Words.{given, machines_command, required, ◌>>=◌}
+use Rattle.bd_app.specs.Words.{machines_command, required, ◌>>=◌}
 use Rattle.bd_app.specs.declared.answer.Ended.{Ended}
 use Rattle.bd_app.specs.declared.answer.Ended.TheVariants.{Replayed}
-use Rattle.bd_app.specs.declared.load.CaseFiles.{CaseFiles}
+use Rattle.bd_app.specs.declared.load.TextFiles.{TextFiles}
 
 -- the pipeline, the specification, the case, and maybe the invariant
 abbrev pub Replay : Type 0
-Replay = CaseNames
+Replay = TextNames
 
 -- ---- its words
 
@@ -31,16 +32,11 @@ replay_question rows = do
   pipe ← first_of (codes "PIPE") rows
   spec ← first_of (codes "SPEC") rows
   case ← first_of (codes "CASE") rows
-  Some (record { pipe = pipe; spec = spec; case = case; inv = first_of (codes "INV") rows })
+  Some (record { pipe = pipe; spec = spec; text = case; inv = first_of (codes "INV") rows })
 
 -- the question of these options
-abbrev pub replay_of : CaseFiles → Replay
-replay_of files = record {
-  pipe = files.pipe.now;
-  spec = files.spec.now;
-  case = files.case.now;
-  inv = given files.inv;
-}
+abbrev pub replay_of : TextFiles → Replay
+replay_of = text_names
 
 -- ---- its answers
 

@@ -8,7 +8,8 @@ use Rattle.bd_model.specs.declared.table.Value.{Value}
 use Rattle.bd_model.specs.declared.case.Case.{Case}
 use Rattle.bd_sim.specs.Trace.{trace_of}
 use Rattle.bd_case.specs.Text.{state_text}
-use Rattle.bd_app.specs.Cases.{CaseNames, case_meaning}
+use Rattle.bd_app.specs.Cases.{case_meaning}
+use Rattle.bd_app.specs.Files.{TextNames}
 use Rattle.bd_app.specs.Meaning.{Meaning}
 use Rattle.bd_app.specs.Words.{Name, in_range, machines_command, number_at, required, ◌>>=◌}
 use Rattle.bd_app.specs.declared.answer.Ended.{Ended}
@@ -70,8 +71,8 @@ pub record IsTrace (cycles : ℕ) (d : DesignView) (c : Case) (e : Ended) (repor
   pub states : report ≡ run_text d c cycles
 
 -- the names of its files
-abbrev pub run_names : Run → CaseNames
-run_names q = record { pipe = q.pipe; spec = q.spec; case = q.case; inv = None }
+abbrev pub run_names : Run → TextNames
+run_names q = record { pipe = q.pipe; spec = q.spec; text = q.case; inv = None }
 
 abbrev pub run_meaning : Run → Meaning
 run_meaning q = case_meaning (run_names q) (IsTrace q.cycles)

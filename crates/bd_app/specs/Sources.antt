@@ -6,8 +6,9 @@ use Rattle.bd_text.specs.declared.code.Code.{Code}
 use Rattle.bd_typer.specs.Denotes as design
 use Rattle.bd_typer.specs.Faults.{FileFault}
 use Rattle.bd_typer.specs.declared.fault.Text.{Text}
+use Rattle.bd_typer.specs.declared.fault.Text.TheVariants.{Pipe, Spec, Inv}
 use Rattle.bd_app.specs.Words.{Name}
-use Rattle.bd_app.specs.Files.{HoldsShort}
+use Rattle.bd_app.specs.Files.{HoldsShort, TextNames}
 
 -- the bytes of the files of a design
 pub record Sources : Type 0 where
@@ -15,17 +16,21 @@ pub record Sources : Type 0 where
   pub spec : List ℕ
   pub inv : Option (List ℕ)
 
-abbrev pub HoldsShortIf : Held → Option Name → Option (List ℕ) → Type 0
-HoldsShortIf held None None = Unit {0}
-HoldsShortIf held None (Some bytes) = ⊥
-HoldsShortIf held (Some name) None = ⊥
-HoldsShortIf held (Some name) (Some bytes) = HoldsShort held name bytes
+abbrev pub HoldsShortIf : Held → Text → Option Name → Option (List ℕ) → Type 0
+HoldsShortIf held text None None = Unit {0}
+HoldsShortIf held text None (Some bytes) = ⊥
+HoldsShortIf held text (Some name) None = ⊥
+HoldsShortIf held text (Some name) (Some bytes) = HoldsShort held (text, name) bytes
 
 pub record HoldSources (held : Held) (pipe spec : Name) (inv : Option Name) (sources : Sources) :
     Type 0 where
-  pub pipe_held : HoldsShort held pipe sources.pipe
-  pub spec_held : HoldsShort held spec sources.spec
-  pub inv_held : HoldsShortIf held inv sources.inv
+  pub pipe_held : HoldsShort held (Pipe, pipe) sources.pipe
+  pub spec_held : HoldsShort held (Spec, spec) sources.spec
+  pub inv_held : HoldsShortIf held Inv inv sources.inv
+
+-- those of a design on which there is a text
+abbrev pub TextSources : TextNames → Held → Sources → Type 0
+TextSources names held = HoldSources held names.pipe names.spec names.inv
 
 -- these sources are this design, or have this first fault
 abbrev pub AreRead : Sources → Result DesignView FileFault → Type 0

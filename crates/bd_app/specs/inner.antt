@@ -1,4 +1,5 @@
 pub mod Asked
+pub mod ProofLine
 pub mod Loaded
 pub mod Saved
 pub mod Done

@@ -8,8 +8,11 @@ ghost use Rattle.bd_files.specs.Devices.{PutsOrFaults};
 ghost use Rattle.bd_app.specs.Answer.{status_of, fault_line_of, file_word, device_text, refusal_of, refusal_line, HasReport};
 ghost use Rattle.bd_app.specs.Verdicts.{ended_by};
 
+use crate::proof_fault::put_proof_fault;
+use bd_cnf::Cnf;
 use bd_files::{Sink, put_pieces};
 use bd_model::{Case, Condition, Judged};
+use bd_proof_text::Why;
 use bd_text::Code;
 use bd_typer::Text;
 use bd_verify::{Question, Verdict, Work};
@@ -42,6 +45,8 @@ pub enum Ended {
     Replayed(Judged),
     /// The case was run.
     Ran,
+    /// The pipeline is right over every run, by a proof from elsewhere.
+    Proved(Work),
     /// The words aren't taken.
     Usage,
     /// The file has a fault, at that offset in bytes.
@@ -49,6 +54,14 @@ pub enum Ended {
         file: Text,
         offset: usize,
         code: Code,
+    },
+    /// The proof has a fault over this formula, at that place. Lines and columns count from 1, columns in
+    /// bytes.
+    BadText {
+        line: u64,
+        column: u64,
+        why: Why,
+        cnf: Cnf,
     },
     /// A device failed.
     Device(Which),
@@ -72,6 +85,7 @@ fn file_word(file: Text) -> &'static [u8]
         Text::Spec => b"spec",
         Text::Inv => b"inv",
         Text::Case => b"case",
+        Text::Proof => b"proof",
     }
 }
 
@@ -106,10 +120,11 @@ impl Ended {
         ensures { result ≡ status_of self.now }
     {
         match self {
-            Ended::Correct(_, _) | Ended::Replayed(Judged::Holds) | Ended::Ran => 0,
+            Ended::Correct(_, _) | Ended::Replayed(Judged::Holds) | Ended::Ran | Ended::Proved(_) =>
+                0,
             Ended::Wrong(_, _, _) | Ended::Replayed(Judged::Broken(_)) => 1,
             Ended::Usage => 2,
-            Ended::Refused { .. } => 3,
+            Ended::Refused { .. } | Ended::BadText { .. } => 3,
             Ended::Undecided(_, _) => 4,
             Ended::Device(_) => 5,
             Ended::Memory => 6,
@@ -128,6 +143,12 @@ impl Ended {
         match self {
             Ended::Usage => put_text(err, &[USAGE]),
             Ended::Refused { file, offset, code } => put_refusal(err, *file, *offset, *code),
+            Ended::BadText {
+                line,
+                column,
+                why,
+                ..
+            } => put_proof_fault(err, *line, *column, *why),
             Ended::Device(which) => put_text(err, &[which.text(), b"\n"]),
             Ended::Memory => put_text(err, &[b"out of memory\n"]),
             _ => (),
@@ -136,7 +157,7 @@ impl Ended {
 }
 
 /// Puts a text in pieces, as far as it goes.
-fn put_text<E: Sink>(err: &mut E, pieces: &[&[u8]])
+pub(crate) fn put_text<E: Sink>(err: &mut E, pieces: &[&[u8]])
     ensures text { PutsOrFaults E.written E.faults err.old err.new
         (flat_map (λ piece. piece.now) pieces.now) }
     ensures never_falls { E.faults err.old ≤ E.faults err.new }
@@ -173,4 +194,5 @@ fn put_parts<E: Sink>(err: &mut E, file: &[u8], offset: &[u8], code: &[u8], text
 /// The usage line.
 const USAGE: &[u8] =
     b"usage: burch_dill check PIPE SPEC [INV] [--budget N] [--cnf FILE] [--lrat FILE] [--diverse] \
-| replay PIPE SPEC CASE [INV] | run PIPE SPEC CASE CYCLES | gen DEPTH DROP\n";
+| replay PIPE SPEC CASE [INV] | run PIPE SPEC CASE CYCLES | gen DEPTH DROP \
+| recheck PIPE SPEC PROOF [INV]\n";

@@ -1,6 +1,6 @@
 //! The command line, read with `clap`.
 //!
-//! The four commands are subcommands of one simple command, of which `clap` states what it makes of
+//! The five commands are subcommands of one simple command, of which `clap` states what it makes of
 //! any words. So which words are taken, and what they ask for, is a definition on the words, and the
 //! code is shown to give it exactly. Each command has a file of its own, and a line in each of the
 //! two functions here that go through the command table.
@@ -13,13 +13,14 @@ ghost use Rattle.bd_app.specs.inner.Asked.{asked, IsInRange, IsParsed};
 
 pub mod check;
 pub mod generate;
+pub mod recheck;
 pub mod replay;
 pub mod run;
 
 use self::check::CheckOptions;
 use self::generate::GenOptions;
 use self::run::RunOptions;
-use crate::load::CaseFiles;
+use crate::load::TextFiles;
 use clap::ArgMatches;
 use clap::error::ErrorKind;
 use std::alloc::{AllocError, Global};
@@ -30,11 +31,13 @@ pub enum Command<'a> {
     /// The verdict on a pipeline.
     Check(CheckOptions<'a>),
     /// What a case shows.
-    Replay(CaseFiles<'a>),
+    Replay(TextFiles<'a>),
     /// The states of a case's run.
     Run(RunOptions<'a>),
     /// The verdict on a generated pipeline.
     Gen(GenOptions),
+    /// Whether a text proves that a pipeline is right.
+    Recheck(TextFiles<'a>),
 }
 
 /// Why words ask for nothing.
@@ -64,7 +67,8 @@ fn command_line<'a>(alloc: Global) -> Result<clap::Command<'a>, AllocError>
         .subcommand(check::command(alloc)?)?
         .subcommand(replay::command(alloc)?)?
         .subcommand(run::command(alloc)?)?
-        .subcommand(generate::command(alloc)?)
+        .subcommand(generate::command(alloc)?)?
+        .subcommand(recheck::command(alloc)?)
 }
 
 /// What the command of this name with these arguments asks for.
@@ -82,6 +86,8 @@ fn question<'a>(name: &str, matches: &ArgMatches<'a>) -> Option<Command<'a>>
         Some(Command::Run(run::options(matches)?))
     } else if name == "gen" {
         Some(Command::Gen(generate::options(matches)?))
+    } else if name == "recheck" {
+        Some(Command::Recheck(recheck::options(matches)?))
     } else {
         None
     }

@@ -5,6 +5,7 @@ mod answer;
 mod command;
 mod load;
 mod program;
+mod proof_fault;
 mod read;
 mod save;
 mod verdict;

@@ -1,10 +1,8 @@
 //! Loading the files that the words name.
-ghost use Rattle.std.specs.Prelude.{◌≤◌, [], ◌∷◌, length, IfSome, IfOk};
-ghost use Rattle.bd_app.specs.Files.{HoldsShort, design_files, one_if};
+ghost use Rattle.std.specs.Prelude.{◌≡◌, ◌≤◌, [], ◌∷◌, length, IfSome, IfOk};
+ghost use Rattle.bd_app.specs.Files.{HoldsShort, design_files, most_bytes, one_if, text_files, text_names};
 ghost use Rattle.bd_app.specs.Meaning.{files_seen};
-ghost use Rattle.bd_app.specs.Replay.{replay_of};
-ghost use Rattle.bd_app.specs.Sources.{HoldSources, HoldsShortIf};
-ghost use Rattle.bd_app.specs.Cases.{names_files};
+ghost use Rattle.bd_app.specs.Sources.{HoldSources, HoldsShortIf, TextSources};
 ghost use Rattle.bd_app.specs.Words.{given};
 ghost use Rattle.bd_app.specs.inner.Loaded.{AreFew, Loads, bytes_of, sources_view};
 
@@ -13,25 +11,39 @@ use bd_files::{Files, LoadError};
 use bd_text::Code;
 use bd_typer::Text;
 
-/// The most bytes of a file.
+/// The most bytes of a file that is no proof.
 pub const MAX_FILE: usize = 1_048_576;
 
-/// The bytes of a file, if there are at most 1,048,576.
+/// The most bytes of a proof.
+const MAX_PROOF: usize = 67_108_864;
+
+/// The most bytes of a file.
+fn most_bytes(file: Text) -> usize
+    ensures { result ≡ most_bytes file }
+{
+    match file {
+        Text::Proof => MAX_PROOF,
+        _ => MAX_FILE,
+    }
+}
+
+/// The bytes of a file, if there aren't too many.
 fn load<F: Files>(files: &mut F, file: Text, name: &str) -> Result<Vec<u8>, Ended>
     ensures loaded { IfOk result (λ bytes. IfSome (F.held files.old) (λ held.
-        HoldsShort held name.now bytes.items)) }
-    ensures few { IfOk result (λ bytes. length bytes.items ≤ 1048576) }
+        HoldsShort held (file, name.now) bytes.items)) }
+    ensures few { IfOk result (λ bytes. length bytes.items ≤ most_bytes file) }
     ensures left { Loads ((file, name.now) ∷ []) (files_seen F.held F.faults F.blame files.old)
         (files_seen F.held F.faults F.blame files.new) result }
 {
-    match files.load(name, MAX_FILE) {
+    let most = most_bytes(file);
+    match files.load(name, most) {
         Ok(bytes) => {
-            if bytes.as_slice().len() <= MAX_FILE {
+            if bytes.as_slice().len() <= most {
                 Ok(bytes)
             } else {
                 Err(Ended::Refused {
                     file,
-                    offset: MAX_FILE,
+                    offset: most,
                     code: Code::TooLong,
                 })
             }
@@ -48,8 +60,9 @@ fn load_if<F: Files>(
     name: Option<&str>,
 ) -> Result<Option<Vec<u8>>, Ended>
     ensures loaded { IfOk result (λ bytes. IfSome (F.held files.old) (λ held.
-        HoldsShortIf held (given name.entry) (bytes_of bytes))) }
-    ensures few { IfOk result (λ bytes. IfSome (bytes_of bytes) (λ b. length b ≤ 1048576)) }
+        HoldsShortIf held file (given name.entry) (bytes_of bytes))) }
+    ensures few { IfOk result (λ bytes.
+        IfSome (bytes_of bytes) (λ b. length b ≤ most_bytes file)) }
     ensures left { Loads (one_if file (given name.entry))
         (files_seen F.held F.faults F.blame files.old)
         (files_seen F.held F.faults F.blame files.new) result }
@@ -88,38 +101,41 @@ pub fn load_sources<'a, F: Files>(
     Ok(Sources { pipe, spec, inv })
 }
 
-/// The names of the files of a case.
+/// The names of the files of a design and of a text on it, a case or a proof.
 #[derive(Clone, Copy, Debug)]
-pub struct CaseFiles<'a> {
+pub struct TextFiles<'a> {
     pub pipe: &'a str,
     pub spec: &'a str,
-    pub case: &'a str,
+    pub text: &'a str,
     pub inv: Option<&'a str>,
 }
 
 /// Their bytes.
 #[derive(Debug, Drop)]
-pub struct CaseBytes {
+pub struct TextBytes {
     pub sources: Sources,
-    pub case: Vec<u8>,
+    pub text: Vec<u8>,
 }
 
-/// The bytes of the files of a case, loaded in the order of the words.
-pub fn load_case<F: Files>(files: &mut F, names: CaseFiles<'_>) -> Result<CaseBytes, Ended>
+/// The bytes of the files of a design and of such a text on it, loaded in the order of the words.
+pub fn load_text<F: Files>(
+    files: &mut F,
+    file: Text,
+    names: TextFiles<'_>,
+) -> Result<TextBytes, Ended>
     ensures loaded { IfOk result (λ bytes. IfSome (F.held files.old) (λ held.
-        HoldSources held names.entry.pipe.now names.entry.spec.now (given names.entry.inv)
-        (sources_view bytes.sources))) }
-    ensures loaded_case { IfOk result (λ bytes. IfSome (F.held files.old) (λ held.
-        HoldsShort held names.entry.case.now bytes.case.items)) }
+        TextSources (text_names names.entry) held (sources_view bytes.sources))) }
+    ensures loaded_text { IfOk result (λ bytes. IfSome (F.held files.old) (λ held.
+        HoldsShort held (file, names.entry.text.now) bytes.text.items)) }
     ensures few { IfOk result (λ bytes. AreFew (sources_view bytes.sources)) }
-    ensures left { Loads (names_files (replay_of names.entry))
+    ensures left { Loads (text_files file (text_names names.entry))
         (files_seen F.held F.faults F.blame files.old)
         (files_seen F.held F.faults F.blame files.new) result }
 {
     let pipe = load(files, Text::Pipe, names.pipe)?;
     let spec = load(files, Text::Spec, names.spec)?;
-    let case = load(files, Text::Case, names.case)?;
+    let text = load(files, file, names.text)?;
     let inv = load_if(files, Text::Inv, names.inv)?;
     let sources = Sources { pipe, spec, inv };
-    Ok(CaseBytes { sources, case })
+    Ok(TextBytes { sources, text })
 }

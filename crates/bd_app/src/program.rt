@@ -20,7 +20,9 @@ ghost use Rattle.bd_app.specs.inner.Asked.{asked, IsInRange};
 ghost use Rattle.bd_app.specs.inner.Done.{IsDone, IsEarlyFault, ended_of};
 
 use crate::answer::{Answer, Ended, Which};
-use crate::command::{Command, WordsFault, check, command_of, generate, replay, run as run_cycles};
+use crate::command::{
+    Command, WordsFault, check, command_of, generate, recheck, replay, run as run_cycles,
+};
 use bd_files::{Files, Sink};
 use bd_model::{Case, Condition, Judged};
 use std::alloc::Global;
@@ -37,6 +39,7 @@ fn answered<F: Files>(alloc: Global, files: &mut F, command: Command<'_>) -> Res
         Command::Replay(options) => replay::answer(alloc, files, options),
         Command::Run(options) => run_cycles::answer(alloc, files, options),
         Command::Gen(options) => generate::answer(alloc, options),
+        Command::Recheck(options) => recheck::answer(alloc, files, options),
     }
 }
 
@@ -98,6 +101,8 @@ pub fn run<F: Files, O: Sink, E: Sink>(
         Fits d c × IsJudged d c (Judged.Broken k)) }
     ensures void { (work : Work) → result ≡ Ended.Void work →
         ForDesign (F.held files.old) (texts_of words.now) (λ d. ¬ SomeCaseMeetsInvariant d) }
+    ensures proved { (work : Work) → result ≡ Ended.Proved work →
+        ForDesign (F.held files.old) (texts_of words.now) IsRight }
 
     // All of it: what each answer means and what causes it, what is saved and what is printed.
     ensures run { IsRun (texts_of words.now) result

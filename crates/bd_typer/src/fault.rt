@@ -20,6 +20,8 @@ pub enum Text {
     Inv,
     /// The case.
     Case,
+    /// The proof.
+    Proof,
 }
 
 /// Why files aren't read as a design.

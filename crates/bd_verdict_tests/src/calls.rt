@@ -7,8 +7,9 @@ use bd_files::{Files, LoadError, PutError, SaveError, Sink};
 use std::alloc::{AllocError, Global};
 use std::test::Fail;
 
-const USAGE: &str = "usage: burch_dill check PIPE SPEC [INV] [--budget N] [--cnf FILE] \
-[--lrat FILE] [--diverse] | replay PIPE SPEC CASE [INV] | run PIPE SPEC CASE CYCLES | gen DEPTH DROP\n";
+pub const USAGE: &str = "usage: burch_dill check PIPE SPEC [INV] [--budget N] [--cnf FILE] \
+[--lrat FILE] [--diverse] | replay PIPE SPEC CASE [INV] | run PIPE SPEC CASE CYCLES | gen DEPTH DROP \
+| recheck PIPE SPEC PROOF [INV]\n";
 
 /// A load that is expected, and what it gives.
 #[derive(Clone, Copy)]

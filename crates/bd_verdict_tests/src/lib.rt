@@ -6,11 +6,19 @@ mod calls;
 #[cfg(test)]
 mod checks;
 #[cfg(test)]
+mod left_out;
+#[cfg(test)]
+mod orders;
+#[cfg(test)]
+mod rechecks;
+#[cfg(test)]
 mod replays;
 #[cfg(test)]
 mod rows;
 #[cfg(test)]
 mod saves;
+#[cfg(test)]
+mod settling;
 #[cfg(test)]
 mod solvers;
 #[cfg(test)]

@@ -94,7 +94,7 @@ pub fn shelf_with(alloc: Global, row: &Row, pipe: &[u8]) -> Result<Shelf, AllocE
     Shelf::new(alloc, held, vec![in alloc; row.failing]?)
 }
 
-fn file(alloc: Global, name: &str, bytes: &[u8]) -> Result<(String, Vec<u8>), AllocError> {
+pub fn file(alloc: Global, name: &str, bytes: &[u8]) -> Result<(String, Vec<u8>), AllocError> {
     Ok((String::from_str(alloc, name)?, bytes.to_vec(alloc)?))
 }
 

@@ -6,12 +6,13 @@ use Rattle.clap.specs.Faults.{fault_of}
 use Rattle.clap.specs.declared.parser.matches.ArgMatches.{ArgMatches}
 use Rattle.std.specs.Prelude.{ℕ}
 use Rattle.bd_app.specs.Check.{check_of}
-use Rattle.bd_app.specs.Commands.{Question, check, replay, run, gen, command_line}
+use Rattle.bd_app.specs.Commands.{Question, check, replay, run, gen, recheck, command_line}
 use Rattle.bd_app.specs.Generate.{gen_of, HasDepth}
+use Rattle.bd_app.specs.Recheck.{recheck_of}
 use Rattle.bd_app.specs.Replay.{replay_of}
 use Rattle.bd_app.specs.Run.{run_of}
 use Rattle.bd_app.specs.declared.command.Command.{Command}
-use Rattle.bd_app.specs.declared.command.Command.TheVariants.{Check, Replay, Run, Gen}
+use Rattle.bd_app.specs.declared.command.Command.TheVariants.{Check, Replay, Run, Gen, Recheck}
 
 -- the question that a command asks
 abbrev pub asked : Command → Question
@@ -19,6 +20,7 @@ asked (Check options) = check (check_of options)
 asked (Replay files) = replay (replay_of files)
 asked (Run options) = run (run_of options)
 asked (Gen options) = gen (gen_of options)
+asked (Recheck files) = recheck (recheck_of files)
 
 -- the numbers of a command are in their ranges
 abbrev pub IsInRange : Command → Type 0

@@ -1,18 +1,23 @@
 -- What the parts of a run say before anything is printed.
-use Rattle.std.specs.Prelude.{◌≡◌, ◌⊎◌, Bool, ℕ, List, Option, Result, Ok, Err, IfSome, IfOk, IfErr}
+use Rattle.std.specs.Prelude.{◌≡◌, ◌⊎◌, ◌++◌, Bool, ℕ, List, [], ◌∷◌, codes, Option, Result, Ok, Err, IfSome, IfOk, IfErr}
 use Rattle.bd_model.specs.DesignView.{DesignView}
 use Rattle.bd_model.specs.Fits.{Fits}
 use Rattle.bd_model.specs.declared.case.Case.{Case}
 use Rattle.bd_typer.specs.declared.fault.Text.TheVariants as text
 use Rattle.bd_case.specs.Reads.{IsReading}
 use Rattle.bd_files.specs.Devices.{Held}
-use Rattle.bd_app.specs.Meaning.{Effects, FilesSeen, IsRefused, Meaning}
+use Rattle.bd_verify.specs.declared.verdict.Work.{Work}
+use Rattle.bd_proof_text.specs.ProofText.{fault}
+use Rattle.bd_foreign.specs.Rechecked.{HasFault}
+use Rattle.bd_proof_text.specs.Tokens.{place}
+use Rattle.bd_app.specs.Recheck.{Proves}
+use Rattle.bd_app.specs.Meaning.{Effects, FilesSeen, IsProofRefused, IsRefused, Meaning}
 use Rattle.bd_app.specs.Sources.{AreRead, Sources}
 use Rattle.bd_app.specs.Verdicts.{IsCaseTextIf, IsVerdict, IsVerdictReport, shown_case}
 use Rattle.bd_app.specs.declared.answer.Answer.{Answer}
 use Rattle.bd_app.specs.declared.answer.Which.TheVariants as which
 use Rattle.bd_app.specs.declared.answer.Ended.{Ended}
-use Rattle.bd_app.specs.declared.answer.Ended.TheVariants.{Usage, Refused, Device, Memory}
+use Rattle.bd_app.specs.declared.answer.Ended.TheVariants.{Proved, Usage, Refused, BadText, Device, Memory}
 use Rattle.bd_app.specs.declared.verdict.Asked.{Asked}
 use Rattle.bd_app.specs.declared.verdict.ShownVerdict.{ShownVerdict}
 
@@ -24,6 +29,8 @@ ended_of (Err fault) = fault
 -- a fault that may come before anything is printed
 abbrev pub IsFault : Meaning → Option Held → Ended → Type 0
 IsFault m held (Refused file offset code) = IfSome held (λ h. IsRefused m h file offset code)
+IsFault m held (BadText line column why cnf) =
+    IfSome held (λ h. IsProofRefused m h line column why cnf)
 IsFault m held (Device which.Load) = Unit {0}
 IsFault m held (Device which.Save) = Unit {0}
 IsFault m held Memory = Unit {0}
@@ -33,6 +40,7 @@ IsFault m held _ = ⊥
 abbrev pub IsEarlyFault : Ended → Type 0
 IsEarlyFault Usage = Unit {0}
 IsEarlyFault (Refused file offset code) = Unit {0}
+IsEarlyFault (BadText line column why cnf) = Unit {0}
 IsEarlyFault (Device which.Load) = Unit {0}
 IsEarlyFault (Device which.Save) = Unit {0}
 IsEarlyFault Memory = Unit {0}
@@ -72,18 +80,34 @@ pub record IsSaidOf (Says : DesignView → Case → Ended → List ℕ → Type 
   pub fits : Fits d case
   pub says : Says d case a.ended a.report.items
 
--- this is said of the case of a design, unless its bytes are refused
-pub record OnCase (Says : DesignView → Case → Ended → List ℕ → Type 0) (d : DesignView)
-    (bytes : List ℕ) (r : Result Answer Ended) : Type 0 where
-  pub said : IfOk r (IsSaidOf Says d bytes)
-  pub refused : IfErr r (IsCaseRefused d bytes)
+-- the text proves that the design is right, and the answer says so
+pub record IsProvedBy (d : DesignView) (bytes : List ℕ) (a : Answer) : Type 0 where
+  pub work : Work
+  pub ended : a.ended ≡ Proved work
+  pub proves : Proves work d bytes
+  pub words : a.report.items ≡ codes "correct by proof" ++ 10 ∷ []
+
+-- why bytes don't prove it
+abbrev pub IsBadProof : DesignView → List ℕ → Ended → Type 0
+IsBadProof d bytes (BadText line column why cnf) =
+    HasFault d bytes (fault (place line column) why) cnf
+IsBadProof d bytes Memory = Unit {0}
+IsBadProof d bytes _ = ⊥
+
+-- this is said of a text on a design, unless its bytes are refused
+pub record OnText (Said : DesignView → List ℕ → Answer → Type 0)
+    (IsTextRefused : DesignView → List ℕ → Ended → Type 0) (d : DesignView) (bytes : List ℕ)
+    (r : Result Answer Ended) : Type 0 where
+  pub said : IfOk r (Said d bytes)
+  pub refused : IfErr r (IsTextRefused d bytes)
 
 -- or those of the design
-pub record OnSources (Says : DesignView → Case → Ended → List ℕ → Type 0) (s : Sources)
-    (bytes : List ℕ) (r : Result Answer Ended) : Type 0 where
-  pub said : IfOk r (λ a. (d : DesignView) × AreDesign s d × IsSaidOf Says d bytes a)
+pub record OnSources (Said : DesignView → List ℕ → Answer → Type 0)
+    (IsTextRefused : DesignView → List ℕ → Ended → Type 0) (s : Sources) (bytes : List ℕ)
+    (r : Result Answer Ended) : Type 0 where
+  pub said : IfOk r (λ a. (d : DesignView) × AreDesign s d × Said d bytes a)
   pub refused : IfErr r (λ e.
-      AreRefused s e ⊎ ((d : DesignView) × AreDesign s d × IsCaseRefused d bytes e))
+      AreRefused s e ⊎ ((d : DesignView) × AreDesign s d × IsTextRefused d bytes e))
 
 -- ---- verdicts
 

@@ -8,15 +8,16 @@ ghost use Rattle.bd_model.specs.Lawful.{IsLawful};
 ghost use Rattle.bd_app.specs.Meaning.{files_seen};
 ghost use Rattle.bd_app.specs.Replay.{judged_words, replay_command, replay_meaning, replay_of, replay_question, IsJudgement};
 ghost use Rattle.bd_app.specs.inner.Loaded.{AreFew, sources_view};
-ghost use Rattle.bd_app.specs.inner.Done.{IsDone, OnCase, OnSources};
+ghost use Rattle.bd_app.specs.inner.Done.{IsCaseRefused, IsDone, IsSaidOf, OnSources, OnText};
 
 use crate::answer::{Answer, Ended};
-use crate::load::{CaseBytes, CaseFiles, load_case};
+use crate::load::{TextBytes, TextFiles, load_text};
 use crate::read::{case, design};
 use crate::words::{machines_command, required, with, word_at};
 use bd_files::Files;
 use bd_model::{Condition, Design, Judged};
 use bd_sim::judge;
+use bd_typer::Text;
 use clap::{Arg, ArgMatches, Command};
 use std::alloc::{AllocError, Global};
 
@@ -32,13 +33,13 @@ pub fn command<'a>(alloc: Global) -> Result<Command<'a>, AllocError>
 
 /// Its options, the names of the files of a case.
 #[tactic(auto, unfolding(crate::specs::Replay::replay_question))]
-pub fn options<'a>(matches: &ArgMatches<'a>) -> Option<CaseFiles<'a>>
+pub fn options<'a>(matches: &ArgMatches<'a>) -> Option<TextFiles<'a>>
     ensures { option_map replay_of result ≡ replay_question (rows_of (found_of matches.now)) }
 {
-    Some(CaseFiles {
+    Some(TextFiles {
         pipe: word_at(matches, "PIPE")?,
         spec: word_at(matches, "SPEC")?,
-        case: word_at(matches, "CASE")?,
+        text: word_at(matches, "CASE")?,
         inv: word_at(matches, "INV"),
     })
 }
@@ -73,7 +74,7 @@ fn judged_answer(alloc: Global, judged: Judged) -> Result<Answer, Ended>
 /// What the case of bytes shows.
 fn judged(alloc: Global, design: &Design, bytes: &[u8]) -> Result<Answer, Ended>
     requires { IsLawful (design_view design.now) }
-    ensures { OnCase IsJudgement (design_view design.now) bytes.now result }
+    ensures { OnText (IsSaidOf IsJudgement) IsCaseRefused (design_view design.now) bytes.now result }
 {
     let case = case(alloc, design, bytes)?;
     match judge(alloc, design, &case) {
@@ -83,24 +84,24 @@ fn judged(alloc: Global, design: &Design, bytes: &[u8]) -> Result<Answer, Ended>
 }
 
 /// What the case of loaded files shows.
-fn judged_bytes(alloc: Global, bytes: &CaseBytes) -> Result<Answer, Ended>
+fn judged_bytes(alloc: Global, bytes: &TextBytes) -> Result<Answer, Ended>
     requires { AreFew (sources_view bytes.now.sources) }
-    ensures { OnSources IsJudgement (sources_view bytes.now.sources) bytes.now.case.items result }
+    ensures { OnSources (IsSaidOf IsJudgement) IsCaseRefused (sources_view bytes.now.sources) bytes.now.text.items result }
 {
     let design = design(alloc, &bytes.sources)?;
-    judged(alloc, &design, bytes.case.as_slice())
+    judged(alloc, &design, bytes.text.as_slice())
 }
 
 /// Its answer.
 pub fn answer<F: Files>(
     alloc: Global,
     files: &mut F,
-    options: CaseFiles<'_>,
+    options: TextFiles<'_>,
 ) -> Result<Answer, Ended>
     ensures { IsDone (replay_meaning (replay_of options.entry))
         (files_seen F.held F.faults F.blame files.old)
         (files_seen F.held F.faults F.blame files.new) result }
 {
-    let bytes = load_case(files, options)?;
+    let bytes = load_text(files, Text::Case, options)?;
     judged_bytes(alloc, &bytes)
 }

@@ -9,16 +9,17 @@ ghost use Rattle.bd_app.specs.Meaning.{files_seen};
 ghost use Rattle.bd_app.specs.Run.{cycle_text, cycles_text, run_command, run_meaning, run_of, run_question, run_text, IsTrace};
 ghost use Rattle.bd_app.specs.Words.{in_range, required};
 ghost use Rattle.bd_app.specs.inner.Loaded.{AreFew, sources_view};
-ghost use Rattle.bd_app.specs.inner.Done.{IsDone, OnCase, OnSources};
+ghost use Rattle.bd_app.specs.inner.Done.{IsCaseRefused, IsDone, IsSaidOf, OnSources, OnText};
 
 use crate::answer::{Answer, Ended};
-use crate::load::{CaseBytes, CaseFiles, load_case};
+use crate::load::{TextBytes, TextFiles, load_text};
 use crate::read::{case, design};
 use crate::words::{machines_command, number_at, required, with, word_at};
 use bd_case::state_text;
 use bd_files::Files;
 use bd_model::{Case, Design, State};
 use bd_sim::trace;
+use bd_typer::Text;
 use clap::{Arg, ArgMatches, Command, value_parser};
 use itoa::Buffer;
 use std::alloc::{AllocError, Global};
@@ -109,7 +110,7 @@ fn run_text(alloc: Global, design: &Design, case: &Case, cycles: u32) -> Result<
 /// The run of the case of bytes.
 fn ran(alloc: Global, design: &Design, bytes: &[u8], cycles: u32) -> Result<Answer, Ended>
     requires { IsLawful (design_view design.now) }
-    ensures { OnCase (IsTrace cycles) (design_view design.now) bytes.now result }
+    ensures { OnText (IsSaidOf (IsTrace cycles)) IsCaseRefused (design_view design.now) bytes.now result }
 {
     let case = case(alloc, design, bytes)?;
     match run_text(alloc, design, &case, cycles) {
@@ -122,13 +123,13 @@ fn ran(alloc: Global, design: &Design, bytes: &[u8], cycles: u32) -> Result<Answ
 }
 
 /// The run of the case of loaded files.
-fn ran_bytes(alloc: Global, bytes: &CaseBytes, cycles: u32) -> Result<Answer, Ended>
+fn ran_bytes(alloc: Global, bytes: &TextBytes, cycles: u32) -> Result<Answer, Ended>
     requires { AreFew (sources_view bytes.now.sources) }
-    ensures { OnSources (IsTrace cycles) (sources_view bytes.now.sources) bytes.now.case.items
+    ensures { OnSources (IsSaidOf (IsTrace cycles)) IsCaseRefused (sources_view bytes.now.sources) bytes.now.text.items
         result }
 {
     let design = design(alloc, &bytes.sources)?;
-    ran(alloc, &design, bytes.case.as_slice(), cycles)
+    ran(alloc, &design, bytes.text.as_slice(), cycles)
 }
 
 /// Its answer.
@@ -141,12 +142,12 @@ pub fn answer<F: Files>(
         (files_seen F.held F.faults F.blame files.old)
         (files_seen F.held F.faults F.blame files.new) result }
 {
-    let names = CaseFiles {
+    let names = TextFiles {
         pipe: options.pipe,
         spec: options.spec,
-        case: options.case,
+        text: options.case,
         inv: None,
     };
-    let bytes = load_case(files, names)?;
+    let bytes = load_text(files, Text::Case, names)?;
     ran_bytes(alloc, &bytes, options.cycles)
 }

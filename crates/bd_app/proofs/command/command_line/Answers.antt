@@ -10,4 +10,5 @@ returns c =
     let checks = c.in_ok-subcommand.ensures.shape c.in_ok-command.ensures.local ∙ ap₂ with_subcommand c.new.ensures.app c.in_ok-command.ensures.shape in
     let replays = c.in_ok-subcommand-2.ensures.shape c.in_ok-command-2.ensures.local ∙ ap₂ with_subcommand checks c.in_ok-command-2.ensures.shape in
     let runs = c.in_ok-subcommand-3.ensures.shape c.in_ok-command-3.ensures.local ∙ ap₂ with_subcommand replays c.in_ok-command-3.ensures.shape in
-    IfOk-weaker c.subcommand-4.result _ _ (λ r added. added.shape c.in_ok-command-4.ensures.local ∙ ap₂ with_subcommand runs c.in_ok-command-4.ensures.shape) c.subcommand-4.ensures
+    let gens = c.in_ok-subcommand-4.ensures.shape c.in_ok-command-4.ensures.local ∙ ap₂ with_subcommand runs c.in_ok-command-4.ensures.shape in
+    IfOk-weaker c.subcommand-5.result _ _ (λ r added. added.shape c.in_ok-command-5.ensures.local ∙ ap₂ with_subcommand gens c.in_ok-command-5.ensures.shape) c.subcommand-5.ensures

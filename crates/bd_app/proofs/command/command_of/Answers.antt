@@ -2,7 +2,7 @@ use Rattle.std.proofs.Common.{◌∙◌, sym, ap}
 use Rattle.std.specs.Prelude.{option_map}
 use Rattle.bd_app.specs.Words.{texts_of}
 use Rattle.bd_app.specs.inner.Asked.{asked}
-use Rattle.bd_app.proofs.Taking.{met, rows_met, seen}
+use Rattle.bd_app.proofs.WordValues.{met, rows_met, seen}
 use Rattle.bd_app.proofs.command.command_of.Goals as goal
 
 pub returns-in_default-clause-usage : goal.returns-in_default-clause-usage

@@ -4,7 +4,7 @@ use Rattle.clap.specs.Faults.{fault_of, is_simple_and_free}
 use Rattle.clap.specs.Simple.{App, is_simple, subcommand_of}
 use Rattle.clap.specs.Values.{kind_of}
 use Rattle.bd_app.specs.Words.{texts_of}
-use Rattle.bd_app.proofs.Taking.{command_line-free, command_line-simple, refused}
+use Rattle.bd_app.proofs.WordValues.{command_line-free, command_line-simple, refused}
 use Rattle.bd_app.proofs.command.parsed.Goals as goal
 
 pub returns-in-Ok-clause-parsed : goal.returns-in-Ok-clause-parsed

@@ -1,7 +1,7 @@
 use Rattle.bd_app.specs.Words.{texts_of}
 use Rattle.bd_app.specs.inner.Asked.{asked}
 use Rattle.bd_app.proofs.Effects.{memory_done, unchanged}
-use Rattle.bd_app.proofs.Printing.{done_fault, done_for, done_no_usage, done_report}
+use Rattle.bd_app.proofs.Answered.{done_fault, done_for, done_no_usage, done_report}
 use Rattle.bd_app.proofs.program.answer_of.Goals as goal
 
 pub returns-in-Ok-clause-usage_only : goal.returns-in-Ok-clause-usage_only

@@ -3,7 +3,7 @@ use Rattle.bd_app.specs.Meaning.{files_seen}
 use Rattle.bd_app.specs.Program.{sink_seen}
 use Rattle.bd_app.specs.Words.{texts_of}
 use Rattle.bd_app.specs.declared.answer.Ended.TheVariants.{Usage}
-use Rattle.bd_app.proofs.Printing.{answered, before_out, headline, out_rises, silent, untaken}
+use Rattle.bd_app.proofs.Answered.{answered, before_out, headline, out_rises, silent, untaken}
 use Rattle.bd_app.proofs.program.run.Goals as goal
 
 pub returns-clause-correct : goal.returns-clause-correct
@@ -32,6 +32,15 @@ returns-clause-void g c =
     (sink_seen g.O.Sink.written g.O.Sink.faults c.args.out.now) (sink_seen g.O.Sink.written g.O.Sink.faults put.new.out)
     (λ none. untaken _ _ r.result put.result _ _ put.ensures.fault put.ensures.report (r.ensures.usage none))
     (λ q asks. answered _ _ q r.result put.result _ _ _ _ put.ensures.fault put.ensures.report (r.ensures.done q asks))).void
+
+pub returns-clause-proved : goal.returns-clause-proved
+returns-clause-proved g c =
+    let r = c.answer_of-answer in
+    let put = c.put_report-ended in
+    (headline (texts_of c.args.words.now) put.result (files_seen g.F.Files.held g.F.Files.faults g.F.Files.blame c.args.files.now) (files_seen g.F.Files.held g.F.Files.faults g.F.Files.blame r.new.files)
+    (sink_seen g.O.Sink.written g.O.Sink.faults c.args.out.now) (sink_seen g.O.Sink.written g.O.Sink.faults put.new.out)
+    (λ none. untaken _ _ r.result put.result _ _ put.ensures.fault put.ensures.report (r.ensures.usage none))
+    (λ q asks. answered _ _ q r.result put.result _ _ _ _ put.ensures.fault put.ensures.report (r.ensures.done q asks))).proved
 
 pub returns-clause-run : goal.returns-clause-run
 returns-clause-run g c =

@@ -1,6 +1,6 @@
 use Rattle.bd_app.specs.Meaning.{files_seen}
 use Rattle.bd_app.specs.Words.{given}
-use Rattle.bd_app.proofs.Saving.{formula_fails, proof_follows}
+use Rattle.bd_app.proofs.Saves.{formula_fails, proof_follows}
 use Rattle.bd_app.proofs.save.save_work.Goals as goal
 
 pub returns-in_err-save_part : goal.returns-in_err-save_part

@@ -3,7 +3,7 @@ use Rattle.std.specs.Option.{option_map_or}
 use Rattle.clap.specs.Matches.{found_of, one_text}
 use Rattle.clap.specs.Walk.{Text}
 use Rattle.clap.proofs.WalkLemmas.{one_text-rows}
-use Rattle.bd_app.proofs.Taking.{flag_found, names_true}
+use Rattle.bd_app.proofs.WordValues.{flag_found, names_true}
 use Rattle.bd_app.proofs.words.flag_at.Goals as goal
 
 pub returns : goal.returns

@@ -5,7 +5,7 @@ use Rattle.clap.specs.Matches.{found_of, one_text}
 use Rattle.clap.proofs.WalkLemmas.{one_text-rows}
 use Rattle.clap.specs.Walk.{Text}
 use Rattle.bd_app.specs.Words.{digits_number, ◌>>=◌}
-use Rattle.bd_app.proofs.Taking.{number_found, number_read}
+use Rattle.bd_app.proofs.WordValues.{number_found, number_read}
 use Rattle.bd_app.proofs.words.number_at.Goals as goal
 
 pub returns : goal.returns

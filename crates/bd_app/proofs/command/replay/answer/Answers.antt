@@ -11,4 +11,4 @@ pub returns : goal.returns
 returns g c =
     let loads = c.in_ok-bytes.ensures in
     let bytes = c.in_ok-bytes.bytes in
-    case_done (replay_of c.args.options) IsJudgement _ _ (sources_view bytes.sources) bytes.case.items c.judged_bytes.result judgement_quiet (loaded_stand loads.left) loads.loaded loads.loaded_case c.judged_bytes.ensures
+    case_done (replay_of c.args.options) IsJudgement _ _ (sources_view bytes.sources) bytes.text.items c.judged_bytes.result judgement_quiet (loaded_stand loads.left) loads.loaded loads.loaded_text c.judged_bytes.ensures

@@ -12,5 +12,5 @@ returns g c =
     let loads = c.in_ok-bytes.ensures in
     let bytes = c.in_ok-bytes.bytes in
     let cycles = c.args.options.cycles in
-    case_done (run_names (run_of c.args.options)) (IsTrace cycles) _ _ (sources_view bytes.sources) bytes.case.items c.ran_bytes.result (trace_quiet cycles) (loaded_stand loads.left) loads.loaded loads.loaded_case
+    case_done (run_names (run_of c.args.options)) (IsTrace cycles) _ _ (sources_view bytes.sources) bytes.text.items c.ran_bytes.result (trace_quiet cycles) (loaded_stand loads.left) loads.loaded loads.loaded_text
     c.ran_bytes.ensures

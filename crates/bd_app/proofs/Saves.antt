@@ -13,7 +13,7 @@ use Rattle.bd_app.specs.declared.answer.Ended.{Ended}
 use Rattle.bd_app.specs.declared.answer.Ended.TheVariants.{Device}
 use Rattle.bd_app.specs.declared.answer.Which.TheVariants.{Save}
 use Rattle.bd_app.specs.inner.Saved.{IsSaveFault, Saves}
-use Rattle.bd_app.proofs.Passing.{OnOk-weaker, passed, rose_after, same_error}
+use Rattle.bd_app.proofs.Results.{OnOk-weaker, passed, rose_after, same_error}
 
 -- where nothing changes
 pub keeps_same : (before after : Option Held) (IsNamed : Name → Type 0) → after ≡ before → KeepsAllBut before after IsNamed

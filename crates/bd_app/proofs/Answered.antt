@@ -1,25 +1,27 @@
 -- From the answer to a question to the run that prints it.
 use Rattle.std.proofs.Common.{◌≡◌, ◌≢◌, ◌∙◌, ℕ, List, refl, sym, subst, inl, inr}
-use Rattle.std.specs.Prelude.{◌⊎◌, Option, Some, None, Result, Ok, Err, IfOk, IfErr, IsErrOf}
+use Rattle.std.specs.Prelude.{◌⊎◌, Option, Some, None, Result, Ok, Err, IfSome, IfOk, IfErr, IsErrOf}
 use Rattle.bd_files.specs.Devices.{Held, Rose, Appends, AppendsPrefix}
 use Rattle.bd_model.specs.DesignView.{DesignView}
+use Rattle.bd_model.specs.Right.{IsRight}
 use Rattle.bd_verify.specs.declared.verdict.Question.TheVariants.{Breaks}
+use Rattle.bd_verify.specs.declared.verdict.Work.{Work}
 use Rattle.bd_verify.specs.declared.verdict.Verdict.{Verdict}
 use Rattle.bd_verify.specs.declared.verdict.Verdict.TheVariants as verdict
 use Rattle.bd_app.specs.Answer.{HasReport}
-use Rattle.bd_app.specs.Commands.{Question, check, replay, run, gen, meaning_of, taken}
+use Rattle.bd_app.specs.Commands.{Question, check, replay, run, gen, recheck, meaning_of, taken}
 use Rattle.bd_app.specs.Meaning.{Effects, FilesSeen, IsVerdictFor, Meaning}
 use Rattle.bd_app.specs.Program.{ForDesign, ForVerdict, Headline, IsAnswered, SinkSeen}
 use Rattle.bd_app.specs.Verdicts.{IsVerdict, ended_by}
 use Rattle.bd_app.specs.declared.answer.Answer.{Answer}
 use Rattle.bd_app.specs.declared.answer.Which.TheVariants as which
 use Rattle.bd_app.specs.declared.answer.Ended.{Ended}
-use Rattle.bd_app.specs.declared.answer.Ended.TheVariants.{Usage, Refused, Device, Memory}
+use Rattle.bd_app.specs.declared.answer.Ended.TheVariants.{Proved, Usage, Refused, BadText, Device, Memory}
 use Rattle.bd_app.specs.declared.verdict.Asked.{Asked}
 use Rattle.bd_app.specs.inner.Done.{IsDone, IsEarlyFault, IsFault, ended_of}
 use Rattle.bd_app.proofs.Effects.{out_effects}
-use Rattle.bd_app.proofs.Passing.{IfSome-weaker}
-use Rattle.bd_app.proofs.Verdicts.{no_memory_verdict, no_ran, no_replayed, no_usage_verdict, same_verdict, verdict_reports}
+use Rattle.bd_app.proofs.Results.{IfSome-weaker}
+use Rattle.bd_app.proofs.Verdicts.{no_memory_verdict, no_proved, no_ran, no_replayed, no_usage_verdict, same_verdict, verdict_reports}
 
 -- ---- what is promised of each command
 
@@ -29,6 +31,7 @@ reports (check q) held e report is = subst HasReport (sym is.says.ended) (verdic
 reports (replay q) held e report is = subst HasReport (sym is.says.ended) tt
 reports (run q) held e report is = subst HasReport (sym is.says.ended) tt
 reports (gen q) held e report is = subst HasReport (sym is.says.ended) (verdict_reports is.says.verdict)
+reports (recheck q) held e report is = subst HasReport (sym is.ended) tt
 
 -- an answer that is a verdict is one on its design
 pub verdict_for : (q : Question) (held : Option Held) (v : Verdict) (report : List ℕ) → (meaning_of q).IsAnswer held (ended_by v) report → IsVerdictFor (meaning_of q) held v
@@ -48,11 +51,21 @@ verdict_for (gen q) held v report is = record {
   asks = is.asks;
   is_verdict = subst (λ w. IsVerdict is.design _ w) (sym (same_verdict v is.says.verdict is.says.ended)) is.says.is_verdict;
 }
+verdict_for (recheck q) held v report is = absurd (no_proved v is.work is.ended)
+
+-- an answer that is a proof is one that its design is right
+proved_right : (q : Question) (held : Option Held) (work : Work) (report : List ℕ) → (meaning_of q).IsAnswer held (Proved work) report → IfSome held (λ h. (d : DesignView) × (meaning_of q).Asks h d × IsRight d)
+proved_right (check q) held work report is = absurd (no_proved is.says.verdict work (sym is.says.ended))
+proved_right (replay q) held work report is = absurd (cc is.says.ended)
+proved_right (run q) held work report is = absurd (cc is.says.ended)
+proved_right (gen q) held work report is = absurd (no_proved is.says.verdict work (sym is.says.ended))
+proved_right (recheck q) held work report is = IfSome-weaker _ _ held (λ h on. (on.design, on.denoted, on.says.right)) is.proves
 
 -- ---- before anything is printed
 
 fault_early : (m : Meaning) (held : Option Held) (e : Ended) → IsFault m held e → IsEarlyFault e
 fault_early m held (Refused file offset code) fault = tt
+fault_early m held (BadText line column why cnf) fault = tt
 fault_early m held (Device which.Load) fault = tt
 fault_early m held (Device which.Save) fault = tt
 fault_early m held Memory fault = tt
@@ -81,6 +94,7 @@ done_for words q a b r asks is p also = let same : q ≡ p = cc (asks, also) in 
 pub early_silent : (e : Ended) → IsEarlyFault e → ¬ HasReport e
 early_silent Usage fault = λ h. h
 early_silent (Refused file offset code) fault = λ h. h
+early_silent (BadText line column why cnf) fault = λ h. h
 early_silent (Device which.Load) fault = λ h. h
 early_silent (Device which.Save) fault = λ h. h
 early_silent Memory fault = λ h. h
@@ -98,6 +112,7 @@ answered P R q (Err e) final a b out out' fault put done =
     let early = fault_early m a.held e done.fault in
     record {
       refused = λ file offset code is. subst (λ x. IsFault m a.held x) (sym fault.0 ∙ is) done.fault;
+      bad_text = λ line column why cnf is. subst (λ x. IsFault m a.held x) (sym fault.0 ∙ is) done.fault;
       printed = λ reported. absurd (early_silent e early (subst HasReport fault.0 reported));
       cut = λ is. absurd (early_no_out e early (sym fault.0 ∙ is));
       effects = subst (λ x. Effects m a b x) (sym fault.0) done.effects;
@@ -108,12 +123,14 @@ answered P R q (Ok x) final a b out out' fault put done =
     elim put [
       | inl h ↦ record {
         refused = λ file offset code is. absurd (subst HasReport (sym h.0 ∙ is) reported);
+        bad_text = λ line column why cnf is. absurd (subst HasReport (sym h.0 ∙ is) reported);
         printed = λ _. (x.report.items, h.1, subst (λ e. m.IsAnswer a.held e x.report.items) (sym h.0) done.answer);
         cut = λ is. absurd (subst HasReport (sym h.0 ∙ is) reported);
         effects = subst (λ e. Effects m a b e) (sym h.0) done.effects;
       }
       | inr h ↦ record {
         refused = λ file offset code is. absurd (cc (h.0, is));
+        bad_text = λ line column why cnf is. absurd (cc (h.0, is));
         printed = λ has. absurd (subst HasReport h.0 has);
         cut = λ is. (x.ended, x.report.items, h.2, done.answer, done.effects.saved);
         effects = subst (λ e. Effects m a b e) (sym h.0) (out_effects m a b x.ended reported done.effects);
@@ -159,6 +176,12 @@ module _ (words : List (List ℕ)) (final : Ended) (a b : FilesSeen) (out out' :
       let printed = (answers q asks).printed (subst HasReport (sym is) (verdict_reports v)) in
       (q, asks, verdict_for q a.held v printed.0 (subst (λ e. (meaning_of q).IsAnswer a.held e printed.0) is printed.2))
 
+  for_proof : (work : Work) (o : Option Question) → taken words ≡ o → final ≡ Proved work → ForDesign a.held words IsRight
+  for_proof work None asks is = elim (usage asks) [ inl h ↦ absurd (cc (is, h)) | inr h ↦ absurd (cc (is, h)) ]
+  for_proof work (Some q) asks is =
+      let printed = (answers q asks).printed (subst HasReport (sym is) tt) in
+      (q, asks, proved_right q a.held work printed.0 (subst (λ e. (meaning_of q).IsAnswer a.held e printed.0) is printed.2))
+
   for_verdict : (v : Verdict) (P : Asked → DesignView → Type 0) → final ≡ ended_by v → ((asked : Asked) (d : DesignView) → IsVerdict d asked v → P asked d) → ForVerdict a.held words P
   for_verdict v P is f =
       let found = asked_for v (taken words) refl is in
@@ -176,6 +199,7 @@ module _ (words : List (List ℕ)) (final : Ended) (a b : FilesSeen) (out out' :
     correct = λ c work is. for_design (verdict.Correct c work) _ is (λ asked d v. v.is_true.0);
     wrong = λ k c work is. for_design (verdict.Wrong k c work) _ is (λ asked d v. v.is_true);
     void = λ work is. for_design (verdict.Void work) _ is (λ asked d v. v.is_true);
+    proved = λ work is. for_proof work (taken words) refl is;
     holds = λ c work is. for_design (verdict.Correct (Some c) work) _ is (λ asked d v. v.is_true.1);
     undecided = λ work is. for_verdict (verdict.Undecided Breaks work) _ is (λ asked d v. v.is_true);
     may_give = λ v is. for_verdict v _ is (λ asked d v. v.may_give);

@@ -7,15 +7,14 @@ use Rattle.bd_text.specs.declared.code.Code.{Code}
 use Rattle.bd_text.specs.declared.code.Code.TheVariants.{TooLong}
 use Rattle.bd_typer.specs.declared.fault.Text.{Text}
 use Rattle.bd_typer.specs.declared.fault.Text.TheVariants as text
-use Rattle.bd_app.specs.Cases.{CaseNames, names_files}
-use Rattle.bd_app.specs.Files.{AreShort, BlamesOneOf, File, HoldsShort, IsShort, design_files, one_if}
+use Rattle.bd_app.specs.Files.{AreShort, BlamesOneOf, File, HoldsShort, IsShort, TextNames, design_files, most_bytes, one_if, text_files}
 use Rattle.bd_app.specs.Meaning.{FilesSeen, IsTooLong}
-use Rattle.bd_app.specs.Sources.{HoldSources, HoldsShortIf, Sources}
+use Rattle.bd_app.specs.Sources.{HoldSources, HoldsShortIf, Sources, TextSources}
 use Rattle.bd_app.specs.declared.answer.Ended.{Ended}
 use Rattle.bd_app.specs.declared.answer.Ended.TheVariants.{Refused, Device, Memory}
 use Rattle.bd_app.specs.declared.answer.Which.TheVariants as which
 use Rattle.bd_app.specs.inner.Loaded.{IsLoadFault, Loads}
-use Rattle.bd_app.proofs.Passing.{IfSome-both, IfSome-weaker, no_error, passed, rose_after, same_error}
+use Rattle.bd_app.proofs.Results.{IfSome-both, IfSome-weaker, no_error, passed, rose_after, same_error}
 
 -- ---- what was loaded of a file
 
@@ -32,26 +31,26 @@ many_held : (most : ℕ) (full bytes : List ℕ) → bytes ≡ take (most + 1) f
 many_held most full bytes read many = omega (arith, length-take (most + 1) full, ap length read)
 
 -- few bytes are all that is held
-pub loaded_short : (held : Option Held) (name : List ℕ) (bytes : List ℕ) → IsLoaded held name 1048576 bytes → length bytes ≤ 1048576 → IfSome held (λ h. HoldsShort h name bytes)
-loaded_short None name bytes loaded few = tt
-loaded_short (Some held) name bytes loaded few =
-    let full = held_bytes 1048576 (held name) bytes loaded in
-    (full.1 ∙ ap Some (sym (few_held 1048576 full.0 bytes full.2 few)), few)
+pub loaded_short : (held : Option Held) (file : File) (bytes : List ℕ) → IsLoaded held file.1 (most_bytes file.0) bytes → length bytes ≤ most_bytes file.0 → IfSome held (λ h. HoldsShort h file bytes)
+loaded_short None file bytes loaded few = tt
+loaded_short (Some held) file bytes loaded few =
+    let full = held_bytes (most_bytes file.0) (held file.1) bytes loaded in
+    (full.1 ∙ ap Some (sym (few_held (most_bytes file.0) full.0 bytes full.2 few)), few)
 
 -- of too many bytes one more than the most is loaded
-pub loaded_long : (held : Option Held) (text : Text) (name : List ℕ) (bytes : List ℕ) → IsLoaded held name 1048576 bytes → 1048576 < length bytes
-    → IfSome held (λ h. IsTooLong h ((text, name) ∷ []) text 1048576 TooLong)
+pub loaded_long : (held : Option Held) (text : Text) (name : List ℕ) (bytes : List ℕ) → IsLoaded held name (most_bytes text) bytes → most_bytes text < length bytes
+    → IfSome held (λ h. IsTooLong h ((text, name) ∷ []) text (most_bytes text) TooLong)
 loaded_long None text name bytes loaded many = tt
 loaded_long (Some held) text name bytes loaded many =
-    let full = held_bytes 1048576 (held name) bytes loaded in
+    let full = held_bytes (most_bytes text) (held name) bytes loaded in
     record {
-      first = record { before = []; name = name; after = []; order = refl; short = tt; long = (full.0, full.1, many_held 1048576 full.0 bytes full.2 many) };
+      first = record { before = []; name = name; after = []; order = refl; short = tt; long = (full.0, full.1, many_held (most_bytes text) full.0 bytes full.2 many) };
       at_limit = refl;
       too_long = refl;
     }
 
-pub short_file : (held : Option Held) (t : Text) (name bytes : List ℕ) → IfSome held (λ h. HoldsShort h name bytes) → IfSome held (λ h. IsShort h (t, name))
-short_file held t name bytes loaded = IfSome-weaker _ _ held (λ h short. (bytes, short)) loaded
+pub short_file : (held : Option Held) (file : File) (bytes : List ℕ) → IfSome held (λ h. HoldsShort h file bytes) → IfSome held (λ h. IsShort h file)
+short_file held file bytes loaded = IfSome-weaker _ _ held (λ h short. (bytes, short)) loaded
 
 -- ---- one file after another
 
@@ -157,21 +156,21 @@ loads_next {T} {S} {file} {more} {a} {b} {c} {x} {r} short one others = record {
 
 -- ---- all of them
 
-pub all_held : (held : Option Held) (pipe spec : List ℕ) (inv : Option (List ℕ)) (s : Sources) → IfSome held (λ h. HoldsShort h pipe s.pipe) → IfSome held (λ h. HoldsShort h spec s.spec)
-    → IfSome held (λ h. HoldsShortIf h inv s.inv) → IfSome held (λ h. HoldSources h pipe spec inv s)
+pub all_held : (held : Option Held) (pipe spec : List ℕ) (inv : Option (List ℕ)) (s : Sources) → IfSome held (λ h. HoldsShort h (text.Pipe, pipe) s.pipe) → IfSome held (λ h. HoldsShort h (text.Spec, spec) s.spec)
+    → IfSome held (λ h. HoldsShortIf h text.Inv inv s.inv) → IfSome held (λ h. HoldSources h pipe spec inv s)
 all_held None pipe spec inv s a b c = tt
 all_held (Some h) pipe spec inv s a b c = record { pipe_held = a; spec_held = b; inv_held = c }
 
-short_if : (h : Held) (inv : Option (List ℕ)) (bytes : Option (List ℕ)) → HoldsShortIf h inv bytes → AreShort h (one_if text.Inv inv)
-short_if h None None held = tt
-short_if h None (Some bytes) held = absurd held
-short_if h (Some name) None held = absurd held
-short_if h (Some name) (Some bytes) held = ((bytes, held), tt)
+short_if : (h : Held) (t : Text) (name : Option (List ℕ)) (bytes : Option (List ℕ)) → HoldsShortIf h t name bytes → AreShort h (one_if t name)
+short_if h t None None held = tt
+short_if h t None (Some bytes) held = absurd held
+short_if h t (Some name) None held = absurd held
+short_if h t (Some name) (Some bytes) held = ((bytes, held), tt)
 
 -- files whose bytes are few are short
 pub sources_short : (h : Held) (pipe spec : List ℕ) (inv : Option (List ℕ)) (s : Sources) → HoldSources h pipe spec inv s → AreShort h (design_files pipe spec inv)
-sources_short h pipe spec inv s held = ((s.pipe, held.pipe_held), ((s.spec, held.spec_held), short_if h inv s.inv held.inv_held))
+sources_short h pipe spec inv s held = ((s.pipe, held.pipe_held), ((s.spec, held.spec_held), short_if h text.Inv inv s.inv held.inv_held))
 
-pub case_short : (h : Held) (names : CaseNames) (s : Sources) (bytes : List ℕ) → HoldSources h names.pipe names.spec names.inv s → HoldsShort h names.case bytes → AreShort h (names_files names)
-case_short h names s bytes held case =
-    ((s.pipe, held.pipe_held), ((s.spec, held.spec_held), ((bytes, case), short_if h names.inv s.inv held.inv_held)))
+pub text_short : (h : Held) (t : Text) (names : TextNames) (s : Sources) (bytes : List ℕ) → TextSources names h s → HoldsShort h (t, names.text) bytes → AreShort h (text_files t names)
+text_short h t names s bytes held short =
+    ((s.pipe, held.pipe_held), ((s.spec, held.spec_held), ((bytes, short), short_if h text.Inv names.inv s.inv held.inv_held)))

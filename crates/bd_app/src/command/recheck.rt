@@ -1,0 +1,109 @@
+//! `recheck`: whether a text proves that a pipeline is right.
+ghost use Rattle.std.specs.Prelude.{◌≡◌, ◌++◌, [], ◌∷◌, false, IfOk, IfErr, codes};
+ghost use Rattle.std.specs.Option.{option_map};
+ghost use Rattle.clap.specs.Words.{found_of, rows_of, shape_of};
+ghost use Rattle.clap.specs.declared.builder.command.Command.TheViews.{out-Command as fields_of};
+ghost use Rattle.bd_model.specs.DesignView.{design_view};
+ghost use Rattle.bd_model.specs.Lawful.{IsLawful};
+ghost use Rattle.bd_app.specs.Meaning.{files_seen};
+ghost use Rattle.bd_app.specs.Recheck.{recheck_command, recheck_meaning, recheck_of, recheck_question};
+ghost use Rattle.bd_app.specs.inner.Loaded.{AreFew, sources_view};
+ghost use Rattle.bd_app.specs.inner.Done.{IsBadProof, IsDone, IsProvedBy, OnSources, OnText};
+
+use crate::answer::{Answer, Ended};
+use crate::load::{TextBytes, TextFiles, load_text};
+use crate::read::design;
+use crate::words::{machines_command, required, with, word_at};
+use bd_files::Files;
+use bd_foreign::{ProofFault, recheck};
+use bd_model::Design;
+use bd_typer::Text;
+use bd_verify::Work;
+use clap::{Arg, ArgMatches, Command};
+use std::alloc::{AllocError, Global};
+
+/// Its words.
+pub fn command<'a>(alloc: Global) -> Result<Command<'a>, AllocError>
+    ensures shape { IfOk result (λ c. shape_of c ≡ recheck_command) }
+    ensures local { IfOk result (λ c. (fields_of c).has_globals ≡ false) }
+{
+    let command = machines_command(alloc, "recheck")?;
+    let command = with(command, required(alloc, "PROOF"))?;
+    with(command, Arg::new(alloc, "INV"))
+}
+
+/// Its options, the names of the files of a proof.
+#[tactic(auto, unfolding(crate::specs::Recheck::recheck_question))]
+pub fn options<'a>(matches: &ArgMatches<'a>) -> Option<TextFiles<'a>>
+    ensures { option_map recheck_of result ≡ recheck_question (rows_of (found_of matches.now)) }
+{
+    Some(TextFiles {
+        pipe: word_at(matches, "PIPE")?,
+        spec: word_at(matches, "SPEC")?,
+        text: word_at(matches, "PROOF")?,
+        inv: word_at(matches, "INV"),
+    })
+}
+
+/// The answer that a proof is.
+fn proved_answer(alloc: Global, work: Work) -> Result<Answer, Ended>
+    ensures answer { IfOk result (λ a. (a.ended ≡ Ended.Proved work)
+        × (a.report.items ≡ codes "correct by proof" ++ 10 ∷ [])) }
+    ensures fault { IfErr result (λ e. e ≡ Ended.Memory) }
+{
+    match Vec::from_slice(alloc, b"correct by proof\n") {
+        Ok(report) => Ok(Answer {
+            ended: Ended::Proved(work),
+            report,
+        }),
+        Err(_) => Err(Ended::Memory),
+    }
+}
+
+/// Whether the bytes prove that the design is right.
+fn proved(alloc: Global, design: &Design, bytes: &[u8]) -> Result<Answer, Ended>
+    requires { IsLawful (design_view design.now) }
+    ensures { OnText IsProvedBy IsBadProof (design_view design.now) bytes.now result }
+{
+    match recheck(alloc, design, bytes) {
+        Ok(work) => proved_answer(alloc, work),
+        Err(
+            ProofFault::Bad {
+                line,
+                column,
+                why,
+                cnf,
+            },
+        ) => Err(Ended::BadText {
+            line,
+            column,
+            why,
+            cnf,
+        }),
+        Err(ProofFault::Memory) => Err(Ended::Memory),
+    }
+}
+
+/// Whether the text of loaded files proves it.
+fn proved_bytes(alloc: Global, bytes: &TextBytes) -> Result<Answer, Ended>
+    requires { AreFew (sources_view bytes.now.sources) }
+    ensures { OnSources IsProvedBy IsBadProof
+        (sources_view bytes.now.sources) bytes.now.text.items result }
+{
+    let design = design(alloc, &bytes.sources)?;
+    proved(alloc, &design, bytes.text.as_slice())
+}
+
+/// Its answer.
+pub fn answer<F: Files>(
+    alloc: Global,
+    files: &mut F,
+    options: TextFiles<'_>,
+) -> Result<Answer, Ended>
+    ensures { IsDone (recheck_meaning (recheck_of options.entry))
+        (files_seen F.held F.faults F.blame files.old)
+        (files_seen F.held F.faults F.blame files.new) result }
+{
+    let bytes = load_text(files, Text::Proof, options)?;
+    proved_bytes(alloc, &bytes)
+}
