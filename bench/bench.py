@@ -152,6 +152,7 @@ def superscalars(long):
     sizes = [(2, 3), (2, 5), (4, 3), (4, 4)] + ([(4, 8), (8, 3), (8, 5)] if long else [])
     for width, depth in sizes:
         yield f"{width} x {depth}", ["superscalar.py", str(width), str(depth)]
+        yield f"{width} x {depth}, in another order", ["superscalar.py", "--shuffle", "1", str(width), str(depth)]
         yield f"{width} x {depth}, one path missing", ["superscalar.py", "--miss", str(width), str(depth)]
 
 

@@ -4,11 +4,14 @@
 Each cycle may fetch up to WIDTH instructions. An operand is read from the registers, behind the results of all
 instructions in flight: every stage and slot forwards to every operand, the youngest first. An instruction that reads
 what an earlier one of its group writes waits for the next cycle, with all after it. The specification runs one
-instruction a step. With --miss the youngest result of the last stage isn't forwarded, which is wrong.
+instruction a step. With --miss the youngest result of the last stage isn't forwarded, which is wrong. With --shuffle
+the pipeline's declarations, lets and next values come in another order each, lets after those that they use.
 
-usage: superscalar.py WIDTH DEPTH [--operands N] [--miss] PIPE SPEC
+usage: superscalar.py WIDTH DEPTH [--operands N] [--miss] [--shuffle SEED] PIPE SPEC
 """
 import argparse
+import random
+import re
 
 
 def functions(operands):
@@ -109,17 +112,58 @@ def pipeline(width, depth, operands, miss):
     return "\n".join(lines) + "\n"
 
 
+def items_of(text):
+    """The items of a pipeline's text."""
+    depth, start = 0, 0
+    for place, letter in enumerate(text):
+        if letter == "(":
+            depth += 1
+            start = place if depth == 2 else start
+        elif letter == ")":
+            depth -= 1
+            if depth == 1:
+                yield text[start:place + 1]
+
+
+def in_some_order(lets, rng):
+    """Lets in some order in which each comes after those that it uses."""
+    names = {item.split()[1] for item in lets}
+    waits = {item: set(re.findall(r"[\w.]+", item)[2:]) & names for item in lets}
+    while lets:
+        ready = [item for item in lets if not waits[item]]
+        item = rng.choice(ready)
+        lets = [other for other in lets if other != item]
+        for other in lets:
+            waits[other].discard(item.split()[1])
+        yield item
+
+
+def shuffled(text, seed):
+    rng = random.Random(seed)
+    items = list(items_of(text))
+    kinds = {kind: [item for item in items if item.startswith(f"({kind} ")] for kind in ("let", "next", "flush", "steps")}
+    declared = [item for item in items if not any(item in kind for kind in kinds.values())]
+    rng.shuffle(declared)
+    rng.shuffle(kinds["next"])
+    lines = [*declared, *in_some_order(kinds["let"], rng), *kinds["next"], *kinds["flush"], *kinds["steps"]]
+    return "\n ".join(["(pipeline", *lines]) + ")\n"
+
+
 def main():
     parser = argparse.ArgumentParser(description="A superscalar pipeline and its specification.")
     parser.add_argument("width", type=int)
     parser.add_argument("depth", type=int)
     parser.add_argument("--operands", type=int, default=1)
     parser.add_argument("--miss", action="store_true")
+    parser.add_argument("--shuffle", type=int)
     parser.add_argument("pipe")
     parser.add_argument("spec")
     words = parser.parse_args()
+    text = pipeline(words.width, words.depth, words.operands, words.miss)
+    if words.shuffle is not None:
+        text = shuffled(text, words.shuffle)
     with open(words.pipe, "w") as file:
-        file.write(pipeline(words.width, words.depth, words.operands, words.miss))
+        file.write(text)
     with open(words.spec, "w") as file:
         file.write(specification(words.operands))
 

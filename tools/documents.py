@@ -31,7 +31,7 @@ CORRECT = [
     ("bd_app", "Sources", "IsDesign"),
     ("bd_app", "Program", "ForDesign"),
 ]
-LEFT_OUT = {("bd_app", name) for name in ("Replay", "Run", "Generate", "Cases", "Verdicts")}
+LEFT_OUT = {("bd_app", name) for name in ("Replay", "Recheck", "Run", "Generate", "Cases", "Verdicts")}
 LIST = ("<!-- correct: made by tools/documents.py -->", "<!-- correct: to here -->")
 CALLS = ("<!-- calls: made by tools/documents.py -->", "<!-- calls: to here -->")
 USE = re.compile(r"(?:pub )?use Rattle\.(bd_\w+)\.specs\.([\w.]+?)(?:\.\{(.*)\})?(?: as (\w+))?$")

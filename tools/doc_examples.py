@@ -1,0 +1,206 @@
+#!/usr/bin/env python3
+"""Runs the commands that documents show, and compares what comes out with what the documents print.
+
+    tools/doc_examples.py PROGRAM [FILE ..]            says what differs, and exits with 1 if anything does
+    tools/doc_examples.py PROGRAM --write [FILE ..]    puts into the documents what comes out
+
+Without files it takes README.md, docs/TUTORIAL.md and docs/COUNTEREXAMPLES.md, those of them that are there.
+
+An example is a block, fenced or indented by four spaces, whose first line begins with `$ `:
+
+    $ burch_dill check crates/burch_dill/data/two_stage.pipe crates/burch_dill/data/two_stage.spec
+    correct
+
+- A line that begins with `$ ` is a command for the shell; where it ends with a backslash, it goes on in the next line.
+  The lines after it, up to the next command or the end of the block, are its output: standard output and error output
+  together, as on a terminal.
+- A line `...` in an output stands for any lines, or none. Such an output isn't written by `--write`.
+- Blocks that begin otherwise are no examples, such as those of `rt`, which builds and proves. But a command of the
+  program without its `$ ` is a fault, so that none is left out by mistake.
+
+The commands of a document run one after the other in one new folder, in which `burch_dill` is PROGRAM and the folders
+at the top of the repository have their names. So paths are those from the top, and a command can save a file that a
+later one of the document reads, without a change to the repository.
+
+Where a tool of OTHERS isn't installed, the rest of the block isn't run, and the last line of the report says so.
+"""
+from __future__ import annotations
+
+import difflib
+import os
+import re
+import shutil
+import subprocess
+import sys
+import tempfile
+from pathlib import Path
+from typing import Iterator, NamedTuple
+
+ROOT = Path(__file__).resolve().parent.parent
+DOCUMENTS = ("README.md", "docs/TUTORIAL.md", "docs/COUNTEREXAMPLES.md")
+OTHERS = ("cadical",)
+PROMPT = "$ "
+CUT = "..."
+SECONDS = 60
+
+
+class Block(NamedTuple):
+    """A block of code: the number of its first line, from 1, its lines without indentation, and that indentation."""
+
+    start: int
+    lines: list[str]
+    indent: str
+
+
+class Example(NamedTuple):
+    """A command, the number of its last line, and the lines that the document shows as its output."""
+
+    line: int
+    command: str
+    shown: list[str]
+
+
+class Result(NamedTuple):
+    """An example and the lines that came out, or None where it wasn't run."""
+
+    example: Example
+    printed: list[str] | None
+
+    def differs(self) -> bool:
+        return self.printed is not None and not matches(self.example.shown, self.printed)
+
+
+def blocks(lines: list[str]) -> Iterator[Block]:
+    """The blocks of code of a document, in their order."""
+    at = 0
+    while at < len(lines):
+        start = at
+        if lines[at].startswith("```"):
+            while at + 1 < len(lines) and not lines[at + 1].startswith("```"):
+                at += 1
+            yield Block(start + 2, lines[start + 1:at + 1], "")
+            at += 2
+        elif lines[at].startswith("    ") and not "".join(lines[at - 1:at]).strip():
+            while at < len(lines) and lines[at].startswith("    "):
+                at += 1
+            yield Block(start + 1, [line[4:] for line in lines[start:at]], "    ")
+        else:
+            at += 1
+
+
+def examples(block: Block) -> list[Example]:
+    """The examples of a block; none where it begins otherwise."""
+    found: list[Example] = []
+    if not block.lines or not block.lines[0].startswith(PROMPT):
+        return found
+    for number, line in enumerate(block.lines, block.start):
+        if line.startswith(PROMPT):
+            found.append(Example(number, line[len(PROMPT):], []))
+        elif found[-1].command.endswith("\\"):
+            found[-1] = Example(number, found[-1].command[:-1] + line.strip(), [])
+        else:
+            found[-1].shown.append(line)
+    return found
+
+
+def unmarked(block: Block) -> list[int]:
+    """The numbers of the lines that hold a command of the program without the mark."""
+    return [number for number, line in enumerate(block.lines, block.start) if line.startswith("burch_dill ")]
+
+
+def matches(shown: list[str], printed: list[str]) -> bool:
+    """Whether the lines that are shown, cuts among them, are those that were printed."""
+    pattern = "".join(r"(?:.*\n)*" if line == CUT else re.escape(line) + r"\n" for line in shown)
+    return re.fullmatch(pattern, "".join(line + "\n" for line in printed)) is not None
+
+
+def prepare(folder: Path, program: Path) -> dict[str, str]:
+    """Fills the folder in which commands run, and gives the environment for them."""
+    commands = folder / ".commands"
+    commands.mkdir()
+    (commands / "burch_dill").symlink_to(program)
+    for path in ROOT.iterdir():
+        if path.is_dir() and not path.name.startswith("."):
+            (folder / path.name).symlink_to(path)
+    return {**os.environ, "PATH": f"{commands}:{os.environ['PATH']}", "LC_ALL": "C", "PYTHONDONTWRITEBYTECODE": "1"}
+
+
+def run(command: str, folder: Path, environment: dict[str, str]) -> list[str]:
+    """The lines that a command prints; a last line says so where it takes too long."""
+    try:
+        done = subprocess.run(command, shell=True, cwd=folder, env=environment, stdin=subprocess.DEVNULL,
+                              stdout=subprocess.PIPE, stderr=subprocess.STDOUT, timeout=SECONDS, check=False)
+    except subprocess.TimeoutExpired as late:
+        return (late.stdout or b"").decode("utf-8", "replace").splitlines() + [f"(stopped after {SECONDS} seconds)"]
+    return done.stdout.decode("utf-8", "replace").splitlines()
+
+
+def is_missing(command: str) -> bool:
+    """Whether the command begins with another tool that isn't installed."""
+    word = command.split()[0]
+    return word in OTHERS and shutil.which(word) is None
+
+
+def run_document(document: list[Block], program: Path) -> list[Result]:
+    """Runs the examples of a document."""
+    results = []
+    with tempfile.TemporaryDirectory() as name:
+        folder = Path(name)
+        environment = prepare(folder, program)
+        for block in document:
+            missing = False
+            for example in examples(block):
+                missing = missing or is_missing(example.command)
+                printed = None if missing else run(example.command, folder, environment)
+                results.append(Result(example, printed))
+    return results
+
+
+def difference(name: str, result: Result) -> str:
+    """The place and the command of an example, and how the lines differ."""
+    lines = difflib.unified_diff(result.example.shown, result.printed or [], "shown", "printed", lineterm="")
+    return "\n".join([f"{name}:{result.example.line}: {result.example.command}", *lines])
+
+
+def write(path: Path, document: list[Block], results: list[Result]) -> None:
+    """Puts what was printed in the place of what is shown, from the last example to the first; cuts stay."""
+    indents = {example.line: block.indent for block in document for example in examples(block)}
+    lines = path.read_text(encoding="utf-8").splitlines()
+    for example, printed in reversed(results):
+        if printed is not None and CUT not in example.shown:
+            indent = indents[example.line]
+            lines[example.line:example.line + len(example.shown)] = [(indent + line).rstrip() for line in printed]
+    path.write_text("\n".join(lines) + "\n", encoding="utf-8")
+
+
+def main(words: list[str]) -> int:
+    writes = "--write" in words
+    words = [word for word in words if word != "--write"]
+    if not words or words[0].startswith("-"):
+        print(__doc__)
+        return 2
+    program = Path(words[0]).resolve()
+    if not os.access(program, os.X_OK):
+        print(f"{program} can't be run")
+        return 2
+    paths = [Path(word) for word in words[1:]] or [ROOT / name for name in DOCUMENTS if (ROOT / name).exists()]
+    count = left_out = faults = 0
+    for path in paths:
+        document = list(blocks(path.read_text(encoding="utf-8").splitlines()))
+        results = run_document(document, program)
+        name = os.path.relpath(path)
+        reports = [f"{name}:{line}: a command without `$ `" for block in document for line in unmarked(block)]
+        reports += [difference(name, result) for result in results if result.differs()]
+        if reports:
+            print("\n".join(reports))
+        if writes:
+            write(path, document, results)
+        count += len(results)
+        left_out += sum(result.printed is None for result in results)
+        faults += len(reports)
+    print(f"{count} examples, {left_out} not run, {faults} faults")
+    return 1 if faults else 0
+
+
+if __name__ == "__main__":
+    sys.exit(main(sys.argv[1:]))

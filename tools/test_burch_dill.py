@@ -1,0 +1,308 @@
+"""Tests of `burch_dill.py`. What asks the program is left out where there is none.
+
+    cd tools && BURCH_DILL=PROGRAM python3 -m unittest
+"""
+import os
+import shutil
+import tempfile
+import unittest
+from dataclasses import replace
+from pathlib import Path
+from typing import Dict
+
+import example
+from burch_dill import FALSE, TRUE, WIDTH, Bool, Case, Declarations, DesignError, Fault, Function, Invariant, Judgement
+from burch_dill import Memory, NoAnswer, Outcome, Pipeline, Predicate, Row, Specification, Table, Word
+from burch_dill import all_of, any_of, check, iff, implies, ite, line_and_column, read_trees, recheck, replay, run
+
+PROGRAM = Path(__file__).resolve().parent.parent / "crates" / "burch_dill"
+DATA = PROGRAM / "data"
+TWO_STAGE, STALE, SPEC = (DATA / name for name in ("two_stage.pipe", "stale_operand.pipe", "two_stage.spec"))
+TWIN, TWIN_INV, NO_STATE = (DATA / name for name in ("twin_valid_bits.pipe", "twin_valid_bits.inv", "no_state.inv"))
+NOTHING_PENDING = DATA / "nothing_pending.inv"
+PRINTED = (PROGRAM / "stdout").read_text().partition("\n")[2]  # the case that the stale operand gives
+IS_THERE = shutil.which(os.environ.get("BURCH_DILL", "burch_dill")) is not None
+
+
+def functions(both: Declarations) -> Dict[str, Function]:
+    arities = {"inc": 1, "src": 1, "dst": 1, "op": 1, "alu": 2}
+    return {name: both.function(name, arity) for name, arity in arities.items()}
+
+
+def two_stages() -> Pipeline:
+    """The pipeline of `data/two_stage.pipe`."""
+    both = Declarations()
+    of = functions(both)
+    pc, rf = both.latch("pc", Word), both.memory("rf")
+    pipe = Pipeline(both, flush=1, steps=1)
+    v, (d, o, a) = pipe.latch("v", Bool), (pipe.latch(name, Word) for name in "doa")
+    stall = pipe.input("stall", TRUE)
+    rf2 = pipe.let("rf2", ite(v, rf.write(d, of["alu"](o, a)), rf))
+    pipe.next(pc, ite(stall, pc, of["inc"](pc)))
+    pipe.next(rf, rf2)
+    pipe.next(v, ~stall)
+    pipe.next(d, of["dst"](pc))
+    pipe.next(o, of["op"](pc))
+    pipe.next(a, rf2.read(of["src"](pc)))
+    return pipe
+
+
+def counter(**words: int) -> Pipeline:
+    pipe = Pipeline(flush=words.get("flush", 0), steps=words.get("steps", 1))
+    pipe.next(pipe.latch("n", Word), pipe.function("inc", 1)(Word("n")))
+    return pipe
+
+
+class Expressions(unittest.TestCase):
+    def test_each_form(self) -> None:
+        p, q, x, m = Bool("p"), Bool("q"), Word("x"), Memory("m")
+        texts = {
+            "(not p)": ~p, "(and p q p)": p & q & p, "(or p (and q p))": p | q & p, "(implies p q)": implies(p, q),
+            "(iff p q)": iff(p, q), "(= x x)": x.equals(x), "(ite p x x)": ite(p, x, x), "(read m x)": m.read(x),
+            "(write m x x)": m.write(x, x), "(f x x)": Function("f", 2)(x, x), "(t)": Predicate("t", 0)(),
+            "(and p q)": all_of([p, q]), "q": any_of([q]), "true": all_of([]), "false": any_of([]),
+        }
+        for text, expression in texts.items():
+            self.assertEqual(text, str(expression))
+        self.assertEqual((str(TRUE), str(FALSE)), ("true", "false"))
+
+    def test_sorts_are_checked(self) -> None:
+        p, x = Bool("p"), Word("x")
+        wrong = [lambda: ite(x, x, x), lambda: ite(p, x, p), lambda: ite(x == x, x, x), lambda: p & x,
+                 lambda: x.equals(p), lambda: Function("f", 1)(p), lambda: Function("f", 1)(x, x), lambda: all_of([x])]
+        for place, make in enumerate(wrong):
+            with self.subTest(place), self.assertRaises(DesignError):
+                make()
+        with self.assertRaises(TypeError):
+            bool(p)
+
+
+class Designs(unittest.TestCase):
+    def test_two_stages(self) -> None:
+        self.assertEqual(read_trees(two_stages().text()), read_trees(TWO_STAGE.read_text()))
+
+    def test_text(self) -> None:
+        pipe = counter()
+        pipe.comment("the last item")
+        self.assertEqual(pipe.text(), "(pipeline\n (latch n word)\n (function inc 1)\n (next n (inc n))\n"
+                                      " ; the last item\n (flush 0) (steps 1))\n")
+        spec = Specification()
+        spec.comment("nothing is visible")
+        self.assertEqual(spec.text(), "(specification\n ; nothing is visible\n)\n")
+
+    def test_long_lines_are_broken(self) -> None:
+        pipe = Pipeline(flush=2, steps=1)
+        latches = pipe.latches("a_latch_with_a_long_name_", range(8), Word)
+        chain = latches[0]
+        for latch in latches.values():
+            chain = ite(any_of(latch.equals(other) for other in list(latches.values())[:4]), latch, chain)
+        for latch in latches.values():
+            pipe.next(latch, latch)
+        pipe.let("chain", chain)
+        pipe.comment("word " * 40)
+        text = pipe.text()
+        self.assertLessEqual(max(map(len, text.split("\n"))), WIDTH)
+        self.assertIn(("let", "chain", "word", chain.tree), read_trees(text)[0])
+
+    def test_arrays(self) -> None:
+        both = Declarations()
+        v = both.latches("v", [(stage, slot) for stage in (2, 3) for slot in (0, 1)], Bool)
+        self.assertEqual([str(v[place]) for place in v], ["v2_0", "v2_1", "v3_0", "v3_1"])
+        self.assertEqual(both.memories("bank", range(2)), {0: Memory("bank0"), 1: Memory("bank1")})
+
+    def test_shared_declarations(self) -> None:
+        both = Declarations()
+        zero, one = both.constant("zero"), both.constant("one")
+        both.distinct(zero, one)
+        pc = both.latch("pc", Word)
+        pipe, spec = Pipeline(both, flush=0, steps=2), Specification(both)
+        pipe.exact(2, pc.equals(zero))
+        pipe.next(pc, one)
+        spec.next(pc, one)
+        first = " (function zero 0) (function one 0) (distinct zero one)\n (latch pc word)\n"
+        self.assertEqual(pipe.text(), f"(pipeline\n{first} (exact 2 (= pc (zero)))\n (next pc (one))\n"
+                                      " (flush 0) (steps 2))\n")
+        self.assertEqual(spec.text(), f"(specification\n{first} (next pc (one)))\n")
+
+    def test_invariant(self) -> None:
+        inv = Invariant(Bool("v"))
+        same = inv.let("same", Word("x").equals(Word("y")))
+        inv.require(~same)
+        self.assertEqual(inv.text(), "(invariant\n (let same bool (= x y))\n (and v (not same)))\n")
+        self.assertEqual(Invariant(Bool("v")).text(), "(invariant\n v)\n")
+
+    def test_what_cannot_be_written(self) -> None:
+        pipe = counter()
+        n = Word("n")
+        wrong = [lambda: pipe.latch("1a", Word), lambda: pipe.latch("read", Word), lambda: pipe.latch("n", Bool),
+                 lambda: pipe.latch("x" * 65, Word), lambda: pipe.latch("m", Memory), lambda: pipe.let("y", "n"),
+                 lambda: pipe.input("i", Memory("m")), lambda: pipe.next(n, n), lambda: pipe.next(Word("k"), n),
+                 lambda: pipe.next(Bool("n"), TRUE), lambda: pipe.exact(9, TRUE), lambda: pipe.function("f", 9),
+                 lambda: pipe.distinct(n), lambda: pipe.comment("\u00e4"), lambda: counter(flush=65),
+                 lambda: counter(steps=9), lambda: Invariant(n), lambda: Invariant().let("read", n)]
+        for place, make in enumerate(wrong):
+            with self.subTest(place), self.assertRaises(DesignError):
+                make()
+        pipe.latch("without_next", Word)
+        with self.assertRaisesRegex(DesignError, "without_next"):
+            pipe.text()
+
+
+class Cases(unittest.TestCase):
+    def test_printed_case_is_written_back(self) -> None:
+        case = Case.read(PRINTED)
+        self.assertEqual(case.text(), PRINTED)
+        self.assertEqual(case.symbols["alu"], Table(0, (Row((3, 10), 12), Row((3, 12), 15))))
+        self.assertEqual((case.state["v"], case.state["d"], case.inputs), (True, 8, {"stall": False}))
+
+    def test_every_kind(self) -> None:
+        text = ("(case 2\n (constant zero 7)\n (predicate taken false (7 true))\n (function f 1 (2 3 4))\n"
+                " (latch v true)\n (memory rf 0 (5 7))\n (input stall false))\n")
+        case = Case.read(text)
+        self.assertEqual(case.text(), text)
+        self.assertEqual(case, Case.read(text.replace("\n", " ; a comment\n\t")))
+        self.assertEqual(case.symbols, {"zero": 7, "taken": Table(False, (Row((7,), True),)),
+                                        "f": Table(1, (Row((2, 3), 4),))})
+        self.assertEqual(Case({}, {}, {}).text(), "(case 1)\n")
+
+    def test_tables(self) -> None:
+        table = Table(0, (Row((1,), 2), Row((1,), 3)))
+        self.assertEqual((table(1), table(2), table.having(9, 1)(1), table.having(9, 2)(1)), (2, 0, 9, 2))
+
+    def test_what_is_no_case(self) -> None:
+        for text in ("", "(case 1", "(case 1))", "(case 3)", "(case 1 (latch v))", "(case 1 (latch v x))",
+                     "(case 1 (latch v 1 2))", "(case 1 (latch v 1) (latch v 2))", "(case 1 (memory m 0 5))"):
+            with self.subTest(text), self.assertRaises(ValueError):
+                Case.read(text)
+        with self.assertRaises(DesignError):
+            Case({}, {"n": 2**64}, {}).text()
+
+
+class Places(unittest.TestCase):
+    def test_line_and_column(self) -> None:
+        text = b"ab\n\nc\n"
+        places = [line_and_column(text, offset) for offset in range(7)]
+        self.assertEqual(places, [(1, 1), (1, 2), (1, 3), (2, 1), (3, 1), (3, 2), (4, 1)])
+
+
+@unittest.skipUnless(IS_THERE, "no program is named by BURCH_DILL")
+class Answers(unittest.TestCase):
+    def test_correct(self) -> None:
+        for pipe in (TWO_STAGE, TWO_STAGE.read_text(), TWO_STAGE.read_bytes(), two_stages()):
+            verdict = check(pipe, SPEC)
+            self.assertEqual((verdict.outcome, verdict.case, verdict.is_right), (Outcome.CORRECT, None, True))
+        self.assertTrue(check(TWO_STAGE, SPEC, diverse=True).is_right)
+
+    def test_wrong(self) -> None:
+        verdict = check(STALE, SPEC)
+        self.assertEqual((verdict.outcome, verdict.is_right), (Outcome.WRONG_COMMUTE, False))
+        assert verdict.case is not None
+        self.assertEqual(verdict.case.text(), PRINTED)
+        self.assertEqual(verdict, check(STALE, SPEC))
+        self.assertEqual(replay(STALE, SPEC, verdict.case), Judgement.BROKEN_COMMUTE)
+        self.assertEqual(replay(TWO_STAGE, SPEC, verdict.case), Judgement.HOLDS)
+
+    def test_invariants(self) -> None:
+        self.assertEqual(check(TWIN, SPEC).outcome, Outcome.WRONG_COMMUTE)
+        for inv in (TWIN_INV, Invariant(iff(Bool("v"), Bool("w")))):
+            verdict = check(TWIN, SPEC, inv)
+            assert verdict.is_right and verdict.case is not None
+            self.assertEqual(replay(TWIN, SPEC, verdict.case, inv), Judgement.HOLDS)
+            outside = replace(verdict.case, state={**verdict.case.state, "v": True, "w": False})
+            self.assertEqual(replay(TWIN, SPEC, outside, inv), Judgement.OUTSIDE)
+        self.assertEqual(check(TWO_STAGE, SPEC, NOTHING_PENDING).outcome, Outcome.WRONG_INVARIANT)
+        self.assertEqual(check(TWO_STAGE, SPEC, NO_STATE).outcome, Outcome.VOID)
+
+    def test_budget(self) -> None:
+        verdict = check(*example.machines(4), budget=0)
+        self.assertEqual((verdict.outcome, verdict.learned, verdict.seeks_state), (Outcome.UNDECIDED, 0, False))
+
+    def test_constants(self) -> None:
+        both = Declarations()
+        zero, one = both.constant("zero"), both.constant("one")
+        both.distinct(zero, one)
+        pc = both.latch("pc", Word)
+        pipe, spec = Pipeline(both, flush=0, steps=1), Specification(both)
+        pipe.exact(1, TRUE)
+        pipe.next(pc, zero)
+        spec.next(pc, one)
+        case = check(pipe, spec).case
+        assert case is not None
+        self.assertNotEqual(case.symbols["zero"], case.symbols["one"])
+        self.assertEqual(replay(pipe, spec, case), Judgement.BROKEN_COMMUTE)
+        with self.assertRaisesRegex(Fault, "E19 constants not distinct"):
+            replay(pipe, spec, replace(case, symbols={"zero": 1, "one": 1}))
+
+    def test_run(self) -> None:
+        case = Case.read(PRINTED)
+        states = run(STALE, SPEC, case, 2)
+        self.assertEqual(len(states), 3)
+        self.assertEqual(states[0], case.state)
+        rf, after = states[0]["rf"], states[1]["rf"]
+        assert isinstance(rf, Table) and isinstance(after, Table)
+        self.assertEqual((rf(8), after(8)), (10, 12))
+        self.assertEqual(run(STALE, SPEC, case, 0), states[:1])
+
+    def test_saved_proof_is_read(self) -> None:
+        with tempfile.TemporaryDirectory() as folder:
+            formula, proof = Path(folder, "kept.cnf"), Path(folder, "proof.lrat")
+            self.assertTrue(check(TWO_STAGE, SPEC, formula=formula, proof=proof).is_right)
+            self.assertTrue(formula.read_text().startswith("p cnf "))
+            verdict = recheck(TWO_STAGE, SPEC, proof)
+            self.assertEqual((verdict.outcome, verdict.is_right), (Outcome.PROVED, True))
+            with self.assertRaises(Fault) as raised:
+                recheck(TWO_STAGE, SPEC, "".join(proof.read_text().splitlines(True)[:-1]))
+            self.assertEqual((raised.exception.file, raised.exception.code), ("proof", "E24"))
+            with self.assertRaisesRegex(Fault, "^proof:2:") as raised:
+                recheck(TWO_STAGE, SPEC, "1 d 1 0\nnothing\n")
+            self.assertEqual((raised.exception.offset, raised.exception.line), (None, 2))
+
+    def test_example(self) -> None:
+        outcomes = {left_out: verdict.outcome for left_out, verdict in example.verdicts(4)}
+        wrong, right = Outcome.WRONG_COMMUTE, Outcome.CORRECT
+        self.assertEqual(outcomes, {None: right, 2: wrong, 3: wrong, 4: right})
+
+
+@unittest.skipUnless(IS_THERE, "no program is named by BURCH_DILL")
+class Faults(unittest.TestCase):
+    def fault(self, *sources: object) -> Fault:
+        with self.assertRaises(Fault) as raised:
+            check(*sources)  # type: ignore[arg-type]
+        return raised.exception
+
+    def test_in_a_file(self) -> None:
+        with tempfile.TemporaryDirectory() as folder:
+            pipe = Path(folder, "-bad.pipe")
+            pipe.write_text(TWO_STAGE.read_text().replace("(read rf2 ", "(read rf3 "))
+            fault = self.fault(pipe, SPEC)
+            line = next(text for text in pipe.read_text().split("\n") if "rf3" in text)
+            self.assertEqual((fault.file, fault.name), ("pipe", str(pipe)))
+            self.assertEqual((fault.code, fault.text), ("E08", "unknown name"))
+            self.assertEqual(pipe.read_text().split("\n")[fault.line - 1], line)
+            self.assertEqual(fault.column, line.index("rf3") + 1)
+            self.assertEqual(str(fault), f"{pipe}:{fault.line}:{fault.column}: E08 unknown name")
+
+    def test_in_a_text(self) -> None:
+        fault = self.fault(TWO_STAGE, "(specification\n (latch pc bit))")
+        self.assertEqual((fault.file, fault.name, fault.offset, fault.line, fault.column), ("spec", "spec", 26, 2, 12))
+        self.assertEqual(self.fault(TWO_STAGE, SPEC, "(invariant stall)").code, "E17")
+        self.assertEqual(self.fault(TWO_STAGE, "; \u00e4").code, "E01")
+        self.assertEqual(self.fault(" " * 1048577, SPEC).code, "E00")
+        with self.assertRaises(Fault) as raised:
+            replay(TWO_STAGE, SPEC, "(case 1)")
+        self.assertEqual((raised.exception.file, raised.exception.code), ("case", "E12"))
+
+    def test_no_answer(self) -> None:
+        case = Case.read(PRINTED)
+        for status, ask in ((2, lambda: run(TWO_STAGE, SPEC, case, 1001)),
+                            (2, lambda: check(TWO_STAGE, SPEC, budget=-1)),
+                            (5, lambda: check(DATA / "absent.pipe", SPEC)),
+                            (0, lambda: check(TWO_STAGE, SPEC, program=shutil.which("true"))),
+                            (None, lambda: check(TWO_STAGE, SPEC, program="/absent/burch_dill"))):
+            with self.subTest(status), self.assertRaises(NoAnswer) as raised:
+                ask()
+            self.assertEqual(raised.exception.status, status)
+
+
+if __name__ == "__main__":
+    unittest.main()
