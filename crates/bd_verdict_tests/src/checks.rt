@@ -314,7 +314,7 @@ static FIVE_STAGES: [Check; 2] = [
 ];
 
 /// The files of a check, whose pipeline is this text.
-fn row_of<'a>(check: &Check, pipe: &'a str) -> Row<'a> {
+pub fn row_of<'a>(check: &Check, pipe: &'a str) -> Row<'a> {
     Row {
         name: check.name,
         words: check.words,

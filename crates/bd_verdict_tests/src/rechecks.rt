@@ -1,6 +1,6 @@
 //! Proofs from elsewhere: texts with their first faults, and the proofs that checks save.
 
-use crate::checks::{CHECKS, Check};
+use crate::checks::{CHECKS, Check, row_of};
 use crate::rows::{Row, STALLING, file, holds, joined, page, shelf_of, words_of};
 use bd_app::run;
 use bd_examples::texts::{KEEPING_BIT, STANDING_BIT};
@@ -109,10 +109,9 @@ fn line(alloc: Global, fault: &str) -> Result<String, AllocError> {
     }
 }
 
-/// Whether the text, as a proof that the bit stands, is answered so.
-fn answers(alloc: Global, text: Text) -> Result<bool, AllocError> {
+/// Whether the text, as a proof that the bit stands, is answered so, with this line on the error output.
+fn answers_with(alloc: Global, text: Text, line: &str) -> Result<bool, AllocError> {
     let (proof, fault) = text;
-    let line = line(alloc, fault)?;
     let row = Row {
         words: RECHECK,
         pipe: STANDING_BIT,
@@ -124,10 +123,15 @@ fn answers(alloc: Global, text: Text) -> Result<bool, AllocError> {
         } else {
             ""
         },
-        err: line.as_str(),
+        err: line,
         ..STALLING
     };
     holds(alloc, &row)
+}
+
+fn answers(alloc: Global, text: Text) -> Result<bool, AllocError> {
+    let line = line(alloc, text.1)?;
+    answers_with(alloc, text, line.as_str())
 }
 
 #[test]
@@ -231,16 +235,15 @@ fn printed(alloc: Global, words: &[&str], files: &mut Shelf) -> Result<Page, All
     Ok(out)
 }
 
+/// The files of a check, whose pipeline is this text.
+fn shelf_of_check(alloc: Global, check: &Check, pipe: &str) -> Result<Shelf, AllocError> {
+    shelf_of(alloc, &row_of(check, pipe))
+}
+
 /// Whether the proof that the check saves is one.
 fn rechecks(alloc: Global, check: &Check) -> Result<bool, AllocError> {
     let pipe = joined(alloc, check.pipe)?;
-    let row = Row {
-        pipe: pipe.as_str(),
-        spec: check.spec,
-        inv: check.inv,
-        ..STALLING
-    };
-    let mut files = shelf_of(alloc, &row)?;
+    let mut files = shelf_of_check(alloc, check, pipe.as_str())?;
     rechecks_over(alloc, check, &mut files)
 }
 
