@@ -1,5 +1,5 @@
 -- From the answer to a question to the run that prints it.
-use Rattle.std.proofs.Common.{◌≡◌, ◌≢◌, ◌∙◌, ℕ, List, refl, sym, subst, inl, inr}
+use Rattle.std.proofs.Common.{◌≡◌, ◌≢◌, ◌∙◌, ℕ, List, refl, sym, ap, subst, inl, inr}
 use Rattle.std.specs.Prelude.{◌⊎◌, Option, Some, None, Result, Ok, Err, IfSome, IfOk, IfErr, IsErrOf}
 use Rattle.bd_files.specs.Devices.{Held, Rose, Appends, AppendsPrefix}
 use Rattle.bd_model.specs.DesignView.{DesignView}
@@ -9,19 +9,23 @@ use Rattle.bd_verify.specs.declared.verdict.Work.{Work}
 use Rattle.bd_verify.specs.declared.verdict.Verdict.{Verdict}
 use Rattle.bd_verify.specs.declared.verdict.Verdict.TheVariants as verdict
 use Rattle.bd_app.specs.Answer.{HasReport}
-use Rattle.bd_app.specs.Commands.{Question, check, replay, run, gen, recheck, meaning_of, taken}
+use Rattle.bd_bounded.specs.Answer.{HasWork, Says}
+use Rattle.bd_bounded.specs.declared.answer.Bounded.{Bounded as BoundedAnswer}
+use Rattle.bd_bounded.specs.declared.answer.Bounded.TheVariants as runs
+use Rattle.bd_app.specs.Bounded.{BoundedRun, bounded_meaning}
+use Rattle.bd_app.specs.Commands.{Question, check, replay, run, gen, recheck, bounded, retrace, meaning_of, taken}
 use Rattle.bd_app.specs.Meaning.{Effects, FilesSeen, IsVerdictFor, Meaning}
-use Rattle.bd_app.specs.Program.{ForDesign, ForVerdict, Headline, IsAnswered, SinkSeen}
+use Rattle.bd_app.specs.Program.{ForBounded, ForDesign, ForVerdict, Headline, IsAnswered, SinkSeen}
 use Rattle.bd_app.specs.Verdicts.{IsVerdict, ended_by}
 use Rattle.bd_app.specs.declared.answer.Answer.{Answer}
 use Rattle.bd_app.specs.declared.answer.Which.TheVariants as which
 use Rattle.bd_app.specs.declared.answer.Ended.{Ended}
-use Rattle.bd_app.specs.declared.answer.Ended.TheVariants.{Proved, Usage, Refused, BadText, Device, Memory}
+use Rattle.bd_app.specs.declared.answer.Ended.TheVariants.{Proved, Bounded, Usage, Refused, BadText, Device, Memory}
 use Rattle.bd_app.specs.declared.verdict.Asked.{Asked}
 use Rattle.bd_app.specs.inner.Done.{IsDone, IsEarlyFault, IsFault, ended_of}
 use Rattle.bd_app.proofs.Effects.{out_effects}
 use Rattle.bd_app.proofs.Results.{IfSome-weaker}
-use Rattle.bd_app.proofs.Verdicts.{no_memory_verdict, no_proved, no_ran, no_replayed, no_usage_verdict, same_verdict, verdict_reports}
+use Rattle.bd_app.proofs.Verdicts.{no_bounded, no_memory_verdict, no_proved, no_ran, no_replayed, no_retraced, no_usage_verdict, same_verdict, verdict_reports}
 
 -- ---- what is promised of each command
 
@@ -32,6 +36,8 @@ reports (replay q) held e report is = subst HasReport (sym is.says.ended) tt
 reports (run q) held e report is = subst HasReport (sym is.says.ended) tt
 reports (gen q) held e report is = subst HasReport (sym is.says.ended) (verdict_reports is.says.verdict)
 reports (recheck q) held e report is = subst HasReport (sym is.ended) tt
+reports (bounded q) held e report is = subst HasReport (sym is.says.ended) tt
+reports (retrace q) held e report is = subst HasReport (sym is.says.ended) tt
 
 -- an answer that is a verdict is one on its design
 pub verdict_for : (q : Question) (held : Option Held) (v : Verdict) (report : List ℕ) → (meaning_of q).IsAnswer held (ended_by v) report → IsVerdictFor (meaning_of q) held v
@@ -52,6 +58,8 @@ verdict_for (gen q) held v report is = record {
   is_verdict = subst (λ w. IsVerdict is.design _ w) (sym (same_verdict v is.says.verdict is.says.ended)) is.says.is_verdict;
 }
 verdict_for (recheck q) held v report is = absurd (no_proved v is.work is.ended)
+verdict_for (bounded q) held v report is = absurd (no_bounded v is.says.answer is.says.ended)
+verdict_for (retrace q) held v report is = absurd (no_retraced v is.says.judgement is.says.ended)
 
 -- an answer that is a proof is one that its design is right
 proved_right : (q : Question) (held : Option Held) (work : Work) (report : List ℕ) → (meaning_of q).IsAnswer held (Proved work) report → IfSome held (λ h. (d : DesignView) × (meaning_of q).Asks h d × IsRight d)
@@ -60,6 +68,35 @@ proved_right (replay q) held work report is = absurd (cc is.says.ended)
 proved_right (run q) held work report is = absurd (cc is.says.ended)
 proved_right (gen q) held work report is = absurd (no_proved is.says.verdict work (sym is.says.ended))
 proved_right (recheck q) held work report is = IfSome-weaker _ _ held (λ h on. (on.design, on.denoted, on.says.right)) is.proves
+proved_right (bounded q) held work report is = absurd (cc is.says.ended)
+proved_right (retrace q) held work report is = absurd (cc is.says.ended)
+
+-- an answer on a bounded run is one to a question on such a run, and true of its design
+pub record IsRunOf (q : Question) (held : Option Held) (answer : BoundedAnswer) : Type 0 where
+  pub question : BoundedRun
+  pub is_asked : q ≡ bounded question
+  pub design : DesignView
+  pub asks : IfSome held (λ h. (bounded_meaning question).Asks h design)
+  pub says : Says design question.cycles answer
+  pub work : HasWork design question.cycles question.budget answer
+
+pub run_for : (q : Question) (held : Option Held) (answer : BoundedAnswer) (report : List ℕ) → (meaning_of q).IsAnswer held (Bounded answer) report → IsRunOf q held answer
+run_for (check q) held answer report is = absurd (no_bounded is.says.verdict answer (sym is.says.ended))
+run_for (replay q) held answer report is = absurd (cc is.says.ended)
+run_for (run q) held answer report is = absurd (cc is.says.ended)
+run_for (gen q) held answer report is = absurd (no_bounded is.says.verdict answer (sym is.says.ended))
+run_for (recheck q) held answer report is = absurd (cc is.ended)
+run_for (bounded q) held answer report is =
+    let same : is.says.answer ≡ answer = cc is.says.ended in
+    record {
+      question = q;
+      is_asked = refl;
+      design = is.design;
+      asks = is.asks;
+      says = subst (λ a. Says is.design q.cycles a) same is.says.says;
+      work = subst (λ a. HasWork is.design q.cycles q.budget a) same is.says.work;
+    }
+run_for (retrace q) held answer report is = absurd (cc is.says.ended)
 
 -- ---- before anything is printed
 
@@ -182,6 +219,14 @@ module _ (words : List (List ℕ)) (final : Ended) (a b : FilesSeen) (out out' :
       let printed = (answers q asks).printed (subst HasReport (sym is) tt) in
       (q, asks, proved_right q a.held work printed.0 (subst (λ e. (meaning_of q).IsAnswer a.held e printed.0) is printed.2))
 
+  for_run : (answer : BoundedAnswer) (P : BoundedRun → DesignView → Type 0) (o : Option Question) → taken words ≡ o → final ≡ Bounded answer
+      → ((q : BoundedRun) (d : DesignView) → Says d q.cycles answer → HasWork d q.cycles q.budget answer → P q d) → ForBounded a.held words P
+  for_run answer P None asks is f = elim (usage asks) [ inl h ↦ absurd (cc (is, h)) | inr h ↦ absurd (cc (is, h)) ]
+  for_run answer P (Some q) asks is f =
+      let printed = (answers q asks).printed (subst HasReport (sym is) tt) in
+      let found = run_for q a.held answer printed.0 (subst (λ e. (meaning_of q).IsAnswer a.held e printed.0) is printed.2) in
+      (found.question, asks ∙ ap Some found.is_asked, IfSome-weaker _ _ a.held (λ h asked. (found.design, asked, f found.question found.design found.says found.work)) found.asks)
+
   for_verdict : (v : Verdict) (P : Asked → DesignView → Type 0) → final ≡ ended_by v → ((asked : Asked) (d : DesignView) → IsVerdict d asked v → P asked d) → ForVerdict a.held words P
   for_verdict v P is f =
       let found = asked_for v (taken words) refl is in
@@ -200,6 +245,9 @@ module _ (words : List (List ℕ)) (final : Ended) (a b : FilesSeen) (out out' :
     wrong = λ k c work is. for_design (verdict.Wrong k c work) _ is (λ asked d v. v.is_true);
     void = λ work is. for_design (verdict.Void work) _ is (λ asked d v. v.is_true);
     proved = λ work is. for_proof work (taken words) refl is;
+    kept = λ work is. for_run (runs.Kept work) _ (taken words) refl is (λ q d says work. says);
+    broken = λ cycle t work is. for_run (runs.Broken cycle t work) _ (taken words) refl is (λ q d says work. (says.0.fits, says.1));
+    bounded_work = λ answer is. for_run answer _ (taken words) refl is (λ q d says work. work);
     holds = λ c work is. for_design (verdict.Correct (Some c) work) _ is (λ asked d v. v.is_true.1);
     undecided = λ work is. for_verdict (verdict.Undecided Breaks work) _ is (λ asked d v. v.is_true);
     may_give = λ v is. for_verdict v _ is (λ asked d v. v.may_give);

@@ -3,6 +3,7 @@ pub mod Loads
 pub mod WordValues
 pub mod Saves
 pub mod Verdicts
+pub mod Runs
 pub mod Effects
 pub mod Sources
 pub mod Answered

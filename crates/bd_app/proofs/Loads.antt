@@ -5,9 +5,12 @@ use Rattle.std.specs.Prelude.{Option, Some, None, Result, Ok, Err, IfSome, IfErr
 use Rattle.bd_files.specs.Devices.{Blame, Held, IsLoaded}
 use Rattle.bd_text.specs.declared.code.Code.{Code}
 use Rattle.bd_text.specs.declared.code.Code.TheVariants.{TooLong}
+use Rattle.bd_typer.specs.Denotes.{premise_file}
+use Rattle.bd_typer.specs.declared.premise.Premise.{Premise}
+use Rattle.bd_typer.specs.declared.premise.Premise.TheVariants as premises
 use Rattle.bd_typer.specs.declared.fault.Text.{Text}
 use Rattle.bd_typer.specs.declared.fault.Text.TheVariants as text
-use Rattle.bd_app.specs.Files.{AreShort, BlamesOneOf, File, HoldsShort, IsShort, TextNames, design_files, most_bytes, one_if, text_files}
+use Rattle.bd_app.specs.Files.{AreShort, BlamesOneOf, DesignNames, File, HoldsShort, IsShort, TextNames, design_files, most_bytes, one_if, text_files}
 use Rattle.bd_app.specs.Meaning.{FilesSeen, IsTooLong}
 use Rattle.bd_app.specs.Sources.{HoldSources, HoldsShortIf, Sources, TextSources}
 use Rattle.bd_app.specs.declared.answer.Ended.{Ended}
@@ -156,10 +159,15 @@ loads_next {T} {S} {file} {more} {a} {b} {c} {x} {r} short one others = record {
 
 -- ---- all of them
 
-pub all_held : (held : Option Held) (pipe spec : List ℕ) (inv : Option (List ℕ)) (s : Sources) → IfSome held (λ h. HoldsShort h (text.Pipe, pipe) s.pipe) → IfSome held (λ h. HoldsShort h (text.Spec, spec) s.spec)
-    → IfSome held (λ h. HoldsShortIf h text.Inv inv s.inv) → IfSome held (λ h. HoldSources h pipe spec inv s)
-all_held None pipe spec inv s a b c = tt
-all_held (Some h) pipe spec inv s a b c = record { pipe_held = a; spec_held = b; inv_held = c }
+pub all_held : (held : Option Held) (names : DesignNames) (s : Sources) → s.premise ≡ names.premise → IfSome held (λ h. HoldsShort h (text.Pipe, names.pipe) s.pipe) → IfSome held (λ h. HoldsShort h (text.Spec, names.spec) s.spec)
+    → IfSome held (λ h. HoldsShortIf h (premise_file names.premise) names.third s.third) → IfSome held (λ h. HoldSources h names s)
+all_held None names s same a b c = tt
+all_held (Some h) names s same a b c = record { pipe_held = a; spec_held = b; same_premise = same; third_held = c }
+
+-- a third file is no proof
+pub few_third : (premise : Premise) (bytes : Option (List ℕ)) → IfSome bytes (λ b. length b ≤ most_bytes (premise_file premise)) → IfSome bytes (λ b. length b ≤ 1048576)
+few_third premises.Invariant bytes few = few
+few_third premises.Start bytes few = few
 
 short_if : (h : Held) (t : Text) (name : Option (List ℕ)) (bytes : Option (List ℕ)) → HoldsShortIf h t name bytes → AreShort h (one_if t name)
 short_if h t None None held = tt
@@ -168,9 +176,9 @@ short_if h t (Some name) None held = absurd held
 short_if h t (Some name) (Some bytes) held = ((bytes, held), tt)
 
 -- files whose bytes are few are short
-pub sources_short : (h : Held) (pipe spec : List ℕ) (inv : Option (List ℕ)) (s : Sources) → HoldSources h pipe spec inv s → AreShort h (design_files pipe spec inv)
-sources_short h pipe spec inv s held = ((s.pipe, held.pipe_held), ((s.spec, held.spec_held), short_if h text.Inv inv s.inv held.inv_held))
+pub sources_short : (h : Held) (names : DesignNames) (s : Sources) → HoldSources h names s → AreShort h (design_files names)
+sources_short h names s held = ((s.pipe, held.pipe_held), ((s.spec, held.spec_held), short_if h (premise_file names.premise) names.third s.third held.third_held))
 
 pub text_short : (h : Held) (t : Text) (names : TextNames) (s : Sources) (bytes : List ℕ) → TextSources names h s → HoldsShort h (t, names.text) bytes → AreShort h (text_files t names)
 text_short h t names s bytes held short =
-    ((s.pipe, held.pipe_held), ((s.spec, held.spec_held), ((bytes, short), short_if h text.Inv names.inv s.inv held.inv_held)))
+    ((s.pipe, held.pipe_held), ((s.spec, held.spec_held), ((bytes, short), short_if h (premise_file names.design.premise) names.design.third s.third held.third_held)))

@@ -4,87 +4,92 @@ use Rattle.std.specs.Prelude.{◌⊎◌, Option, Result, Ok, Err, IfSome, IfOk, 
 use Rattle.bd_files.specs.Devices.{Held}
 use Rattle.bd_model.specs.DesignView.{DesignView}
 use Rattle.bd_model.specs.declared.case.Case.{Case}
+use Rattle.bd_model.specs.declared.case.Trail.{Trail}
 use Rattle.bd_model.specs.declared.table.Value.{Value}
-use Rattle.bd_typer.specs.Denotes.{Denotes}
+use Rattle.bd_typer.specs.Denotes.{DenotesWith}
+use Rattle.bd_typer.specs.declared.premise.Premise.{Premise}
 use Rattle.bd_typer.specs.Faults.{FileFault}
 use Rattle.bd_typer.specs.declared.fault.Text.TheVariants as text
-use Rattle.bd_app.specs.Cases.{case_meaning}
-use Rattle.bd_app.specs.Check.{Check, CheckSources, check_asked, check_meaning}
-use Rattle.bd_app.specs.Files.{HoldsShort, IsEither, KeepsAllBut, TextNames}
+use Rattle.bd_app.specs.Bounded.{IsBoundedReport}
+use Rattle.bd_app.specs.Check.{Check, CheckSources, check_asked, check_meaning, check_names}
+use Rattle.bd_app.specs.Files.{DesignNames, HoldsShort, IsEither, KeepsAllBut, TextNames}
 use Rattle.bd_app.specs.Generate.{Gen, gen_asked, gen_lead, gen_meaning, generated}
 use Rattle.bd_app.specs.Meaning.{FilesSeen, IsVerdictFor}
 use Rattle.bd_app.specs.Recheck.{Recheck, recheck_meaning}
+use Rattle.bd_app.specs.Questions.{design_meaning, text_meaning}
 use Rattle.bd_app.specs.Replay.{IsJudgement}
+use Rattle.bd_app.specs.Retrace.{IsRetraced}
 use Rattle.bd_app.specs.Run.{IsTrace, cycle_text, cycles_text}
-use Rattle.bd_app.specs.Sources.{IsDesign, Sources, TextSources}
+use Rattle.bd_app.specs.Sources.{HoldSources, IsDesign, Sources, TextSources}
+use Rattle.bd_app.specs.Texts.{TextKind}
 use Rattle.bd_app.specs.Verdicts.{ended_by, verdict_words, work_of, IsVerdictReport}
 use Rattle.bd_app.specs.declared.answer.Answer.{Answer}
 use Rattle.bd_app.specs.declared.answer.Ended.{Ended}
 use Rattle.bd_app.specs.declared.answer.Ended.TheVariants.{Refused, BadText, Memory}
 use Rattle.bd_app.specs.declared.verdict.Asked.{Asked}
 use Rattle.bd_app.specs.declared.verdict.ShownVerdict.{ShownVerdict}
-use Rattle.bd_app.specs.inner.Done.{AreDesign, AreRefused, IsBadProof, IsCaseRefused, IsDone, IsProvedBy, IsSaidOf, IsShownOf, IsVerdictOn, OnSources, OnText}
+use Rattle.bd_app.specs.inner.Done.{AreDesign, AreRefused, IsBadProof, IsDone, IsProvedBy, IsSaidOf, IsShownOf, IsTextRefused, OnDesign, OnSources, OnText}
 use Rattle.bd_app.specs.inner.Saved.{Saves}
 use Rattle.bd_app.proofs.Effects.{AreTextsRefused, IsQuiet, Stand, memory_after, none_saved, quiet_done, texts_refused, unchanged, verdict_done}
 use Rattle.bd_app.proofs.Loads.{sources_short, text_short}
 use Rattle.bd_app.proofs.Results.{IfSome-all, IfSome-both, IfSome-weaker, no_error, passed}
 use Rattle.bd_app.proofs.Saves.{keeps_same}
-use Rattle.bd_app.proofs.Verdicts.{no_proved, no_ran, no_replayed, verdict_report}
+use Rattle.bd_app.proofs.Verdicts.{no_bounded, no_proved, no_ran, no_replayed, no_retraced, verdict_report}
 
 -- the same texts denote the same
-pub denotes_same : (p u s v : List ℕ) (i j : Option (List ℕ)) (r : Result DesignView FileFault) → p ≡ u → s ≡ v → i ≡ j → Denotes p s i r → Denotes u v j r
-denotes_same p u s v i j r pu sv ij h =
-    subst (λ x. Denotes u v x r) ij (subst (λ x. Denotes u x i r) sv (subst (λ x. Denotes x s i r) pu h))
+pub denotes_same : (premise : Premise) (p u s v : List ℕ) (i j : Option (List ℕ)) (r : Result DesignView FileFault) → p ≡ u → s ≡ v → i ≡ j → DenotesWith premise p s i r → DenotesWith premise u v j r
+denotes_same premise p u s v i j r pu sv ij h =
+    subst (λ x. DenotesWith premise u v x r) ij (subst (λ x. DenotesWith premise u x i r) sv (subst (λ x. DenotesWith premise x s i r) pu h))
 
 -- sources that are given so, and are this design
 pub is_design : (held : Option Held) (AreGiven : Held → Sources → Type 0) (s : Sources) (d : DesignView) → IfSome held (λ h. AreGiven h s) → AreDesign s d → IfSome held (λ h. IsDesign (AreGiven h) d)
 is_design held AreGiven s d given design = IfSome-weaker _ _ held (λ h g. record { sources = s; given = g; denoted = design }) given
 
--- ---- questions on a case
+-- ---- questions on a text
 
-module _ (names : TextNames) (Says : DesignView → Case → Ended → List ℕ → Type 0) (held : Option Held) (s : Sources) (bytes : List ℕ)
-    (given : IfSome held (λ h. TextSources names h s)) (case : IfSome held (λ h. HoldsShort h (text.Case, names.text) bytes)) where
-  design_refused : (e : Ended) → AreRefused s e → AreTextsRefused (case_meaning names Says) held e
+module _ {V : Type 0} (k : TextKind V) (names : TextNames) (Says : DesignView → V → Ended → List ℕ → Type 0) (held : Option Held) (s : Sources) (bytes : List ℕ)
+    (given : IfSome held (λ h. TextSources names h s)) (short : IfSome held (λ h. HoldsShort h (k.file, names.text) bytes)) where
+  design_refused : (e : Ended) → AreRefused s e → AreTextsRefused (text_meaning k names Says) held e
   design_refused (Refused file offset code) fault = IfSome-weaker _ _ held (λ h g. inl (record { sources = s; given = g; denoted = fault })) given
   design_refused Memory fault = tt
   design_refused _ fault = absurd fault
 
-  case_refused : (d : DesignView) (e : Ended) → AreDesign s d → IsCaseRefused d bytes e → AreTextsRefused (case_meaning names Says) held e
-  case_refused d (Refused file offset code) design fault = IfSome-both _ _ _ held (λ h g c. inr (record {
-    is_case = fault.0;
+  text_refused : (d : DesignView) (e : Ended) → AreDesign s d → IsTextRefused k d bytes e → AreTextsRefused (text_meaning k names Says) held e
+  text_refused d (Refused file offset code) design fault = IfSome-both _ _ _ held (λ h g c. inr (record {
+    is_file = fault.0;
     view = d;
     design = record { sources = s; given = g; denoted = design };
     source = bytes;
     given = c;
     fault = fault.1;
-  })) given case
-  case_refused d Memory design fault = tt
-  case_refused d _ design fault = absurd fault
+  })) given short
+  text_refused d Memory design fault = tt
+  text_refused d _ design fault = absurd fault
 
-  any_refused : (e : Ended) → AreRefused s e ⊎ ((d : DesignView) × AreDesign s d × IsCaseRefused d bytes e) → AreTextsRefused (case_meaning names Says) held e
-  any_refused e fault = elim fault [ inl h ↦ design_refused e h | inr h ↦ case_refused h.0 e h.1 h.2 ]
+  any_refused : (e : Ended) → AreRefused s e ⊎ ((d : DesignView) × AreDesign s d × IsTextRefused k d bytes e) → AreTextsRefused (text_meaning k names Says) held e
+  any_refused e fault = elim fault [ inl h ↦ design_refused e h | inr h ↦ text_refused h.0 e h.1 h.2 ]
 
--- the answer to a question on a case, from what is said of its bytes
-pub case_done : (names : TextNames) (Says : DesignView → Case → Ended → List ℕ → Type 0) (a b : FilesSeen) (s : Sources) (bytes : List ℕ) (r : Result Answer Ended)
-    → ((d : DesignView) (c : Case) (e : Ended) (report : List ℕ) → Says d c e report → IsQuiet e) → Stand a b → IfSome a.held (λ h. TextSources names h s)
-    → IfSome a.held (λ h. HoldsShort h (text.Case, names.text) bytes) → OnSources (IsSaidOf Says) IsCaseRefused s bytes r → IsDone (case_meaning names Says) a b r
-case_done names Says a b s bytes (Ok answer) quiet stand given case on =
+-- the answer to a question on a text, from what is said of its bytes
+pub text_done : {V : Type 0} (k : TextKind V) (names : TextNames) (Says : DesignView → V → Ended → List ℕ → Type 0) (a b : FilesSeen) (s : Sources) (bytes : List ℕ) (r : Result Answer Ended)
+    → ((d : DesignView) (x : V) (e : Ended) (report : List ℕ) → Says d x e report → IsQuiet e) → Stand a b → IfSome a.held (λ h. TextSources names h s)
+    → IfSome a.held (λ h. HoldsShort h (k.file, names.text) bytes) → OnSources (IsSaidOf k Says) (IsTextRefused k) s bytes r → IsDone (text_meaning k names Says) a b r
+text_done k names Says a b s bytes (Ok answer) quiet stand given short on =
     let said = on.said.2 in
-    quiet_done (case_meaning names Says) a b answer stand (quiet _ _ _ _ said.says) (record {
+    quiet_done (text_meaning k names Says) a b answer stand (quiet _ _ _ _ said.says) (record {
       design = on.said.0;
-      case = said.case;
+      text = said.text;
       reads = IfSome-both _ _ _ a.held (λ h g c. record {
         design = record { sources = s; given = g; denoted = on.said.1 };
         source = bytes;
         given = c;
-        case = said.read;
+        read = said.read;
         fits = said.fits;
-      }) given case;
+      }) given short;
       says = said.says;
     })
-case_done names Says a b s bytes (Err e) quiet stand given case on =
-    texts_refused (case_meaning names Says) a b e stand (IfSome-both _ _ _ a.held (λ h g c. text_short h text.Case names s bytes g c) given case)
-    (any_refused names Says a.held s bytes given case e on.refused)
+text_done k names Says a b s bytes (Err e) quiet stand given short on =
+    texts_refused (text_meaning k names Says) a b e stand (IfSome-both _ _ _ a.held (λ h g c. text_short h k.file names s bytes g c) given short)
+    (any_refused k names Says a.held s bytes given short e on.refused)
 
 pub judgement_quiet : (d : DesignView) (c : Case) (e : Ended) (report : List ℕ) → IsJudgement d c e report → IsQuiet e
 judgement_quiet d c e report is = record {
@@ -96,6 +101,12 @@ pub trace_quiet : (cycles : ℕ) (d : DesignView) (c : Case) (e : Ended) (report
 trace_quiet cycles d c e report is = record {
   no_device = λ w same. cc (is.ended, same);
   no_verdict = λ v same. no_ran v (sym same ∙ is.ended);
+}
+
+pub retraced_quiet : (d : DesignView) (t : Trail) (e : Ended) (report : List ℕ) → IsRetraced d t e report → IsQuiet e
+retraced_quiet d t e report is = record {
+  no_device = λ w same. cc (is.ended, same);
+  no_verdict = λ v same. no_retraced v is.judgement (sym same ∙ is.ended);
 }
 
 -- from a text on a design to one on sources
@@ -167,7 +178,7 @@ check_refused q held s _ given fault = absurd fault
 pub check_texts : (q : Check) (a b : FilesSeen) (s : Sources) (e : Ended) (r : Result Answer Ended) → IsErrAnd r (λ y. y ≡ e) → Stand a b → IfSome a.held (λ h. CheckSources q h s) → AreRefused s e
     → IsDone (check_meaning q) a b r
 check_texts q a b s e r is stand given fault = passed (λ z. IsDone (check_meaning q) a b z) r e is (
-    texts_refused (check_meaning q) a b e stand (IfSome-weaker _ _ a.held (λ h g. sources_short h q.pipe q.spec q.inv s g) given) (check_refused q a.held s e given fault))
+    texts_refused (check_meaning q) a b e stand (IfSome-weaker _ _ a.held (λ h g. sources_short h (check_names q) s g) given) (check_refused q a.held s e given fault))
 
 -- the verdict on them
 pub check_verdict : (q : Check) (held : Option Held) (s : Sources) (shows : Bool) (f : ShownVerdict) → IfSome held (λ h. CheckSources q h s) → IsShownOf s (check_asked q) shows f
@@ -194,25 +205,51 @@ check_done q a b c s x f lead r stand given (d, design, shown) saves led ended r
     let whole = subst (λ l. IfOk r (λ y. y.report.items ≡ (l ++ verdict_words q.budget f.verdict ++ 10 ∷ []) ++ f.case.items)) led report in
     check_done_at q a b c s x d f r stand given design saves ended (verdict_report d (check_asked q) true f [] r shown ended whole) memory
 
--- ---- generated pipelines
+-- ---- answers on a design
 
--- their texts are refused
-pub verdict_refused : (asked : Asked) (shows : Bool) (lead : List ℕ) (s : Sources) (e : Ended) (r : Result Answer Ended) → IsErrAnd r (λ y. y ≡ e) → AreRefused s e → IsVerdictOn asked shows lead s r
-verdict_refused asked shows lead s e r is fault = passed (λ z. IsVerdictOn asked shows lead s z) r e is (record { said = tt; refused = fault })
+-- sources are refused
+pub on_refused : (Says : DesignView → Ended → List ℕ → Type 0) (s : Sources) (e : Ended) (r : Result Answer Ended) → IsErrAnd r (λ y. y ≡ e) → AreRefused s e → OnDesign Says s r
+on_refused Says s e r is fault = passed (λ z. OnDesign Says s z) r e is (record { said = tt; refused = fault })
 
--- the verdict on them
+-- the answer on their design, or want of memory
+pub on_design : (Says : DesignView → Ended → List ℕ → Type 0) (s : Sources) (d : DesignView) (r : Result Answer Ended) → AreDesign s d → IfOk r (λ a. Says d a.ended a.report.items) → IfErr r (λ e. e ≡ Memory) → OnDesign Says s r
+on_design Says s d (Ok answer) design says memory = record { said = (d, design, says); refused = tt }
+on_design Says s d (Err e) design says memory = record { said = tt; refused = subst (λ x. AreRefused s x) (sym memory) tt }
+
+-- a verdict on it
 pub verdict_on_sources : (asked : Asked) (shows : Bool) (lead : List ℕ) (s : Sources) (f : ShownVerdict) (r : Result Answer Ended) → IsShownOf s asked shows f → IfOk r (λ y. y.ended ≡ ended_by f.verdict)
-    → IfOk r (λ y. y.report.items ≡ (lead ++ verdict_words asked.budget f.verdict ++ 10 ∷ []) ++ f.case.items) → IfErr r (λ e. e ≡ Memory) → IsVerdictOn asked shows lead s r
-verdict_on_sources asked shows lead s f (Ok answer) (d, design, shown) ended report memory =
-    record { said = (d, design, verdict_report d asked shows f lead (Ok answer) shown ended report); refused = tt }
-verdict_on_sources asked shows lead s f (Err e) is ended report memory = record { said = tt; refused = subst (λ x. AreRefused s x) (sym memory) tt }
+    → IfOk r (λ y. y.report.items ≡ (lead ++ verdict_words asked.budget f.verdict ++ 10 ∷ []) ++ f.case.items) → IfErr r (λ e. e ≡ Memory) → OnDesign (IsVerdictReport asked shows lead) s r
+verdict_on_sources asked shows lead s f r (d, design, shown) ended report memory =
+    on_design (IsVerdictReport asked shows lead) s d r design (verdict_report d asked shows f lead r shown ended report) memory
+
+-- where nothing is saved and no verdict given
+module _ (names : DesignNames) (Says : DesignView → Ended → List ℕ → Type 0) where
+  sources_faulty : (held : Option Held) (s : Sources) (e : Ended) → IfSome held (λ h. HoldSources h names s) → AreRefused s e → AreTextsRefused (design_meaning names Says) held e
+  sources_faulty held s (Refused file offset code) given fault = IfSome-weaker _ _ held (λ h g. record { sources = s; given = g; denoted = fault }) given
+  sources_faulty held s Memory given fault = tt
+  sources_faulty held s _ given fault = absurd fault
+
+  pub design_done : (a b : FilesSeen) (s : Sources) (r : Result Answer Ended) → ((d : DesignView) (e : Ended) (report : List ℕ) → Says d e report → IsQuiet e) → Stand a b → IfSome a.held (λ h. HoldSources h names s)
+      → OnDesign Says s r → IsDone (design_meaning names Says) a b r
+  design_done a b s (Ok answer) quiet stand given on =
+      quiet_done (design_meaning names Says) a b answer stand (quiet _ _ _ on.said.2) (record { design = on.said.0; asks = is_design a.held (λ h. HoldSources h names) s on.said.0 given on.said.1; says = on.said.2 })
+  design_done a b s (Err e) quiet stand given on =
+      texts_refused (design_meaning names Says) a b e stand (IfSome-weaker _ _ a.held (λ h g. sources_short h names s g) given) (sources_faulty a.held s e given on.refused)
+
+pub bounded_quiet : (cycles budget : ℕ) (d : DesignView) (e : Ended) (report : List ℕ) → IsBoundedReport cycles budget d e report → IsQuiet e
+bounded_quiet cycles budget d e report is = record {
+  no_device = λ w same. cc (is.ended, same);
+  no_verdict = λ v same. no_bounded v is.answer (sym same ∙ is.ended);
+}
+
+-- ---- generated pipelines
 
 gen_refused : (q : Gen) (held : Option Held) (s : Sources) (e : Ended) → s ≡ generated q → AreRefused s e → AreTextsRefused (gen_meaning q) held e
 gen_refused q held s (Refused file offset code) is fault = IfSome-all _ held (λ h. record { sources = s; given = is; denoted = fault })
 gen_refused q held s Memory is fault = tt
 gen_refused q held s _ is fault = absurd fault
 
-pub gen_done : (q : Gen) (files : FilesSeen) (s : Sources) (r : Result Answer Ended) → s ≡ generated q → IsVerdictOn gen_asked false (gen_lead q) s r → IsDone (gen_meaning q) files files r
+pub gen_done : (q : Gen) (files : FilesSeen) (s : Sources) (r : Result Answer Ended) → s ≡ generated q → OnDesign (IsVerdictReport gen_asked false (gen_lead q)) s r → IsDone (gen_meaning q) files files r
 gen_done q files s (Ok answer) is on =
     let says = on.said.2 in
     verdict_done (gen_meaning q) files files says.verdict answer says.ended

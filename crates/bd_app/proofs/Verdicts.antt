@@ -7,8 +7,10 @@ use Rattle.bd_model.specs.Conditions.{IsJudged, SomeCaseMeetsInvariant}
 use Rattle.bd_model.specs.Right.{IsRight}
 use Rattle.bd_model.specs.declared.case.Case.{Case}
 use Rattle.bd_model.specs.declared.case.Condition.{Condition}
+use Rattle.bd_bounded.specs.declared.answer.Bounded.{Bounded}
 use Rattle.bd_model.specs.declared.case.Judged.{Judged}
 use Rattle.bd_model.specs.declared.case.Judged.TheVariants as judged
+use Rattle.bd_model.specs.declared.case.TrailJudged.{TrailJudged}
 use Rattle.bd_verify.specs.Verdict.{HasWork}
 use Rattle.bd_verify.specs.declared.verdict.Work.{Work}
 use Rattle.bd_verify.specs.declared.verdict.Question.TheVariants.{Breaks, Meets}
@@ -20,6 +22,7 @@ use Rattle.bd_app.specs.declared.answer.Answer.{Answer}
 use Rattle.bd_app.specs.declared.answer.Which.{Which}
 use Rattle.bd_app.specs.declared.answer.Ended.{Ended}
 use Rattle.bd_app.specs.declared.answer.Ended.TheVariants.{Correct, Wrong, Void, Undecided, Replayed, Ran, Proved, Usage, Memory, Device}
+use Rattle.bd_app.specs.declared.answer.Ended.TheVariants as endings
 use Rattle.bd_app.specs.declared.verdict.Asked.{Asked}
 use Rattle.bd_app.specs.declared.verdict.ShownVerdict.{ShownVerdict}
 use Rattle.bd_app.specs.inner.Done.{IsShown}
@@ -70,6 +73,18 @@ no_proved (verdict.Correct c w) work is = cc is
 no_proved (verdict.Wrong k c w) work is = cc is
 no_proved (verdict.Void w) work is = cc is
 no_proved (verdict.Undecided asked w) work is = cc is
+
+pub no_bounded : (v : Verdict) (answer : Bounded) → ended_by v ≢ endings.Bounded answer
+no_bounded (verdict.Correct c work) answer is = cc is
+no_bounded (verdict.Wrong k c work) answer is = cc is
+no_bounded (verdict.Void work) answer is = cc is
+no_bounded (verdict.Undecided asked work) answer is = cc is
+
+pub no_retraced : (v : Verdict) (j : TrailJudged) → ended_by v ≢ endings.Retraced j
+no_retraced (verdict.Correct c work) j is = cc is
+no_retraced (verdict.Wrong k c work) j is = cc is
+no_retraced (verdict.Void work) j is = cc is
+no_retraced (verdict.Undecided asked work) j is = cc is
 
 verdict_in : Ended → Option Verdict
 verdict_in (Correct c work) = Some (verdict.Correct c work)

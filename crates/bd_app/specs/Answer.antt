@@ -1,7 +1,9 @@
 -- How a run ends: the status, and the line of a fault.
 use Rattle.std.specs.Prelude.{ℕ, List, [], ◌∷◌, ◌++◌, codes}
 use Rattle.std.specs.Fmt.{decimal}
+use Rattle.bd_bounded.specs.declared.answer.Bounded.TheVariants as bounded
 use Rattle.bd_model.specs.declared.case.Judged.TheVariants as judged
+use Rattle.bd_model.specs.declared.case.TrailJudged.TheVariants as trail
 use Rattle.bd_text.specs.CodeText.{code_name, code_text}
 use Rattle.bd_text.specs.declared.code.Code.{Code}
 use Rattle.bd_typer.specs.declared.fault.Text.{Text}
@@ -9,7 +11,7 @@ use Rattle.bd_typer.specs.declared.fault.Text.TheVariants as text
 use Rattle.bd_app.specs.declared.answer.Which.{Which}
 use Rattle.bd_app.specs.declared.answer.Which.TheVariants as which
 use Rattle.bd_app.specs.declared.answer.Ended.{Ended}
-use Rattle.bd_app.specs.declared.answer.Ended.TheVariants.{Correct, Wrong, Void, Undecided, Replayed, Ran, Proved, Usage, Refused, BadText, Device, Memory}
+use Rattle.bd_app.specs.declared.answer.Ended.TheVariants.{Correct, Wrong, Void, Undecided, Replayed, Ran, Proved, Bounded, Retraced, Usage, Refused, BadText, Device, Memory}
 use Rattle.bd_app.specs.ProofFaults.{proof_line}
 
 abbrev pub status_of : Ended → ℕ
@@ -22,6 +24,12 @@ status_of (Replayed judged.Outside) = 8
 status_of (Replayed (judged.Broken k)) = 1
 status_of Ran = 0
 status_of (Proved work) = 0
+status_of (Bounded (bounded.Kept work)) = 0
+status_of (Bounded (bounded.Broken cycle t work)) = 1
+status_of (Bounded (bounded.Undecided work)) = 4
+status_of (Retraced trail.Holds) = 0
+status_of (Retraced trail.Outside) = 8
+status_of (Retraced (trail.Broken cycle)) = 1
 status_of Usage = 2
 status_of (Refused t offset code) = 3
 status_of (BadText line column why cnf) = 3
@@ -42,6 +50,8 @@ abbrev pub SavesNothing : Ended → Type 0
 SavesNothing (Replayed j) = Unit {0}
 SavesNothing Ran = Unit {0}
 SavesNothing (Proved work) = Unit {0}
+SavesNothing (Bounded answer) = Unit {0}
+SavesNothing (Retraced j) = Unit {0}
 SavesNothing Usage = Unit {0}
 SavesNothing (Refused file offset code) = Unit {0}
 SavesNothing (BadText line column why cnf) = Unit {0}
@@ -54,13 +64,16 @@ abbrev pub usage : List ℕ
 usage =
     codes "usage: burch_dill check PIPE SPEC [INV] [--budget N] [--cnf FILE] [--lrat FILE] "
     ++ codes "[--diverse] | replay PIPE SPEC CASE [INV] | run PIPE SPEC CASE CYCLES "
-    ++ codes "| gen DEPTH DROP | recheck PIPE SPEC PROOF [INV]"
+    ++ codes "| gen DEPTH DROP | recheck PIPE SPEC PROOF [INV] "
+    ++ codes "| bounded PIPE SPEC START C [--budget N] | retrace PIPE SPEC TRAIL START"
 
 abbrev pub file_word : Text → List ℕ
 file_word text.Pipe = codes "pipe"
 file_word text.Spec = codes "spec"
 file_word text.Inv = codes "inv"
+file_word text.Start = codes "start"
 file_word text.Case = codes "case"
+file_word text.Trail = codes "trail"
 file_word text.Proof = codes "proof"
 
 abbrev pub device_text : Which → List ℕ

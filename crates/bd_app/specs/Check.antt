@@ -4,10 +4,10 @@ use Rattle.clap.specs.Simple.{Shape, new_rule}
 use Rattle.clap.specs.Walk.{Row, first_of}
 use Rattle.bd_files.specs.Devices.{Held}
 use Rattle.bd_verify.specs.declared.verdict.Mode.{Mode}
-use Rattle.bd_app.specs.Files.{design_files}
-use Rattle.bd_app.specs.Meaning.{Meaning, no_proof}
+use Rattle.bd_app.specs.Files.{DesignNames, design_files, with_invariant}
+use Rattle.bd_app.specs.Meaning.{IsDesignAnswer, Meaning, no_proof}
 use Rattle.bd_app.specs.Sources.{HoldSources, IsDesign, IsDesignFault, Sources}
-use Rattle.bd_app.specs.Verdicts.{IsVerdictAnswer}
+use Rattle.bd_app.specs.Verdicts.{IsVerdictReport}
 use Rattle.bd_app.specs.Words.{Name, budget_option, flag, given, machines_command, mode_at, number_at, option, ◌>>=◌}
 use Rattle.bd_app.specs.declared.verdict.Asked.{Asked}
 use Rattle.bd_app.specs.declared.command.check.CheckOptions.{CheckOptions}
@@ -64,9 +64,13 @@ check_of options = record {
 
 -- ---- its answers
 
--- the sources of the design
+-- the names of the files of the design
+abbrev pub check_names : Check → DesignNames
+check_names q = with_invariant q.pipe q.spec q.inv
+
+-- its sources
 abbrev pub CheckSources : Check → Held → Sources → Type 0
-CheckSources q held = HoldSources held q.pipe q.spec q.inv
+CheckSources q held = HoldSources held (check_names q)
 
 -- what is asked of it
 abbrev pub check_asked : Check → Asked
@@ -74,12 +78,13 @@ check_asked q = record { budget = q.budget; mode = q.mode; given = is_some q.inv
 
 abbrev pub check_meaning : Check → Meaning
 check_meaning q = record {
-  files = design_files q.pipe q.spec q.inv;
+  files = design_files (check_names q);
   cnf = q.cnf;
   lrat = q.lrat;
   Asks = λ held d. IsDesign (CheckSources q held) d;
   verdict = Some (check_asked q);
   IsTextFault = λ held file offset code. IsDesignFault (CheckSources q held) file offset code;
   IsProofFault = no_proof;
-  IsAnswer = IsVerdictAnswer (λ held d. IsDesign (CheckSources q held) d) (check_asked q) true [];
+  IsAnswer = IsDesignAnswer (λ held d. IsDesign (CheckSources q held) d)
+      (IsVerdictReport (check_asked q) true []);
 }

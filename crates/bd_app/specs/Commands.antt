@@ -8,10 +8,12 @@ use Rattle.clap.specs.Simple.{App, Shape, new_shape, subcommand_of}
 use Rattle.clap.specs.Faults.{fault_of}
 use Rattle.clap.specs.Kinds.{Kinds}
 use Rattle.bd_app.specs.Meaning.{Meaning}
+use Rattle.bd_app.specs.Bounded.{BoundedRun, bounded_command, bounded_meaning, bounded_question}
 use Rattle.bd_app.specs.Check.{Check, check_command, check_meaning, check_question}
 use Rattle.bd_app.specs.Generate.{Gen, gen_command, gen_meaning, gen_question}
 use Rattle.bd_app.specs.Recheck.{Recheck, recheck_command, recheck_meaning, recheck_question}
 use Rattle.bd_app.specs.Replay.{Replay, replay_command, replay_meaning, replay_question}
+use Rattle.bd_app.specs.Retrace.{Retrace, retrace_command, retrace_meaning, retrace_question}
 use Rattle.bd_app.specs.Run.{Run, run_command, run_meaning, run_question}
 use Rattle.bd_app.specs.Words.{◌>>=◌}
 
@@ -22,6 +24,8 @@ pub data Question : Type 0 where
   run : Run → Question
   gen : Gen → Question
   recheck : Recheck → Question
+  bounded : BoundedRun → Question
+  retrace : Retrace → Question
 
 -- what it means
 abbrev pub meaning_of : Question → Meaning
@@ -30,6 +34,8 @@ meaning_of (replay q) = replay_meaning q
 meaning_of (run q) = run_meaning q
 meaning_of (gen q) = gen_meaning q
 meaning_of (recheck q) = recheck_meaning q
+meaning_of (bounded q) = bounded_meaning q
+meaning_of (retrace q) = retrace_meaning q
 
 -- a command: its words, and the question of their values
 pub record Command : Type 0 where
@@ -44,6 +50,8 @@ commands =
     ∷ record { shape = run_command; question = λ rows. option_map run (run_question rows) }
     ∷ record { shape = gen_command; question = λ rows. option_map gen (gen_question rows) }
     ∷ record { shape = recheck_command; question = λ rows. option_map recheck (recheck_question rows) }
+    ∷ record { shape = bounded_command; question = λ rows. option_map bounded (bounded_question rows) }
+    ∷ record { shape = retrace_command; question = λ rows. option_map retrace (retrace_question rows) }
     ∷ []
 
 unfoldable pub command_line : App

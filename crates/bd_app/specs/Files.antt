@@ -8,9 +8,13 @@ use Rattle.bd_files.specs.declared.devices.FileCall.TheVariants as call
 use Rattle.bd_lrat.specs.Text.{lrat as lrat_text}
 use Rattle.bd_verify.specs.declared.verdict.Work.{Work}
 use Rattle.bd_app.specs.Words.{Name, given}
+use Rattle.bd_app.specs.declared.load.DesignFiles.{DesignFiles}
 use Rattle.bd_app.specs.declared.load.TextFiles.{TextFiles}
+use Rattle.bd_typer.specs.Denotes.{premise_file}
 use Rattle.bd_typer.specs.declared.fault.Text.{Text}
-use Rattle.bd_typer.specs.declared.fault.Text.TheVariants.{Pipe, Spec, Inv, Proof}
+use Rattle.bd_typer.specs.declared.fault.Text.TheVariants.{Pipe, Spec, Proof}
+use Rattle.bd_typer.specs.declared.premise.Premise.{Premise}
+use Rattle.bd_typer.specs.declared.premise.Premise.TheVariants.{Invariant, Start}
 
 -- ---- files that are read
 
@@ -22,29 +26,50 @@ abbrev pub one_if : Text → Option Name → List File
 one_if text None = []
 one_if text (Some name) = (text, name) ∷ []
 
--- the files of a design, in the order of the words
-abbrev pub design_files : Name → Name → Option Name → List File
-design_files pipe spec inv = (Pipe, pipe) ∷ (Spec, spec) ∷ one_if Inv inv
-
--- the names of the files of a design and of a text on it, a case or a proof
-pub record TextNames : Type 0 where
+-- the names of the files of a design: a pipeline, a specification, and maybe a third file, which says
+-- this of states
+pub record DesignNames : Type 0 where
   pub pipe : Name
   pub spec : Name
-  pub text : Name
-  pub inv : Option Name
+  pub premise : Premise
+  pub third : Option Name
 
-abbrev pub text_names : TextFiles → TextNames
-text_names files = record {
+abbrev pub design_names : DesignFiles → DesignNames
+design_names files = record {
   pipe = files.pipe.now;
   spec = files.spec.now;
-  text = files.text.now;
-  inv = given files.inv;
+  premise = files.premise;
+  third = given files.third;
 }
+
+-- a pipeline and a specification, maybe with an invariant
+abbrev pub with_invariant : Name → Name → Option Name → DesignNames
+with_invariant pipe spec inv =
+    record { pipe = pipe; spec = spec; premise = Invariant; third = inv }
+
+-- a pipeline and a specification, with a start
+abbrev pub with_start : Name → Name → Name → DesignNames
+with_start pipe spec start =
+    record { pipe = pipe; spec = spec; premise = Start; third = Some start }
+
+-- these files, in the order of the words
+abbrev pub design_files : DesignNames → List File
+design_files names =
+    (Pipe, names.pipe) ∷ (Spec, names.spec) ∷ one_if (premise_file names.premise) names.third
+
+-- the names of the files of a design and of a text on it: a case, a trail or a proof
+pub record TextNames : Type 0 where
+  pub design : DesignNames
+  pub text : Name
+
+abbrev pub text_names : TextFiles → TextNames
+text_names files = record { design = design_names files.design; text = files.text.now }
 
 -- these files, in the order of the words
 abbrev pub text_files : Text → TextNames → List File
 text_files text names =
-    (Pipe, names.pipe) ∷ (Spec, names.spec) ∷ (text, names.text) ∷ one_if Inv names.inv
+    (Pipe, names.design.pipe) ∷ (Spec, names.design.spec) ∷ (text, names.text)
+    ∷ one_if (premise_file names.design.premise) names.design.third
 
 -- the most bytes of a file
 abbrev pub most_bytes : Text → ℕ

@@ -5,10 +5,11 @@ use Rattle.clap.specs.Simple.{Shape}
 use Rattle.clap.specs.Walk.{Row}
 use Rattle.bd_gen.specs.Pipeline.{pipeline_text}
 use Rattle.bd_gen.specs.Specification.{specification_text}
+use Rattle.bd_typer.specs.declared.premise.Premise.TheVariants.{Invariant}
 use Rattle.bd_verify.specs.declared.verdict.Mode.TheVariants.{Plain}
-use Rattle.bd_app.specs.Meaning.{Meaning, no_proof}
+use Rattle.bd_app.specs.Meaning.{IsDesignAnswer, Meaning, no_proof}
 use Rattle.bd_app.specs.Sources.{IsDesign, IsDesignFault, Sources}
-use Rattle.bd_app.specs.Verdicts.{IsVerdictAnswer}
+use Rattle.bd_app.specs.Verdicts.{IsVerdictReport}
 use Rattle.bd_app.specs.Words.{command, in_range, number_at, required, ◌>>=◌}
 use Rattle.bd_app.specs.declared.verdict.Asked.{Asked}
 use Rattle.bd_app.specs.declared.command.generate.GenOptions.{GenOptions}
@@ -45,8 +46,12 @@ HasDepth options = (2 ≤ options.depth) × (options.depth ≤ 12)
 
 -- the texts of the generated pipeline, and of its specification
 abbrev pub generated : Gen → Sources
-generated q =
-    record { pipe = pipeline_text q.depth q.drop; spec = specification_text; inv = None }
+generated q = record {
+  pipe = pipeline_text q.depth q.drop;
+  spec = specification_text;
+  premise = Invariant;
+  third = None;
+}
 
 -- what its line begins with: which pipeline it is, and its latches
 abbrev pub gen_lead : Gen → List ℕ
@@ -67,6 +72,6 @@ gen_meaning q = record {
   verdict = Some gen_asked;
   IsTextFault = λ held file offset code. IsDesignFault (λ s. s ≡ generated q) file offset code;
   IsProofFault = no_proof;
-  IsAnswer =
-      IsVerdictAnswer (λ held d. IsDesign (λ s. s ≡ generated q) d) gen_asked false (gen_lead q);
+  IsAnswer = IsDesignAnswer (λ held d. IsDesign (λ s. s ≡ generated q) d)
+      (IsVerdictReport gen_asked false (gen_lead q));
 }

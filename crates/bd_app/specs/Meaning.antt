@@ -35,6 +35,14 @@ pub record Meaning : Type 1 where
   -- an answer that is no fault, and its report
   pub IsAnswer : Option Held → Ended → List ℕ → Type 0
 
+-- the answer says this of the design that is asked about, with its report
+pub record IsDesignAnswer (Asks : Held → DesignView → Type 0)
+    (Says : DesignView → Ended → List ℕ → Type 0)
+    (held : Option Held) (e : Ended) (report : List ℕ) : Type 0 where
+  pub design : DesignView
+  pub asks : IfSome held (λ h. Asks h design)
+  pub says : Says design e report
+
 -- ---- the order of refusals
 
 -- a file is the first that is too long

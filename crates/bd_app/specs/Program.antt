@@ -1,12 +1,18 @@
 -- What a run of the program does with the words of its command line, its files and its two streams.
 use Rattle.std.specs.Prelude.{◌≡◌, ◌≢◌, ◌≤◌, ◌⊎◌, ℕ, true, List, Option, Some, None, IfSome}
 use Rattle.bd_model.specs.DesignView.{DesignView}
-use Rattle.bd_model.specs.Fits.{Fits}
+use Rattle.bd_model.specs.Fits.{Fits, TrailFits}
 use Rattle.bd_model.specs.Conditions.{IsJudged, SomeCaseMeetsInvariant}
-use Rattle.bd_model.specs.Right.{IsRight}
+use Rattle.bd_model.specs.Right.{BoundedRight, IsRight}
+use Rattle.bd_model.specs.TrailJudged.{IsTrailJudged}
 use Rattle.bd_model.specs.declared.case.Case.{Case}
 use Rattle.bd_model.specs.declared.case.Condition.{Condition}
 use Rattle.bd_model.specs.declared.case.Judged.TheVariants.{Broken, Holds}
+use Rattle.bd_model.specs.declared.case.Trail.{Trail}
+use Rattle.bd_model.specs.declared.case.TrailJudged.TheVariants as trail
+use Rattle.bd_bounded.specs.Answer.{HasWork as HasBoundedWork}
+use Rattle.bd_bounded.specs.declared.answer.Bounded.{Bounded as BoundedAnswer}
+use Rattle.bd_bounded.specs.declared.answer.Bounded.TheVariants as run
 use Rattle.bd_cnf.specs.Problem.{Problem}
 use Rattle.bd_files.specs.Devices.{Held, Rose, Appends, AppendsPrefix, PutsOrFaults}
 use Rattle.bd_proof_text.specs.declared.fault.Why.{Why}
@@ -17,12 +23,13 @@ use Rattle.bd_verify.specs.declared.verdict.Question.TheVariants.{Breaks}
 use Rattle.bd_verify.specs.declared.verdict.Verdict.{Verdict}
 use Rattle.bd_verify.specs.declared.verdict.Work.{Work}
 use Rattle.bd_app.specs.Answer.{HasReport, fault_line_of}
-use Rattle.bd_app.specs.Commands.{Question, meaning_of, taken}
+use Rattle.bd_app.specs.Bounded.{BoundedRun, bounded_meaning}
+use Rattle.bd_app.specs.Commands.{Question, bounded, meaning_of, taken}
 use Rattle.bd_app.specs.Meaning.{Effects, FilesSeen, IsProofRefused, IsRefused, IsSaved, Meaning}
 use Rattle.bd_app.specs.Verdicts.{MayGive, ended_by}
 use Rattle.bd_app.specs.declared.answer.Which.TheVariants.{Out}
 use Rattle.bd_app.specs.declared.answer.Ended.{Ended}
-use Rattle.bd_app.specs.declared.answer.Ended.TheVariants.{Correct, Wrong, Void, Undecided, Proved, Usage, Refused, BadText, Device, Memory}
+use Rattle.bd_app.specs.declared.answer.Ended.TheVariants.{Correct, Wrong, Void, Undecided, Proved, Bounded, Usage, Refused, BadText, Device, Memory}
 use Rattle.bd_app.specs.declared.verdict.Asked.{Asked}
 
 -- a sink as a caller sees it
@@ -48,6 +55,12 @@ ForVerdict held words P =
     × (asked : Asked) × ((meaning_of q).verdict ≡ Some asked)
     × IfSome held (λ h. (d : DesignView) × (meaning_of q).Asks h d × P asked d)
 
+-- they ask for a bounded run, and this holds of it and of the design
+abbrev pub ForBounded : Option Held → List (List ℕ) → (BoundedRun → DesignView → Type 0) → Type 0
+ForBounded held words P =
+    (q : BoundedRun) × (taken words ≡ Some (bounded q))
+    × IfSome held (λ h. (d : DesignView) × (bounded_meaning q).Asks h d × P q d)
+
 -- what the verdict that a run answers says of the design: under every interpretation, from every
 -- state that meets the invariant, and for every list of inputs
 pub record Headline (held : Option Held) (words : List (List ℕ)) (e : Ended) : Type 0 where
@@ -57,6 +70,14 @@ pub record Headline (held : Option Held) (words : List (List ℕ)) (e : Ended) :
   pub void : (work : Work) → e ≡ Void work →
       ForDesign held words (λ d. ¬ SomeCaseMeetsInvariant d)
   pub proved : (work : Work) → e ≡ Proved work → ForDesign held words IsRight
+  -- bounded runs, where the invariant of the design is its start
+  pub kept : (work : Work) → e ≡ Bounded (run.Kept work) →
+      ForBounded held words (λ q d. BoundedRight d q.cycles)
+  pub broken : (cycle : ℕ) (t : Trail) (work : Work) → e ≡ Bounded (run.Broken cycle t work) →
+      ForBounded held words (λ q d. TrailFits d t × IsTrailJudged d t (trail.Broken cycle))
+  -- their formula is the one that is kept of the question, and their log that of an honest solver
+  pub bounded_work : (answer : BoundedAnswer) → e ≡ Bounded answer →
+      ForBounded held words (λ q d. HasBoundedWork d q.cycles q.budget answer)
   -- a case that is carried by a correct verdict shows that some state meets the invariant
   pub holds : (c : Case) (work : Work) → e ≡ Correct (Some c) work →
       ForDesign held words (λ d. Fits d c × IsJudged d c Holds)

@@ -11,7 +11,7 @@ use Rattle.bd_verify.specs.declared.verdict.Work.{Work}
 use Rattle.bd_proof_text.specs.ProofText.{fault}
 use Rattle.bd_foreign.specs.Rechecked.{HasFault, IsReadFrom}
 use Rattle.bd_proof_text.specs.Tokens.{place}
-use Rattle.bd_app.specs.Files.{HoldsShort, TextNames, text_files, text_names}
+use Rattle.bd_app.specs.Files.{HoldsShort, TextNames, text_files, text_names, with_invariant}
 use Rattle.bd_app.specs.Meaning.{Meaning}
 use Rattle.bd_app.specs.Sources.{IsDesign, IsDesignFault, TextSources}
 use Rattle.bd_app.specs.Words.{machines_command, required, ◌>>=◌}
@@ -35,7 +35,10 @@ recheck_question rows = do
   pipe ← first_of (codes "PIPE") rows
   spec ← first_of (codes "SPEC") rows
   proof ← first_of (codes "PROOF") rows
-  Some (record { pipe = pipe; spec = spec; text = proof; inv = first_of (codes "INV") rows })
+  Some (record {
+    design = with_invariant pipe spec (first_of (codes "INV") rows);
+    text = proof;
+  })
 
 -- the question of these options
 abbrev pub recheck_of : TextFiles → Recheck

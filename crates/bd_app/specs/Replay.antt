@@ -8,9 +8,10 @@ use Rattle.bd_model.specs.declared.case.Case.{Case}
 use Rattle.bd_model.specs.declared.case.Condition.TheVariants as condition
 use Rattle.bd_model.specs.declared.case.Judged.{Judged}
 use Rattle.bd_model.specs.declared.case.Judged.TheVariants as judged
-use Rattle.bd_app.specs.Cases.{case_meaning}
-use Rattle.bd_app.specs.Files.{TextNames, text_names}
+use Rattle.bd_app.specs.Files.{TextNames, text_names, with_invariant}
 use Rattle.bd_app.specs.Meaning.{Meaning}
+use Rattle.bd_app.specs.Questions.{text_meaning}
+use Rattle.bd_app.specs.Texts.{case_kind}
 use Rattle.bd_app.specs.Words.{machines_command, required, ◌>>=◌}
 use Rattle.bd_app.specs.declared.answer.Ended.{Ended}
 use Rattle.bd_app.specs.declared.answer.Ended.TheVariants.{Replayed}
@@ -32,7 +33,10 @@ replay_question rows = do
   pipe ← first_of (codes "PIPE") rows
   spec ← first_of (codes "SPEC") rows
   case ← first_of (codes "CASE") rows
-  Some (record { pipe = pipe; spec = spec; text = case; inv = first_of (codes "INV") rows })
+  Some (record {
+    design = with_invariant pipe spec (first_of (codes "INV") rows);
+    text = case;
+  })
 
 -- the question of these options
 abbrev pub replay_of : TextFiles → Replay
@@ -54,4 +58,4 @@ pub record IsJudgement (d : DesignView) (c : Case) (e : Ended) (report : List �
   pub words : report ≡ judged_words judgement ++ 10 ∷ []
 
 abbrev pub replay_meaning : Replay → Meaning
-replay_meaning q = case_meaning q IsJudgement
+replay_meaning q = text_meaning case_kind q IsJudgement

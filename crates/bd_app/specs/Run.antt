@@ -8,9 +8,10 @@ use Rattle.bd_model.specs.declared.table.Value.{Value}
 use Rattle.bd_model.specs.declared.case.Case.{Case}
 use Rattle.bd_sim.specs.Trace.{trace_of}
 use Rattle.bd_case.specs.Text.{state_text}
-use Rattle.bd_app.specs.Cases.{case_meaning}
-use Rattle.bd_app.specs.Files.{TextNames}
+use Rattle.bd_app.specs.Files.{TextNames, with_invariant}
 use Rattle.bd_app.specs.Meaning.{Meaning}
+use Rattle.bd_app.specs.Questions.{text_meaning}
+use Rattle.bd_app.specs.Texts.{case_kind}
 use Rattle.bd_app.specs.Words.{Name, in_range, machines_command, number_at, required, ◌>>=◌}
 use Rattle.bd_app.specs.declared.answer.Ended.{Ended}
 use Rattle.bd_app.specs.declared.answer.Ended.TheVariants.{Ran}
@@ -72,7 +73,7 @@ pub record IsTrace (cycles : ℕ) (d : DesignView) (c : Case) (e : Ended) (repor
 
 -- the names of its files
 abbrev pub run_names : Run → TextNames
-run_names q = record { pipe = q.pipe; spec = q.spec; text = q.case; inv = None }
+run_names q = record { design = with_invariant q.pipe q.spec None; text = q.case }
 
 abbrev pub run_meaning : Run → Meaning
-run_meaning q = case_meaning (run_names q) (IsTrace q.cycles)
+run_meaning q = text_meaning case_kind (run_names q) (IsTrace q.cycles)

@@ -1,5 +1,5 @@
 -- What a verdict is as an answer, and what it says of a design.
-use Rattle.std.specs.Prelude.{◌≡◌, true, Bool, ℕ, List, [], ◌∷◌, ◌++◌, codes, Option, Some, None, Ok, IfSome, is_some}
+use Rattle.std.specs.Prelude.{◌≡◌, true, Bool, ℕ, List, [], ◌∷◌, ◌++◌, codes, Option, Some, None, IfSome, is_some}
 use Rattle.std.specs.Fmt.{decimal}
 use Rattle.bd_model.specs.DesignView.{DesignView}
 use Rattle.bd_model.specs.Fits.{Fits}
@@ -8,14 +8,12 @@ use Rattle.bd_model.specs.Right.{IsRight}
 use Rattle.bd_model.specs.declared.case.Case.{Case}
 use Rattle.bd_model.specs.declared.case.Condition.TheVariants as condition
 use Rattle.bd_model.specs.declared.case.Judged.TheVariants as judged
-use Rattle.bd_case.specs.Reads.{IsReading}
-use Rattle.bd_case.specs.Text.{text_of}
-use Rattle.bd_files.specs.Devices.{Held}
 use Rattle.bd_verify.specs.Verdict.{HasWork}
 use Rattle.bd_verify.specs.declared.verdict.Question.TheVariants.{Breaks, Meets}
 use Rattle.bd_verify.specs.declared.verdict.Verdict.{Verdict}
 use Rattle.bd_verify.specs.declared.verdict.Verdict.TheVariants as verdict
 use Rattle.bd_verify.specs.declared.verdict.Work.{Work}
+use Rattle.bd_app.specs.Texts.{IsTextOfIf, case_kind}
 use Rattle.bd_app.specs.declared.answer.Ended.{Ended}
 use Rattle.bd_app.specs.declared.answer.Ended.TheVariants.{Correct, Wrong, Void, Undecided}
 use Rattle.bd_app.specs.declared.verdict.Asked.{Asked}
@@ -74,16 +72,6 @@ shown_case true (verdict.Correct c work) = c
 shown_case true (verdict.Wrong k c work) = Some c
 shown_case _ _ = None
 
--- the bytes are the text of the case, and read back as it
-pub record IsCaseText (d : DesignView) (c : Case) (bytes : List ℕ) : Type 0 where
-  pub written : bytes ≡ text_of d c
-  pub reads_back : IsReading d bytes (Ok c)
-
--- what is printed of a case, where there is one
-abbrev pub IsCaseTextIf : DesignView → Option Case → List ℕ → Type 0
-IsCaseTextIf d None bytes = bytes ≡ []
-IsCaseTextIf d (Some c) bytes = IsCaseText d c bytes
-
 -- the answer is a verdict on the design, with its report: a line that begins with `lead`, and the
 -- case, where cases are shown
 pub record IsVerdictReport (asked : Asked) (shows : Bool) (lead : List ℕ) (d : DesignView)
@@ -92,12 +80,5 @@ pub record IsVerdictReport (asked : Asked) (shows : Bool) (lead : List ℕ) (d :
   pub is_verdict : IsVerdict d asked verdict
   pub ended : e ≡ ended_by verdict
   pub case : List ℕ
-  pub shown : IsCaseTextIf d (shown_case shows verdict) case
+  pub shown : IsTextOfIf case_kind d (shown_case shows verdict) case
   pub whole : report ≡ (lead ++ verdict_words asked.budget verdict ++ 10 ∷ []) ++ case
-
--- it is a verdict on a design that is such
-pub record IsVerdictAnswer (Asks : Held → DesignView → Type 0) (asked : Asked) (shows : Bool)
-    (lead : List ℕ) (held : Option Held) (e : Ended) (report : List ℕ) : Type 0 where
-  pub design : DesignView
-  pub asks : IfSome held (λ h. Asks h design)
-  pub says : IsVerdictReport asked shows lead design e report

@@ -9,9 +9,10 @@ ghost use Rattle.bd_app.specs.Answer.{status_of, fault_line_of, file_word, devic
 ghost use Rattle.bd_app.specs.Verdicts.{ended_by};
 
 use crate::proof_fault::put_proof_fault;
+use bd_bounded::Bounded;
 use bd_cnf::Cnf;
 use bd_files::{Sink, put_pieces};
-use bd_model::{Case, Condition, Judged};
+use bd_model::{Case, Condition, Judged, TrailJudged};
 use bd_proof_text::Why;
 use bd_text::Code;
 use bd_typer::Text;
@@ -47,6 +48,10 @@ pub enum Ended {
     Ran,
     /// The pipeline is right over every run, by a proof from elsewhere.
     Proved(Work),
+    /// What a bounded run is found to be.
+    Bounded(Bounded),
+    /// What the trail shows.
+    Retraced(TrailJudged),
     /// The words aren't taken.
     Usage,
     /// The file has a fault, at that offset in bytes.
@@ -84,7 +89,9 @@ fn file_word(file: Text) -> &'static [u8]
         Text::Pipe => b"pipe",
         Text::Spec => b"spec",
         Text::Inv => b"inv",
+        Text::Start => b"start",
         Text::Case => b"case",
+        Text::Trail => b"trail",
         Text::Proof => b"proof",
     }
 }
@@ -120,16 +127,23 @@ impl Ended {
         ensures { result ≡ status_of self.now }
     {
         match self {
-            Ended::Correct(_, _) | Ended::Replayed(Judged::Holds) | Ended::Ran | Ended::Proved(_) =>
-                0,
-            Ended::Wrong(_, _, _) | Ended::Replayed(Judged::Broken(_)) => 1,
+            Ended::Correct(_, _)
+            | Ended::Replayed(Judged::Holds)
+            | Ended::Ran
+            | Ended::Proved(_)
+            | Ended::Bounded(Bounded::Kept(_))
+            | Ended::Retraced(TrailJudged::Holds) => 0,
+            Ended::Wrong(_, _, _)
+            | Ended::Replayed(Judged::Broken(_))
+            | Ended::Bounded(Bounded::Broken(_, _, _))
+            | Ended::Retraced(TrailJudged::Broken(_)) => 1,
             Ended::Usage => 2,
             Ended::Refused { .. } | Ended::BadText { .. } => 3,
-            Ended::Undecided(_, _) => 4,
+            Ended::Undecided(_, _) | Ended::Bounded(Bounded::Undecided(_)) => 4,
             Ended::Device(_) => 5,
             Ended::Memory => 6,
             Ended::Void(_) => 7,
-            Ended::Replayed(Judged::Outside) => 8,
+            Ended::Replayed(Judged::Outside) | Ended::Retraced(TrailJudged::Outside) => 8,
         }
     }
 
@@ -195,4 +209,5 @@ fn put_parts<E: Sink>(err: &mut E, file: &[u8], offset: &[u8], code: &[u8], text
 const USAGE: &[u8] =
     b"usage: burch_dill check PIPE SPEC [INV] [--budget N] [--cnf FILE] [--lrat FILE] [--diverse] \
 | replay PIPE SPEC CASE [INV] | run PIPE SPEC CASE CYCLES | gen DEPTH DROP \
-| recheck PIPE SPEC PROOF [INV]\n";
+| recheck PIPE SPEC PROOF [INV] | bounded PIPE SPEC START C [--budget N] \
+| retrace PIPE SPEC TRAIL START\n";

@@ -1,6 +1,6 @@
 //! The command line, read with `clap`.
 //!
-//! The five commands are subcommands of one simple command, of which `clap` states what it makes of
+//! The seven commands are subcommands of one simple command, of which `clap` states what it makes of
 //! any words. So which words are taken, and what they ask for, is a definition on the words, and the
 //! code is shown to give it exactly. Each command has a file of its own, and a line in each of the
 //! two functions here that go through the command table.
@@ -11,12 +11,15 @@ ghost use Rattle.bd_app.specs.Commands.{command_line, question_of, taken};
 ghost use Rattle.bd_app.specs.Words.{texts_of};
 ghost use Rattle.bd_app.specs.inner.Asked.{asked, IsInRange, IsParsed};
 
+pub mod bounded;
 pub mod check;
 pub mod generate;
 pub mod recheck;
 pub mod replay;
+pub mod retrace;
 pub mod run;
 
+use self::bounded::BoundedOptions;
 use self::check::CheckOptions;
 use self::generate::GenOptions;
 use self::run::RunOptions;
@@ -38,6 +41,10 @@ pub enum Command<'a> {
     Gen(GenOptions),
     /// Whether a text proves that a pipeline is right.
     Recheck(TextFiles<'a>),
+    /// Whether a pipeline is right for so many cycles.
+    Bounded(BoundedOptions<'a>),
+    /// What a trail shows.
+    Retrace(TextFiles<'a>),
 }
 
 /// Why words ask for nothing.
@@ -68,7 +75,9 @@ fn command_line<'a>(alloc: Global) -> Result<clap::Command<'a>, AllocError>
         .subcommand(replay::command(alloc)?)?
         .subcommand(run::command(alloc)?)?
         .subcommand(generate::command(alloc)?)?
-        .subcommand(recheck::command(alloc)?)
+        .subcommand(recheck::command(alloc)?)?
+        .subcommand(bounded::command(alloc)?)?
+        .subcommand(retrace::command(alloc)?)
 }
 
 /// What the command of this name with these arguments asks for.
@@ -88,6 +97,10 @@ fn question<'a>(name: &str, matches: &ArgMatches<'a>) -> Option<Command<'a>>
         Some(Command::Gen(generate::options(matches)?))
     } else if name == "recheck" {
         Some(Command::Recheck(recheck::options(matches)?))
+    } else if name == "bounded" {
+        Some(Command::Bounded(bounded::options(matches)?))
+    } else if name == "retrace" {
+        Some(Command::Retrace(retrace::options(matches)?))
     } else {
         None
     }

@@ -1,6 +1,6 @@
 //! Loading the files that the words name.
 ghost use Rattle.std.specs.Prelude.{◌≡◌, ◌≤◌, [], ◌∷◌, length, IfSome, IfOk};
-ghost use Rattle.bd_app.specs.Files.{HoldsShort, design_files, most_bytes, one_if, text_files, text_names};
+ghost use Rattle.bd_app.specs.Files.{HoldsShort, design_files, design_names, most_bytes, one_if, text_files, text_names};
 ghost use Rattle.bd_app.specs.Meaning.{files_seen};
 ghost use Rattle.bd_app.specs.Sources.{HoldSources, HoldsShortIf, TextSources};
 ghost use Rattle.bd_app.specs.Words.{given};
@@ -9,7 +9,7 @@ ghost use Rattle.bd_app.specs.inner.Loaded.{AreFew, Loads, bytes_of, sources_vie
 use crate::answer::{Ended, Which};
 use bd_files::{Files, LoadError};
 use bd_text::Code;
-use bd_typer::Text;
+use bd_typer::{Premise, Text};
 
 /// The most bytes of a file that is no proof.
 pub const MAX_FILE: usize = 1_048_576;
@@ -73,41 +73,50 @@ fn load_if<F: Files>(
     }
 }
 
-/// The bytes of the files of a design.
+/// The names of the files of a design. The third says of states what the premise does.
+#[derive(Clone, Copy, Debug)]
+pub struct DesignFiles<'a> {
+    pub pipe: &'a str,
+    pub spec: &'a str,
+    pub premise: Premise,
+    pub third: Option<&'a str>,
+}
+
+/// Their bytes.
 #[derive(Debug, Drop)]
 pub struct Sources {
     pub pipe: Vec<u8>,
     pub spec: Vec<u8>,
-    pub inv: Option<Vec<u8>>,
+    pub premise: Premise,
+    pub third: Option<Vec<u8>>,
 }
 
 /// The bytes of the files of a design, loaded in the order of the words.
-pub fn load_sources<'a, F: Files>(
-    files: &mut F,
-    pipe: &'a str,
-    spec: &'a str,
-    inv: Option<&'a str>,
-) -> Result<Sources, Ended>
+pub fn load_sources<F: Files>(files: &mut F, names: DesignFiles<'_>) -> Result<Sources, Ended>
     ensures loaded { IfOk result (λ s. IfSome (F.held files.old) (λ held.
-        HoldSources held pipe.now spec.now (given inv.entry) (sources_view s))) }
+        HoldSources held (design_names names.entry) (sources_view s))) }
     ensures few { IfOk result (λ s. AreFew (sources_view s)) }
-    ensures left { Loads (design_files pipe.now spec.now (given inv.entry))
+    ensures left { Loads (design_files (design_names names.entry))
         (files_seen F.held F.faults F.blame files.old)
         (files_seen F.held F.faults F.blame files.new) result }
 {
-    let pipe = load(files, Text::Pipe, pipe)?;
-    let spec = load(files, Text::Spec, spec)?;
-    let inv = load_if(files, Text::Inv, inv)?;
-    Ok(Sources { pipe, spec, inv })
+    let pipe = load(files, Text::Pipe, names.pipe)?;
+    let spec = load(files, Text::Spec, names.spec)?;
+    let premise = names.premise;
+    let third = load_if(files, premise.file(), names.third)?;
+    Ok(Sources {
+        pipe,
+        spec,
+        premise,
+        third,
+    })
 }
 
-/// The names of the files of a design and of a text on it, a case or a proof.
+/// The names of the files of a design and of a text on it: a case, a trail or a proof.
 #[derive(Clone, Copy, Debug)]
 pub struct TextFiles<'a> {
-    pub pipe: &'a str,
-    pub spec: &'a str,
+    pub design: DesignFiles<'a>,
     pub text: &'a str,
-    pub inv: Option<&'a str>,
 }
 
 /// Their bytes.
@@ -132,10 +141,17 @@ pub fn load_text<F: Files>(
         (files_seen F.held F.faults F.blame files.old)
         (files_seen F.held F.faults F.blame files.new) result }
 {
-    let pipe = load(files, Text::Pipe, names.pipe)?;
-    let spec = load(files, Text::Spec, names.spec)?;
+    let design = names.design;
+    let pipe = load(files, Text::Pipe, design.pipe)?;
+    let spec = load(files, Text::Spec, design.spec)?;
     let text = load(files, file, names.text)?;
-    let inv = load_if(files, Text::Inv, names.inv)?;
-    let sources = Sources { pipe, spec, inv };
+    let premise = design.premise;
+    let third = load_if(files, premise.file(), design.third)?;
+    let sources = Sources {
+        pipe,
+        spec,
+        premise,
+        third,
+    };
     Ok(TextBytes { sources, text })
 }

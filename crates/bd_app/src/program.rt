@@ -5,26 +5,29 @@
 //! Each part's clauses say what it leaves alone, so that what the first one told of the files still
 //! holds at the end. Everything that the program does to the world goes through the three objects
 //! that it is given, so the clauses speak of all of it.
-ghost use Rattle.std.specs.Prelude.{◌≡◌, ◌≢◌, ◌≤◌, ◌⊎◌, Option, Some, None, IfOk, IfErr, IsErrOf};
+ghost use Rattle.std.specs.Prelude.{◌≡◌, ◌≢◌, ◌≤◌, ◌⊎◌, ℕ, Option, Some, None, IfOk, IfErr, IsErrOf};
 ghost use Rattle.bd_files.specs.Devices.{Rose, Appends, AppendsPrefix};
-ghost use Rattle.bd_model.specs.Fits.{Fits};
+ghost use Rattle.bd_model.specs.Fits.{Fits, TrailFits};
 ghost use Rattle.bd_model.specs.Conditions.{IsJudged, SomeCaseMeetsInvariant};
-ghost use Rattle.bd_model.specs.Right.{IsRight};
+ghost use Rattle.bd_model.specs.Right.{BoundedRight, IsRight};
+ghost use Rattle.bd_model.specs.TrailJudged.{IsTrailJudged};
 ghost use Rattle.bd_verify.specs.declared.verdict.Work.{Work};
 ghost use Rattle.bd_app.specs.Answer.{HasReport};
 ghost use Rattle.bd_app.specs.Commands.{Question, meaning_of, taken};
 ghost use Rattle.bd_app.specs.Meaning.{files_seen};
-ghost use Rattle.bd_app.specs.Program.{ForDesign, IsRun, sink_seen};
+ghost use Rattle.bd_app.specs.Program.{ForBounded, ForDesign, IsRun, sink_seen};
 ghost use Rattle.bd_app.specs.Words.{texts_of};
 ghost use Rattle.bd_app.specs.inner.Asked.{asked, IsInRange};
 ghost use Rattle.bd_app.specs.inner.Done.{IsDone, IsEarlyFault, ended_of};
 
 use crate::answer::{Answer, Ended, Which};
 use crate::command::{
-    Command, WordsFault, check, command_of, generate, recheck, replay, run as run_cycles,
+    Command, WordsFault, bounded, check, command_of, generate, recheck, replay, retrace,
+    run as run_cycles,
 };
+use bd_bounded::Bounded;
 use bd_files::{Files, Sink};
-use bd_model::{Case, Condition, Judged};
+use bd_model::{Case, Condition, Judged, Trail, TrailJudged};
 use std::alloc::Global;
 
 /// The answer to the question that the words ask.
@@ -40,6 +43,8 @@ fn answered<F: Files>(alloc: Global, files: &mut F, command: Command<'_>) -> Res
         Command::Run(options) => run_cycles::answer(alloc, files, options),
         Command::Gen(options) => generate::answer(alloc, options),
         Command::Recheck(options) => recheck::answer(alloc, files, options),
+        Command::Bounded(options) => bounded::answer(alloc, files, options),
+        Command::Retrace(options) => retrace::answer(alloc, files, options),
     }
 }
 
@@ -103,6 +108,13 @@ pub fn run<F: Files, O: Sink, E: Sink>(
         ForDesign (F.held files.old) (texts_of words.now) (λ d. ¬ SomeCaseMeetsInvariant d) }
     ensures proved { (work : Work) → result ≡ Ended.Proved work →
         ForDesign (F.held files.old) (texts_of words.now) IsRight }
+    // The same for so many cycles, from each state in which the start is true.
+    ensures kept { (work : Work) → result ≡ Ended.Bounded (Bounded.Kept work) →
+        ForBounded (F.held files.old) (texts_of words.now) (λ q d. BoundedRight d q.cycles) }
+    ensures broken { (cycle : ℕ) (t : Trail) (work : Work) →
+        result ≡ Ended.Bounded (Bounded.Broken cycle t work) →
+        ForBounded (F.held files.old) (texts_of words.now) (λ q d.
+        TrailFits d t × IsTrailJudged d t (TrailJudged.Broken cycle)) }
 
     // All of it: what each answer means and what causes it, what is saved and what is printed.
     ensures run { IsRun (texts_of words.now) result

@@ -1,21 +1,22 @@
 //! Reading the texts of files.
 //!
-//! All files are loaded before the first is read, and a design is read before its case. So the first
-//! fault in this order refuses: a file that is too long, a fault of the design's files, one of the
-//! case.
+//! All files are loaded before the first is read, and a design is read before a text on it. So the
+//! first fault in this order refuses: a file that is too long, a fault of the design's files, one of
+//! the case or trail.
 ghost use Rattle.std.specs.Prelude.{IfOk, IfErr, Ok};
-ghost use Rattle.bd_case.specs.Reads.{IsReading};
+ghost use Rattle.bd_case.specs.Reads.{IsReading, IsTrailReading};
 ghost use Rattle.bd_model.specs.DesignView.{design_view};
 ghost use Rattle.bd_model.specs.Fits.{Fits};
 ghost use Rattle.bd_model.specs.Lawful.{IsLawful};
+ghost use Rattle.bd_app.specs.Texts.{TrailFitsShort, case_kind, trail_kind};
 ghost use Rattle.bd_app.specs.inner.Loaded.{AreFew, sources_view};
-ghost use Rattle.bd_app.specs.inner.Done.{AreDesign, AreRefused, IsCaseRefused};
+ghost use Rattle.bd_app.specs.inner.Done.{AreDesign, AreRefused, IsTextRefused};
 
 use crate::answer::Ended;
 use crate::load::Sources;
-use bd_case::{CaseFault, read_case};
-use bd_model::{Case, Design};
-use bd_typer::{DesignFault, Text, design_of};
+use bd_case::{CaseFault, TrailFault, read_case, read_trail};
+use bd_model::{Case, Design, Trail};
+use bd_typer::{DesignFault, Text, design_with};
 use std::alloc::Global;
 
 /// The design of sources.
@@ -25,11 +26,17 @@ pub fn design(alloc: Global, sources: &Sources) -> Result<Design, Ended>
     ensures lawful { IfOk result (λ d. IsLawful (design_view d)) }
     ensures refused { IfErr result (AreRefused (sources_view sources.now)) }
 {
-    let inv = match &sources.inv {
-        Some(inv) => Some(inv.as_slice()),
+    let third = match &sources.third {
+        Some(third) => Some(third.as_slice()),
         None => None,
     };
-    match design_of(alloc, sources.pipe.as_slice(), sources.spec.as_slice(), inv) {
+    match design_with(
+        alloc,
+        sources.pipe.as_slice(),
+        sources.spec.as_slice(),
+        sources.premise,
+        third,
+    ) {
         Ok(design) => Ok(design),
         Err(DesignFault::Bad { file, offset, code }) => Err(Ended::Refused { file, offset, code }),
         Err(DesignFault::Memory) => Err(Ended::Memory),
@@ -41,7 +48,7 @@ pub fn case(alloc: Global, design: &Design, bytes: &[u8]) -> Result<Case, Ended>
     requires { IsLawful (design_view design.now) }
     ensures read { IfOk result (λ c.
         IsReading (design_view design.now) bytes.now (Ok c) × Fits (design_view design.now) c) }
-    ensures refused { IfErr result (IsCaseRefused (design_view design.now) bytes.now) }
+    ensures refused { IfErr result (IsTextRefused case_kind (design_view design.now) bytes.now) }
 {
     match read_case(alloc, design, bytes) {
         Ok(case) => Ok(case),
@@ -51,5 +58,23 @@ pub fn case(alloc: Global, design: &Design, bytes: &[u8]) -> Result<Case, Ended>
             code,
         }),
         Err(CaseFault::Memory) => Err(Ended::Memory),
+    }
+}
+
+/// The trail of bytes.
+pub fn trail(alloc: Global, design: &Design, bytes: &[u8]) -> Result<Trail, Ended>
+    requires { IsLawful (design_view design.now) }
+    ensures read { IfOk result (λ t. IsTrailReading (design_view design.now) bytes.now (Ok t)
+        × TrailFitsShort (design_view design.now) t) }
+    ensures refused { IfErr result (IsTextRefused trail_kind (design_view design.now) bytes.now) }
+{
+    match read_trail(alloc, design, bytes) {
+        Ok(trail) => Ok(trail),
+        Err(TrailFault::Bad { offset, code }) => Err(Ended::Refused {
+            file: Text::Trail,
+            offset,
+            code,
+        }),
+        Err(TrailFault::Memory) => Err(Ended::Memory),
     }
 }

@@ -4,7 +4,8 @@ ghost use Rattle.std.specs.Option.{option_map};
 ghost use Rattle.bd_model.specs.DesignView.{design_view};
 ghost use Rattle.bd_model.specs.Fits.{Fits};
 ghost use Rattle.bd_model.specs.Lawful.{IsLawful};
-ghost use Rattle.bd_app.specs.Verdicts.{IsCaseTextIf, IsVerdict, ended_by, shown_case, verdict_words, work_of};
+ghost use Rattle.bd_app.specs.Texts.{IsTextOfIf, case_kind};
+ghost use Rattle.bd_app.specs.Verdicts.{IsVerdict, ended_by, shown_case, verdict_words, work_of};
 ghost use Rattle.bd_app.specs.inner.Loaded.{AreFew, sources_view};
 ghost use Rattle.bd_app.specs.inner.Done.{AreRefused, IsShown, IsShownOf};
 
@@ -65,7 +66,7 @@ fn shown(verdict: &Verdict, shows: bool) -> Option<&Case>
 fn text_of(alloc: Global, design: &Design, case: Option<&Case>) -> Result<Vec<u8>, AllocError>
     requires lawful { IsLawful (design_view design.now) }
     requires fits { IfSome (option_map (λ c. c.now) case) (Fits (design_view design.now)) }
-    ensures { IfOk result (λ text. IsCaseTextIf (design_view design.now)
+    ensures { IfOk result (λ text. IsTextOfIf case_kind (design_view design.now)
         (option_map (λ c. c.now) case.entry) text.items) }
 {
     match case {

@@ -64,16 +64,19 @@ is_number-decimal n lt = elim (cases_lt 0 n) [
   | inr le ↦ let e : n ≡ 0 = omega arith in let d : decimal n ≡ 48 ∷ [] = ap decimal e ∙ decimal_digit 0 (omega arith) in rw d refl
 ]
 
--- a number of at most 64 bits reads back
-pub word_form-word_node : (n : ℕ) (u : Node) → IsShort n → without_offsets u ≡ word_node n → word_form u ≡ Ok n
+-- a number of at most so much reads back
+pub number_form-word_node : (most n : ℕ) (u : Node) → n ≤ most → IsShort n → without_offsets u ≡ word_node n → number_form most u ≡ Ok n
 unfolding number_form
-word_form-word_node n (list offset parts) short e = absurd (cc)
-word_form-word_node n (atom offset text) short e =
+number_form-word_node most n (list offset parts) small short e = absurd (cc)
+number_form-word_node most n (atom offset text) small short e =
     let same : text ≡ decimal n = cc in
     let number = is_number-decimal n short in
     let value = number_of-decimal n short in
-    let small = le-leb n 18446744073709551615 (omega arith) in
-    rw (same, number, value, small) refl
+    let within = le-leb n most small in
+    rw (same, number, value, within) refl
+
+pub word_form-word_node : (n : ℕ) (u : Node) → IsShort n → without_offsets u ≡ word_node n → word_form u ≡ Ok n
+word_form-word_node n u short e = number_form-word_node 18446744073709551615 n u (omega arith) short e
 
 -- ---- values
 

@@ -9,12 +9,12 @@ use Rattle.std.proofs.lemmas.List.Kept.{AllPairs-cons}
 use Rattle.bd_model.specs.DesignView.{DesignView}
 use Rattle.bd_model.specs.Lawful.{IsLawful, IsLawfulGroup, IsConstant}
 use Rattle.bd_model.specs.Value.{table_of, no_table}
-use Rattle.bd_model.specs.Fits.{scalar_sort, TableFits, DefaultsDiffer, KeepsApart, Fits}
+use Rattle.bd_model.specs.Fits.{scalar_sort, TableFits, DefaultsDiffer, KeepsApart, TrailFits}
 use Rattle.bd_model.specs.declared.table.Scalar.{Scalar}
 use Rattle.bd_model.specs.declared.table.Scalar.TheVariants as scalar
 use Rattle.bd_model.specs.declared.table.Table.{Table}
 use Rattle.bd_model.specs.declared.design.Sort.TheVariants as sort
-use Rattle.bd_model.specs.declared.case.Case.{Case}
+use Rattle.bd_model.specs.declared.case.Trail.{Trail}
 use Rattle.bd_model.proofs.Pairs.{AllZip-at}
 use Rattle.bd_model.specs.Value.{scalar_word}
 use Rattle.bd_case.specs.Reading.{repeats, constants, distinct_form}
@@ -141,7 +141,7 @@ no_group_repeats d interp (g ∷ gs) tables lawful apart =
     let rest = no_group_repeats d interp gs tables lawful.1 apart.1 in
     rw (first, rest) refl
 
-pub distinct_form-fits : (d : DesignView) (c : Case) (offset : ℕ) → IsLawful d → Fits d c → distinct_form d.distinct offset c ≡ Ok c
-distinct_form-fits d c offset lawful fits =
-    let test = no_group_repeats d c.interp d.distinct fits.interp.tables lawful.distinct fits.interp.apart in
+pub distinct_form-fits : (d : DesignView) (t : Trail) (offset : ℕ) → IsLawful d → TrailFits d t → distinct_form d.distinct offset t ≡ Ok t
+distinct_form-fits d t offset lawful fits =
+    let test = no_group_repeats d t.interp d.distinct fits.interp.tables lawful.distinct fits.interp.apart in
     rw test refl

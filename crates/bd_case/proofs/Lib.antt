@@ -1,11 +1,13 @@
 pub mod Atoms
-pub mod CaseReadsBack
 pub mod Constants
 pub mod Contents
+pub mod Inputs
 pub mod Laid
 pub mod OneReading
 pub mod Places
-pub mod ReadCasesFit
+pub mod ReadsBack
 pub mod Remaining
 pub mod Rows
 pub mod TwoLists
+pub mod WhatIsReadFits
+pub mod Written

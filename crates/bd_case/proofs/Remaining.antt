@@ -7,7 +7,8 @@ use Rattle.bd_text.specs.View.{nodes_from}
 use Rattle.bd_text.specs.Written.{written_parts, written_rest}
 use Rattle.bd_model.specs.declared.table.Scalar.{Scalar}
 use Rattle.bd_case.specs.Text.{word_node, scalar_node}
-use Rattle.bd_case.specs.Content.{IsShort}
+use Rattle.bd_model.specs.declared.table.Table.{Table}
+use Rattle.bd_case.specs.Content.{IsShort, value_in, inputs_from}
 use Rattle.bd_case.specs.Reading.{place_of}
 use Rattle.bd_syntax.specs.Words.{same_text}
 use Rattle.bd_case.proofs.Places.{option_map-next}
@@ -65,3 +66,15 @@ place_step names at key q old new positive within is before after =
 pub all_short : (ns : List ℕ) → ((k : ℕ) → get_or ns k 0 < 2 ^ 64) → AllByRecursion IsShort ns
 all_short [] h = tt
 all_short (n ∷ ns) h = (h zero, all_short ns (λ k. h (suc k)))
+
+-- ---- cycles
+
+left : (n i : ℕ) → i < n → n - i ≡ suc (n - (i + 1))
+left n i h = omega arith
+
+-- the inputs of one cycle more
+pub inputs_step : (out new : List (List Scalar)) (x : List Scalar) (n i : ℕ) (tables : List Table) (total : List (List Scalar)) → i < n → x ≡ map (value_in i) tables → new ≡ out ++ x ∷ []
+    → out ++ inputs_from i (n - i) tables ≡ total → new ++ inputs_from (i + 1) (n - (i + 1)) tables ≡ total
+inputs_step out new x n i tables total lt is put e =
+    let more : inputs_from i (n - i) tables ≡ map (value_in i) tables ∷ inputs_from (i + 1) (n - (i + 1)) tables = ap (λ k. inputs_from i k tables) (left n i lt) in
+    rw (put, is) (append_assoc out (map (value_in i) tables ∷ []) (inputs_from (i + 1) (n - (i + 1)) tables) ∙ sym (ap (λ xs. out ++ xs) more) ∙ e)

@@ -6,15 +6,12 @@ use Rattle.std.proofs.lemmas.List.{append-nil, drop_all}
 use Rattle.bd_text.specs.Nodes.{Node}
 use Rattle.bd_syntax.specs.Reading.{Fault}
 use Rattle.bd_syntax.proofs.EachForm.{with_front}
-use Rattle.bd_model.specs.DesignView.{port_view}
-use Rattle.bd_model.specs.declared.table.Scalar.{Scalar}
 use Rattle.bd_model.specs.declared.table.Table.{Table}
 use Rattle.bd_model.specs.declared.table.Value.{Value}
 use Rattle.bd_model.specs.declared.design.Symbol.{Symbol}
 use Rattle.bd_model.specs.declared.design.Entry.{Entry}
-use Rattle.bd_model.specs.declared.design.Port.{Port}
 use Rattle.bd_case.specs.Reading.{whole_form}
-use Rattle.bd_case.specs.Text.{symbol_nodes, state_nodes, input_nodes}
+use Rattle.bd_case.specs.Text.{symbol_nodes, state_nodes}
 use Rattle.bd_case.specs.declared.kind.Version.{Version}
 use Rattle.bd_case.specs.declared.kind.EntryKind.{EntryKind}
 
@@ -43,16 +40,6 @@ state_none (e ∷ es) (v ∷ vs) (inr h) = absurd (cc)
 pub state_end : (line : Node → List ℕ) (out : List ℕ) (es : List Entry) (vs : List Value) (total : List ℕ) → EitherEmpty es vs
     → out ++ flat_map line (state_nodes es vs) ≡ total → out ≡ total
 state_end line out es vs total h e = nothing_more out (flat_map line (state_nodes es vs)) total (ap (flat_map line) (state_none es vs h)) e
-
-inputs_none : (ps : List Port) (xs : List Scalar) → EitherEmpty ps xs → input_nodes (map port_view ps) xs ≡ []
-inputs_none [] xs h = refl
-inputs_none (p ∷ ps) [] h = refl
-inputs_none (p ∷ ps) (x ∷ xs) (inl h) = absurd (cc)
-inputs_none (p ∷ ps) (x ∷ xs) (inr h) = absurd (cc)
-
-pub inputs_end : (line : Node → List ℕ) (out : List ℕ) (ps : List Port) (xs : List Scalar) (total : List ℕ) → EitherEmpty ps xs
-    → out ++ flat_map line (input_nodes (map port_view ps) xs) ≡ total → out ≡ total
-inputs_end line out ps xs total h e = nothing_more out (flat_map line (input_nodes (map port_view ps) xs)) total (ap (flat_map line) (inputs_none ps xs h)) e
 
 symbols_none : (version : Version) (distinct : List (List ℕ)) (f : ℕ) (ys : List Symbol) (ts : List Table) → EitherEmpty ys ts → symbol_nodes version distinct f ys ts ≡ []
 symbols_none version distinct f [] ts h = refl

@@ -1,5 +1,5 @@
--- What a case has an entry for, and how it is given. Cases as text are this project's own; an interpretation, a state and
--- inputs are what Burch and Dill (1994) quantify over.
+-- What a case or a trail has an entry for, and how it is given. Both as text are this project's own; an interpretation, a
+-- state and inputs are what Burch and Dill (1994) quantify over.
 use Rattle.std.specs.Prelude.{◌==◌, ℕ, ◌+◌, Bool, true, false, List, [], ◌∷◌, ◌++◌, map, Option, codes, nat_eq, nat_le, find, if◌then◌else◌}
 use Rattle.std.specs.List.{list_any}
 use Rattle.bd_syntax.specs.Words.{same_text}
@@ -9,11 +9,18 @@ use Rattle.bd_model.specs.declared.design.Sort.{Sort}
 use Rattle.bd_model.specs.declared.design.Sort.TheVariants as sort
 use Rattle.bd_model.specs.declared.design.Symbol.{Symbol}
 use Rattle.bd_model.specs.declared.design.Entry.{Entry}
+use Rattle.bd_case.specs.declared.kind.Subject.{Subject}
+use Rattle.bd_case.specs.declared.kind.Subject.TheVariants as subjects
 use Rattle.bd_case.specs.declared.kind.Version.{Version}
 use Rattle.bd_case.specs.declared.kind.Version.TheVariants.{One, Two}
 use Rattle.bd_case.specs.declared.kind.EntryHead.{EntryHead}
 use Rattle.bd_case.specs.declared.kind.EntryHead.TheVariants.{Function, Predicate, Constant, Memory, Latch, Input}
 use Rattle.bd_case.specs.declared.kind.EntryKind.{EntryKind}
+
+-- what the text of a case begins with, and that of a trail
+abbrev pub subject_text : Subject → List ℕ
+subject_text subjects.Case = codes "case"
+subject_text subjects.Trail = codes "trail"
 
 abbrev pub head_text : EntryHead → List ℕ
 head_text Function = codes "function"
@@ -32,15 +39,19 @@ heads_of Two = Constant ∷ Function ∷ Predicate ∷ Memory ∷ Latch ∷ Inpu
 unfoldable pub head_of : Version → List ℕ → Option EntryHead
 head_of version text = find (λ head. same_text text (head_text head)) (heads_of version)
 
--- how many parts follow it: (function NAME DEFAULT ROW ..), (predicate NAME DEFAULT ROW ..),
--- (constant NAME VALUE), (memory NAME DEFAULT ROW ..), (latch NAME VALUE), (input NAME VALUE)
-abbrev pub head_takes : EntryHead → ℕ → Bool
-head_takes Function parts = nat_le 2 parts
-head_takes Predicate parts = nat_le 2 parts
-head_takes Constant parts = parts == 2
-head_takes Memory parts = nat_le 2 parts
-head_takes Latch parts = parts == 2
-head_takes Input parts = parts == 2
+-- how many parts follow it over so many cycles: (function NAME DEFAULT ROW ..), (predicate NAME DEFAULT ROW ..),
+-- (constant NAME VALUE), (memory NAME DEFAULT ROW ..), (latch NAME VALUE), (input NAME VALUE ..)
+abbrev pub head_takes : ℕ → EntryHead → ℕ → Bool
+head_takes cycles Function parts = nat_le 2 parts
+head_takes cycles Predicate parts = nat_le 2 parts
+head_takes cycles Constant parts = parts == 2
+head_takes cycles Memory parts = nat_le 2 parts
+head_takes cycles Latch parts = parts == 2
+head_takes cycles Input parts = parts == cycles + 1
+
+abbrev pub is_input : EntryHead → Bool
+is_input Input = true
+is_input _ = false
 
 -- whether a case may have no entry for it
 abbrev pub may_lack : EntryHead → Bool
@@ -87,7 +98,7 @@ entry_kind e = sort_kind e.sort
 abbrev pub input_kind : Sort → EntryKind
 input_kind s = record { head = Input; sort = s; arity = 0; apart = false }
 
--- everything that a case gives, in the order of a case text, as all_names names it: functions and predicates, latches
+-- everything that a case or a trail gives, in the order of its text, as all_names names it: functions and predicates, latches
 -- and memories, inputs
 abbrev pub kinds : Version → DesignView → List EntryKind
 kinds version d =

@@ -1,11 +1,11 @@
--- The case that trees are, or its first fault: entries from left to right, and of an entry first its shape, then its name,
+-- The case or the trail that trees are, or its first fault: entries from left to right, and of an entry first its shape, then its name,
 -- then its values. The text and its codes are this project's own.
-use Rattle.std.specs.Prelude.{◌==◌, ℕ, suc, ◌+◌, Bool, true, false, ◌||◌, List, [], ◌∷◌, ◌++◌, map, Option, Some, None, is_some, option_map, Result, Ok, codes, nat_eq, slice_index_or, slice_set, if◌then◌else◌}
+use Rattle.std.specs.Prelude.{◌≡◌, ◌≤◌, ◌==◌, ℕ, suc, ◌+◌, Bool, true, false, ◌||◌, List, [], ◌∷◌, ◌++◌, map, Option, Some, None, is_some, option_map, Result, Ok, Err, codes, nat_eq, slice_index_or, slice_set, if◌then◌else◌}
 use Rattle.std.specs.List.{list_any}
 use Rattle.bd_text.specs.Nodes.{Node, atom, list, Nodes, no_nodes, node, node_count}
 use Rattle.bd_text.specs.declared.code.Code.TheVariants.{WrongHead, Malformed, DeclaredTwice, UnknownName, WrongSort, WrongArity, MissingOrTwice, NotDistinct}
 use Rattle.bd_syntax.specs.Words.{same_text}
-use Rattle.bd_syntax.specs.Reading.{Fault, ◌>>=◌, refused, atom_form, name_form, number_form, first_form, others, each_form, before_last, last_node, headed_form, end_form}
+use Rattle.bd_syntax.specs.Reading.{Fault, ◌>>=◌, refused, atom_form, name_form, number_form, first_form, others, each_form, before_last, last_node, headed_form, end_form, offset_of}
 use Rattle.bd_model.specs.DesignView.{DesignView}
 use Rattle.bd_model.specs.Lawful.{all_names}
 use Rattle.bd_model.specs.Table.{at}
@@ -17,10 +17,13 @@ use Rattle.bd_model.specs.declared.table.Table.{Table}
 use Rattle.bd_model.specs.declared.design.Sort.{Sort}
 use Rattle.bd_model.specs.declared.design.Sort.TheVariants as sort
 use Rattle.bd_model.specs.declared.case.Case.{Case}
-use Rattle.bd_case.specs.Kinds.{head_text, head_of, head_takes, may_lack, kinds}
-use Rattle.bd_case.specs.Content.{constant_table, case_from}
-use Rattle.bd_case.specs.declared.kind.Version.{Version}
+use Rattle.bd_model.specs.declared.case.Trail.{Trail}
+use Rattle.bd_case.specs.Kinds.{head_text, head_of, head_takes, is_input, may_lack, subject_text, kinds}
+use Rattle.bd_case.specs.Content.{constant_table, default_of, value_row, trail_from, case_of}
+use Rattle.bd_case.specs.declared.kind.Subject.{Subject}
+use Rattle.bd_case.specs.declared.kind.Subject.TheVariants.{Case as ACase, Trail as ATrail}
 use Rattle.bd_case.specs.declared.kind.Version.TheVariants.{One, Two}
+use Rattle.bd_case.specs.declared.kind.Layout.{Layout}
 use Rattle.bd_case.specs.declared.kind.EntryHead.{EntryHead}
 use Rattle.bd_case.specs.declared.kind.EntryHead.TheVariants as heads
 use Rattle.bd_case.specs.declared.kind.EntryKind.{EntryKind}
@@ -80,6 +83,28 @@ table_form kind t ts = do
   rows ← each_form (row_form kind) ts
   Ok (kept kind.apart (record { default = default; rows = rows }))
 
+-- a value, as a row without arguments
+abbrev pub value_form : Sort → Node → Result Row Fault
+value_form s t = do
+  x ← scalar_form s t
+  Ok (value_row x)
+
+-- VALUE ..
+unfoldable pub values_form : Sort → Nodes → Result Table Fault
+values_form s ts = do
+  rows ← each_form (value_form s) ts
+  Ok (record { default = default_of s; rows = rows })
+
+-- DEFAULT ROW .. in the list at this offset
+abbrev pub defaulted_form : EntryKind → ℕ → Nodes → Result Table Fault
+defaulted_form kind offset no_nodes = refused offset Malformed
+defaulted_form kind offset (node t ts) = table_form kind t ts
+
+-- what an entry gives after its name: of an input the value in each cycle, of all else a default and rows
+abbrev pub content_form : EntryKind → ℕ → Nodes → Result Table Fault
+content_form kind offset ts =
+    if is_input kind.head then values_form kind.sort ts else defaulted_form kind offset ts
+
 -- ---- entries
 
 -- the first place of a name
@@ -105,49 +130,45 @@ place_form ks given head offset (Some i) =
     then (if is_some (slice_index_or given i None) then refused offset DeclaredTwice else Ok i)
     else refused offset WrongSort
 
--- NAME DEFAULT ROW .., beside what was given before
-unfoldable pub parts_form : Version → DesignView → List (Option Table) → ℕ → EntryHead → Nodes → Result (List (Option Table)) Fault
-parts_form version d given offset head (node t (node u us)) = do
+-- NAME CONTENT, beside what was given before
+unfoldable pub parts_form : Layout → DesignView → List (Option Table) → ℕ → EntryHead → Nodes → Result (List (Option Table)) Fault
+parts_form layout d given offset head no_nodes = refused offset Malformed
+parts_form layout d given offset head (node t ts) = do
   name ← name_form t
-  i ← place_form (kinds version d) given head name.offset (place_of name.text (all_names d))
-  table ← table_form (kind_at (kinds version d) i) u us
+  i ← place_form (kinds layout.version d) given head name.offset (place_of name.text (all_names d))
+  table ← content_form (kind_at (kinds layout.version d) i) offset ts
   Ok (slice_set given i (Some table))
-parts_form version d given offset head _ = refused offset Malformed
 
 -- the head of an entry, with as many parts as it takes
-abbrev pub head_form : ℕ → ℕ → Option EntryHead → Result EntryHead Fault
-head_form offset parts None = refused offset Malformed
-head_form offset parts (Some head) =
-    if head_takes head parts then Ok head else refused offset Malformed
+abbrev pub head_form : ℕ → ℕ → ℕ → Option EntryHead → Result EntryHead Fault
+head_form cycles offset parts None = refused offset Malformed
+head_form cycles offset parts (Some head) =
+    if head_takes cycles head parts then Ok head else refused offset Malformed
 
 -- an entry is a list that begins with a head
-unfoldable pub entry_form : Version → DesignView → List (Option Table) → Node → Result (List (Option Table)) Fault
-entry_form version d given (atom offset text) = refused offset Malformed
-entry_form version d given (list offset parts) = do
+unfoldable pub entry_form : Layout → DesignView → List (Option Table) → Node → Result (List (Option Table)) Fault
+entry_form layout d given (atom offset text) = refused offset Malformed
+entry_form layout d given (list offset parts) = do
   first ← first_form offset parts
-  head ← head_form offset (node_count (others parts)) (head_of version first.text)
-  parts_form version d given offset head (others parts)
+  head ← head_form layout.cycles offset (node_count (others parts)) (head_of layout.version first.text)
+  parts_form layout d given offset head (others parts)
 
-abbrev pub entries_form : Version → DesignView → List (Option Table) → Nodes → Result (List (Option Table)) Fault
-entries_form version d given no_nodes = Ok given
-entries_form version d given (node t ts) = do
-  more ← entry_form version d given t
-  entries_form version d more ts
+abbrev pub entries_form : Layout → DesignView → List (Option Table) → Nodes → Result (List (Option Table)) Fault
+entries_form layout d given no_nodes = Ok given
+entries_form layout d given (node t ts) = do
+  more ← entry_form layout d given t
+  entries_form layout d more ts
 
--- ---- the whole case
+-- ---- the whole text
 
 -- what was given, or the default 0 or false without rows
-abbrev pub default_of : Sort → Scalar
-default_of sort.Bool = scalar.Bool false
-default_of s = scalar.Word 0
-
 abbrev pub given_or : ℕ → EntryKind → Option Table → Result Table Fault
 given_or offset kind (Some t) = Ok t
 given_or offset kind None =
     if may_lack kind.head then Ok (constant_table (default_of kind.sort))
     else refused offset MissingOrTwice
 
--- everything that the case gives
+-- everything that the text gives
 abbrev pub whole_form : ℕ → List EntryKind → List (Option Table) → Result (List Table) Fault
 whole_form offset [] given = Ok []
 whole_form offset (kind ∷ ks) [] = Ok []
@@ -166,40 +187,71 @@ abbrev pub constants : List Table → List ℕ → List ℕ
 constants interp group = map (λ f. scalar_word (table_of interp f).default) group
 
 -- the constants of each group have different values
-abbrev pub distinct_form : List (List ℕ) → ℕ → Case → Result Case Fault
-distinct_form distinct offset c =
-    if list_any (λ group. repeats [] (constants c.interp group)) distinct
-    then refused offset NotDistinct else Ok c
+abbrev pub distinct_form : List (List ℕ) → ℕ → Trail → Result Trail Fault
+distinct_form distinct offset t =
+    if list_any (λ group. repeats [] (constants t.interp group)) distinct
+    then refused offset NotDistinct else Ok t
 
-abbrev pub version_part : Node → Result Version Fault
+-- a case has one cycle, and names its version
+abbrev pub version_part : Node → Result Layout Fault
 version_part (list offset parts) = refused offset WrongHead
 version_part (atom offset text) =
-    if same_text text (codes "1") then Ok One
-    else (if same_text text (codes "2") then Ok Two else refused offset WrongHead)
+    if same_text text (codes "1") then Ok (record { version = One; cycles = 1 })
+    else (if same_text text (codes "2") then Ok (record { version = Two; cycles = 1 })
+    else refused offset WrongHead)
 
--- the version of a case, and the entries after it
-abbrev pub version_form : ℕ → Nodes → Result (Version × Nodes) Fault
-version_form offset no_nodes = refused offset WrongHead
-version_form offset (node t ts) = do
-  version ← version_part t
-  Ok (version, ts)
+-- a trail is in the second version, and has at most 16 cycles
+abbrev pub cycles_part : ℕ → Result ℕ Fault → Result Layout Fault
+cycles_part offset (Ok cycles) = Ok (record { version = Two; cycles = cycles })
+cycles_part offset (Err fault) = refused offset WrongHead
 
--- one tree (case VERSION ENTRY ..): its offset, its version and its entries
-abbrev pub file_form : Nodes → Result (ℕ × (Version × Nodes)) Fault
-file_form no_nodes = refused 0 WrongHead
-file_form (node t ts) = do
-  inside ← headed_form (codes "case") t
-  content ← version_form inside.0 inside.1
+abbrev pub layout_part : Subject → Node → Result Layout Fault
+layout_part ACase t = version_part t
+layout_part ATrail t = cycles_part (offset_of t) (number_form 16 t)
+
+-- how many cycles there may be
+abbrev pub HasCycles : Subject → ℕ → Type 0
+HasCycles ACase cycles = cycles ≡ 1
+HasCycles ATrail cycles = cycles ≤ 16
+
+-- the layout of a text, and the entries after it
+abbrev pub layout_form : Subject → ℕ → Nodes → Result (Layout × Nodes) Fault
+layout_form subject offset no_nodes = refused offset WrongHead
+layout_form subject offset (node t ts) = do
+  layout ← layout_part subject t
+  Ok (layout, ts)
+
+-- one tree (case VERSION ENTRY ..) or (trail CYCLES ENTRY ..): its offset, its layout and its entries
+abbrev pub file_form : Subject → Nodes → Result (ℕ × (Layout × Nodes)) Fault
+file_form subject no_nodes = refused 0 WrongHead
+file_form subject (node t ts) = do
+  inside ← headed_form (subject_text subject) t
+  content ← layout_form subject inside.0 inside.1
   end ← end_form ts
   Ok (inside.0, content)
 
 abbrev pub nothing_given : List EntryKind → List (Option Table)
 nothing_given ks = map (λ _. None) ks
 
--- the case that trees are, for a design
-unfoldable pub case_form : DesignView → Nodes → Result Case Fault
+-- what entries give, in the list at this offset
+unfoldable pub walk_form : Layout → DesignView → ℕ → Nodes → Result Trail Fault
+walk_form layout d offset entries = do
+  given ← entries_form layout d (nothing_given (kinds layout.version d)) entries
+  tables ← whole_form offset (kinds layout.version d) given
+  distinct_form d.distinct offset (trail_from d layout.cycles tables)
+
+-- what trees are the text of, for a design; a case is a trail of one cycle
+unfoldable pub text_form : Subject → DesignView → Nodes → Result Trail Fault
+text_form subject d trees = do
+  file ← file_form subject trees
+  walk_form file.1.0 d file.0 file.1.1
+
+-- the trail that trees are
+abbrev pub trail_form : DesignView → Nodes → Result Trail Fault
+trail_form d trees = text_form ATrail d trees
+
+-- the case that trees are
+abbrev pub case_form : DesignView → Nodes → Result Case Fault
 case_form d trees = do
-  file ← file_form trees
-  given ← entries_form file.1.0 d (nothing_given (kinds file.1.0 d)) file.1.1
-  tables ← whole_form file.0 (kinds file.1.0 d) given
-  distinct_form d.distinct file.0 (case_from d tables)
+  trail ← text_form ACase d trees
+  Ok (case_of trail)

@@ -1,5 +1,5 @@
--- The text of a case, in this project's own format: an entry on a line, as a tree is written.
-use Rattle.std.specs.Prelude.{ℕ, ◌+◌, List, [], ◌∷◌, ◌++◌, map, codes, if◌then◌else◌}
+-- The text of a case or a trail, in this project's own format: an entry on a line, as a tree is written.
+use Rattle.std.specs.Prelude.{ℕ, ◌+◌, List, [], ◌∷◌, ◌++◌, map, length, codes, if◌then◌else◌}
 use Rattle.std.specs.List.{flat_map}
 use Rattle.std.specs.Fmt.{decimal}
 use Rattle.bd_text.specs.Nodes.{Node, atom, list, node}
@@ -13,9 +13,10 @@ use Rattle.bd_model.specs.declared.table.Table.{Table}
 use Rattle.bd_model.specs.declared.table.Value.{Value}
 use Rattle.bd_model.specs.declared.design.Entry.{Entry}
 use Rattle.bd_model.specs.declared.case.Case.{Case}
+use Rattle.bd_model.specs.declared.case.Trail.{Trail}
 use Rattle.bd_model.specs.declared.design.Symbol.{Symbol}
 use Rattle.bd_case.specs.Kinds.{head_text, version_of, is_apart, symbol_kind, entry_kind}
-use Rattle.bd_case.specs.Content.{constant_table, table_of_value}
+use Rattle.bd_case.specs.Content.{column, table_of_value, trail_of}
 use Rattle.bd_case.specs.declared.kind.Version.{Version}
 use Rattle.bd_case.specs.declared.kind.Version.TheVariants.{One, Two}
 use Rattle.bd_case.specs.declared.kind.EntryHead.{EntryHead}
@@ -53,16 +54,22 @@ state_nodes (e ∷ es) (v ∷ vs) =
     entry_node (entry_kind e).head e.name (table_of_value v) ∷ state_nodes es vs
 state_nodes _ _ = []
 
-abbrev pub input_nodes : List PortView → List Scalar → List Node
-input_nodes (p ∷ ps) (x ∷ xs) = entry_node Input p.name (constant_table x) ∷ input_nodes ps xs
-input_nodes _ _ = []
+-- (HEAD NAME VALUE ..)
+abbrev pub values_node : EntryHead → List ℕ → List Scalar → Node
+values_node head name xs =
+    list 0 (node (atom 0 (head_text head)) (node (atom 0 name) (nodes_from (map scalar_node xs))))
+
+-- the entries of the inputs from this place on, each with its value in every cycle
+abbrev pub input_nodes : ℕ → List PortView → List (List Scalar) → List Node
+input_nodes i [] inputs = []
+input_nodes i (p ∷ ps) inputs =
+    values_node Input p.name (column i inputs) ∷ input_nodes (i + 1) ps inputs
 
 -- functions and predicates by their numbers, then latches and memories, then inputs
-abbrev pub case_nodes : DesignView → Case → List Node
-case_nodes d c =
-    (symbol_nodes (version_of d.distinct) d.distinct 0 d.symbols c.interp
-    ++ state_nodes d.pipe.entries c.state)
-    ++ input_nodes d.pipe.ports c.inputs
+abbrev pub trail_nodes : Version → DesignView → Trail → List Node
+trail_nodes version d t =
+    (symbol_nodes version d.distinct 0 d.symbols t.interp ++ state_nodes d.pipe.entries t.state)
+    ++ input_nodes 0 d.pipe.ports t.inputs
 
 abbrev pub version_text : Version → List ℕ
 version_text One = codes "1"
@@ -72,11 +79,20 @@ version_text Two = codes "2"
 abbrev pub entry_line : Node → List ℕ
 entry_line t = 10 ∷ 32 ∷ written t
 
+-- entries after a heading
+abbrev pub text_with : List ℕ → List Node → List ℕ
+text_with heading entries = (heading ++ flat_map entry_line entries) ++ codes ")\n"
+
 -- the text of a case
 abbrev pub text_of : DesignView → Case → List ℕ
 text_of d c =
-    ((codes "(case " ++ version_text (version_of d.distinct)) ++ flat_map entry_line (case_nodes d c))
-    ++ codes ")\n"
+    text_with (codes "(case " ++ version_text (version_of d.distinct))
+    (trail_nodes (version_of d.distinct) d (trail_of c))
+
+-- the text of a trail
+abbrev pub trail_text_of : DesignView → Trail → List ℕ
+trail_text_of d t =
+    text_with (codes "(trail " ++ decimal (length t.inputs)) (trail_nodes Two d t)
 
 -- a space, the entry and a line feed
 abbrev pub state_line : Node → List ℕ

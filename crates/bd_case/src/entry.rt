@@ -1,18 +1,17 @@
 //! Entries: what was given so far, and one entry more. An entry's shape is looked at before its name, and its name
 //! before its values.
 
-ghost use Rattle.std.specs.Prelude.{◌≡◌, ◌<◌, ◌≤◌, ℕ, true, length, map, is_some, slice_index_or, IfOk, OnOk, Some, None};
-ghost use Rattle.bd_text.specs.Nodes.{node};
+ghost use Rattle.std.specs.Prelude.{◌≡◌, ◌<◌, length, map, is_some, slice_index_or, IfOk};
 ghost use Rattle.bd_text.specs.View.{node_of, nodes_of_all};
 ghost use Rattle.bd_syntax.specs.Reading.{Gives};
 ghost use Rattle.bd_model.specs.DesignView.{design_view};
 ghost use Rattle.bd_model.specs.Lawful.{all_names};
-ghost use Rattle.bd_case.specs.Kinds.{head_of, head_takes, kinds};
-ghost use Rattle.bd_case.specs.Reading.{entries_form, entry_form, head_form, kept, parts_form, place_form, place_of, table_form};
+ghost use Rattle.bd_case.specs.Kinds.{head_of, kinds};
+ghost use Rattle.bd_case.specs.Reading.{content_form, entries_form, entry_form, head_form, kept, parts_form, place_form, place_of, table_form};
 ghost use Rattle.bd_case.specs.inner.Frame.{IsFrame};
 
 use crate::frame::Frame;
-use crate::kind::{EntryHead, EntryKind, Version};
+use crate::kind::{EntryHead, EntryKind, Layout};
 use crate::value;
 use bd_model::{Rows, Table};
 use bd_syntax::atoms::name_text;
@@ -47,6 +46,24 @@ fn table(alloc: Global, kind: EntryKind, default: &Tree, rows: &[Tree]) -> Resul
     Ok(kept(alloc, kind.apart, table))
 }
 
+/// What an entry gives after its name.
+fn content(
+    alloc: Global,
+    kind: EntryKind,
+    offset: usize,
+    parts: &[Tree],
+) -> Result<Table, FormFault>
+    ensures { Gives (λ t. t) result (content_form kind offset (nodes_of_all parts.now)) }
+{
+    if kind.head.is_input() {
+        return value::values(alloc, kind.sort, parts);
+    }
+    match parts.split_first() {
+        Some((default, rows)) => table(alloc, kind, default, rows),
+        None => Err(bad(offset, Code::Malformed)),
+    }
+}
+
 /// The place of a name that an entry with this head may give, and none has given.
 fn place(
     frame: &Frame<'_>,
@@ -75,42 +92,13 @@ fn place(
 }
 
 /// The head that a text is, where so many parts may follow it.
-fn head_of(
-    version: Version,
-    offset: usize,
-    text: &[u8],
-    parts: usize,
-) -> Result<EntryHead, FormFault>
-    ensures head { Gives (λ head. head) result
-        (head_form offset parts (head_of version text.now)) }
-    ensures takes { IfOk result (λ head. head_takes head parts ≡ true) }
+fn head_of(layout: Layout, offset: usize, text: &[u8], parts: usize) -> Result<EntryHead, FormFault>
+    ensures { Gives (λ head. head) result
+        (head_form layout.cycles offset parts (head_of layout.version text.now)) }
 {
-    match EntryHead::from_text(version, text) {
-        Some(head) if head.takes(parts) => Ok(head),
+    match EntryHead::from_text(layout.version, text) {
+        Some(head) if head.takes(layout.cycles, parts) => Ok(head),
         _ => Err(bad(offset, Code::Malformed)),
-    }
-}
-
-/// The name and the content of an entry.
-#[derive(Clone, Copy)]
-struct Named<'a> {
-    name: &'a Tree,
-    default: &'a Tree,
-    rows: &'a [Tree],
-}
-
-impl<'a> Named<'a> {
-    /// Those of the parts after the head.
-    fn of(parts: &'a [Tree]) -> Named<'a>
-        requires { 2 ≤ length parts.now }
-        ensures { nodes_of_all parts.now ≡ node (node_of result.name.now)
-            (node (node_of result.default.now) (nodes_of_all result.rows.now)) }
-    {
-        Named {
-            name: &parts[0],
-            default: &parts[1],
-            rows: &parts[2..],
-        }
     }
 }
 
@@ -125,7 +113,7 @@ pub fn entry(
     requires frame { IsFrame frame.now }
     requires given { length given.old.items ≡ length frame.now.kinds.items }
     ensures entry { Gives (λ _. given.new.items) result
-        (entry_form frame.now.version (design_view frame.now.design.now)
+        (entry_form frame.now.layout (design_view frame.now.design.now)
         given.old.items (node_of tree.now)) }
     ensures given { length given.new.items ≡ length given.old.items }
 {
@@ -133,15 +121,15 @@ pub fn entry(
         Tree::Atom { offset, .. } => Err(bad(*offset, Code::Malformed)),
         Tree::List { offset, parts } => {
             let list = open(*offset, parts)?;
-            let head = head_of(frame.version, *offset, list.first, list.parts.len())?;
-            content(alloc, frame, given, *offset, head, list.parts)
+            let head = head_of(frame.layout, *offset, list.first, list.parts.len())?;
+            named(alloc, frame, given, *offset, head, list.parts)
         }
     }
 }
 
 /// What follows the head of an entry.
 #[tactic(auto, unfolding(crate::specs::Reading::parts_form))]
-fn content(
+fn named(
     alloc: Global,
     frame: &Frame<'_>,
     given: &mut Vec<Option<Table>>,
@@ -151,20 +139,17 @@ fn content(
 ) -> Result<(), FormFault>
     requires frame { IsFrame frame.now }
     requires given { length given.old.items ≡ length frame.now.kinds.items }
-    requires takes { head_takes head (length parts.now) ≡ true }
-    ensures content { Gives (λ _. given.new.items) result
-        (parts_form frame.now.version (design_view frame.now.design.now)
+    ensures named { Gives (λ _. given.new.items) result
+        (parts_form frame.now.layout (design_view frame.now.design.now)
         given.old.items offset head (nodes_of_all parts.now)) }
     ensures given { length given.new.items ≡ length given.old.items }
 {
-    let Named {
-        name,
-        default,
-        rows,
-    } = Named::of(parts);
+    let Some((name, parts)) = parts.split_first() else {
+        return Err(bad(offset, Code::Malformed));
+    };
     let (at, text) = name_text(name)?;
     let place = place(frame, given, head, at, text)?;
-    given[place] = Some(table(alloc, frame.kinds[place], default, rows)?);
+    given[place] = Some(content(alloc, frame.kinds[place], offset, parts)?);
     Ok(())
 }
 
@@ -178,7 +163,7 @@ pub fn entries(
     requires frame { IsFrame frame.now }
     requires given { length given.old.items ≡ length frame.now.kinds.items }
     ensures entries { Gives (λ _. given.new.items) result
-        (entries_form frame.now.version (design_view frame.now.design.now)
+        (entries_form frame.now.layout (design_view frame.now.design.now)
         given.old.items (nodes_of_all trees.now)) }
     ensures given { length given.new.items ≡ length given.old.items }
 {

@@ -1,4 +1,4 @@
-//! What a case of a design has entries for, and where each name stands among them.
+//! What a case or a trail of a design has entries for, and where each name stands among them.
 
 ghost use Rattle.std.specs.Prelude.{◌≡◌, ℕ, ◌∷◌, [], ◌++◌, ◌||◌, ◌<◌, length, map, IfOk, IfSome, OnOk, nat_eq};
 ghost use Rattle.std.specs.List.{list_any};
@@ -9,33 +9,33 @@ ghost use Rattle.bd_case.specs.Kinds.{entry_kind, input_kind, is_apart, kinds, s
 ghost use Rattle.bd_case.specs.Reading.{place_of};
 ghost use Rattle.bd_case.specs.inner.Frame.{Finds, IsFrame};
 
-use crate::kind::{EntryKind, Version};
+use crate::kind::{EntryKind, Layout, Version};
 use bd_model::{Design, Distinct, Entry, Places, Port, Symbol};
 use indexmap::{IndexMap, IndexSet};
 use std::alloc::{AllocError, Global};
 
-/// The places and the kinds of what a case of a design has entries for, in the order of a case text.
+/// The places and the kinds of what a case or a trail of a design has entries for, in the order of its text.
 #[derive(Drop)]
 pub struct Frame<'a> {
     pub design: &'a Design,
-    pub version: Version,
+    pub layout: Layout,
     pub places: IndexMap<&'a [u8], usize>,
     pub kinds: Vec<EntryKind>,
 }
 
 impl<'a> Frame<'a> {
-    /// That of a design's cases in a version.
-    pub fn new(alloc: Global, design: &'a Design, version: Version) -> Result<Frame<'a>, AllocError>
+    /// That of a design's texts in a layout.
+    pub fn new(alloc: Global, design: &'a Design, layout: Layout) -> Result<Frame<'a>, AllocError>
         ensures design { IfOk result (λ frame. frame.design.now ≡ design.now) }
-        ensures version { IfOk result (λ frame. frame.version ≡ version) }
+        ensures layout { IfOk result (λ frame. frame.layout ≡ layout) }
         ensures frame { IfOk result (λ frame. IsFrame frame) }
     {
         let names = names(alloc, design)?;
         let places = places(alloc, &names)?;
-        let kinds = kinds(alloc, design, version)?;
+        let kinds = kinds(alloc, design, layout.version)?;
         Ok(Frame {
             design,
-            version,
+            layout,
             places,
             kinds,
         })

@@ -1,17 +1,31 @@
-//! What a case has an entry for.
+//! What a case or a trail has an entry for.
 
 ghost use Rattle.std.specs.Prelude.{◌≡◌};
 ghost use Rattle.bd_model.specs.DesignView.{port_view};
-ghost use Rattle.bd_case.specs.Kinds.{head_of, head_takes, head_text, heads_of, may_lack, entry_kind, input_kind, sort_kind, symbol_head, symbol_kind};
+ghost use Rattle.bd_case.specs.Kinds.{head_of, head_takes, head_text, heads_of, is_input, may_lack, entry_kind, input_kind, sort_kind, subject_text, symbol_head, symbol_kind};
 ghost use Rattle.bd_case.specs.Reading.{is_head};
 
 use bd_model::{Sort, Symbol};
+
+/// What a text is of.
+#[derive(Clone, Copy, Debug, PartialEq, Eq)]
+pub enum Subject {
+    Case,
+    Trail,
+}
 
 /// The version of a case text: the second has an entry for constants that are kept apart.
 #[derive(Clone, Copy, Debug, PartialEq, Eq)]
 pub enum Version {
     One,
     Two,
+}
+
+/// How a text gives its entries: in which version, and over how many cycles an input has values.
+#[derive(Clone, Copy, Debug, PartialEq, Eq)]
+pub struct Layout {
+    pub version: Version,
+    pub cycles: u32,
 }
 
 /// What an entry begins with.
@@ -51,6 +65,18 @@ const SECOND_HEADS: [EntryHead; 6] = [
     EntryHead::Input,
 ];
 
+impl Subject {
+    /// What its text begins with.
+    pub fn text(self) -> &'static [u8]
+        ensures { result.now ≡ subject_text self }
+    {
+        match self {
+            Subject::Case => b"case",
+            Subject::Trail => b"trail",
+        }
+    }
+}
+
 impl EntryHead {
     /// Its text.
     pub fn text(self) -> &'static [u8]
@@ -87,17 +113,25 @@ impl EntryHead {
         self.text() == other.text()
     }
 
-    /// Whether it has so many parts after it.
-    pub fn takes(self, parts: usize) -> bool
-        ensures { result ≡ head_takes self parts }
+    /// Whether it has so many parts after it, where an input has a value for each of so many cycles.
+    pub fn takes(self, cycles: u32, parts: usize) -> bool
+        ensures { result ≡ head_takes cycles self parts }
     {
         match self {
             EntryHead::Function | EntryHead::Predicate | EntryHead::Memory => parts >= 2,
-            EntryHead::Constant | EntryHead::Latch | EntryHead::Input => parts == 2,
+            EntryHead::Constant | EntryHead::Latch => parts == 2,
+            EntryHead::Input => parts == cycles as usize + 1,
         }
     }
 
-    /// Whether a case may have no such entry.
+    /// Whether it's that of an input.
+    pub fn is_input(self) -> bool
+        ensures { result ≡ is_input self }
+    {
+        matches!(self, EntryHead::Input)
+    }
+
+    /// Whether there may be no such entry.
     pub fn may_lack(self) -> bool
         ensures { result ≡ may_lack self }
     {

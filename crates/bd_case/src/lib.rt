@@ -1,9 +1,10 @@
-//! Cases as text: what one run of a pipeline starts from, written and read.
+//! Cases and trails as text: what a cycle or a run of a pipeline starts from, written and read.
 //!
-//! A case gives a table for each function and predicate, a value for each latch, memory and input. All of these are
-//! read and written as tables, a latch or an input without rows and a memory with one address, so an entry has one
-//! form. What a text reads as is a function of its trees (`specs/Reading.antt`), and each reader gives what that
-//! function gives. Reading what was written of a case gives the case back.
+//! A case gives a table for each function and predicate, a value for each latch, memory and input; a trail gives a
+//! value of each input for every cycle, and a case is a trail of one. All of these are read and written as tables, a
+//! latch without rows, a memory with one address, and an input with a row for each cycle, so an entry has one form.
+//! What a text reads as is a function of its trees (`specs/Reading.antt`), and each reader gives what that function
+//! gives. Reading what was written of a case or a trail gives it back.
 #![tactic(auto)]
 
 mod entry;
@@ -16,8 +17,11 @@ mod value;
 mod whole;
 mod write;
 
-pub use read::read_case;
-pub use write::{case_text, state_text};
+pub use read::{read_case, read_trail};
+pub use write::{case_text, state_text, trail_text};
 
 /// Why a case isn't read.
 pub type CaseFault = bd_syntax::FormFault;
+
+/// Why a trail isn't read.
+pub type TrailFault = bd_syntax::FormFault;

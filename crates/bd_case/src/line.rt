@@ -1,20 +1,22 @@
 //! Writing entries.
 
-ghost use Rattle.std.specs.Prelude.{◌≡◌, ◌++◌, ◌∷◌, [], map, OnOk, decimal};
+ghost use Rattle.std.specs.Prelude.{◌≡◌, ◌++◌, ◌∷◌, [], false, map, slice_index_or, OnOk, decimal};
 ghost use Rattle.bd_text.specs.View.{nodes_from};
 ghost use Rattle.bd_text.specs.Written.{written, written_rest};
 ghost use Rattle.bd_case.specs.Kinds.{entry_kind, head_text};
 ghost use Rattle.std.specs.List.{AllByRecursion};
-ghost use Rattle.bd_case.specs.Content.{IsShort, IsShortRow, IsShortScalar, IsShortTable, constant_table, row_of, table_of_value};
-ghost use Rattle.bd_case.specs.Text.{entry_node, row_node, scalar_text};
+ghost use Rattle.bd_model.specs.declared.table.Scalar.TheVariants as TheScalar;
+ghost use Rattle.bd_case.specs.Content.{IsShort, IsShortRow, IsShortScalar, IsShortTable, column, constant_table, row_of, table_of_value, values_table};
+ghost use Rattle.bd_case.specs.Text.{entry_node, row_node, scalar_node, scalar_text, values_node};
+ghost use Rattle.bd_case.specs.declared.kind.EntryHead.TheVariants.{Input};
 
 use crate::kind::{EntryHead, EntryKind};
-use bd_model::{Entry, Row, Scalar, Slot, Table, Value};
+use bd_model::{Entry, Inputs, Port, Row, Scalar, Slot, Table, Value};
 use std::alloc::AllocError;
 use std::io::Write;
 
 /// A word in decimal digits.
-fn push_word(out: &mut Vec<u8>, word: u64) -> Result<(), AllocError>
+pub fn push_word(out: &mut Vec<u8>, word: u64) -> Result<(), AllocError>
     ensures text { OnOk result (out.new.items ≡ out.old.items ++ decimal word) }
     ensures short { IsShort word }
 {
@@ -134,7 +136,7 @@ pub fn push_value(out: &mut Vec<u8>, entry: &Entry, value: &Value) -> Result<(),
 }
 
 /// An entry without rows.
-pub fn push_scalar_entry(
+fn push_scalar_entry(
     out: &mut Vec<u8>,
     head: EntryHead,
     name: &[u8],
@@ -145,6 +147,48 @@ pub fn push_scalar_entry(
     ensures short { OnOk result (IsShortTable (constant_table value)) }
 {
     begin_entry(out, head, name, value)?;
+    out.push(b')')?;
+    Ok(())
+}
+
+/// The value of the input at a place; where there is none, it's false.
+fn input_at(inputs: &[Scalar], i: usize) -> Scalar
+    ensures { result ≡ slice_index_or inputs.now i (TheScalar.Bool false) }
+{
+    match inputs.get(i) {
+        Some(scalar) => *scalar,
+        None => Scalar::Bool(false),
+    }
+}
+
+/// A space and the value of the input at a place, for each cycle.
+fn push_column(out: &mut Vec<u8>, i: usize, inputs: &[Inputs]) -> Result<(), AllocError>
+    ensures text { OnOk result (out.new.items
+        ≡ out.old.items ++ written_rest (nodes_from (map scalar_node (column i inputs.now)))) }
+    ensures short { OnOk result (AllByRecursion IsShortScalar (column i inputs.now)) }
+{
+    for list in inputs {
+        out.push(b' ')?;
+        push_scalar(out, input_at(list.as_slice(), i))?;
+    }
+    Ok(())
+}
+
+/// The entry of the input at a place, with its value in each cycle.
+pub fn push_input(
+    out: &mut Vec<u8>,
+    port: &Port,
+    i: usize,
+    inputs: &[Inputs],
+) -> Result<(), AllocError>
+    ensures text { OnOk result (out.new.items
+        ≡ out.old.items ++ written (values_node Input port.now.name (column i inputs.now))) }
+    ensures short { OnOk result
+        (IsShortTable (values_table port.now.sort (column i inputs.now))) }
+{
+    out.extend_from_slice(b"(input ")?;
+    out.extend_from_slice(port.name.as_slice())?;
+    push_column(out, i, inputs)?;
     out.push(b')')?;
     Ok(())
 }

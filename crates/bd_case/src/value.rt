@@ -3,10 +3,11 @@
 ghost use Rattle.std.specs.Prelude.{◌≡◌};
 ghost use Rattle.bd_text.specs.View.{node_of, nodes_of_all};
 ghost use Rattle.bd_syntax.specs.Reading.{Gives, each_form};
-ghost use Rattle.bd_case.specs.Reading.{counted_form, row_form, scalar_form, truth_form, word_form};
+ghost use Rattle.bd_case.specs.Content.{default_of};
+ghost use Rattle.bd_case.specs.Reading.{counted_form, row_form, scalar_form, truth_form, value_form, values_form, word_form};
 
 use crate::kind::EntryKind;
-use bd_model::{Row, Rows, Scalar, Sort, Words};
+use bd_model::{Row, Rows, Scalar, Sort, Table, Words};
 use bd_syntax::atoms::{atom, number};
 use bd_syntax::lists::split_last;
 use bd_syntax::{FormFault, bad};
@@ -98,4 +99,46 @@ pub fn rows(alloc: Global, kind: EntryKind, trees: &[Tree]) -> Result<Rows, Form
         rows.push(row(alloc, kind, tree)?)?;
     }
     Ok(Rows::from_vec(rows))
+}
+
+/// The default where none is given.
+pub fn default_of(sort: Sort) -> Scalar
+    ensures { result ≡ default_of sort }
+{
+    match sort {
+        Sort::Bool => Scalar::Bool(false),
+        Sort::Word | Sort::Memory => Scalar::Word(0),
+    }
+}
+
+/// The value of an input that a tree is, as a row without arguments.
+fn value_row(alloc: Global, sort: Sort, tree: &Tree) -> Result<Row, FormFault>
+    ensures { Gives (λ row. row) result (value_form sort (node_of tree.now)) }
+{
+    Ok(Row {
+        args: Words::new(alloc),
+        value: scalar(sort, tree)?,
+    })
+}
+
+/// Each tree as the value of an input.
+fn value_rows(alloc: Global, sort: Sort, trees: &[Tree]) -> Result<Rows, FormFault>
+    ensures { Gives (λ rows. rows) result (each_form (value_form sort) (nodes_of_all trees.now)) }
+{
+    let mut values = Vec::with_capacity(alloc, trees.len())?;
+    for tree in trees {
+        values.push(value_row(alloc, sort, tree)?)?;
+    }
+    Ok(Rows::from_vec(values))
+}
+
+/// The values of an input, cycle by cycle.
+#[tactic(auto, unfolding(crate::specs::Reading::values_form))]
+pub fn values(alloc: Global, sort: Sort, trees: &[Tree]) -> Result<Table, FormFault>
+    ensures { Gives (λ t. t) result (values_form sort (nodes_of_all trees.now)) }
+{
+    Ok(Table {
+        default: default_of(sort),
+        rows: value_rows(alloc, sort, trees)?,
+    })
 }

@@ -1,4 +1,4 @@
-//! The case of what was given: what may lack has its default, and constants that are kept apart have different values.
+//! The trail of what was given: what may lack has its default, and constants that are kept apart have different values.
 
 ghost use Rattle.std.specs.Prelude.{◌≡◌, ◌≤◌, ◌+◌, ℕ, [], map, length, drop, IfOk, nat_eq};
 ghost use Rattle.std.specs.List.{list_any, zip};
@@ -6,28 +6,19 @@ ghost use Rattle.bd_syntax.specs.Reading.{Gives};
 ghost use Rattle.bd_model.specs.DesignView.{design_view};
 ghost use Rattle.bd_model.specs.Value.{scalar_word, table_of};
 ghost use Rattle.bd_case.specs.Kinds.{kinds};
-ghost use Rattle.bd_case.specs.Content.{case_from, slot_of, value_of_table};
-ghost use Rattle.bd_case.specs.Reading.{constants, default_of, distinct_form, given_or, repeats, whole_form};
+ghost use Rattle.bd_case.specs.Content.{case_of, inputs_from, slot_of, trail_from, value_in, value_of_table};
+ghost use Rattle.bd_case.specs.Reading.{constants, distinct_form, given_or, repeats, whole_form};
 
 use crate::kind::EntryKind;
+use crate::value::default_of;
 use bd_model::{
-    Case, Design, Entry, Inputs, Interp, Memory, Places, Row, Rows, Scalar, Slot, Slots, Sort,
-    State, Table, Value,
+    Case, Design, Entry, InputLists, Inputs, Interp, Memory, Places, Row, Rows, Scalar, Slot,
+    Slots, Sort, State, Table, Trail, Value,
 };
 use bd_syntax::{FormFault, bad};
 use bd_text::Code;
 use indexmap::IndexSet;
 use std::alloc::{AllocError, Global};
-
-/// The default where none is given.
-fn default_of(sort: Sort) -> Scalar
-    ensures { result ≡ default_of sort }
-{
-    match sort {
-        Sort::Bool => Scalar::Bool(false),
-        Sort::Word | Sort::Memory => Scalar::Word(0),
-    }
-}
 
 /// What was given, or the default without rows where nothing need be given.
 fn given_or(
@@ -48,7 +39,7 @@ fn given_or(
     }
 }
 
-/// Everything that the case gives.
+/// Everything that the text gives.
 pub fn whole(
     alloc: Global,
     offset: usize,
@@ -113,33 +104,79 @@ fn state(alloc: Global, entries: &[Entry], tables: &[Table]) -> Result<State, Al
     Ok(State::from_vec(state))
 }
 
-/// The values of the inputs.
-fn inputs(alloc: Global, tables: &[Table]) -> Result<Inputs, AllocError>
-    ensures { IfOk result (λ inputs. inputs ≡ map (λ t. t.default) tables.now) }
+/// The value of an input in a cycle.
+fn value_in(cycle: usize, table: &Table) -> Scalar
+    ensures { result ≡ value_in cycle table.now }
+{
+    match table.rows.as_slice().get(cycle) {
+        Some(row) => row.value,
+        None => table.default,
+    }
+}
+
+/// The values of the inputs in a cycle.
+fn inputs(alloc: Global, cycle: usize, tables: &[Table]) -> Result<Inputs, AllocError>
+    ensures { IfOk result (λ inputs. inputs ≡ map (value_in cycle) tables.now) }
 {
     let mut inputs = Vec::with_capacity(alloc, tables.len())?;
     for table in tables {
-        inputs.push(table.default)?;
+        inputs.push(value_in(cycle, table))?;
     }
     Ok(Inputs::from_vec(inputs))
 }
 
-/// The case that gives these tables.
-pub fn case_from(alloc: Global, design: &Design, mut tables: Vec<Table>) -> Result<Case, AllocError>
+/// The values of the inputs in each of so many cycles.
+fn input_lists(alloc: Global, cycles: u32, tables: &[Table]) -> Result<InputLists, AllocError>
+    ensures { IfOk result (λ lists. lists ≡ inputs_from 0 cycles tables.now) }
+{
+    let mut lists = Vec::new(alloc);
+    for cycle in 0..cycles {
+        lists.push(inputs(alloc, cycle as usize, tables)?)?;
+    }
+    Ok(InputLists::from_vec(lists))
+}
+
+/// The trail of so many cycles that gives these tables.
+pub fn trail_from(
+    alloc: Global,
+    design: &Design,
+    cycles: u32,
+    mut tables: Vec<Table>,
+) -> Result<Trail, AllocError>
     requires { length (design_view design.now).symbols
         + length (design_view design.now).pipe.entries ≤ length tables.items }
-    ensures { IfOk result (λ c. c ≡ case_from (design_view design.now) tables.items) }
+    ensures { IfOk result (λ t. t ≡ trail_from (design_view design.now) cycles tables.items) }
 {
     let entries = design.pipe.entries.as_slice();
     let symbols = design.symbols.len();
     let state = state(alloc, entries, &tables[symbols..])?;
-    let inputs = inputs(alloc, &tables[symbols + entries.len()..])?;
+    let inputs = input_lists(alloc, cycles, &tables[symbols + entries.len()..])?;
     tables.truncate(symbols);
-    Ok(Case {
+    Ok(Trail {
         interp: Interp::from_vec(tables),
         state,
         inputs,
     })
+}
+
+/// The case of the first cycle.
+pub fn case_of(alloc: Global, trail: Trail) -> Case
+    ensures { result ≡ case_of trail }
+{
+    let Trail {
+        interp,
+        state,
+        inputs,
+    } = trail;
+    let inputs = match inputs.into_vec().into_iter().next() {
+        Some(inputs) => inputs,
+        None => Inputs::new(alloc),
+    };
+    Case {
+        interp,
+        state,
+        inputs,
+    }
 }
 
 /// The value of a constant.
@@ -165,19 +202,19 @@ fn repeats(alloc: Global, interp: &Interp, group: &Places) -> Result<bool, Alloc
     Ok(false)
 }
 
-/// The case, where the constants of each group have different values.
+/// The trail, where the constants of each group have different values.
 pub fn distinct(
     alloc: Global,
     design: &Design,
     offset: usize,
-    case: Case,
-) -> Result<Case, FormFault>
-    ensures { Gives (λ c. c) result (distinct_form (design_view design.now).distinct offset case) }
+    trail: Trail,
+) -> Result<Trail, FormFault>
+    ensures { Gives (λ t. t) result (distinct_form (design_view design.now).distinct offset trail) }
 {
     for group in design.distinct.as_slice() {
-        if repeats(alloc, &case.interp, group)? {
+        if repeats(alloc, &trail.interp, group)? {
             return Err(bad(offset, Code::NotDistinct));
         }
     }
-    Ok(case)
+    Ok(trail)
 }

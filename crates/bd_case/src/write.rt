@@ -1,20 +1,22 @@
-//! Writing a case, and the states of a run.
+//! Writing a case, a trail, and the states of a run.
 
-ghost use Rattle.std.specs.Prelude.{◌≡◌, ◌++◌, length, map, codes, nat_eq, Ok, IfOk, OnOk, ℕ};
+ghost use Rattle.std.specs.Prelude.{◌≡◌, ◌≤◌, ◌++◌, length, map, codes, nat_eq, Ok, IfOk, OnOk, ℕ};
 ghost use Rattle.std.specs.List.{AllByRecursion, flat_map};
 ghost use Rattle.indexmap.specs.IndexSet.{contains};
 ghost use Rattle.bd_model.specs.DesignView.{design_view, port_view};
-ghost use Rattle.bd_model.specs.Fits.{Fits};
+ghost use Rattle.bd_model.specs.Fits.{Fits, TrailFits};
 ghost use Rattle.bd_model.specs.Lawful.{IsLawful};
 ghost use Rattle.bd_case.specs.Kinds.{is_apart, version_of};
-ghost use Rattle.bd_case.specs.Content.{Has64Bits, IsShortTable, constant_table, table_of_value};
-ghost use Rattle.bd_case.specs.Reads.{IsReading};
-ghost use Rattle.bd_case.specs.Text.{entry_line, input_nodes, state_line, state_nodes, state_text, symbol_nodes, text_of, version_text};
+ghost use Rattle.bd_case.specs.Content.{IsShortTable, input_tables, table_of_value, tables_of};
+ghost use Rattle.bd_case.specs.Reads.{IsReading, IsTrailReading};
+ghost use Rattle.bd_case.specs.Text.{entry_line, input_nodes, state_line, state_nodes, state_text, symbol_nodes, text_of, text_with, trail_nodes, trail_text_of, version_text};
 
 use crate::frame::apart;
-use crate::kind::{EntryHead, EntryKind, Version};
-use crate::line::{push_scalar_entry, push_table, push_value};
-use bd_model::{Case, Design, Distinct, Entry, Port, Scalar, State, Symbol, Table, Value};
+use crate::kind::{EntryKind, Version};
+use crate::line::{push_input, push_table, push_value, push_word};
+use bd_model::{
+    Case, Design, Distinct, Entry, Inputs, Interp, Port, State, Symbol, Table, Trail, Value,
+};
 use indexmap::IndexSet;
 use std::alloc::{AllocError, Global};
 
@@ -78,48 +80,50 @@ fn push_state(out: &mut Vec<u8>, entries: &[Entry], values: &[Value]) -> Result<
 }
 
 /// A line for each input.
-fn push_inputs(out: &mut Vec<u8>, ports: &[Port], inputs: &[Scalar]) -> Result<(), AllocError>
+fn push_inputs(out: &mut Vec<u8>, ports: &[Port], inputs: &[Inputs]) -> Result<(), AllocError>
     ensures text { OnOk result (out.new.items ≡ out.old.items
-        ++ flat_map entry_line (input_nodes (map port_view ports.now) inputs.now)) }
-    ensures short { length inputs.now ≡ length ports.now
-        → OnOk result (AllByRecursion IsShortTable (map constant_table inputs.now)) }
+        ++ flat_map entry_line (input_nodes 0 (map port_view ports.now) inputs.now)) }
+    ensures short { OnOk result
+        (AllByRecursion IsShortTable (input_tables 0 (map port_view ports.now) inputs.now)) }
 {
-    for (port, value) in ports.iter().zip(inputs) {
+    for (i, port) in ports.iter().enumerate() {
         out.extend_from_slice(b"\n ")?;
-        push_scalar_entry(out, EntryHead::Input, port.name.as_slice(), *value)?;
+        push_input(out, port, i, inputs)?;
     }
     Ok(())
 }
 
-/// The text of a case. Its words are words of the program, so they have 64 bits.
-fn written(alloc: Global, design: &Design, case: &Case) -> Result<Vec<u8>, AllocError>
-    ensures exact { IfOk result (λ text. text.items ≡ text_of (design_view design.now) case.now) }
-    ensures short { Fits (design_view design.now) case.now
-        → IfOk result (λ _. Has64Bits case.now) }
+/// A heading, and the entries of a trail in a version. Its words are words of the program, so they have 64 bits.
+fn written(
+    alloc: Global,
+    design: &Design,
+    version: Version,
+    mut text: Vec<u8>,
+    interp: &Interp,
+    state: &State,
+    inputs: &[Inputs],
+) -> Result<Vec<u8>, AllocError>
+    ensures exact { IfOk result (λ out. out.items ≡ text_with text.items
+        (trail_nodes version (design_view design.now)
+        (record { interp = interp.now; state = state.now; inputs = inputs.now }))) }
+    ensures short { TrailFits (design_view design.now)
+        (record { interp = interp.now; state = state.now; inputs = inputs.now })
+        → IfOk result (λ _. AllByRecursion IsShortTable (tables_of (design_view design.now)
+        (record { interp = interp.now; state = state.now; inputs = inputs.now }))) }
 {
-    let version = version_of(&design.distinct);
     let apart = apart(alloc, &design.distinct)?;
+    let distinct = &design.distinct;
     let symbols = design.symbols.as_slice();
-    let mut text = Vec::from_slice(alloc, b"(case ")?;
-    text.extend_from_slice(version_text(version))?;
     push_symbols(
         &mut text,
         version,
-        &design.distinct,
+        distinct,
         &apart,
         symbols,
-        case.interp.as_slice(),
+        interp.as_slice(),
     )?;
-    push_state(
-        &mut text,
-        design.pipe.entries.as_slice(),
-        case.state.as_slice(),
-    )?;
-    push_inputs(
-        &mut text,
-        design.pipe.ports.as_slice(),
-        case.inputs.as_slice(),
-    )?;
+    push_state(&mut text, design.pipe.entries.as_slice(), state.as_slice())?;
+    push_inputs(&mut text, design.pipe.ports.as_slice(), inputs)?;
     text.extend_from_slice(b")\n")?;
     Ok(text)
 }
@@ -132,7 +136,43 @@ pub fn case_text(alloc: Global, design: &Design, case: &Case) -> Result<Vec<u8>,
     ensures reads_back { IsLawful (design_view design.now) → Fits (design_view design.now) case.now
         → IfOk result (λ text. IsReading (design_view design.now) text.items (Ok case.now)) }
 {
-    written(alloc, design, case)
+    let version = version_of(&design.distinct);
+    let mut heading = Vec::from_slice(alloc, b"(case ")?;
+    heading.extend_from_slice(version_text(version))?;
+    let inputs = std::slice::from_ref(&case.inputs);
+    written(
+        alloc,
+        design,
+        version,
+        heading,
+        &case.interp,
+        &case.state,
+        inputs,
+    )
+}
+
+/// The text of a trail of a design: as that of a case in version 2, with the number of cycles in the version's place
+/// and, of each input, its value in every cycle. A trail of at most 16 cycles reads back.
+pub fn trail_text(alloc: Global, design: &Design, trail: &Trail) -> Result<Vec<u8>, AllocError>
+    ensures exact { IfOk result (λ text.
+        text.items ≡ trail_text_of (design_view design.now) trail.now) }
+    ensures reads_back { IsLawful (design_view design.now)
+        → TrailFits (design_view design.now) trail.now → length trail.now.inputs ≤ 16
+        → IfOk result (λ text.
+        IsTrailReading (design_view design.now) text.items (Ok trail.now)) }
+{
+    let mut heading = Vec::from_slice(alloc, b"(trail ")?;
+    push_word(&mut heading, trail.inputs.len() as u64)?;
+    let inputs = trail.inputs.as_slice();
+    written(
+        alloc,
+        design,
+        Version::Two,
+        heading,
+        &trail.interp,
+        &trail.state,
+        inputs,
+    )
 }
 
 /// The entries of a state as in the text of a case, each on a line of its own.

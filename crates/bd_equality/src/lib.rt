@@ -11,6 +11,3 @@ mod pairs;
 mod split;
 
 pub use encoded::{Encoded, encode};
-
-#[cfg(test)]
-mod tests;

@@ -1,9 +1,11 @@
 //! The values that drafts stand for.
-use crate::draft::{CaseDraft, DesignDraft, Draft, Held, MachineDraft, SymbolDraft, TableDraft};
+use crate::draft::{
+    CaseDraft, DesignDraft, Draft, Held, MachineDraft, SymbolDraft, TableDraft, TrailDraft,
+};
 use bd_model::{
-    Case, Design, Distinct, Entries, Entry, Exact, Exacts, Expr, Exprs, Inputs, Interp, Local,
-    Locals, Machine, Memory, Name, Places, Port, Ports, Row, Rows, Scalar, Sequence, Slot, Slots,
-    Sort, State, Symbol, Symbols, Table, Value, Words,
+    Case, Design, Distinct, Entries, Entry, Exact, Exacts, Expr, Exprs, InputLists, Inputs, Interp,
+    Local, Locals, Machine, Memory, Name, Places, Port, Ports, Row, Rows, Scalar, Sequence, Slot,
+    Slots, Sort, State, Symbol, Symbols, Table, Trail, Value, Words,
 };
 use std::alloc::{AllocError, Global};
 
@@ -241,6 +243,23 @@ pub fn case(alloc: Global, draft: &CaseDraft) -> Result<Case, AllocError> {
         interp: interp(alloc, draft.interp)?,
         state: state(alloc, draft.state)?,
         inputs: Inputs::from_vec(draft.inputs.to_vec(alloc)?),
+    })
+}
+
+fn input_lists(alloc: Global, drafts: &[&[Scalar]]) -> Result<InputLists, AllocError> {
+    let mut lists = InputLists::new(alloc);
+    for inputs in drafts {
+        lists.push(Inputs::from_vec(inputs.to_vec(alloc)?))?;
+    }
+    Ok(lists)
+}
+
+/// The trail.
+pub fn trail(alloc: Global, draft: &TrailDraft) -> Result<Trail, AllocError> {
+    Ok(Trail {
+        interp: interp(alloc, draft.interp)?,
+        state: state(alloc, draft.state)?,
+        inputs: input_lists(alloc, draft.inputs)?,
     })
 }
 

@@ -36,7 +36,13 @@ const STALLING: DesignDraft = DesignDraft {
 /// A bit that turns unless it stalls.
 pub static STALLING_BIT: DesignDraft = STALLING;
 
-/// The same, where a turn is exactly one step.
+/// The same, with the claim that the bit is true.
+pub static RAISED_AT_FIRST: DesignDraft = DesignDraft {
+    inv: BIT,
+    ..STALLING
+};
+
+/// The same as the first, where a turn is exactly one step.
 pub static ONE_STEP_A_TURN: DesignDraft = DesignDraft {
     exact: &[(1, GO), (0, Not(&GO))],
     ..STALLING

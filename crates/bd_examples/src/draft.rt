@@ -1,4 +1,4 @@
-//! Designs and cases as data.
+//! Designs, cases and trails as data.
 use bd_model::{Scalar, Sort};
 
 /// An expression.
@@ -99,6 +99,21 @@ pub struct CaseDraft {
 
 /// A case without symbols and inputs, to be filled in.
 pub const NO_CASE: CaseDraft = CaseDraft {
+    interp: &[],
+    state: &[],
+    inputs: &[],
+};
+
+/// A trail: a table for each symbol, a value for each entry, and for each cycle a value for each input.
+#[derive(Clone, Copy)]
+pub struct TrailDraft {
+    pub interp: &'static [TableDraft],
+    pub state: &'static [Held],
+    pub inputs: &'static [&'static [Scalar]],
+}
+
+/// A trail without symbols and cycles, to be filled in.
+pub const NO_TRAIL: TrailDraft = TrailDraft {
     interp: &[],
     state: &[],
     inputs: &[],

@@ -9,4 +9,6 @@ pub mod cases;
 pub mod designs;
 pub mod draft;
 pub mod forms;
+pub mod gallery;
 pub mod texts;
+pub mod trails;

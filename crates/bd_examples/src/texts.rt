@@ -18,6 +18,17 @@ pub const STANDING_BIT: &str = "(pipeline (latch a bool) (next a a) (flush 0) (s
 /// A bit that becomes true, where no step is allowed.
 pub const NO_STEP_ALLOWED: &str = "(pipeline (latch a bool) (next a true) (flush 0) (steps 0))";
 
+/// A machine that keeps a bit, and a pipeline that turns it in a third cycle, once two other bits were true one after the
+/// other.
+pub const KEEPING_N: &str = "(specification (latch n bool) (next n n))";
+
+pub const TURNS_LATE: &str = "(pipeline (latch n bool) (latch a bool) (latch b bool) \
+(next a true) (next b a) (next n (ite b (not n) n)) (flush 0) (steps 0))";
+
+/// The same where neither of the other bits becomes true.
+pub const NEVER_TURNS: &str = "(pipeline (latch n bool) (latch a bool) (latch b bool) \
+(next a a) (next b a) (next n (ite b (not n) n)) (flush 0) (steps 0))";
+
 /// Two increments in a cycle, for at most one step and for at most two.
 pub const DOUBLE_INCREMENT: &str = "(pipeline (function inc 1) (latch pc word) \
 (next pc (inc (inc pc))) (flush 0) (steps 1))";

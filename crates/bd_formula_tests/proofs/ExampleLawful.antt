@@ -13,7 +13,7 @@ use Rattle.bd_model.specs.ExprView.{Entry, Local}
 use Rattle.bd_model.specs.Lawful.{IsLawful, all_names}
 use Rattle.bd_model.specs.declared.design.Sort.TheVariants as sort
 use Rattle.bd_model.proofs.SameDecided.{Decides-each}
-use Rattle.bd_goal.specs.Abstraction.{IsLawfulGiven}
+use Rattle.bd_abstraction.specs.Abstraction.{IsLawfulGiven}
 use Rattle.bd_formula_tests.specs.Example.{example}
 
 -- no item is equal to a later one

@@ -9,7 +9,7 @@ ghost use Rattle.bd_formula_tests.specs.Example.{example};
 
 use crate::swap::{design, given};
 use crate::texts::read;
-use bd_goal::{Goal as Root, agree_goal, goal, goal_by, meets};
+use bd_goal::{Goal as Root, agree_goal, bounded_goal, goal, goal_by, meets};
 use bd_model::Design;
 use bd_terms::{Graph, Id, Ids as Args, Node, Sym};
 use std::alloc::{AllocError, Global};
@@ -51,7 +51,8 @@ static SPEC: &[u8] = b"(specification
  (next pc (inc pc))
  (next rf (write rf (dst pc) (alu (op pc) (read rf (src pc))))))";
 
-// What is asked; of an abstraction, which entries stand for m and n; of the two stages, whether the operand is stale.
+// What is asked; of an abstraction, which entries stand for m and n; of the two stages, whether the operand is stale, and
+// of a run of theirs, how many cycles it has.
 #[derive(Clone, Copy)]
 enum Question {
     Goal,
@@ -59,15 +60,16 @@ enum Question {
     Meets,
     Agree(u32, u32),
     Stages(bool),
+    Run(bool, u8),
 }
 
-use Question::{Agree, Goal, GoalBy, Meets, Stages};
+use Question::{Agree, Goal, GoalBy, Meets, Run, Stages};
 
-// What the entries hold, a memory its word at 5, and the input.
+// What the entries hold, a memory its word at 5, and the input in each cycle.
 #[derive(Clone, Copy)]
 struct Held {
     entries: [u64; 10],
-    input: u64,
+    inputs: [u64; 2],
 }
 
 // In the first design these are m, n, b, x, k, l, c, y, v and u, and the input forces one step.
@@ -75,42 +77,45 @@ struct Held {
 // After the cycle m and n are as they were, and the latches too.
 const STAYS: Held = Held {
     entries: [1, 2, 1, 3, 1, 2, 1, 3, 1, 1],
-    input: 0,
+    inputs: [0, 0],
 };
 
-const STAYS_FORCED: Held = Held { input: 1, ..STAYS };
+const STAYS_FORCED: Held = Held {
+    inputs: [1, 0],
+    ..STAYS
+};
 
 // They are swapped.
 const SWAPS: Held = Held {
     entries: [1, 2, 1, 3, 2, 1, 1, 3, 1, 1],
-    input: 1,
+    inputs: [1, 0],
 };
 
 // m stays and n becomes another.
 const NEITHER: Held = Held {
     entries: [1, 2, 1, 3, 1, 3, 1, 3, 1, 1],
-    input: 0,
+    inputs: [0, 0],
 };
 
 // The latch b turns; the latch x becomes another; the invariant is false, and becomes so.
 const TURNS: Held = Held {
     entries: [1, 2, 1, 3, 1, 2, 0, 3, 1, 1],
-    input: 0,
+    inputs: [0, 0],
 };
 
 const COUNTS: Held = Held {
     entries: [1, 2, 1, 3, 1, 2, 1, 4, 1, 1],
-    input: 0,
+    inputs: [0, 0],
 };
 
 const OUTSIDE: Held = Held {
     entries: [1, 2, 1, 3, 1, 3, 1, 3, 0, 0],
-    input: 0,
+    inputs: [0, 0],
 };
 
 const LEAVES: Held = Held {
     entries: [1, 2, 1, 3, 1, 2, 1, 3, 1, 0],
-    input: 0,
+    inputs: [0, 0],
 };
 
 // In the pipeline these are p, r, v, d, o and a, and the input stalls it. The functions add one to the program counter,
@@ -120,23 +125,36 @@ const LEAVES: Held = Held {
 // Where the operand is read before the write, the cycle leads to 2 and 1 + 10.
 const PENDING: Held = Held {
     entries: [1, 10, 1, 5, 20, 30, 0, 0, 0, 0],
-    input: 0,
+    inputs: [0, 0],
 };
 
 // The cycle leads to 1 and 50.
 const STALLED: Held = Held {
-    input: 1,
+    inputs: [1, 0],
     ..PENDING
 };
 
 // Nothing is on its way: a step leads from 1 and 10 to 2 and 1 + 10, and so does the cycle.
 const EMPTY: Held = Held {
     entries: [1, 10, 0, 5, 20, 30, 0, 0, 0, 0],
-    input: 0,
+    inputs: [0, 0],
+};
+
+const STALLED_LATER: Held = Held {
+    inputs: [0, 1],
+    ..EMPTY
+};
+
+const STALLED_FIRST: Held = Held {
+    inputs: [1, 0],
+    ..EMPTY
 };
 
 // What is asked of which case, the words of the addresses, and whether the root is true. The addresses are those of
-// m for no and for one step, then those of n; those of r for no and for one step.
+// m for no and for one step, then those of n; those of r for no and for one step, in each cycle of a run.
+//
+// Where the operand is stale, the first cycle from an empty pipeline leads to 2 and 10 with 1 + 10 on its way. The second
+// leads on to 3 and 2 + 10, and the step from 2 and 11 to 3 and 2 + 11.
 static ROWS: &[(Question, &Held, &[u64], bool)] = &[
     (Goal, &STAYS, &[5, 5, 5, 5], true),
     (Goal, &STAYS_FORCED, &[0, 5, 0, 0], false),
@@ -167,6 +185,16 @@ static ROWS: &[(Question, &Held, &[u64], bool)] = &[
     (Stages(true), &PENDING, &[5, 0], true),
     (Stages(true), &STALLED, &[5, 5], true),
     (Stages(true), &EMPTY, &[5, 5], true),
+    (Run(true, 0), &PENDING, &[], true),
+    (Run(true, 1), &PENDING, &[0, 5], false),
+    (Run(true, 1), &PENDING, &[5, 0], true),
+    (Run(true, 1), &EMPTY, &[5, 5], true),
+    (Run(true, 2), &PENDING, &[0, 5, 0, 0], false),
+    (Run(true, 2), &EMPTY, &[0, 0, 0, 5], false),
+    (Run(true, 2), &EMPTY, &[5, 5, 5, 0], true),
+    (Run(true, 2), &STALLED_FIRST, &[5, 5, 5, 5], true),
+    (Run(true, 2), &STALLED_LATER, &[5, 5, 5, 5], true),
+    (Run(false, 2), &PENDING, &[5, 5, 5, 5], true),
 ];
 
 // How many addresses the question has.
@@ -174,6 +202,7 @@ fn address_count(question: Question) -> u32 {
     match question {
         Goal | GoalBy(..) => 4,
         Agree(..) | Stages(_) => 2,
+        Run(_, cycles) => 2 * u32::from(cycles),
         Meets => 0,
     }
 }
@@ -212,7 +241,7 @@ fn value(held: &Held, words: &[u64], values: &[u64], node: &Node) -> u64 {
         }
         Node::App(Sym::Address(i), _) => word(words, *i as usize),
         Node::App(Sym::Function(f), args) => applied(*f, values, args),
-        Node::Pred(Sym::Input(_), _) => held.input,
+        Node::Pred(Sym::Input(i), _) => word(&held.inputs, *i as usize),
         Node::Write(_, a, d) if word(values, a.index()) == 5 => word(values, d.index()),
         Node::Read(m, a) if word(values, a.index()) == 5 => word(values, m.index()),
         _ => 0,
@@ -250,6 +279,25 @@ fn pipeline_root(
     }
 }
 
+// The root of a run of the two stages.
+fn run_root(
+    rt: &(impl Abort + AllocGlobal),
+    graph: &mut Graph,
+    stale: bool,
+    cycles: u8,
+) -> Result<Root, AllocError>
+    requires { graph.old ≡ [] }
+{
+    assert!(rt; cycles <= 16);
+    match read(rt, if stale { STALE } else { FRESH }, SPEC) {
+        Some(design) => bounded_goal(rt.alloc(), graph, &design, u32::from(cycles)),
+        None => Ok(Root {
+            root: Id::default(),
+            addresses: 0,
+        }),
+    }
+}
+
 // The root of a question, and how many addresses it has.
 fn root(
     rt: &(impl Abort + AllocGlobal),
@@ -276,6 +324,7 @@ fn root(
             Ok(Root { root, addresses: 0 })
         }
         Stages(stale) => pipeline_root(rt, graph, stale),
+        Run(stale, cycles) => run_root(rt, graph, stale, cycles),
     }
 }
 

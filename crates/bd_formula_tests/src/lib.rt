@@ -2,8 +2,12 @@
 #![tactic(auto)]
 
 #[cfg(test)]
+mod clauses;
+#[cfg(test)]
 mod diverse;
 mod ends;
+#[cfg(test)]
+mod equality;
 #[cfg(test)]
 mod function;
 #[cfg(test)]
@@ -22,3 +26,5 @@ mod terms;
 mod texts;
 #[cfg(test)]
 mod transitive;
+#[cfg(test)]
+mod truths;

@@ -4,10 +4,10 @@
 ghost use Rattle.std.specs.Prelude.{◌≡◌, ◌<◌, ◌∷◌, [], IfOk, map};
 ghost use Rattle.bd_model.specs.DesignView.{design_view, exact_view, local_view, machine_view, port_view};
 ghost use Rattle.bd_model.specs.ExprView.{Entry as EntryView, Local as LocalExpr, expr_views, list_of_views};
-ghost use Rattle.bd_goal.specs.Abstraction.{IsLawfulAbstraction};
+ghost use Rattle.bd_abstraction.specs.Abstraction.{IsLawfulAbstraction};
 ghost use Rattle.bd_formula_tests.specs.Example.{entry_of, example, example_pipe, example_spec};
 
-use bd_goal::Abstraction;
+use bd_abstraction::Abstraction;
 use bd_list::Sequence;
 use bd_model::{
     Design, Entries, Entry, Exact, Exacts, Expr, Exprs, Local, Locals, Machine, Name, Port, Ports,

@@ -95,8 +95,8 @@ decides d claim such lawful from to n nodes root g sorted known claims = record 
 
 -- a case that breaks a condition makes the correspondence formula false with words that tell its memories apart
 pub breaks_from : (d : DesignView) (abs : Abstraction) (c : Case) → BreaksSome d abs c → (q : List ℕ) × (¬ Corresponds d abs c q)
-breaks_from d abs c (condition.Invariant, breaks) = (told_words d abs c, λ h. breaks.broken (h breaks.inside).0)
-breaks_from d abs c (condition.Commute, breaks) = (told_words d abs c, λ h. breaks.broken (told_commutes d abs c (h breaks.inside).1))
+breaks_from d abs c (condition.Invariant, breaks) = (told_words d abs c.interp c.state c.inputs 0, λ h. breaks.broken (h breaks.inside).0)
+breaks_from d abs c (condition.Commute, breaks) = (told_words d abs c.interp c.state c.inputs 0, λ h. breaks.broken (told_commutes d abs c.interp c.state c.inputs 0 (h breaks.inside).1))
 
 -- a case that makes it false breaks a condition
 pub breaks_to : (d : DesignView) (abs : Abstraction) (c : Case) (q : List ℕ) → Fits d c → ¬ Corresponds d abs c q → BreaksSome d abs c
@@ -105,7 +105,7 @@ breaks_to d abs c q fits fails = by_inside (IsTrue-settled _) (IsTrue-settled _)
   by_inside (inr out) keeps commutes = absurd (fails (λ h. absurd (out h)))
   by_inside (inl inside) (inr broken) commutes = (condition.Invariant, record { fits = fits; inside = inside; broken = broken })
   by_inside (inl inside) (inl keeps) (inr broken) = (condition.Commute, record { fits = fits; inside = inside; broken = broken })
-  by_inside (inl inside) (inl keeps) (inl commutes) = absurd (fails (λ _. (keeps, CommutesAt-any d abs c q commutes)))
+  by_inside (inl inside) (inl keeps) (inl commutes) = absurd (fails (λ _. (keeps, CommutesAt-any d abs c.interp c.state c.inputs 0 q commutes)))
 
 pub meets_from : (d : DesignView) (c : Case) → MeetsInvariant d c.interp c.state → (q : List ℕ) × (¬ IsOutside d c q)
 meets_from d c meets = ([], λ out. out meets)

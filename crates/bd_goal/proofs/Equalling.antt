@@ -1,6 +1,6 @@
 -- Two visible states are equal entry by entry, each memory at an address of its own.
-use Rattle.std.proofs.Common.{◌≡◌, ℕ, zero, suc, ◌+◌, ◌*◌, ◌<◌, ◌≤◌, inr, Bool, true, false, ◌&&◌, ◌==◌, if◌then◌else◌, List, [], ◌∷◌, drop, length, Ok, refl, ap, sym, ◌∙◌, subst, arith, eqb-true, eq-eqb}
-use Rattle.std.specs.Prelude.{◌↔◌, IsTrue, IfOk, Result, Some, Contains, not, slice_get, slice_index_or}
+use Rattle.std.proofs.Common.{◌≡◌, ℕ, zero, suc, ◌+◌, ◌*◌, ◌<◌, ◌≤◌, inl, inr, Bool, true, false, ◌&&◌, ◌==◌, if◌then◌else◌, List, [], ◌∷◌, drop, length, Ok, refl, ap, sym, ◌∙◌, subst, arith, eqb-true, eq-eqb}
+use Rattle.std.specs.Prelude.{◌↔◌, IsTrue, IfOk, Result, Some, Contains, not, slice_get}
 use Rattle.std.specs.declared.alloc.AllocError.{AllocError}
 use Rattle.std.proofs.lemmas.Result.{IfOk-weaker}
 use Rattle.std.specs.Cmp.{booleans_Decides}
@@ -8,13 +8,12 @@ use Rattle.std.proofs.lemmas.List.{drop_all, length-map}
 use Rattle.std.proofs.lemmas.List.Sums.{count_by-le-length, sum_by-cons}
 use Rattle.std.proofs.lemmas.Option.{slice_get-map}
 use Rattle.std.specs.Option.{option_map}
-use Rattle.std.proofs.lemmas.Nat.{mul-add-lt}
+use Rattle.std.proofs.lemmas.List.Elements.{Contains-append_cases}
 use Rattle.std.proofs.Math.Nat.{mul-le-mul}
 use Rattle.bd_model.specs.Table.{read}
 use Rattle.bd_model.specs.DesignView.{DesignView}
-use Rattle.bd_model.specs.Fits.{Fits, value_sort}
+use Rattle.bd_model.specs.Fits.{value_sort}
 use Rattle.bd_model.specs.Lawful.{IsLawful, entry_sorts}
-use Rattle.bd_model.specs.declared.case.Case.{Case}
 use Rattle.bd_model.specs.declared.design.Sort.{Sort}
 use Rattle.bd_model.specs.declared.design.Sort.TheVariants as sort
 use Rattle.bd_model.specs.declared.design.Entry as entry
@@ -24,21 +23,20 @@ use Rattle.bd_model.specs.declared.table.Value.{Value}
 use Rattle.bd_model.specs.declared.table.Value.TheVariants as value
 use Rattle.bd_terms.specs.declared.node.Sym.TheVariants as symbol
 use Rattle.bd_terms.specs.declared.node.Node.{Node}
-use Rattle.bd_terms.specs.Graph.{AddsUses, Extends, IsGraph, Use, sort_at}
+use Rattle.bd_terms.specs.Graph.{AddsUses, Extends, IsGraph, Use, sort_at, uses}
 use Rattle.bd_terms.specs.Graph.{HasSort as TermHasSort}
 use Rattle.bd_terms.specs.Denotation.{World, Denotes, Truth, Word, applied, contents, contents_of, denoted, denoted_sort, truth, truth_of, word, word_of}
 use Rattle.bd_terms.proofs.Growth.{AddsUses-more, AddsUses-trans, Extends-trans, HasSort-Extends, denoted-Extends}
 use Rattle.bd_symbolic.proofs.Arms.{IfOk-sort, iff_ites}
 use Rattle.bd_terms.proofs.Simplifying.{denoted-sort}
 use Rattle.bd_symbolic.specs.World.{denotes_value}
-use Rattle.bd_symbolic.specs.Symbolic.{HaveSorts}
-use Rattle.bd_goal.specs.Symbols.{GrowsKnown, IsKnown, address_use}
-use Rattle.bd_goal.specs.Formula.{EqualAt, EqualFrom, is_memory, memory_count}
-use Rattle.bd_goal.specs.Claims.{Claims, case_world}
-use Rattle.bd_goal.specs.inner.Shown.{EqualTerms, ShowsValues, address_uses, are_equal}
+use Rattle.bd_symbolic.specs.Symbolic.{DenoteValues, HaveSorts}
+use Rattle.bd_goal.specs.Symbols.{GrowsKnown, IsKnown, KeepsAddresses, address_use}
+use Rattle.bd_goal.specs.Formula.{EqualFrom, is_memory, memory_count}
+use Rattle.bd_goal.specs.inner.Shown.{EqualIn, EqualTerms, Says, address_uses, are_equal}
 use Rattle.bd_goal.proofs.Counting.{memories_in}
 use Rattle.bd_goal.proofs.Lists.{drop-there, zip-length, zip-there}
-use Rattle.bd_goal.proofs.Known.{Known-by, Known-none, Known-trans}
+use Rattle.bd_goal.proofs.Known.{KeepsAddresses-Known, Known-by, Known-none, Known-trans}
 use Rattle.bd_goal.proofs.Showing.{truth-later}
 
 -- the value that a term of a sort denotes is of that sort
@@ -78,31 +76,39 @@ equal-entry address m sort.Memory (value.Memory b) (value.Scalar y) xs ys h k = 
 equal-entry address m sort.Memory (value.Scalar (scalar.Bool b)) y xs ys h k = absurd (cc h)
 equal-entry address m sort.Memory (value.Scalar (scalar.Word n)) y xs ys h k = absurd (cc h)
 
--- the address of memory number m
-abbrev pub word_at : ℕ → ℕ → List ℕ → ℕ → ℕ
-word_at first stride q m = slice_index_or q (m * stride + first) 0
+-- the word of memory number m in a world
+abbrev pub word_at : World → ℕ → ℕ → ℕ → ℕ
+word_at w first stride m = applied w (symbol.Address (m * stride + first)) []
+
+-- each memory has an address below
+abbrev pub AreBelow : DesignView → ℕ → ℕ → ℕ → Type 0
+AreBelow d first stride n = (m : ℕ) → m < memory_count d → m * stride + first < n
 
 -- the first i entries are compared, of which so many are memories, and the rest is to come
 pub record Equalled (d : DesignView) (old cur : List Node) (ours theirs : List ℕ) (first stride i all address : ℕ) : Type 0 where
   pub graph : IsGraph cur
-  pub grows : GrowsKnown d (memory_count d * stride) old cur
+  pub grows : (n : ℕ) → AreBelow d first stride n → GrowsKnown d n old cur
+  pub extends : Extends old cur
+  pub keeps : KeepsAddresses old → KeepsAddresses cur
   pub sorted : TermHasSort cur all sort.Bool
   pub count : ℕ
   pub counted : count + memories_in (drop i d.spec.entries) ≡ memory_count d
   pub number : address ≡ count * stride + first
-  pub claims : (a b : Case → List Value) → ShowsValues d old ours a → ShowsValues d old theirs b → (c : Case) (q : List ℕ) → Fits d c
-      → (IsTrue (truth (case_world c q) cur all) × EqualFrom (word_at first stride q) count (drop i (a c)) (drop i (b c))) ↔ EqualFrom (word_at first stride q) 0 (a c) (b c)
+  pub says : (w : World) (a b : List Value) → DenoteValues w old ours a → DenoteValues w old theirs b
+      → (IsTrue (truth w cur all) × EqualFrom (word_at w first stride) count (drop i a) (drop i b)) ↔ EqualFrom (word_at w first stride) 0 a b
 
 pub equalled-none : (d : DesignView) (old cur : List Node) (ours theirs : List ℕ) (first stride all : ℕ) → IsGraph cur → Extends old cur → AddsUses old cur [] → TermHasSort cur all sort.Bool → Denotes cur all (λ w. Truth true)
     → Equalled d old cur ours theirs first stride 0 all first
 equalled-none d old cur ours theirs first stride all g e u s is = record {
   graph = g;
-  grows = Known-none d _ old cur e u;
+  grows = λ n below. Known-none d n old cur e u;
+  extends = e;
+  keeps = KeepsAddresses-Known d 0 old cur (Known-none d 0 old cur e u);
   sorted = s;
   count = 0;
   counted = none (memory_count d);
   number = number_none first stride;
-  claims = λ a b ha hb c q fits. (λ h. h.1, λ h. (ap truth_of (is.is (case_world c q)), h));
+  says = λ w a b ha hb. (λ h. h.1, λ h. (ap truth_of (is.is w), h));
 } where
   none : (n : ℕ) → 0 + n ≡ n
   none n = omega arith
@@ -121,15 +127,30 @@ number-next sort.Word count stride first address h = omega (arith, h)
 number-next sort.Memory count stride first address h = omega (arith, h)
 
 -- the address of a memory is one of those that there are
-known-address : (d : DesignView) (s : Sort) (count rest stride first address : ℕ) → count + ((if is_memory s then 1 else 0) + rest) ≡ memory_count d → address ≡ count * stride + first → first < stride
-    → (u : Use) → Contains (address_uses s address) u → IsKnown d (memory_count d * stride) u
-known-address d sort.Bool count rest stride first address h e below u p = absurd (omega (arith, p.1))
-known-address d sort.Word count rest stride first address h e below u p = absurd (omega (arith, p.1))
-known-address d sort.Memory count rest stride first address h e below u (zero, within, is) =
-    let few : count < memory_count d = omega (arith, h) in
-    let inside : count * stride + first < stride * memory_count d = mul-add-lt count stride first (memory_count d) few below in
+known-address : (d : DesignView) (s : Sort) (count rest stride first address n : ℕ) → count + ((if is_memory s then 1 else 0) + rest) ≡ memory_count d → address ≡ count * stride + first → AreBelow d first stride n
+    → (u : Use) → Contains (address_uses s address) u → IsKnown d n u
+known-address d sort.Bool count rest stride first address n h e below u p = absurd (omega (arith, p.1))
+known-address d sort.Word count rest stride first address n h e below u p = absurd (omega (arith, p.1))
+known-address d sort.Memory count rest stride first address n h e below u (zero, within, is) =
+    let inside : count * stride + first < n = below count (omega (arith, h)) in
     inr (address, omega (arith, inside, e), sym is)
-known-address d sort.Memory count rest stride first address h e below u (suc k, within, is) = absurd (omega (arith, within))
+known-address d sort.Memory count rest stride first address n h e below u (suc k, within, is) = absurd (omega (arith, within))
+
+-- of whatever design the symbols are, an address more keeps the addresses
+keeps-more : (cur mid : List Node) (s : Sort) (address : ℕ) → Extends cur mid → AddsUses cur mid (address_uses s address) → KeepsAddresses cur → KeepsAddresses mid
+keeps-more cur mid s address e u k = record {
+  keeps = λ i. record {
+    keeps = λ v p is. elim (Contains-append_cases (uses cur) (address_uses s address) v (u.within v p)) [
+      | inl q ↦ (k.keeps i).keeps v q is
+      | inr q ↦ added s q
+    ];
+  };
+} where
+  added : (s : Sort) {v : Use} → Contains (address_uses s address) v → (v.arity ≡ 0) × (v.sort ≡ sort.Word)
+  added sort.Bool p = absurd (omega (arith, p.1))
+  added sort.Word p = absurd (omega (arith, p.1))
+  added sort.Memory (zero, within, same) = (ap (λ (x : Use). x.arity) (sym same), ap (λ (x : Use). x.sort) (sym same))
+  added sort.Memory (suc k, within, same) = absurd (omega (arith, within))
 
 -- the terms at a place that is there
 pub record IsAt (nodes : List Node) (ours theirs : List ℕ) (i our their : ℕ) (s : Sort) : Type 0 where
@@ -144,40 +165,41 @@ counted-there d old cur ours theirs first stride i all address x there h =
     subst (λ k. h.count + k ≡ memory_count d) (ap memories_in (drop-there d.spec.entries i x there) ∙ sum_by-cons (λ (y : entry.Entry). if is_memory y.sort then 1 else 0) x (drop (i + 1) d.spec.entries)) h.counted
 
 -- the graph grows by addresses that there are, also where a call is refused
-pub equalled-refused : (d : DesignView) (old cur mid : List Node) (ours theirs : List ℕ) (first stride i all address our their : ℕ) (x : entry.Entry) (r : Result ℕ AllocError) → first < stride → slice_get d.spec.entries i ≡ Some x
-    → Equalled d old cur ours theirs first stride i all address → EqualTerms cur mid x.sort our their address r → GrowsKnown d (memory_count d * stride) old mid
-equalled-refused d old cur mid ours theirs first stride i all address our their x r below there h t =
-    Known-trans d (memory_count d * stride) old cur mid h.grows
-    (Known-by d (memory_count d * stride) cur mid (address_uses x.sort address)
-    (known-address d x.sort h.count (memories_in (drop (i + 1) d.spec.entries)) stride first address (counted-there d old cur ours theirs first stride i all address x there h) h.number below) t.extends t.uses)
+pub equalled-refused : (d : DesignView) (old cur mid : List Node) (ours theirs : List ℕ) (first stride i all address our their : ℕ) (x : entry.Entry) (r : Result ℕ AllocError) → slice_get d.spec.entries i ≡ Some x
+    → Equalled d old cur ours theirs first stride i all address → EqualTerms cur mid x.sort our their address r → (n : ℕ) → AreBelow d first stride n → GrowsKnown d n old mid
+equalled-refused d old cur mid ours theirs first stride i all address our their x r there h t n below =
+    Known-trans d n old cur mid (h.grows n below)
+    (Known-by d n cur mid (address_uses x.sort address)
+    (known-address d x.sort h.count (memories_in (drop (i + 1) d.spec.entries)) stride first address n (counted-there d old cur ours theirs first stride i all address x there h) h.number below) t.extends t.uses)
 
 -- one entry more
-pub equalled-next : (d : DesignView) (old cur mid new : List Node) (ours theirs : List ℕ) (first stride i all address our their one id : ℕ) (x : entry.Entry) → first < stride
+pub equalled-next : (d : DesignView) (old cur mid new : List Node) (ours theirs : List ℕ) (first stride i all address our their one id : ℕ) (x : entry.Entry)
     → HaveSorts old ours (entry_sorts d.spec) → HaveSorts old theirs (entry_sorts d.spec) → IsAt old ours theirs i our their x.sort → slice_get d.spec.entries i ≡ Some x
     → IsGraph new → Equalled d old cur ours theirs first stride i all address → EqualTerms cur mid x.sort our their address (Ok one)
     → Extends mid new → AddsUses mid new [] → TermHasSort new id sort.Bool → Denotes new id (λ w. Truth (truth w mid all && truth w mid one))
     → Equalled d old new ours theirs first stride (i + 1) id (address + (if is_memory x.sort then stride else 0))
-equalled-next d old cur mid new ours theirs first stride i all address our their one id x below so st at there g h t e u s is =
+equalled-next d old cur mid new ours theirs first stride i all address our their one id x so st at there g h t e u s is =
     let counted = counted-there d old cur ours theirs first stride i all address x there h in
     record {
       graph = g;
-      grows =
-          Known-trans d (memory_count d * stride) old mid new (equalled-refused d old cur mid ours theirs first stride i all address our their x (Ok one) below there h t)
-          (Known-none d (memory_count d * stride) mid new e u);
+      grows = λ n below.
+          Known-trans d n old mid new (equalled-refused d old cur mid ours theirs first stride i all address our their x (Ok one) there h t n below)
+          (Known-none d n mid new e u);
+      extends = Extends-trans old mid new (Extends-trans old cur mid h.extends t.extends) e;
+      keeps = λ k. KeepsAddresses-Known d 0 mid new (Known-none d 0 mid new e u) (keeps-more cur mid x.sort address t.extends t.uses (h.keeps k));
       sorted = s;
       count = if is_memory x.sort then suc h.count else h.count;
       counted = count-next x.sort h.count (memories_in (drop (i + 1) d.spec.entries)) (memory_count d) counted;
       number = number-next x.sort h.count stride first address h.number;
-      claims = λ a b ha hb c q fits.
-          let w : World = case_world c q in
-          let f : ℕ → ℕ = word_at first stride q in
-          let va = zip-there (λ k v. denoted w old k ≡ denotes_value v) ours (a c) i our (ha.shows c q fits) at.at_ours in
-          let vb = zip-there (λ k v. denoted w old k ≡ denotes_value v) theirs (b c) i their (hb.shows c q fits) at.at_theirs in
-          let da : denoted w cur our ≡ denotes_value va.0 = denoted-Extends w old cur h.grows.extends our at.our_sorted.inside ∙ va.2 in
-          let db : denoted w cur their ≡ denotes_value vb.0 = denoted-Extends w old cur h.grows.extends their at.their_sorted.inside ∙ vb.2 in
-          let sa : value_sort va.0 ≡ x.sort = value-sorted w cur h.graph our x.sort va.0 (HasSort-Extends old cur h.grows.extends our x.sort at.our_sorted) da in
-          let sb : value_sort vb.0 ≡ x.sort = value-sorted w cur h.graph their x.sort vb.0 (HasSort-Extends old cur h.grows.extends their x.sort at.their_sorted) db in
-          let place : applied w (symbol.Address address) [] ≡ f h.count = ap (λ k. slice_index_or q k 0) h.number in
+      says = λ w a b ha hb.
+          let f : ℕ → ℕ = word_at w first stride in
+          let va = zip-there (λ k v. denoted w old k ≡ denotes_value v) ours a i our ha at.at_ours in
+          let vb = zip-there (λ k v. denoted w old k ≡ denotes_value v) theirs b i their hb at.at_theirs in
+          let da : denoted w cur our ≡ denotes_value va.0 = denoted-Extends w old cur h.extends our at.our_sorted.inside ∙ va.2 in
+          let db : denoted w cur their ≡ denotes_value vb.0 = denoted-Extends w old cur h.extends their at.their_sorted.inside ∙ vb.2 in
+          let sa : value_sort va.0 ≡ x.sort = value-sorted w cur h.graph our x.sort va.0 (HasSort-Extends old cur h.extends our x.sort at.our_sorted) da in
+          let sb : value_sort vb.0 ≡ x.sort = value-sorted w cur h.graph their x.sort vb.0 (HasSort-Extends old cur h.extends their x.sort at.their_sorted) db in
+          let place : applied w (symbol.Address address) [] ≡ f h.count = ap (λ k. applied w (symbol.Address k) []) h.number in
           let meant : truth w mid one ≡ are_equal x.sort (f h.count) (denotes_value va.0) (denotes_value vb.0) =
           t.denotes w ∙ ap (λ k. are_equal x.sort k (denoted w cur our) (denoted w cur their)) place
           ∙ ap (λ k. are_equal x.sort (f h.count) k (denoted w cur their)) da ∙ ap (λ k. are_equal x.sort (f h.count) (denotes_value va.0) k) db in
@@ -185,31 +207,28 @@ equalled-next d old cur mid new ours theirs first stride i all address our their
           let both : truth w new id ≡ (truth w cur all && are_equal x.sort (f h.count) (denotes_value va.0) (denotes_value vb.0)) =
           ap truth_of (is.is w) ∙ ap (λ k. k && truth w mid one) kept ∙ ap (λ k. truth w cur all && k) meant in
           equal-joined (truth w cur all) (are_equal x.sort (f h.count) (denotes_value va.0) (denotes_value vb.0)) (truth w new id)
-          (EqualFrom f (if is_memory x.sort then suc h.count else h.count) (drop (i + 1) (a c)) (drop (i + 1) (b c))) (EqualFrom f h.count (drop i (a c)) (drop i (b c))) (EqualFrom f 0 (a c) (b c)) both
-          (subst (λ l. (IsTrue (are_equal x.sort (f h.count) (denotes_value va.0) (denotes_value vb.0)) × EqualFrom f (if is_memory x.sort then suc h.count else h.count) (drop (i + 1) (a c)) (drop (i + 1) (b c))) ↔ EqualFrom f h.count l (drop i (b c)))
-          (sym (drop-there (a c) i va.0 va.1))
-          (subst (λ l. (IsTrue (are_equal x.sort (f h.count) (denotes_value va.0) (denotes_value vb.0)) × EqualFrom f (if is_memory x.sort then suc h.count else h.count) (drop (i + 1) (a c)) (drop (i + 1) (b c))) ↔ EqualFrom f h.count (va.0 ∷ drop (i + 1) (a c)) l)
-          (sym (drop-there (b c) i vb.0 vb.1))
-          (equal-entry f h.count x.sort va.0 vb.0 (drop (i + 1) (a c)) (drop (i + 1) (b c)) sa sb)))
-          (h.claims a b ha hb c q fits);
+          (EqualFrom f (if is_memory x.sort then suc h.count else h.count) (drop (i + 1) a) (drop (i + 1) b)) (EqualFrom f h.count (drop i a) (drop i b)) (EqualFrom f 0 a b) both
+          (subst (λ l. (IsTrue (are_equal x.sort (f h.count) (denotes_value va.0) (denotes_value vb.0)) × EqualFrom f (if is_memory x.sort then suc h.count else h.count) (drop (i + 1) a) (drop (i + 1) b)) ↔ EqualFrom f h.count l (drop i b))
+          (sym (drop-there a i va.0 va.1))
+          (subst (λ l. (IsTrue (are_equal x.sort (f h.count) (denotes_value va.0) (denotes_value vb.0)) × EqualFrom f (if is_memory x.sort then suc h.count else h.count) (drop (i + 1) a) (drop (i + 1) b)) ↔ EqualFrom f h.count (va.0 ∷ drop (i + 1) a) l)
+          (sym (drop-there b i vb.0 vb.1))
+          (equal-entry f h.count x.sort va.0 vb.0 (drop (i + 1) a) (drop (i + 1) b) sa sb)))
+          (h.says w a b ha hb);
     } where
       equal-joined : (p q r : Bool) (Rest Front Whole : Type 0) → r ≡ (p && q) → (IsTrue q × Rest) ↔ Front → (IsTrue p × Front) ↔ Whole → (IsTrue r × Rest) ↔ Whole
       equal-joined true q r Rest Front Whole e one two = (λ h. two.0 (refl, one.0 (sym e ∙ h.0, h.1)), λ h. let k = one.1 (two.1 h).1 in (e ∙ k.0, k.1))
       equal-joined false q r Rest Front Whole e one two = (λ h. absurd (cc (e, h.0)), λ h. absurd (cc (two.1 h).0))
 
 pub equalled-all : (d : DesignView) (old cur : List Node) (ours theirs : List ℕ) (first stride i all address : ℕ) → HaveSorts old ours (entry_sorts d.spec) → HaveSorts old theirs (entry_sorts d.spec) → length d.spec.entries ≤ i
-    → Equalled d old cur ours theirs first stride i all address → (a b : Case → List Value) → ShowsValues d old ours a → ShowsValues d old theirs b
-    → Claims d (λ c q. EqualAt (λ m. m * stride + first) q (a c) (b c)) cur all
-equalled-all d old cur ours theirs first stride i all address so st past h a b ha hb = record {
-  means = λ c q fits.
-      let w : World = case_world c q in
-      let la : length (a c) ≤ i = omega (arith, past, zip-length (λ k v. denoted w old k ≡ denotes_value v) ours (a c) (ha.shows c q fits), zip-length (TermHasSort old) ours (entry_sorts d.spec) so, length-map d.spec.entries (λ (x : entry.Entry). x.sort)) in
-      let lb : length (b c) ≤ i = omega (arith, past, zip-length (λ k v. denoted w old k ≡ denotes_value v) theirs (b c) (hb.shows c q fits), zip-length (TermHasSort old) theirs (entry_sorts d.spec) st, length-map d.spec.entries (λ (x : entry.Entry). x.sort)) in
-      let both = h.claims a b ha hb c q fits in
-      let ends : EqualFrom (word_at first stride q) h.count (drop i (a c)) (drop i (b c)) =
-      subst (λ l. EqualFrom (word_at first stride q) h.count l (drop i (b c))) (sym (drop_all i (a c) la)) (subst (λ l. EqualFrom (word_at first stride q) h.count [] l) (sym (drop_all i (b c) lb)) tt) in
-      (λ t. both.0 (t, ends), λ e. (both.1 e).0);
-}
+    → Equalled d old cur ours theirs first stride i all address → (w : World) (a b : List Value) → DenoteValues w old ours a → DenoteValues w old theirs b
+    → Says w cur all (EqualIn w (λ m. m * stride + first) a b)
+equalled-all d old cur ours theirs first stride i all address so st past h w a b ha hb =
+    let la : length a ≤ i = omega (arith, past, zip-length (λ k v. denoted w old k ≡ denotes_value v) ours a ha, zip-length (TermHasSort old) ours (entry_sorts d.spec) so, length-map d.spec.entries (λ (x : entry.Entry). x.sort)) in
+    let lb : length b ≤ i = omega (arith, past, zip-length (λ k v. denoted w old k ≡ denotes_value v) theirs b hb, zip-length (TermHasSort old) theirs (entry_sorts d.spec) st, length-map d.spec.entries (λ (x : entry.Entry). x.sort)) in
+    let both = h.says w a b ha hb in
+    let ends : EqualFrom (word_at w first stride) h.count (drop i a) (drop i b) =
+    subst (λ l. EqualFrom (word_at w first stride) h.count l (drop i b)) (sym (drop_all i a la)) (subst (λ l. EqualFrom (word_at w first stride) h.count [] l) (sym (drop_all i b lb)) tt) in
+    (λ t. both.0 (t, ends), λ e. (both.1 e).0)
 
 -- that two truth values are equal
 pub equal_bits : (old mid new : List Node) (a b n address : ℕ) (r : Result ℕ AllocError) → IsGraph mid → TermHasSort old a sort.Bool → TermHasSort old b sort.Bool → Extends old mid → AddsUses old mid []
@@ -286,8 +305,8 @@ advance-le sort.Word stride = omega arith
 advance-le sort.Memory stride = omega arith
 
 -- no address overflows
-pub address-fits : (d : DesignView) (old cur : List Node) (ours theirs : List ℕ) (first stride i all address : ℕ) → IsLawful d → first < stride → stride ≤ 9 → Equalled d old cur ours theirs first stride i all address → address ≤ 18874376
-address-fits d old cur ours theirs first stride i all address lawful below few h =
+pub address-fits : (d : DesignView) (old cur : List Node) (ours theirs : List ℕ) (first stride i all address : ℕ) → IsLawful d → stride ≤ 9 → Equalled d old cur ours theirs first stride i all address → address ≤ 18874368 + first
+address-fits d old cur ours theirs first stride i all address lawful few h =
     let total : memory_count d ≤ 2097152 = omega (arith, count_by-le-length (λ (x : entry.Entry). is_memory x.sort) d.spec.entries, lawful.spec.short.0) in
     let count : h.count ≤ 2097152 = omega (arith, h.counted, total) in
     let product : h.count * stride ≤ 2097152 * 9 = mul-le-mul count few in

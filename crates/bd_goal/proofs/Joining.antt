@@ -1,47 +1,51 @@
 -- For which numbers of steps the cycle stands.
-use Rattle.std.proofs.Common.{◌≡◌, ◌≢◌, ℕ, suc, ◌+◌, ◌≤◌, ◌⊎◌, inl, inr, Bool, true, false, ◌&&◌, ◌||◌, ◌==◌, not, List, [], ◌∷◌, drop, length, refl, ap, sym, ◌∙◌, subst, arith, eqb-true, eq-eqb, true≢false}
-use Rattle.std.specs.Prelude.{◌↔◌, ◌*◌, IsTrue, IfOk, Result, Ok, Err, Some, slice_get}
+use Rattle.std.proofs.Common.{◌≡◌, ◌≢◌, ℕ, suc, ◌+◌, ◌≤◌, ◌<◌, ◌⊎◌, inl, inr, Bool, true, false, ◌&&◌, ◌||◌, ◌==◌, not, List, [], ◌∷◌, drop, length, refl, ap, sym, ◌∙◌, subst, arith, eqb-true, eq-eqb, true≢false}
+use Rattle.std.specs.Prelude.{◌↔◌, ◌*◌, IsTrue, IfOk, Result, Ok, Err, Some, slice_get, slice_index_or}
 use Rattle.std.specs.declared.alloc.AllocError.{AllocError}
 use Rattle.std.specs.List.{AllByRecursion, AllZip}
+use Rattle.std.proofs.Math.Path.{fun_ext}
 use Rattle.std.proofs.lemmas.List.{drop_all}
+use Rattle.std.proofs.lemmas.Nat.{mul-add-lt}
 use Rattle.bd_model.specs.DesignView.{DesignView, ExactView}
 use Rattle.bd_model.specs.Value.{Env, value_of, env_of, is_true}
 use Rattle.bd_model.specs.Cycle.{step, spec_steps}
-use Rattle.bd_model.specs.Fits.{Fits}
 use Rattle.bd_model.specs.Lawful.{entry_sorts}
-use Rattle.bd_model.specs.Conditions.{Abstraction, AllowsCount, IsAllowed}
-use Rattle.bd_model.specs.declared.case.Case.{Case}
+use Rattle.bd_model.specs.Conditions.{AllowsCount, IsAllowed}
 use Rattle.bd_model.specs.declared.design.Sort.TheVariants as sort
+use Rattle.bd_model.specs.declared.table.Scalar.{Scalar}
+use Rattle.bd_model.specs.declared.table.Table.{Table}
 use Rattle.bd_model.specs.declared.table.Value.{Value}
 use Rattle.bd_terms.specs.declared.node.Node.{Node}
+use Rattle.bd_terms.specs.declared.node.Sym.TheVariants as symbol
 use Rattle.bd_terms.specs.Graph.{AddsUses, Extends}
 use Rattle.bd_terms.specs.Graph.{HasSort as TermHasSort}
-use Rattle.bd_terms.specs.Denotation.{World, Denotes, Truth, truth, truth_of}
+use Rattle.bd_terms.specs.Denotation.{World, Denotes, Truth, applied, truth, truth_of}
 use Rattle.bd_terms.proofs.Growth.{AddsUses-trans, Extends-trans, HasSort-Extends}
 use Rattle.bd_symbolic.specs.DesignSymbols.{GrowsWithin}
-use Rattle.bd_symbolic.specs.States.{DenotesSpecStep}
-use Rattle.bd_symbolic.specs.Symbolic.{AreInside}
+use Rattle.bd_symbolic.specs.States.{DenotesSpecStep, DenotesState, DenotesStep, StateHasSorts}
+use Rattle.bd_symbolic.specs.Symbolic.{DenoteScalars, DenoteValues, HaveSorts}
 use Rattle.bd_symbolic.specs.declared.state.SymState.{SymState}
-use Rattle.bd_symbolic.proofs.Worlds.{IsWorldOf-world_of}
+use Rattle.bd_symbolic.proofs.Growing.{Denote-Extends}
 use Rattle.bd_goal.specs.Symbols.{GrowsKnown}
-use Rattle.bd_goal.specs.Formula.{EqualAt, StandsAt, address_count, address_number}
-use Rattle.bd_goal.specs.Claims.{Claims, case_world}
-use Rattle.bd_goal.specs.inner.Shown.{AreConditions, IsVisible, ShowsValues}
+use Rattle.bd_goal.specs.Formula.{EqualAt, EqualFrom, address_count, address_number, memory_count}
+use Rattle.bd_goal.specs.inner.Shown.{AreConditions, DenoteConditions, EqualIn, IsVisible, Says, StandsIn, StandsUpTo}
+use Rattle.bd_goal.proofs.Equalling.{AreBelow}
 use Rattle.bd_goal.proofs.Known.{Known-none, Known-trans, Known-within}
-use Rattle.bd_goal.proofs.Showing.{Claims-and, Claims-later, Claims-or, Claims-same, IsVisible-later, ShowsValues-later, inside_sorts, truth-later}
+use Rattle.bd_goal.proofs.Showing.{IsVisible-later, Says-and, Says-later, Says-or, Says-same, inside_sorts, truth-later, values-later}
 use Rattle.bd_goal.proofs.Lists.{drop-there, zip-there}
 use Rattle.bd_terms.proofs.Places.{AllByRecursion-get}
 
 -- where the names stand before the cycle
-abbrev env_before : DesignView → Case → Env
-env_before d c = env_of d.pipe.locals c.interp c.state c.inputs
+abbrev env_before : DesignView → List Table → List Value → List Scalar → Env
+env_before d interp values inputs = env_of d.pipe.locals interp values inputs
 
 -- the first i exact items allow the count where the term is true, and the rest is to come
-pub record Allows (d : DesignView) (old cur : List Node) (j i all : ℕ) : Type 0 where
+pub record Allows (d : DesignView) (old cur : List Node) (whens : List ℕ) (j i all : ℕ) : Type 0 where
   pub extends : Extends old cur
   pub uses : AddsUses old cur []
   pub sorted : TermHasSort cur all sort.Bool
-  pub claims : (c : Case) (q : List ℕ) → Fits d c → (IsTrue (truth (case_world c q) cur all) × AllByRecursion (AllowsCount (env_before d c) j) (drop i d.exact)) ↔ AllByRecursion (AllowsCount (env_before d c) j) d.exact
+  pub says : (w : World) (interp : List Table) (values : List Value) (inputs : List Scalar) → DenoteConditions d w old whens interp values inputs
+      → (IsTrue (truth w cur all) × AllByRecursion (AllowsCount (env_before d interp values inputs) j) (drop i d.exact)) ↔ AllByRecursion (AllowsCount (env_before d interp values inputs) j) d.exact
 
 -- an item of this count, or one whose condition is false
 one-allows : (count j : ℕ) (is_free when : Bool) → IsTrue is_free ↔ (count ≡ j) → IsTrue (is_free || not when) ↔ (IsTrue when → count ≡ j)
@@ -65,46 +69,34 @@ pub condition-sorted : (d : DesignView) (old : List Node) (whens : List ℕ) →
 condition-sorted d old whens h i when there = AllByRecursion-get (λ k. TermHasSort old k sort.Bool) whens i when h.sorted there
 
 pub allows-next : (d : DesignView) (old cur mid new : List Node) (whens : List ℕ) (j i all when one id : ℕ) (is_free : Bool) (x : ExactView) → AreConditions d old whens → slice_get d.exact i ≡ Some x → slice_get whens i ≡ Some when
-    → IsTrue is_free ↔ (x.count ≡ j) → Allows d old cur j i all
+    → IsTrue is_free ↔ (x.count ≡ j) → Allows d old cur whens j i all
     → Extends cur mid → AddsUses cur mid [] → Denotes mid one (λ w. Truth (is_free || not (truth w cur when)))
     → Extends mid new → AddsUses mid new [] → TermHasSort new id sort.Bool → Denotes new id (λ w. Truth (truth w mid all && truth w mid one))
-    → Allows d old new j (i + 1) id
+    → Allows d old new whens j (i + 1) id
 allows-next d old cur mid new whens j i all when one id is_free x known there at free h e u denied e' u' s is = record {
   extends = Extends-trans old mid new (Extends-trans old cur mid h.extends e) e';
   uses = AddsUses-trans old mid new [] (AddsUses-trans old cur mid [] h.uses u) u';
   sorted = s;
-  claims = λ c q fits.
-      let w : World = case_world c q in
-      let found = zip-there _ whens d.exact i when (known.shows c q fits) at in
+  says = λ w interp values inputs denote.
+      let env : Env = env_before d interp values inputs in
+      let found = zip-there _ whens d.exact i when denote at in
       let same_item : found.0 ≡ x = cc (found.1, there) in
-      let meant : truth w cur when ≡ is_true (value_of (env_before d c) x.when) =
-      truth-later w old cur h.extends when sort.Bool (condition-sorted d old whens known i when at) ∙ found.2 ∙ ap (λ (y : ExactView). is_true (value_of (env_before d c) y.when)) same_item in
-      let free_or : truth w mid one ≡ (is_free || not (is_true (value_of (env_before d c) x.when))) = ap truth_of (denied.is w) ∙ ap (λ k. is_free || not k) meant in
+      let meant : truth w cur when ≡ is_true (value_of env x.when) =
+      truth-later w old cur h.extends when sort.Bool (condition-sorted d old whens known i when at) ∙ found.2 ∙ ap (λ (y : ExactView). is_true (value_of env y.when)) same_item in
+      let free_or : truth w mid one ≡ (is_free || not (is_true (value_of env x.when))) = ap truth_of (denied.is w) ∙ ap (λ k. is_free || not k) meant in
       let kept : truth w mid all ≡ truth w cur all = truth-later w cur mid e all sort.Bool h.sorted in
-      let both : truth w new id ≡ (truth w cur all && (is_free || not (is_true (value_of (env_before d c) x.when)))) =
+      let both : truth w new id ≡ (truth w cur all && (is_free || not (is_true (value_of env x.when)))) =
       ap truth_of (is.is w) ∙ ap (λ k. k && truth w mid one) kept ∙ ap (λ k. truth w cur all && k) free_or in
-      allows-joined (truth w cur all) (is_free || not (is_true (value_of (env_before d c) x.when))) (truth w new id)
-      (AllowsCount (env_before d c) j x) (AllByRecursion (AllowsCount (env_before d c) j) (drop (i + 1) d.exact)) (AllByRecursion (AllowsCount (env_before d c) j) (drop i d.exact)) (AllByRecursion (AllowsCount (env_before d c) j) d.exact)
-      both (one-allows x.count j is_free (is_true (value_of (env_before d c) x.when)) free) (ap (λ l. AllByRecursion (AllowsCount (env_before d c) j) l) (drop-there d.exact i x there)) (h.claims c q fits);
+      allows-joined (truth w cur all) (is_free || not (is_true (value_of env x.when))) (truth w new id)
+      (AllowsCount env j x) (AllByRecursion (AllowsCount env j) (drop (i + 1) d.exact)) (AllByRecursion (AllowsCount env j) (drop i d.exact)) (AllByRecursion (AllowsCount env j) d.exact)
+      both (one-allows x.count j is_free (is_true (value_of env x.when)) free) (ap (λ l. AllByRecursion (AllowsCount env j) l) (drop-there d.exact i x there)) (h.says w interp values inputs denote);
 }
 
-pub allows-all : (d : DesignView) (old cur : List Node) (j i all : ℕ) → length d.exact ≤ i → Allows d old cur j i all → Claims d (λ c q. IsAllowed d c.interp c.state c.inputs j) cur all
-allows-all d old cur j i all past h = record {
-  means = λ c q fits.
-      let both = h.claims c q fits in
-      (λ t. both.0 (t, subst (λ l. AllByRecursion (AllowsCount (env_before d c) j) l) (sym (drop_all i d.exact past)) tt), λ k. (both.1 k).0);
-}
-
--- the cycle stands for some number of steps up to i where the term is true
-pub record Commuting (d : DesignView) (abs : Abstraction) (old cur : List Node) (whens : List ℕ) (after joined : SymState) (i any : ℕ) : Type 0 where
-  pub grows : GrowsKnown d (address_count d) old cur
-  pub sorted : TermHasSort cur any sort.Bool
-  pub conditions : AreConditions d cur whens
-  pub after_sorted : IsVisible d cur after
-  pub after_shows : ShowsValues d cur after.entries (λ c. abs c.interp (step d.pipe c.interp c.state c.inputs))
-  pub joined_sorted : IsVisible d cur joined
-  pub joined_shows : ShowsValues d cur joined.entries (λ c. spec_steps i d c.interp (abs c.interp c.state))
-  pub claims : Claims d (λ c q. (j : ℕ) × (j ≤ i) × StandsAt d abs c q j) cur any
+pub allows-all : (d : DesignView) (old cur : List Node) (whens : List ℕ) (j i all : ℕ) → length d.exact ≤ i → Allows d old cur whens j i all
+    → (w : World) (interp : List Table) (values : List Value) (inputs : List Scalar) → DenoteConditions d w old whens interp values inputs → Says w cur all (IsAllowed d interp values inputs j)
+allows-all d old cur whens j i all past h w interp values inputs denote =
+    let both = h.says w interp values inputs denote in
+    (λ t. both.0 (t, subst (λ l. AllByRecursion (AllowsCount (env_before d interp values inputs) j) l) (sym (drop_all i d.exact past)) tt), λ k. (both.1 k).0)
 
 conditions-later_all : (old new : List Node) → Extends old new → (whens : List ℕ) → AllByRecursion (λ id. TermHasSort old id sort.Bool) whens → AllByRecursion (λ id. TermHasSort new id sort.Bool) whens
 conditions-later_all old new e [] h = tt
@@ -118,37 +110,65 @@ conditions-later_shows w env old new e (id ∷ whens) [] h k = absurd k
 conditions-later_shows w env old new e (id ∷ whens) (x ∷ exact) h k = (truth-later w old new e id sort.Bool h.0 ∙ k.0, conditions-later_shows w env old new e whens exact h.1 k.1)
 
 pub conditions-later : (d : DesignView) (old new : List Node) → Extends old new → (whens : List ℕ) → AreConditions d old whens → AreConditions d new whens
-conditions-later d old new e whens h = record {
-  count = h.count;
-  sorted = conditions-later_all old new e whens h.sorted;
-  shows = λ c q fits. conditions-later_shows (case_world c q) (env_before d c) old new e whens d.exact h.sorted (h.shows c q fits);
-}
+conditions-later d old new e whens h = record { count = h.count; sorted = conditions-later_all old new e whens h.sorted }
+
+pub DenoteConditions-later : (d : DesignView) (w : World) (old new : List Node) → Extends old new → (whens : List ℕ) (interp : List Table) (values : List Value) (inputs : List Scalar) → AreConditions d old whens
+    → DenoteConditions d w old whens interp values inputs → DenoteConditions d w new whens interp values inputs
+DenoteConditions-later d w old new e whens interp values inputs h k = conditions-later_shows w (env_before d interp values inputs) old new e whens d.exact h.sorted k
+
+-- what the terms denote where the cycle stands for some number of steps up to i exactly if the term is true
+pub record CommutesSoFar (d : DesignView) (w : World) (cur : List Node) (whens : List ℕ) (after joined : SymState) (first i any : ℕ)
+    (interp : List Table) (values : List Value) (inputs : List Scalar) (a b : List Value) : Type 0 where
+  pub conditions : DenoteConditions d w cur whens interp values inputs
+  pub after_values : DenoteValues w cur after.entries b
+  pub joined_values : DenoteValues w cur joined.entries (spec_steps i d interp a)
+  pub says : Says w cur any (StandsUpTo d w interp values inputs first a b i)
+
+-- the loop over the numbers of steps, after i of them, where the terms of a state and of two visible states stood in the
+-- graph before it
+pub record Commuting (d : DesignView) (old cur : List Node) (state : SymState) (whens : List ℕ) (before after joined : SymState) (first i any : ℕ) : Type 0 where
+  pub grows : GrowsKnown d (first + address_count d) old cur
+  pub sorted : TermHasSort cur any sort.Bool
+  pub conditions : AreConditions d cur whens
+  pub after_sorted : IsVisible d cur after
+  pub joined_sorted : IsVisible d cur joined
+  pub so_far : (w : World) (interp : List Table) (values : List Value) (inputs : List Scalar) (a b : List Value)
+      → DenotesState d w old state interp values inputs → DenoteValues w old before.entries a → DenoteValues w old after.entries b
+      → CommutesSoFar d w cur whens after joined first i any interp values inputs a b
+
+-- what the term of one number of steps says
+abbrev pub SaysStands : DesignView → List Node → List Node → List ℕ → List ℕ → List ℕ → ℕ → ℕ → ℕ → Type 0
+SaysStands d old new whens after joined first j id =
+    (w : World) (interp : List Table) (values : List Value) (inputs : List Scalar) (b c : List Value)
+    → DenoteConditions d w old whens interp values inputs → DenoteValues w old after b → DenoteValues w old joined c
+    → Says w new id (IsAllowed d interp values inputs j × EqualIn w (λ m. first + address_number d m j) b c)
 
 -- no steps
-pub commuting-none : (d : DesignView) (abs : Abstraction) (old cur new : List Node) (whens : List ℕ) (after joined : SymState) (any : ℕ) → GrowsKnown d (address_count d) old cur → GrowsKnown d (address_count d) cur new
-    → AreConditions d cur whens → IsVisible d cur after → ShowsValues d cur after.entries (λ c. abs c.interp (step d.pipe c.interp c.state c.inputs))
-    → IsVisible d cur joined → ShowsValues d cur joined.entries (λ c. abs c.interp c.state)
-    → TermHasSort new any sort.Bool → Claims d (λ c q. StandsAt d abs c q 0) new any → Commuting d abs old new whens after joined 0 any
-commuting-none d abs old cur new whens after joined any g f conditions vb sb vj sj s claims = record {
-  grows = Known-trans d (address_count d) old cur new g f;
-  sorted = s;
-  conditions = conditions-later d cur new f.extends whens conditions;
-  after_sorted = IsVisible-later d cur new f.extends after vb;
-  after_shows = ShowsValues-later d cur new f.extends after.entries _ (inside_sorts cur after.entries (entry_sorts d.spec) vb.sorted) sb;
-  joined_sorted = IsVisible-later d cur new f.extends joined vj;
-  joined_shows = ShowsValues-later d cur new f.extends joined.entries _ (inside_sorts cur joined.entries (entry_sorts d.spec) vj.sorted) sj;
-  claims = Claims-same d (λ c q. StandsAt d abs c q 0) (λ c q. (j : ℕ) × (j ≤ 0) × StandsAt d abs c q j) new any
-      (λ c q fits. (λ h. (0, omega arith, h), λ h. subst (StandsAt d abs c q) (nothing h.0 h.1) h.2)) claims;
-} where
-  nothing : (j : ℕ) → j ≤ 0 → j ≡ 0
-  nothing j h = omega (arith, h)
-
--- the specification's state after one step more
-pub step-shows : (d : DesignView) (abs : Abstraction) (old new : List Node) (joined next : SymState) (i : ℕ) → DenotesSpecStep d old new joined next
-    → ShowsValues d old joined.entries (λ c. spec_steps i d c.interp (abs c.interp c.state)) → ShowsValues d new next.entries (λ c. spec_steps (suc i) d c.interp (abs c.interp c.state))
-step-shows d abs old new joined next i h k = record {
-  shows = λ c q fits. h.denotes (case_world c q) c.interp (spec_steps i d c.interp (abs c.interp c.state)) (IsWorldOf-world_of d c.interp c.state c.inputs q fits.interp) (k.shows c q fits);
-}
+pub commuting-none : (d : DesignView) (g0 g1 g2 : List Node) (state : SymState) (whens : List ℕ) (before after : SymState) (first any : ℕ) → GrowsWithin d g0 g1 → AreConditions d g1 whens
+    → ((w : World) (interp : List Table) (values : List Value) (inputs : List Scalar) → DenotesState d w g0 state interp values inputs → DenoteConditions d w g1 whens interp values inputs)
+    → IsVisible d g0 after → IsVisible d g0 before → GrowsKnown d (first + address_count d) g1 g2
+    → TermHasSort g2 any sort.Bool → SaysStands d g1 g2 whens after.entries before.entries first 0 any → Commuting d g0 g2 state whens before after before first 0 any
+commuting-none d g0 g1 g2 state whens before after first any f conditions denote vb vj g s says =
+    let whole = Known-trans d (first + address_count d) g0 g1 g2 (Known-within d (first + address_count d) g0 g1 f) g in
+    record {
+      grows = whole;
+      sorted = s;
+      conditions = conditions-later d g1 g2 g.extends whens conditions;
+      after_sorted = IsVisible-later d g0 g2 whole.extends after vb;
+      joined_sorted = IsVisible-later d g0 g2 whole.extends before vj;
+      so_far = λ w interp values inputs a b hs ha hb.
+          let hc = denote w interp values inputs hs in
+          record {
+            conditions = DenoteConditions-later d w g1 g2 g.extends whens interp values inputs conditions hc;
+            after_values = values-later w g0 g2 whole.extends after.entries (entry_sorts d.spec) b vb.sorted hb;
+            joined_values = values-later w g0 g2 whole.extends before.entries (entry_sorts d.spec) a vj.sorted ha;
+            says = Says-same w g2 any (StandsIn d w interp values inputs first a b 0) (StandsUpTo d w interp values inputs first a b 0)
+                (λ h. (0, omega arith, h), λ h. subst (StandsIn d w interp values inputs first a b) (nothing h.0 h.1) h.2)
+                (says w interp values inputs b a hc (values-later w g0 g1 f.extends after.entries (entry_sorts d.spec) b vb.sorted hb) (values-later w g0 g1 f.extends before.entries (entry_sorts d.spec) a vj.sorted ha));
+          };
+    } where
+      nothing : (j : ℕ) → j ≤ 0 → j ≡ 0
+      nothing j h = omega (arith, h)
 
 up_to : (P : ℕ → Type 0) (i : ℕ) → (((j : ℕ) × (j ≤ i) × P j) ⊎ P (suc i)) ↔ ((j : ℕ) × (j ≤ suc i) × P j)
 up_to P i = (
@@ -163,38 +183,100 @@ up_to P i = (
   below j h n = omega (arith, h, n)
 
 -- one step more
-pub commuting-next : (d : DesignView) (abs : Abstraction) (old cur mid next new : List Node) (whens : List ℕ) (after joined stepped : SymState) (i any one id : ℕ) → Commuting d abs old cur whens after joined i any
-    → GrowsWithin d cur mid → IsVisible d mid stepped → DenotesSpecStep d cur mid joined stepped → GrowsKnown d (address_count d) mid next
-    → TermHasSort next one sort.Bool → Claims d (λ c q. StandsAt d abs c q (suc i)) next one
+commuting-next : (d : DesignView) (old cur mid next new : List Node) (state : SymState) (whens : List ℕ) (before after joined stepped : SymState) (first i any one id : ℕ) → Commuting d old cur state whens before after joined first i any
+    → GrowsWithin d cur mid → IsVisible d mid stepped → DenotesSpecStep d cur mid joined stepped → GrowsKnown d (first + address_count d) mid next
+    → TermHasSort next one sort.Bool → SaysStands d mid next whens after.entries stepped.entries first (suc i) one
     → Extends next new → AddsUses next new [] → TermHasSort new id sort.Bool → Denotes new id (λ w. Truth (truth w next any || truth w next one))
-    → Commuting d abs old new whens after stepped (suc i) id
-commuting-next d abs old cur mid next new whens after joined stepped i any one id h g va sa f so claimed e u s is =
-    let last : GrowsKnown d (address_count d) next new = Known-none d (address_count d) next new e u in
-    let rest : GrowsKnown d (address_count d) mid new = Known-trans d (address_count d) mid next new f last in
-    let whole : GrowsKnown d (address_count d) cur new = Known-trans d (address_count d) cur mid new (Known-within d (address_count d) cur mid g) rest in
-    let front : GrowsKnown d (address_count d) cur next = Known-trans d (address_count d) cur mid next (Known-within d (address_count d) cur mid g) f in
+    → Commuting d old new state whens before after stepped first (suc i) id
+commuting-next d old cur mid next new state whens before after joined stepped first i any one id h g va sa f so says e u s is =
+    let n : ℕ = first + address_count d in
+    let rest : GrowsKnown d n mid new = Known-trans d n mid next new f (Known-none d n next new e u) in
+    let whole : GrowsKnown d n cur new = Known-trans d n cur mid new (Known-within d n cur mid g) rest in
+    let front : GrowsKnown d n cur next = Known-trans d n cur mid next (Known-within d n cur mid g) f in
     record {
-      grows = Known-trans d (address_count d) old cur new h.grows whole;
+      grows = Known-trans d n old cur new h.grows whole;
       sorted = s;
       conditions = conditions-later d cur new whole.extends whens h.conditions;
       after_sorted = IsVisible-later d cur new whole.extends after h.after_sorted;
-      after_shows = ShowsValues-later d cur new whole.extends after.entries _ (inside_sorts cur after.entries (entry_sorts d.spec) h.after_sorted.sorted) h.after_shows;
       joined_sorted = IsVisible-later d mid new rest.extends stepped va;
-      joined_shows = ShowsValues-later d mid new rest.extends stepped.entries _ (inside_sorts mid stepped.entries (entry_sorts d.spec) va.sorted) (step-shows d abs cur mid joined stepped i sa h.joined_shows);
-      claims =
-          Claims-same d (λ c q. ((j : ℕ) × (j ≤ i) × StandsAt d abs c q j) ⊎ StandsAt d abs c q (suc i)) (λ c q. (j : ℕ) × (j ≤ suc i) × StandsAt d abs c q j) new id
-          (λ c q fits. up_to (StandsAt d abs c q) i)
-          (Claims-or d (λ c q. (j : ℕ) × (j ≤ i) × StandsAt d abs c q j) (λ c q. StandsAt d abs c q (suc i)) next new any one id
-          (Claims-later d _ cur next any sort.Bool front.extends h.sorted h.claims) claimed is);
+      so_far = λ w interp values inputs a b hs ha hb.
+          let now = h.so_far w interp values inputs a b hs ha hb in
+          let moved : DenoteValues w mid stepped.entries (spec_steps (suc i) d interp a) = sa.denotes w interp (spec_steps i d interp a) hs.world now.joined_values in
+          let said : Says w next one (StandsIn d w interp values inputs first a b (suc i)) =
+          says w interp values inputs b (spec_steps (suc i) d interp a) (DenoteConditions-later d w cur mid g.extends whens interp values inputs h.conditions now.conditions)
+          (values-later w cur mid g.extends after.entries (entry_sorts d.spec) b h.after_sorted.sorted now.after_values) moved in
+          record {
+            conditions = DenoteConditions-later d w cur new whole.extends whens interp values inputs h.conditions now.conditions;
+            after_values = values-later w cur new whole.extends after.entries (entry_sorts d.spec) b h.after_sorted.sorted now.after_values;
+            joined_values = values-later w mid new rest.extends stepped.entries (entry_sorts d.spec) (spec_steps (suc i) d interp a) va.sorted moved;
+            says =
+                Says-same w new id (StandsUpTo d w interp values inputs first a b i ⊎ StandsIn d w interp values inputs first a b (suc i)) (StandsUpTo d w interp values inputs first a b (suc i))
+                (up_to (StandsIn d w interp values inputs first a b) i)
+                (Says-or w next new any one id (StandsUpTo d w interp values inputs first a b i) (StandsIn d w interp values inputs first a b (suc i))
+                (Says-later w cur next any sort.Bool (StandsUpTo d w interp values inputs first a b i) front.extends h.sorted now.says) said is);
+          };
     }
 
--- that so many steps are allowed and the two states are equal
-pub stands-claimed : (d : DesignView) (g0 g1 g2 g3 : List Node) (after joined : List ℕ) (j x y : ℕ) (r : Result ℕ AllocError) → Extends g0 g1 → Extends g1 g2 → TermHasSort g1 x sort.Bool → Claims d (λ c q. IsAllowed d c.interp c.state c.inputs j) g1 x
-    → AreInside g0 after → AreInside g0 joined
-    → ((a b : Case → List Value) → ShowsValues d g1 after a → ShowsValues d g1 joined b → Claims d (λ c q. EqualAt (λ m. m * (d.steps + 1) + j) q (a c) (b c)) g2 y)
+pub commuting-more : (d : DesignView) (old cur mid next new : List Node) (state : SymState) (whens : List ℕ) (before after joined stepped : SymState) (first i any one id : ℕ) → Commuting d old cur state whens before after joined first i any
+    → GrowsWithin d cur mid → IsVisible d mid stepped → DenotesSpecStep d cur mid joined stepped → GrowsKnown d (first + address_count d) mid next
+    → TermHasSort next one sort.Bool → SaysStands d mid next whens after.entries stepped.entries first (i + 1) one
+    → Extends next new → AddsUses next new [] → TermHasSort new id sort.Bool → Denotes new id (λ w. Truth (truth w next any || truth w next one))
+    → Commuting d old new state whens before after stepped first (i + 1) id
+commuting-more d old cur mid next new state whens before after joined stepped first i any one id h g va sa f so says e u s is =
+    let more : i + 1 ≡ suc i = omega arith in
+    subst (λ k. Commuting d old new state whens before after stepped first k id) (sym more)
+    (commuting-next d old cur mid next new state whens before after joined stepped first i any one id h g va sa f so
+    (subst (λ k. SaysStands d mid next whens after.entries stepped.entries first k one) more says) e u s is)
+
+-- the loop done, the term says whether the cycle stands for some number of steps
+pub commutes-said : (d : DesignView) (old cur : List Node) (state : SymState) (whens : List ℕ) (before after joined : SymState) (first i any : ℕ) → i ≡ d.steps → Commuting d old cur state whens before after joined first i any
+    → (w : World) (interp : List Table) (values : List Value) (inputs : List Scalar) (a b : List Value) → DenotesState d w old state interp values inputs → DenoteValues w old before.entries a → DenoteValues w old after.entries b
+    → Says w cur any (StandsUpTo d w interp values inputs first a b d.steps)
+commutes-said d old cur state whens before after joined first i any last h w interp values inputs a b hs ha hb =
+    subst (λ k. Says w cur any (StandsUpTo d w interp values inputs first a b k)) last (h.so_far w interp values inputs a b hs ha hb).says
+
+-- memories that are read at the addresses of a number of steps
+placed : (d : DesignView) (w : World) (first j : ℕ) (a b : List Value) → EqualIn w (λ m. m * (d.steps + 1) + (first + j)) a b ↔ EqualIn w (λ m. first + address_number d m j) a b
+placed d w first j a b =
+    let same : (λ (m : ℕ). applied w (symbol.Address (m * (d.steps + 1) + (first + j))) []) ≡ (λ (m : ℕ). applied w (symbol.Address (first + address_number d m j)) []) =
+    fun_ext (λ m. ap (λ k. applied w (symbol.Address k) []) (moved (m * (d.steps + 1)))) in
+    (subst (λ f. EqualFrom f 0 a b) same, subst (λ f. EqualFrom f 0 a b) (sym same)) where
+      moved : (k : ℕ) → k + (first + j) ≡ first + (k + j)
+      moved k = omega arith
+
+-- so many steps are allowed and the two states are equal
+pub stands-said : (d : DesignView) (g0 g1 g2 g3 : List Node) (whens after joined : List ℕ) (first j x y : ℕ) (r : Result ℕ AllocError) → Extends g0 g1 → Extends g1 g2 → TermHasSort g1 x sort.Bool
+    → ((w : World) (interp : List Table) (values : List Value) (inputs : List Scalar) → DenoteConditions d w g0 whens interp values inputs → Says w g1 x (IsAllowed d interp values inputs j))
+    → HaveSorts g0 after (entry_sorts d.spec) → HaveSorts g0 joined (entry_sorts d.spec)
+    → ((w : World) (a b : List Value) → DenoteValues w g1 after a → DenoteValues w g1 joined b → Says w g2 y (EqualIn w (λ m. m * (d.steps + 1) + (first + j)) a b))
     → IfOk r (λ id. Denotes g3 id (λ w. Truth (truth w g2 x && truth w g2 y)))
-    → IfOk r (λ id. (a b : Case → List Value) → ShowsValues d g0 after a → ShowsValues d g0 joined b → Claims d (λ c q. IsAllowed d c.interp c.state c.inputs j × EqualAt (λ m. address_number d m j) q (a c) (b c)) g3 id)
-stands-claimed d g0 g1 g2 g3 after joined j x y (Err e) e1 e2 s allowed ib ij same t = tt
-stands-claimed d g0 g1 g2 g3 after joined j x y (Ok id) e1 e2 s allowed ib ij same t = λ a b ha hb.
-    Claims-and d (λ c q. IsAllowed d c.interp c.state c.inputs j) (λ c q. EqualAt (λ m. address_number d m j) q (a c) (b c)) g2 g3 x y id (Claims-later d _ g1 g2 x sort.Bool e2 s allowed)
-    (same a b (ShowsValues-later d g0 g1 e1 after a ib ha) (ShowsValues-later d g0 g1 e1 joined b ij hb)) t
+    → IfOk r (SaysStands d g0 g3 whens after joined first j)
+stands-said d g0 g1 g2 g3 whens after joined first j x y (Err e) e1 e2 s allowed ib ij same t = tt
+stands-said d g0 g1 g2 g3 whens after joined first j x y (Ok id) e1 e2 s allowed ib ij same t = λ w interp values inputs b c hc hb hj.
+    Says-and w g2 g3 x y id (IsAllowed d interp values inputs j) (EqualIn w (λ m. first + address_number d m j) b c)
+    (Says-later w g1 g2 x sort.Bool (IsAllowed d interp values inputs j) e2 s (allowed w interp values inputs hc))
+    (Says-same w g2 y (EqualIn w (λ m. m * (d.steps + 1) + (first + j)) b c) (EqualIn w (λ m. first + address_number d m j) b c) (placed d w first j b c)
+    (same w b c (values-later w g0 g1 e1 after (entry_sorts d.spec) b ib hb) (values-later w g0 g1 e1 joined (entry_sorts d.spec) c ij hj))) t
+
+-- memories that are read at the address of their number
+pub plain-address : (q : List ℕ) (a b : List Value) → EqualAt (λ m. m * 1 + 0) q a b ↔ EqualAt (λ m. m) q a b
+plain-address q a b =
+    let same : (λ (m : ℕ). slice_index_or q (m * 1 + 0) 0) ≡ (λ (m : ℕ). slice_index_or q m 0) = fun_ext (λ m. ap (λ k. slice_index_or q k 0) (once m)) in
+    (subst (λ f. EqualFrom f 0 a b) same, subst (λ f. EqualFrom f 0 a b) (sym same)) where
+      once : (m : ℕ) → m * 1 + 0 ≡ m
+      once m = omega arith
+
+-- the address of each memory for each number of steps is one of a cycle's
+pub below-count : (d : DesignView) (first j : ℕ) → j ≤ d.steps → AreBelow d (first + j) (d.steps + 1) (first + address_count d)
+below-count d first j few m inside =
+    let within : m * (d.steps + 1) + j < (d.steps + 1) * memory_count d = mul-add-lt m (d.steps + 1) j (memory_count d) inside (omega (arith, few)) in
+    omega (arith, within)
+
+-- the state after a cycle
+pub next-denotes : (d : DesignView) (w : World) (old new : List Node) (state next : SymState) (interp : List Table) (values : List Value) (inputs : List Scalar) → Extends old new → StateHasSorts d.pipe old state
+    → DenotesStep d old new state next → next.inputs ≡ state.inputs → DenotesState d w old state interp values inputs → DenotesState d w new next interp (step d.pipe interp values inputs) inputs
+next-denotes d w old new state next interp values inputs e sorted t same now = record {
+  world = now.world;
+  entries = t.denotes w interp values inputs now;
+  inputs = subst (λ l. DenoteScalars w new l inputs) (sym same) (Denote-Extends _ w old new e state.inputs inputs (inside_sorts old state.inputs _ sorted.inputs) now.inputs);
+}

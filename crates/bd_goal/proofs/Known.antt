@@ -1,5 +1,5 @@
 -- What stays where a graph grows by the design's symbols and fresh addresses.
-use Rattle.std.proofs.Common.{◌≡◌, ℕ, inl, inr, List, [], Contains, None, Some, refl, ap, sym, ◌∙◌, subst, arith}
+use Rattle.std.proofs.Common.{◌≡◌, ℕ, ◌≤◌, inl, inr, List, [], Contains, None, Some, refl, ap, sym, ◌∙◌, subst, arith}
 use Rattle.std.specs.Prelude.{IfOk, Result, Ok, Err}
 use Rattle.std.specs.declared.alloc.AllocError.{AllocError}
 use Rattle.std.proofs.lemmas.List.Elements.{Contains-append_cases}
@@ -31,6 +31,13 @@ pub Known-by : (d : DesignView) (n : ℕ) (a b : List Node) (more : List Use) �
 Known-by d n a b more known e added = record {
   extends = e;
   within = λ u h. elim (Contains-append_cases (uses a) more u (added.within u h)) [ inl k ↦ inl k | inr k ↦ inr (known u k) ];
+}
+
+-- by addresses of which there may be more
+pub Known-more : (d : DesignView) (n m : ℕ) (a b : List Node) → n ≤ m → GrowsKnown d n a b → GrowsKnown d m a b
+Known-more d n m a b few g = record {
+  extends = g.extends;
+  within = λ u h. elim (g.within u h) [ inl k ↦ inl k | inr (inl k) ↦ inr (inl k) | inr (inr (i, below, is)) ↦ inr (inr (i, omega (arith, below, few), is)) ];
 }
 
 -- by no symbol

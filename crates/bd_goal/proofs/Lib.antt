@@ -10,4 +10,5 @@ pub mod Counting
 pub mod Equalling
 pub mod Joining
 pub mod Standing
-pub mod Starting
+pub mod Runs
+pub mod Running

@@ -8,12 +8,10 @@ use Rattle.bd_model.specs.DesignView.{DesignView, LocalView}
 use Rattle.bd_model.specs.Value.{value_of, env_of}
 use Rattle.bd_model.specs.Lawful.{Context, HasSort, LetsHaveSorts, entry_sorts}
 use Rattle.bd_model.specs.declared.design.Sort.{Sort}
-use Rattle.bd_model.specs.declared.case.Case.{Case}
 use Rattle.bd_model.specs.declared.table.Scalar.{Scalar}
 use Rattle.bd_model.specs.declared.table.Table.{Table}
 use Rattle.bd_model.specs.declared.table.Value.{Value}
 use Rattle.bd_model.specs.declared.table.Value.TheVariants as value
-use Rattle.bd_model.specs.Fits.{Fits}
 use Rattle.bd_model.proofs.Pairs.{AllZip-append}
 use Rattle.bd_terms.specs.declared.node.Node.{Node}
 use Rattle.bd_terms.specs.Graph.{sort_at}
@@ -25,8 +23,6 @@ use Rattle.bd_symbolic.specs.DesignSymbols.{GrowsWithin, KeepsDesign}
 use Rattle.bd_symbolic.specs.Symbolic.{AreTerms, DenotesExpr, DenoteValues, HaveSorts, context_in, terms_of}
 use Rattle.bd_symbolic.specs.States.{DenoteLets, DenotesState, StateHasSorts, local_sorts, port_sorts}
 use Rattle.bd_symbolic.proofs.Growing.{Denote-Extends, Grows-trans, KeepsDesign-Grows}
-use Rattle.bd_goal.specs.Claims.{case_world}
-use Rattle.bd_goal.specs.inner.Shown.{ShowsState}
 use Rattle.bd_goal.proofs.Lists.{map-push, take-next, zip-length}
 use Rattle.bd_goal.proofs.Showing.{HaveSorts-later, inside_sorts}
 
@@ -196,15 +192,13 @@ alone-stated d nodes state alone keeps sorted entries inputs = record {
   inputs = subst (λ l. HaveSorts nodes l []) (sym inputs) tt;
 }
 
-pub alone-shows : (d : DesignView) (nodes : List Node) (state alone : SymState) (values : Case → List Value) → alone.entries ≡ state.entries → alone.inputs ≡ [] → ShowsState d nodes state values
-    → (c : Case) (q : List ℕ) → Fits d c → DenotesState d (case_world c q) nodes alone c.interp (values c) []
-alone-shows d nodes state alone values entries inputs h c q fits =
-    let now = h.shows c q fits in
-    record {
-      world = now.world;
-      entries = subst (λ l. DenoteValues (case_world c q) nodes l (values c)) (sym entries) now.entries;
-      inputs = subst (λ l. AllZip (λ id x. denoted (case_world c q) nodes id ≡ denotes_value (value.Scalar x)) l []) (sym inputs) tt;
-    }
+pub alone-denotes : (d : DesignView) (w : World) (nodes : List Node) (state alone : SymState) (interp : List Table) (values : List Value) (scalars : List Scalar) → alone.entries ≡ state.entries → alone.inputs ≡ []
+    → DenotesState d w nodes state interp values scalars → DenotesState d w nodes alone interp values []
+alone-denotes d w nodes state alone interp values scalars entries inputs now = record {
+  world = now.world;
+  entries = subst (λ l. DenoteValues w nodes l values) (sym entries) now.entries;
+  inputs = subst (λ l. AllZip (λ id x. denoted w nodes id ≡ denotes_value (value.Scalar x)) l []) (sym inputs) tt;
+}
 
 -- a state with its inputs
 pub whole-stated : (d : DesignView) (nodes : List Node) (state : SymState) → KeepsDesign d nodes → StateHasSorts d.pipe nodes state → IsStated d (port_sorts d.pipe) nodes state

@@ -1,11 +1,11 @@
--- Claims and what they are made of.
+-- What truth terms say, and what stays where a graph grows.
 use Rattle.std.proofs.Common.{◌≡◌, ℕ, Bool, true, false, ◌&&◌, ◌||◌, not, List, [], ◌∷◌, refl, ap, sym, subst}
 use Rattle.std.specs.Prelude.{◌↔◌, ◌⊎◌, IsTrue}
 use Rattle.std.proofs.lemmas.Bool.Decides.{Decides-and, Decides-not, Decides-or}
 use Rattle.bd_model.specs.DesignView.{DesignView}
-use Rattle.bd_model.specs.Fits.{Fits}
-use Rattle.bd_model.specs.declared.case.Case.{Case}
 use Rattle.bd_model.specs.declared.design.Sort.{Sort}
+use Rattle.bd_model.specs.declared.table.Scalar.{Scalar}
+use Rattle.bd_model.specs.declared.table.Table.{Table}
 use Rattle.bd_model.specs.declared.table.Value.{Value}
 use Rattle.bd_terms.specs.declared.node.Node.{Node}
 use Rattle.bd_terms.specs.Graph.{Extends}
@@ -13,62 +13,45 @@ use Rattle.bd_terms.specs.Graph.{HasSort as TermHasSort}
 use Rattle.bd_terms.specs.Denotation.{World, Truth, Denotes, truth, truth_of}
 use Rattle.bd_terms.proofs.Growth.{HasSort-Extends, denoted-Extends}
 use Rattle.bd_symbolic.specs.declared.state.SymState.{SymState}
-use Rattle.bd_symbolic.specs.Symbolic.{AreInside, HaveSorts}
-use Rattle.bd_symbolic.specs.States.{StateHasSorts}
+use Rattle.bd_symbolic.specs.Symbolic.{AreInside, DenoteValues, HaveSorts}
+use Rattle.bd_symbolic.specs.States.{DenotesState, StateHasSorts}
 use Rattle.bd_symbolic.proofs.Growing.{Denote-Extends}
-use Rattle.bd_goal.specs.Claims.{Claims, case_world}
-use Rattle.bd_goal.specs.inner.Shown.{IsVisible, ShowsState, ShowsValues}
+use Rattle.bd_goal.specs.inner.Shown.{IsVisible, Says}
 
 -- a truth term denotes the same where the graph grows
 pub truth-later : (w : World) (old new : List Node) → Extends old new → (id : ℕ) (s : Sort) → TermHasSort old id s → truth w new id ≡ truth w old id
 truth-later w old new e id s h = ap truth_of (denoted-Extends w old new e id h.inside)
 
--- what a claim says is what its truth value says
-pub claims_by : (d : DesignView) (claim : Case → List ℕ → Type 0) (nodes : List Node) (id : ℕ) (value : Case → List ℕ → Bool)
-    → ((c : Case) (q : List ℕ) → truth (case_world c q) nodes id ≡ value c q) → ((c : Case) (q : List ℕ) → Fits d c → IsTrue (value c q) ↔ claim c q) → Claims d claim nodes id
-claims_by d claim nodes id value is h = record {
-  means = λ c q fits. subst (λ b. IsTrue b ↔ claim c q) (sym (is c q)) (h c q fits);
-}
+-- what a term says is what its truth value says
+pub says_by : (w : World) (nodes : List Node) (id : ℕ) (claim : Type 0) (value : Bool) → truth w nodes id ≡ value → IsTrue value ↔ claim → Says w nodes id claim
+says_by w nodes id claim value is h = subst (λ b. IsTrue b ↔ claim) (sym is) h
 
-pub Claims-later : (d : DesignView) (claim : Case → List ℕ → Type 0) (old new : List Node) (id : ℕ) (s : Sort) → Extends old new → TermHasSort old id s → Claims d claim old id → Claims d claim new id
-Claims-later d claim old new id s e h k =
-    claims_by d claim new id (λ c q. truth (case_world c q) old id) (λ c q. truth-later (case_world c q) old new e id s h) k.means
+pub Says-later : (w : World) (old new : List Node) (id : ℕ) (s : Sort) (claim : Type 0) → Extends old new → TermHasSort old id s → Says w old id claim → Says w new id claim
+Says-later w old new id s claim e h k = says_by w new id claim (truth w old id) (truth-later w old new e id s h) k
 
--- a claim that says the same
-pub Claims-same : (d : DesignView) (claim other : Case → List ℕ → Type 0) (nodes : List Node) (id : ℕ) → ((c : Case) (q : List ℕ) → Fits d c → claim c q ↔ other c q) → Claims d claim nodes id → Claims d other nodes id
-Claims-same d claim other nodes id same k = record {
-  means = λ c q fits.
-      let one = same c q fits in
-      let two = k.means c q fits in
-      (λ h. one.0 (two.0 h), λ h. two.1 (one.1 h));
-}
+-- it says what is the same
+pub Says-same : (w : World) (nodes : List Node) (id : ℕ) (claim other : Type 0) → claim ↔ other → Says w nodes id claim → Says w nodes id other
+Says-same w nodes id claim other same k = (λ h. same.0 (k.0 h), λ h. k.1 (same.1 h))
 
-pub Claims-and : (d : DesignView) (p q : Case → List ℕ → Type 0) (old new : List Node) (a b id : ℕ) → Claims d p old a → Claims d q old b
-    → Denotes new id (λ w. Truth (truth w old a && truth w old b)) → Claims d (λ c words. p c words × q c words) new id
-Claims-and d p q old new a b id h k is =
-    claims_by d (λ c words. p c words × q c words) new id (λ c words. truth (case_world c words) old a && truth (case_world c words) old b) (λ c words. ap truth_of (is.is (case_world c words)))
-    (λ c words fits. Decides-and _ _ (h.means c words fits) (k.means c words fits))
+pub Says-and : (w : World) (old new : List Node) (a b id : ℕ) (P Q : Type 0) → Says w old a P → Says w old b Q → Denotes new id (λ w. Truth (truth w old a && truth w old b)) → Says w new id (P × Q)
+Says-and w old new a b id P Q h k is = says_by w new id (P × Q) (truth w old a && truth w old b) (ap truth_of (is.is w)) (Decides-and _ _ h k)
 
-pub Claims-or : (d : DesignView) (p q : Case → List ℕ → Type 0) (old new : List Node) (a b id : ℕ) → Claims d p old a → Claims d q old b
-    → Denotes new id (λ w. Truth (truth w old a || truth w old b)) → Claims d (λ c words. p c words ⊎ q c words) new id
-Claims-or d p q old new a b id h k is =
-    claims_by d (λ c words. p c words ⊎ q c words) new id (λ c words. truth (case_world c words) old a || truth (case_world c words) old b) (λ c words. ap truth_of (is.is (case_world c words)))
-    (λ c words fits. Decides-or _ _ (h.means c words fits) (k.means c words fits))
+pub Says-or : (w : World) (old new : List Node) (a b id : ℕ) (P Q : Type 0) → Says w old a P → Says w old b Q → Denotes new id (λ w. Truth (truth w old a || truth w old b)) → Says w new id (P ⊎ Q)
+Says-or w old new a b id P Q h k is = says_by w new id (P ⊎ Q) (truth w old a || truth w old b) (ap truth_of (is.is w)) (Decides-or _ _ h k)
 
-pub Claims-not : (d : DesignView) (p : Case → List ℕ → Type 0) (old new : List Node) (a id : ℕ) → Claims d p old a → Denotes new id (λ w. Truth (not (truth w old a))) → Claims d (λ c words. ¬ p c words) new id
-Claims-not d p old new a id h is =
-    claims_by d (λ c words. ¬ p c words) new id (λ c words. not (truth (case_world c words) old a)) (λ c words. ap truth_of (is.is (case_world c words)))
-    (λ c words fits. Decides-not _ (h.means c words fits))
+pub Says-not : (w : World) (old new : List Node) (a id : ℕ) (P : Type 0) → Says w old a P → Denotes new id (λ w. Truth (not (truth w old a))) → Says w new id (¬ P)
+Says-not w old new a id P h is = says_by w new id (¬ P) (not (truth w old a)) (ap truth_of (is.is w)) (Decides-not _ h)
 
 implied : {P Q : Type 0} → (a b : Bool) → IsTrue a ↔ P → IsTrue b ↔ Q → IsTrue (not a || b) ↔ (P → Q)
 implied true b h k = (λ t p. k.0 t, λ f. k.1 (f (h.0 refl)))
 implied false b h k = (λ t p. absurd (cc (h.1 p)), λ f. refl)
 
-pub Claims-implies : (d : DesignView) (p q : Case → List ℕ → Type 0) (old new : List Node) (a b id : ℕ) → Claims d p old a → Claims d q old b
-    → Denotes new id (λ w. Truth (not (truth w old a) || truth w old b)) → Claims d (λ c words. p c words → q c words) new id
-Claims-implies d p q old new a b id h k is =
-    claims_by d (λ c words. p c words → q c words) new id (λ c words. not (truth (case_world c words) old a) || truth (case_world c words) old b) (λ c words. ap truth_of (is.is (case_world c words)))
-    (λ c words fits. implied _ _ (h.means c words fits) (k.means c words fits))
+pub Says-implies : (w : World) (old new : List Node) (a b id : ℕ) (P Q : Type 0) → Says w old a P → Says w old b Q → Denotes new id (λ w. Truth (not (truth w old a) || truth w old b)) → Says w new id (P → Q)
+Says-implies w old new a b id P Q h k is = says_by w new id (P → Q) (not (truth w old a) || truth w old b) (ap truth_of (is.is w)) (implied _ _ h k)
+
+-- what is true
+pub Says-true : (w : World) (nodes : List Node) (id : ℕ) (P : Type 0) → Denotes nodes id (λ w. Truth true) → P → Says w nodes id P
+Says-true w nodes id P is p = (λ h. p, λ h. ap truth_of (is.is w))
 
 -- terms with sorts are in the graph
 pub inside_sorts : (nodes : List Node) (ids : List ℕ) (sorts : List Sort) → HaveSorts nodes ids sorts → AreInside nodes ids
@@ -92,18 +75,14 @@ StateHasSorts-later d old new e state h = record {
 pub IsVisible-later : (d : DesignView) (old new : List Node) → Extends old new → (visible : SymState) → IsVisible d old visible → IsVisible d new visible
 IsVisible-later d old new e visible h = record { sorted = HaveSorts-later old new e visible.entries _ h.sorted; inputs = h.inputs }
 
-pub ShowsValues-later : (d : DesignView) (old new : List Node) → Extends old new → (ids : List ℕ) (values : Case → List Value) → AreInside old ids → ShowsValues d old ids values → ShowsValues d new ids values
-ShowsValues-later d old new e ids values h k = record {
-  shows = λ c q fits. Denote-Extends _ (case_world c q) old new e ids (values c) h (k.shows c q fits);
-}
+-- terms of sorts denote the same values
+pub values-later : (w : World) (old new : List Node) → Extends old new → (ids : List ℕ) (sorts : List Sort) (values : List Value) → HaveSorts old ids sorts → DenoteValues w old ids values → DenoteValues w new ids values
+values-later w old new e ids sorts values h k = Denote-Extends _ w old new e ids values (inside_sorts old ids sorts h) k
 
-pub ShowsState-later : (d : DesignView) (old new : List Node) → Extends old new → (state : SymState) (values : Case → List Value) → StateHasSorts d.pipe old state → ShowsState d old state values → ShowsState d new state values
-ShowsState-later d old new e state values h k = record {
-  shows = λ c q fits.
-      let now = k.shows c q fits in
-      record {
-        world = now.world;
-        entries = Denote-Extends _ (case_world c q) old new e state.entries (values c) (inside_sorts old state.entries _ h.entries) now.entries;
-        inputs = Denote-Extends _ (case_world c q) old new e state.inputs c.inputs (inside_sorts old state.inputs _ h.inputs) now.inputs;
-      };
+pub DenotesState-later : (d : DesignView) (w : World) (old new : List Node) → Extends old new → (state : SymState) (interp : List Table) (values : List Value) (inputs : List Scalar)
+    → StateHasSorts d.pipe old state → DenotesState d w old state interp values inputs → DenotesState d w new state interp values inputs
+DenotesState-later d w old new e state interp values inputs h k = record {
+  world = k.world;
+  entries = Denote-Extends _ w old new e state.entries values (inside_sorts old state.entries _ h.entries) k.entries;
+  inputs = Denote-Extends _ w old new e state.inputs inputs (inside_sorts old state.inputs _ h.inputs) k.inputs;
 }

@@ -1,6 +1,6 @@
 -- For each two memories there is a word that tells them apart if any does; so there are words for all addresses that
 -- tell apart what can be told apart.
-use Rattle.std.proofs.Common.{◌≡◌, ℕ, zero, suc, ◌+◌, ◌*◌, ◌/◌, ◌%◌, ◌<◌, ◌≤◌, max, Bool, true, false, ◌==◌, if◌then◌else◌, List, [], ◌∷◌, length, slice_index_or, refl, ap, sym, ◌∙◌, subst, arith, eqb-true, eq-eqb, ne_eqb, true≢false}
+use Rattle.std.proofs.Common.{◌≡◌, ℕ, zero, suc, ◌+◌, ◌-◌, ◌*◌, ◌/◌, ◌%◌, ◌<◌, ◌≤◌, max, Bool, true, false, ◌==◌, if◌then◌else◌, List, [], ◌∷◌, length, slice_index_or, refl, ap, sym, ◌∙◌, subst, arith, eqb-true, eq-eqb, ne_eqb, true≢false}
 use Rattle.std.proofs.lemmas.Bool.{cond-false}
 use Rattle.std.specs.List.{AllByRecursion}
 use Rattle.std.proofs.lemmas.Nat.{div-mul-add, mod-mul-add, mul-add-lt}
@@ -9,9 +9,10 @@ use Rattle.bd_model.specs.DesignView.{DesignView}
 use Rattle.bd_model.specs.Cycle.{step, spec_steps}
 use Rattle.bd_model.specs.Same.{Same}
 use Rattle.bd_model.specs.Conditions.{Abstraction, CommutesBy}
-use Rattle.bd_model.specs.declared.case.Case.{Case}
+use Rattle.bd_model.specs.declared.table.Scalar.{Scalar}
 use Rattle.bd_model.specs.declared.table.Slot.{Slot}
 use Rattle.bd_model.specs.declared.table.Memory.{Memory}
+use Rattle.bd_model.specs.declared.table.Table.{Table}
 use Rattle.bd_model.specs.declared.table.Value.{Value}
 use Rattle.bd_model.specs.declared.table.Value.TheVariants as value
 use Rattle.bd_model.proofs.Memories.{alike_by_rows}
@@ -116,53 +117,56 @@ get-listed f zero i h = absurd (omega (arith, h))
 get-listed f (suc n) zero h = refl
 get-listed f (suc n) (suc i) h = get-listed (λ i. f (suc i)) n i (omega (arith, h))
 
--- the state after a case's cycle, by an abstraction
-abbrev after : DesignView → Abstraction → Case → List Value
-after d abs c = abs c.interp (step d.pipe c.interp c.state c.inputs)
+module _ (d : DesignView) (abs : Abstraction) (interp : List Table) (state : List Value) (inputs : List Scalar) where
+  -- what the state after the cycle stands for
+  abbrev after : List Value
+  after = abs interp (step d.pipe interp state inputs)
 
--- the specification's state after j steps
-abbrev joined : DesignView → Abstraction → Case → ℕ → List Value
-joined d abs c j = spec_steps j d c.interp (abs c.interp c.state)
+  -- the specification's state after j steps
+  abbrev joined : ℕ → List Value
+  joined j = spec_steps j d interp (abs interp state)
 
--- the word of an address: one that tells the memory of its number from the one after so many steps
-abbrev pub told_word : DesignView → Abstraction → Case → ℕ → ℕ
-told_word d abs c i =
-    telling (memory_at (after d abs c) (i / (d.steps + 1))) (memory_at (joined d abs c (i % (d.steps + 1))) (i / (d.steps + 1)))
+  -- the word of an address: one that tells the memory of its number from the one after so many steps
+  abbrev pub told_word : ℕ → ℕ
+  told_word i = telling (memory_at after (i / (d.steps + 1))) (memory_at (joined (i % (d.steps + 1))) (i / (d.steps + 1)))
 
--- words for all addresses that tell apart what the case tells apart
-abbrev pub told_words : DesignView → Abstraction → Case → List ℕ
-told_words d abs c = listed (told_word d abs c) (length (memories (after d abs c)) * (d.steps + 1))
+  -- words for all addresses, from a first one on, that tell apart what the cycle tells apart
+  abbrev pub told_words : ℕ → List ℕ
+  told_words first = listed (λ i. told_word (i - first)) (first + length (memories after) * (d.steps + 1))
 
-told_at : (d : DesignView) (abs : Abstraction) (c : Case) (m j : ℕ) → j ≤ d.steps → m < length (memories (after d abs c))
-    → slice_index_or (told_words d abs c) (address_number d m j) 0 ≡ telling (memory_at (after d abs c) m) (memory_at (joined d abs c j) m)
-told_at d abs c m j few within =
-    let n : ℕ = d.steps + 1 in
-    let small : j < n = omega (arith, few) in
-    let inside : m * n + j < n * length (memories (after d abs c)) = mul-add-lt m n j (length (memories (after d abs c))) within small in
-    let quotient : (m * n + j) / n ≡ m = div-mul-add m n j small in
-    let rest : (m * n + j) % n ≡ j = mod-mul-add m n j small in
-    get-listed (told_word d abs c) (length (memories (after d abs c)) * n) (m * n + j) (omega (arith, inside))
-    ∙ ap (λ i. telling (memory_at (after d abs c) i) (memory_at (joined d abs c ((m * n + j) % n)) i)) quotient
-    ∙ ap (λ i. telling (memory_at (after d abs c) m) (memory_at (joined d abs c i) m)) rest
+  told_at : (first m j : ℕ) → j ≤ d.steps → m < length (memories after)
+      → slice_index_or (told_words first) (first + address_number d m j) 0 ≡ telling (memory_at after m) (memory_at (joined j) m)
+  told_at first m j few within =
+      let n : ℕ = d.steps + 1 in
+      let small : j < n = omega (arith, few) in
+      let inside : m * n + j < n * length (memories after) = mul-add-lt m n j (length (memories after)) within small in
+      let quotient : (m * n + j) / n ≡ m = div-mul-add m n j small in
+      let rest : (m * n + j) % n ≡ j = mod-mul-add m n j small in
+      get-listed (λ i. told_word (i - first)) (first + length (memories after) * n) (first + (m * n + j)) (omega (arith, inside))
+      ∙ ap told_word (gone first (m * n + j))
+      ∙ ap (λ i. telling (memory_at after i) (memory_at (joined ((m * n + j) % n)) i)) quotient
+      ∙ ap (λ i. telling (memory_at after m) (memory_at (joined i) m)) rest where
+        gone : (a b : ℕ) → (a + b) - a ≡ b
+        gone a b = omega arith
 
--- a cycle that stands for some number of steps as far as these words show does so
-pub told_commutes : (d : DesignView) (abs : Abstraction) (c : Case) → CommutesAt d abs c (told_words d abs c) → CommutesBy d abs c.interp c.state c.inputs
-told_commutes d abs c (j, few, stands) = (
-  j,
-  few,
-  (
-    stands.0,
-    Same-EqualFrom (λ m. slice_index_or (told_words d abs c) (address_number d m j) 0) 0 (after d abs c) (joined d abs c j)
-        (λ i within. ap (λ n. slice_index_or (told_words d abs c) (address_number d n j) 0) (first i) ∙ told_at d abs c i j few within) stands.1,
-  ),
-) where
-  first : (i : ℕ) → 0 + i ≡ i
-  first i = omega arith
+  -- a cycle that stands for some number of steps as far as these words show does so
+  pub told_commutes : (first : ℕ) → CommutesAt d abs interp state inputs first (told_words first) → CommutesBy d abs interp state inputs
+  told_commutes first (j, few, stands) = (
+    j,
+    few,
+    (
+      stands.0,
+      Same-EqualFrom (λ m. slice_index_or (told_words first) (first + address_number d m j) 0) 0 after (joined j)
+          (λ i within. ap (λ n. slice_index_or (told_words first) (first + address_number d n j) 0) (start i) ∙ told_at first i j few within) stands.1,
+    ),
+  ) where
+    start : (i : ℕ) → 0 + i ≡ i
+    start i = omega arith
 
--- a cycle that stands for some number of steps does so as far as any words show
-pub CommutesAt-any : (d : DesignView) (abs : Abstraction) (c : Case) (q : List ℕ) → CommutesBy d abs c.interp c.state c.inputs → CommutesAt d abs c q
-CommutesAt-any d abs c q (j, few, stands) =
-    (j, few, (stands.0, EqualFrom-Same (λ m. slice_index_or q (address_number d m j) 0) 0 (after d abs c) (joined d abs c j) stands.1))
+  -- a cycle that stands for some number of steps does so as far as any words show
+  pub CommutesAt-any : (first : ℕ) (q : List ℕ) → CommutesBy d abs interp state inputs → CommutesAt d abs interp state inputs first q
+  CommutesAt-any first q (j, few, stands) =
+      (j, few, (stands.0, EqualFrom-Same (λ m. slice_index_or q (first + address_number d m j) 0) 0 after (joined j) stands.1))
 
 -- words that tell apart the memories of two states
 abbrev pub told_pairs : List Value → List Value → List ℕ

@@ -9,6 +9,8 @@ use Rattle.bd_model.specs.declared.case.Case.{Case}
 use Rattle.bd_model.specs.declared.design.Sort.{Sort}
 use Rattle.bd_model.specs.declared.design.Sort.TheVariants as sort
 use Rattle.bd_model.specs.declared.design.Entry as entry
+use Rattle.bd_model.specs.declared.table.Scalar.{Scalar}
+use Rattle.bd_model.specs.declared.table.Table.{Table}
 use Rattle.bd_model.specs.declared.table.Value.{Value}
 use Rattle.bd_model.specs.declared.table.Value.TheVariants as value
 
@@ -40,23 +42,27 @@ EqualFrom address m _ _ = ⊥
 abbrev pub EqualAt : (ℕ → ℕ) → List ℕ → List Value → List Value → Type 0
 EqualAt number q a b = EqualFrom (λ m. slice_index_or q (number m) 0) 0 a b
 
--- the cycle stands for j steps, as far as the addresses show
-abbrev pub StandsAt : DesignView → Abstraction → Case → List ℕ → ℕ → Type 0
-StandsAt d abs c q j =
-    IsAllowed d c.interp c.state c.inputs j
-    × EqualAt (λ m. address_number d m j) q
-    (abs c.interp (step d.pipe c.interp c.state c.inputs))
-    (spec_steps j d c.interp (abs c.interp c.state))
+-- the cycle stands for j steps, as far as the addresses from the first one on show
+abbrev pub StandsAt :
+    DesignView → Abstraction → List Table → List Value → List Scalar → ℕ → List ℕ → ℕ → Type 0
+StandsAt d abs interp state inputs first q j =
+    IsAllowed d interp state inputs j
+    × EqualAt (λ m. first + address_number d m j) q
+    (abs interp (step d.pipe interp state inputs))
+    (spec_steps j d interp (abs interp state))
 
--- the cycle stands for some number of steps, at most the design's, as far as the addresses show
-abbrev pub CommutesAt : DesignView → Abstraction → Case → List ℕ → Type 0
-CommutesAt d abs c q = (j : ℕ) × (j ≤ d.steps) × StandsAt d abs c q j
+-- the cycle stands for some number of steps, at most the design's, as far as these addresses show
+abbrev pub CommutesAt :
+    DesignView → Abstraction → List Table → List Value → List Scalar → ℕ → List ℕ → Type 0
+CommutesAt d abs interp state inputs first q =
+    (j : ℕ) × (j ≤ d.steps) × StandsAt d abs interp state inputs first q j
 
 -- the correspondence formula
 abbrev pub Corresponds : DesignView → Abstraction → Case → List ℕ → Type 0
 Corresponds d abs c q =
     MeetsInvariant d c.interp c.state
-    → KeepsInvariant d c.interp c.state c.inputs × CommutesAt d abs c q
+    → KeepsInvariant d c.interp c.state c.inputs
+    × CommutesAt d abs c.interp c.state c.inputs 0 q
 
 -- the invariant is false in the state
 abbrev pub IsOutside : DesignView → Case → List ℕ → Type 0

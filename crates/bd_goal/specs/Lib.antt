@@ -1,6 +1,6 @@
-pub mod Abstraction
 pub mod Symbols
 pub mod Formula
 pub mod Claims
+pub mod Bounded
 pub mod Laws
 pub mod inner

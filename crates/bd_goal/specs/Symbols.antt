@@ -7,7 +7,7 @@ use Rattle.bd_terms.specs.declared.node.Sym.TheVariants as symbol
 use Rattle.bd_terms.specs.declared.node.Node.{Node}
 use Rattle.bd_terms.specs.Graph.{Extends, KeepsSymbol, Use, uses}
 use Rattle.bd_terms.specs.Reaches.{ReachesUse}
-use Rattle.bd_symbolic.specs.DesignSymbols.{IsDeclared, KeepsDesign}
+use Rattle.bd_symbolic.specs.DesignSymbols.{IsDeclared}
 
 -- each address that the graph holds is a word without arguments
 pub record KeepsAddresses (nodes : List Node) : Type 0 where

@@ -1,25 +1,21 @@
 //! For which numbers of steps of the specification a cycle stands.
-ghost use Rattle.std.specs.Prelude.{◌≤◌, ◌||◌, not, List, [], IfOk};
+ghost use Rattle.std.specs.Prelude.{◌≤◌, ◌+◌, ◌||◌, not, List, [], IfOk};
 ghost use Rattle.bd_model.specs.Conditions.{IsAllowed};
-ghost use Rattle.bd_model.specs.Cycle.{step};
 ghost use Rattle.bd_model.specs.DesignView.{design_view};
 ghost use Rattle.bd_model.specs.Lawful.{IsLawful, entry_sorts};
-ghost use Rattle.bd_model.specs.declared.case.Case.{Case};
 ghost use Rattle.bd_model.specs.declared.design.Sort.TheVariants as sort;
+ghost use Rattle.bd_model.specs.declared.table.Scalar.{Scalar};
+ghost use Rattle.bd_model.specs.declared.table.Table.{Table};
 ghost use Rattle.bd_model.specs.declared.table.Value.{Value};
 ghost use Rattle.bd_terms.specs.Graph.{AddsUses, Extends, HasSort};
-ghost use Rattle.bd_terms.specs.Denotation.{Denotes, Truth, truth};
-ghost use Rattle.bd_symbolic.specs.Symbolic.{HaveSorts};
+ghost use Rattle.bd_terms.specs.Denotation.{Denotes, Truth, World, truth};
+ghost use Rattle.bd_symbolic.specs.Symbolic.{DenoteValues, HaveSorts};
 ghost use Rattle.bd_symbolic.specs.DesignSymbols.{GrowsWithin, KeepsDesign};
-ghost use Rattle.bd_symbolic.specs.States.{StateHasSorts};
-ghost use Rattle.bd_goal.specs.Abstraction.{IsLawfulAbstraction, abstraction_of};
-ghost use Rattle.bd_goal.specs.Claims.{Claims};
-ghost use Rattle.bd_goal.specs.Formula.{CommutesAt, EqualAt, address_count, address_number};
+ghost use Rattle.bd_symbolic.specs.States.{DenotesState, StateHasSorts};
+ghost use Rattle.bd_goal.specs.Formula.{address_count, address_number};
 ghost use Rattle.bd_goal.specs.Symbols.{GrowsKnown, KeepsAddresses};
-ghost use Rattle.bd_goal.specs.inner.Shown.{AreConditions, ShowsState, ShowsValues};
+ghost use Rattle.bd_goal.specs.inner.Shown.{AreConditions, DenoteConditions, EqualIn, IsVisible, Says, StandsUpTo};
 
-use crate::abstracted::abstracted;
-use crate::abstraction::Abstraction;
 use crate::equal::equal;
 use bd_list::Sequence;
 use bd_model::Design;
@@ -27,35 +23,46 @@ use bd_symbolic::{SymState, TermIds, sym_eval, sym_lets, sym_spec_step};
 use bd_terms::{Graph, Id};
 use std::alloc::{AllocError, Global};
 
-// That the cycle between two states stands for some number of steps, at most the design's.
+// That the cycle from a state stands for some number of steps, at most the design's, from one visible state to another,
+// where memories are read at addresses from the first one on.
 pub(crate) fn commutes(
     alloc: Global,
     graph: &mut Graph,
     design: &Design,
-    abs: &Abstraction,
     state: &SymState,
-    next: &SymState,
+    before: SymState,
+    after: &SymState,
+    first: u32,
 ) -> Result<Id, AllocError>
     requires lawful { IsLawful (design_view design.now) }
-    requires abstraction { IsLawfulAbstraction (design_view design.now) abs.now }
     requires keeps { KeepsDesign (design_view design.now) graph.old }
     requires words { KeepsAddresses graph.old }
     requires state { StateHasSorts (design_view design.now).pipe graph.old state.now }
-    requires next { StateHasSorts (design_view design.now).pipe graph.old next.now }
-    requires before { ShowsState (design_view design.now) graph.old state.now (λ c. c.state) }
-    requires after { ShowsState (design_view design.now) graph.old next.now
-        (λ c. step (design_view design.now).pipe c.interp c.state c.inputs) }
+    requires before { IsVisible (design_view design.now) graph.old before }
+    requires after { IsVisible (design_view design.now) graph.old after.now }
+    requires start { first ≤ 300000000 }
     ensures sorted { IfOk result (λ id. HasSort graph.new id sort.Bool) }
-    ensures denotes { IfOk result (λ id. Claims (design_view design.now)
-        (CommutesAt (design_view design.now) (abstraction_of (design_view design.now) abs.now))
-        graph.new id) }
+    ensures says { IfOk result (λ id. (w : World) (interp : List Table) (values : List Value)
+        (inputs : List Scalar) (a b : List Value)
+        → DenotesState (design_view design.now) w graph.old state.now interp values inputs
+        → DenoteValues w graph.old before.entries a
+        → DenoteValues w graph.old after.now.entries b
+        → Says w graph.new id (StandsUpTo (design_view design.now) w interp values inputs first
+        a b design.now.steps)) }
     ensures grows { GrowsKnown (design_view design.now)
-        (address_count (design_view design.now)) graph.old graph.new }
+        (first + address_count (design_view design.now)) graph.old graph.new }
 {
     let whens = conditions(alloc, graph, design, state)?;
-    let after = abstracted(alloc, graph, design, abs, next)?;
-    let mut joined = abstracted(alloc, graph, design, abs, state)?;
-    let mut any = stands(graph, design, &whens, &after.entries, &joined.entries, 0)?;
+    let mut joined = before;
+    let mut any = stands(
+        graph,
+        design,
+        &whens,
+        &after.entries,
+        &joined.entries,
+        first,
+        0,
+    )?;
     for done in 0..design.steps {
         joined = sym_spec_step(alloc, graph, design, &joined)?;
         let one = stands(
@@ -64,6 +71,7 @@ pub(crate) fn commutes(
             &whens,
             &after.entries,
             &joined.entries,
+            first,
             done + 1,
         )?;
         any = graph.mk_or(any, one)?;
@@ -78,6 +86,7 @@ fn stands(
     whens: &TermIds,
     after: &TermIds,
     joined: &TermIds,
+    first: u32,
     j: u32,
 ) -> Result<Id, AllocError>
     requires lawful { IsLawful (design_view design.now) }
@@ -85,20 +94,21 @@ fn stands(
     requires whens { AreConditions (design_view design.now) graph.old whens.now }
     requires after { HaveSorts graph.old after.now (entry_sorts (design_view design.now).spec) }
     requires joined { HaveSorts graph.old joined.now (entry_sorts (design_view design.now).spec) }
+    requires start { first ≤ 300000000 }
     requires few { j ≤ design.now.steps }
     ensures sorted { IfOk result (λ id. HasSort graph.new id sort.Bool) }
-    ensures denotes { IfOk result (λ id. (a b : Case → List Value)
-        → ShowsValues (design_view design.now) graph.old after.now a
-        → ShowsValues (design_view design.now) graph.old joined.now b
-        → Claims (design_view design.now)
-        (λ c q. IsAllowed (design_view design.now) c.interp c.state c.inputs j
-        × EqualAt (λ m. address_number (design_view design.now) m j) q (a c) (b c))
-        graph.new id) }
+    ensures says { IfOk result (λ id. (w : World) (interp : List Table) (values : List Value)
+        (inputs : List Scalar) (b c : List Value)
+        → DenoteConditions (design_view design.now) w graph.old whens.now interp values inputs
+        → DenoteValues w graph.old after.now b
+        → DenoteValues w graph.old joined.now c
+        → Says w graph.new id (IsAllowed (design_view design.now) interp values inputs j
+        × EqualIn w (λ m. first + address_number (design_view design.now) m j) b c)) }
     ensures grows { GrowsKnown (design_view design.now)
-        (address_count (design_view design.now)) graph.old graph.new }
+        (first + address_count (design_view design.now)) graph.old graph.new }
 {
     let allowed = allowed(graph, design, whens, j)?;
-    let same = equal(graph, design, after, joined, j, design.steps + 1)?;
+    let same = equal(graph, design, after, joined, first + j, design.steps + 1)?;
     graph.mk_and(allowed, same)
 }
 
@@ -112,8 +122,11 @@ fn conditions(
     requires lawful { IsLawful (design_view design.now) }
     requires keeps { KeepsDesign (design_view design.now) graph.old }
     requires sorted { StateHasSorts (design_view design.now).pipe graph.old state.now }
-    requires before { ShowsState (design_view design.now) graph.old state.now (λ c. c.state) }
     ensures whens { IfOk result (AreConditions (design_view design.now) graph.new) }
+    ensures denotes { IfOk result (λ whens. (w : World) (interp : List Table)
+        (values : List Value) (inputs : List Scalar)
+        → DenotesState (design_view design.now) w graph.old state.now interp values inputs
+        → DenoteConditions (design_view design.now) w graph.new whens interp values inputs) }
     ensures grows { GrowsWithin (design_view design.now) graph.old graph.new }
 {
     let lets = sym_lets(alloc, graph, design, &design.pipe.locals, state)?;
@@ -128,8 +141,10 @@ fn conditions(
 fn allowed(graph: &mut Graph, design: &Design, whens: &TermIds, j: u32) -> Result<Id, AllocError>
     requires { AreConditions (design_view design.now) graph.old whens.now }
     ensures sorted { IfOk result (λ id. HasSort graph.new id sort.Bool) }
-    ensures denotes { IfOk result (λ id. Claims (design_view design.now)
-        (λ c q. IsAllowed (design_view design.now) c.interp c.state c.inputs j) graph.new id) }
+    ensures says { IfOk result (λ id. (w : World) (interp : List Table) (values : List Value)
+        (inputs : List Scalar)
+        → DenoteConditions (design_view design.now) w graph.old whens.now interp values inputs
+        → Says w graph.new id (IsAllowed (design_view design.now) interp values inputs j)) }
     ensures extends { Extends graph.old graph.new }
     ensures uses { AddsUses graph.old graph.new [] }
 {

@@ -7,16 +7,17 @@ ghost use Rattle.bd_model.specs.declared.design.Sort.TheVariants as sort;
 ghost use Rattle.bd_terms.specs.Graph.{AddsUses, Extends, HasSort};
 ghost use Rattle.bd_terms.specs.Denotation.{Denotes, Truth, truth};
 ghost use Rattle.bd_symbolic.specs.DesignSymbols.{KeepsDesign};
-ghost use Rattle.bd_goal.specs.Abstraction.{IsLawfulAbstraction, abstraction_of};
+ghost use Rattle.bd_abstraction.specs.Abstraction.{IsLawfulAbstraction, abstraction_of};
 ghost use Rattle.bd_goal.specs.Claims.{Claims};
 ghost use Rattle.bd_goal.specs.Formula.{AgreesAt, Corresponds, address_count, memory_count};
 ghost use Rattle.bd_goal.specs.Symbols.{AppliesKnown, GrowsKnown, KeepsAddresses, ReachesKnown};
 
 use crate::abstracted::abstracted;
-use crate::abstraction::{Abstraction, Goal};
 use crate::commute::commutes;
 use crate::equal::{equal, memory_count};
 use crate::invariant::invariant;
+use crate::question::Goal;
+use bd_abstraction::Abstraction;
 use bd_model::Design;
 use bd_symbolic::{sym_state, sym_step};
 use bd_terms::{Graph, Id};
@@ -72,7 +73,9 @@ pub fn goal_by(
     let next = sym_step(alloc, graph, design, &state)?;
     let inside = invariant(alloc, graph, design, &state)?;
     let kept = invariant(alloc, graph, design, &next)?;
-    let commutes = commutes(alloc, graph, design, abs, &state, &next)?;
+    let after = abstracted(alloc, graph, design, abs, &next)?;
+    let before = abstracted(alloc, graph, design, abs, &state)?;
+    let commutes = commutes(alloc, graph, design, &state, before, &after, 0)?;
     let holds = graph.mk_and(kept, commutes)?;
     let root = graph.mk_implies(inside, holds)?;
     Ok(Goal {

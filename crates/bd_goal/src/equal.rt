@@ -1,17 +1,16 @@
 //! Whether two visible states are equal, where each memory is read at a fresh address of its own.
-ghost use Rattle.std.specs.Prelude.{◌≡◌, ◌<◌, ◌≤◌, ◌+◌, ◌*◌, List, IfOk, if◌then◌else◌};
+ghost use Rattle.std.specs.Prelude.{◌≡◌, ◌<◌, ◌≤◌, ◌+◌, ◌*◌, ℕ, List, IfOk, if◌then◌else◌};
 ghost use Rattle.bd_model.specs.DesignView.{design_view};
 ghost use Rattle.bd_model.specs.Lawful.{IsLawful, entry_sorts};
-ghost use Rattle.bd_model.specs.declared.case.Case.{Case};
 ghost use Rattle.bd_model.specs.declared.design.Sort.TheVariants as sort;
 ghost use Rattle.bd_model.specs.declared.table.Value.{Value};
 ghost use Rattle.bd_terms.specs.Graph.{HasSort, KeepsSymbol};
 ghost use Rattle.bd_terms.specs.declared.node.Sym.TheVariants as symbol;
-ghost use Rattle.bd_symbolic.specs.Symbolic.{HaveSorts};
-ghost use Rattle.bd_goal.specs.Claims.{Claims};
-ghost use Rattle.bd_goal.specs.Formula.{EqualAt, is_memory, memory_count};
+ghost use Rattle.bd_terms.specs.Denotation.{World};
+ghost use Rattle.bd_symbolic.specs.Symbolic.{DenoteValues, HaveSorts};
+ghost use Rattle.bd_goal.specs.Formula.{is_memory, memory_count};
 ghost use Rattle.bd_goal.specs.Symbols.{GrowsKnown, KeepsAddresses};
-ghost use Rattle.bd_goal.specs.inner.Shown.{EqualTerms, ShowsValues};
+ghost use Rattle.bd_goal.specs.inner.Shown.{EqualIn, EqualTerms, Says};
 
 use bd_model::{Design, Sort};
 use bd_symbolic::TermIds;
@@ -32,7 +31,7 @@ pub(crate) fn memory_count(design: &Design) -> u32
 }
 
 // That two visible states are equal, where the memory of number m is read at the address of number
-// `m * stride + first`.
+// `m * stride + first`, and no number is too large.
 pub(crate) fn equal(
     graph: &mut Graph,
     design: &Design,
@@ -45,16 +44,15 @@ pub(crate) fn equal(
     requires addresses { KeepsAddresses graph.old }
     requires ours { HaveSorts graph.old ours.now (entry_sorts (design_view design.now).spec) }
     requires theirs { HaveSorts graph.old theirs.now (entry_sorts (design_view design.now).spec) }
-    requires below { first < stride }
+    requires start { first ≤ 400000000 }
     requires few { stride ≤ 9 }
     ensures sorted { IfOk result (λ id. HasSort graph.new id sort.Bool) }
-    ensures denotes { IfOk result (λ id. (a b : Case → List Value)
-        → ShowsValues (design_view design.now) graph.old ours.now a
-        → ShowsValues (design_view design.now) graph.old theirs.now b
-        → Claims (design_view design.now)
-        (λ c q. EqualAt (λ m. m * stride + first) q (a c) (b c)) graph.new id) }
-    ensures grows { GrowsKnown (design_view design.now)
-        (memory_count (design_view design.now) * stride) graph.old graph.new }
+    ensures says { IfOk result (λ id. (w : World) (a b : List Value)
+        → DenoteValues w graph.old ours.now a
+        → DenoteValues w graph.old theirs.now b
+        → Says w graph.new id (EqualIn w (λ m. m * stride + first) a b)) }
+    ensures grows { (n : ℕ) → ((m : ℕ) → m < memory_count (design_view design.now)
+        → m * stride + first < n) → GrowsKnown (design_view design.now) n graph.old graph.new }
 {
     let our = ours.as_slice();
     let their = theirs.as_slice();

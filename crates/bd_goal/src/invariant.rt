@@ -3,16 +3,18 @@ ghost use Rattle.std.specs.Prelude.{◌≡◌, ℕ, List, [], IfOk};
 ghost use Rattle.bd_model.specs.Conditions.{MeetsInvariant};
 ghost use Rattle.bd_model.specs.DesignView.{design_view};
 ghost use Rattle.bd_model.specs.Lawful.{IsLawful};
-ghost use Rattle.bd_model.specs.declared.case.Case.{Case};
 ghost use Rattle.bd_model.specs.declared.design.Sort.TheVariants as sort;
+ghost use Rattle.bd_model.specs.declared.table.Scalar.{Scalar};
+ghost use Rattle.bd_model.specs.declared.table.Table.{Table};
 ghost use Rattle.bd_model.specs.declared.table.Value.{Value};
+ghost use Rattle.bd_terms.specs.Denotation.{World};
 ghost use Rattle.bd_terms.specs.Graph.{HasSort};
 ghost use Rattle.bd_symbolic.specs.DesignSymbols.{GrowsWithin, KeepsDesign};
-ghost use Rattle.bd_symbolic.specs.States.{StateHasSorts};
+ghost use Rattle.bd_symbolic.specs.States.{DenotesState, StateHasSorts};
 ghost use Rattle.bd_goal.specs.Claims.{Claims};
 ghost use Rattle.bd_goal.specs.Formula.{IsOutside};
 ghost use Rattle.bd_goal.specs.Symbols.{AppliesKnown, ReachesKnown};
-ghost use Rattle.bd_goal.specs.inner.Shown.{ShowsState};
+ghost use Rattle.bd_goal.specs.inner.Shown.{Says};
 
 use bd_list::Sequence;
 use bd_model::Design;
@@ -49,10 +51,10 @@ pub(crate) fn invariant(
     requires keeps { KeepsDesign (design_view design.now) graph.old }
     requires sorted { StateHasSorts (design_view design.now).pipe graph.old state.now }
     ensures sorted { IfOk result (λ id. HasSort graph.new id sort.Bool) }
-    ensures denotes { IfOk result (λ id. (values : Case → List Value)
-        → ShowsState (design_view design.now) graph.old state.now values
-        → Claims (design_view design.now)
-        (λ c q. MeetsInvariant (design_view design.now) c.interp (values c)) graph.new id) }
+    ensures says { IfOk result (λ id. (w : World) (interp : List Table) (values : List Value)
+        (inputs : List Scalar)
+        → DenotesState (design_view design.now) w graph.old state.now interp values inputs
+        → Says w graph.new id (MeetsInvariant (design_view design.now) interp values)) }
     ensures grows { GrowsWithin (design_view design.now) graph.old graph.new }
 {
     let alone = without_inputs(alloc, state)?;

@@ -3,6 +3,7 @@
 //! A case that breaks a condition has words for the fresh addresses at which its memories differ, for each memory and
 //! each number of steps one of its own; so the formula is false there. And a world in which a root is false is, as far
 //! as the root reaches, that of a case.
+ghost use Rattle.bd_goal.specs.Bounded.{BoundedDecides};
 ghost use Rattle.bd_goal.specs.Laws.{GoalDecides, MeetsDecides, AgreeDecides};
 
 /// The correspondence formula is valid exactly where no fitting case breaks a condition.
@@ -18,4 +19,9 @@ pub fn meets_decides()
 /// The formula of agreement is valid exactly where the abstraction agrees with flushing.
 pub fn agree_decides()
     ensures { AgreeDecides }
+{}
+
+/// The formula of a bounded run is valid exactly where no fitting trail of so many cycles is broken.
+pub fn bounded_decides()
+    ensures { BoundedDecides }
 {}

@@ -7,14 +7,17 @@
 #![tactic(auto)]
 
 mod abstracted;
-mod abstraction;
+mod bounded;
 mod commute;
 mod correspondence;
 mod equal;
 mod invariant;
 mod laws;
+mod question;
 
-pub use abstraction::{Abstraction, Goal};
+pub use bd_abstraction::Abstraction;
+pub use bounded::bounded_goal;
 pub use correspondence::{agree_goal, goal, goal_by};
 pub use invariant::meets;
-pub use laws::{agree_decides, goal_decides, meets_decides};
+pub use laws::{agree_decides, bounded_decides, goal_decides, meets_decides};
+pub use question::Goal;

@@ -1,4 +1,3 @@
 pub mod Built
-pub mod Cut
 pub mod First
 pub mod Steps

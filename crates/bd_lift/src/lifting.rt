@@ -3,13 +3,12 @@ ghost use Rattle.std.specs.Prelude.{◌≡◌, ◌*◌, IfOk, length};
 ghost use Rattle.bd_model.specs.DesignView.{design_view};
 ghost use Rattle.bd_model.specs.Fits.{Fits, TrailFits};
 ghost use Rattle.bd_model.specs.Lawful.{IsLawful};
-ghost use Rattle.bd_symbolic.specs.Widened.{HasLawfulSymbols, case_of_trail, widened};
+ghost use Rattle.bd_symbolic.specs.Widened.{HasLawfulSymbols, case_of_trail, cut, trail_of, widened};
 ghost use Rattle.bd_transitive.specs.Orders.{IsOrder};
 ghost use Rattle.bd_transitive.specs.Triangle.{MeetsTriangles, value_at};
 ghost use Rattle.bd_lift.specs.Counting.{EachRowCounts};
 ghost use Rattle.bd_lift.specs.Decoded.{edge_truths};
 ghost use Rattle.bd_lift.specs.Lifted.{AreKnown, IsLifted, TellsApart};
-ghost use Rattle.bd_lift.specs.inner.Cut.{cut, trail_of};
 
 use crate::build::case_of;
 use crate::decode::{decode, edge_values};

@@ -11,6 +11,3 @@ pub use atom::{Atom, AtomValues};
 pub use node::PropNode;
 pub use prop::Prop;
 pub use reach::{Marks, reached};
-
-#[cfg(test)]
-mod tests;

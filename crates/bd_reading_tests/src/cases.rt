@@ -80,7 +80,7 @@ const DEFAULTS: CaseDraft = CaseDraft {
 
 /// A design by its name.
 #[derive(Clone, Copy)]
-enum Sample {
+pub enum Sample {
     Nothing,
     StallingBit,
     DoubleIncrement,
@@ -90,7 +90,7 @@ enum Sample {
 }
 
 impl Sample {
-    fn draft(self) -> &'static DesignDraft {
+    pub fn draft(self) -> &'static DesignDraft {
         match self {
             Nothing => &NOTHING,
             StallingBit => &STALLING_BIT,

@@ -1,4 +1,4 @@
-//! Tests of reading: texts, forms, designs and cases, over public calls.
+//! Tests of reading: texts, forms, designs, cases and trails, over public calls.
 #![tactic(auto)]
 
 #[cfg(test)]
@@ -11,3 +11,5 @@ mod faults;
 mod forms;
 #[cfg(test)]
 mod texts;
+#[cfg(test)]
+mod trails;

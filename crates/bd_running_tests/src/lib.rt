@@ -14,4 +14,6 @@ mod judgements;
 #[cfg(test)]
 mod shrinking;
 #[cfg(test)]
+mod trails;
+#[cfg(test)]
 mod values;

@@ -1,3 +1,5 @@
+mod Chains
 mod Cycles
 mod ExactItems
 mod Steps
+mod Trails

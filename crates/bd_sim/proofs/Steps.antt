@@ -5,19 +5,20 @@ use Rattle.std.specs.declared.alloc.AllocError.{AllocError}
 use Rattle.std.specs.List.{AllByRecursion}
 use Rattle.bd_model.specs.DesignView.{DesignView, ExactView}
 use Rattle.bd_model.specs.Value.{Env, env_of}
-use Rattle.bd_model.specs.Cycle.{step, flushed, spec_steps}
+use Rattle.bd_model.specs.Cycle.{step, spec_steps}
 use Rattle.bd_model.specs.Same.{Same}
 use Rattle.bd_model.specs.declared.table.Scalar.{Scalar}
 use Rattle.bd_model.specs.declared.table.Table.{Table}
 use Rattle.bd_model.specs.declared.table.Value.{Value}
-use Rattle.bd_model.specs.Conditions.{AllowsCount, IsAllowed, StandsFor}
+use Rattle.bd_model.specs.Conditions.{AllowsCount, IsAllowed}
+use Rattle.bd_sim.specs.StepsJoin.{StepsJoinAt}
 
 -- what the comparison of the states reached tells
-pub stands_iff : (d : DesignView) (interp : List Table) (state : List Value) (inputs : List Scalar) (next : List Value) (counts items : List ℕ) (after reached : List Value) (j : ℕ) (b : Bool)
-    → next ≡ step d.pipe interp state inputs → ((n : ℕ) → AllByRecursion (λ m. m ≡ n) counts ↔ IsAllowed d interp state inputs n) → items ≡ counts → after ≡ flushed d interp next
-    → reached ≡ spec_steps j d interp (flushed d interp state) → (IsTrue b ↔ (AllByRecursion (λ m. m ≡ j) items × Same after reached)) → IsTrue b ↔ StandsFor d interp state inputs j
-stands_iff d interp state inputs next counts items after reached j b is_next allowed same_items is_after is_reached answer =
-    let both = rw (same_items, is_after, is_reached, is_next) at answer in
+pub stands_iff : (d : DesignView) (interp : List Table) (state : List Value) (inputs : List Scalar) (before after : List Value) (counts items : List ℕ) (reached : List Value) (j : ℕ) (b : Bool)
+    → ((n : ℕ) → AllByRecursion (λ m. m ≡ n) counts ↔ IsAllowed d interp state inputs n) → items ≡ counts → reached ≡ spec_steps j d interp before
+    → (IsTrue b ↔ (AllByRecursion (λ m. m ≡ j) items × Same after reached)) → IsTrue b ↔ StepsJoinAt d interp state inputs before after j
+stands_iff d interp state inputs before after counts items reached j b allowed same_items is_reached answer =
+    let both = rw (same_items, is_reached) at answer in
     (λ t. let h = both.0 t in ((allowed j).0 h.0, h.1), λ h. both.1 ((allowed j).1 h.0, h.1))
 
 -- one step more

@@ -1,2 +1,3 @@
+pub mod StepsJoin
 pub mod Trace
 pub mod inner

@@ -100,7 +100,7 @@ pub fn let_values(
 {
     let (interp, state, inputs) = (interp.as_slice(), state.as_slice(), inputs.as_slice());
     let env = Env::new(alloc, design.pipe.locals.as_slice(), interp, state, inputs)?;
-    Ok(Sequence::from_vec(env.lets))
+    Ok(Sequence::from_vec(env.let_values()?))
 }
 
 /// The visible entries, in the specification's order.

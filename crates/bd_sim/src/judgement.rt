@@ -11,11 +11,12 @@ ghost use Rattle.bd_model.specs.DesignView.{design_view, exact_view};
 ghost use Rattle.bd_model.specs.Cycle.{step, invariant};
 ghost use Rattle.bd_model.specs.Same.{SameValue, Same};
 ghost use Rattle.bd_model.specs.Conditions.{AllowsCount, IsAllowed, Commutes, IsJudged};
+ghost use Rattle.bd_sim.specs.StepsJoin.{StepsJoin};
 ghost use Rattle.bd_sim.specs.inner.Env.{env_view};
 
 use crate::cycle::{flushed, spec_step, step};
 use crate::value::{Env, truth};
-use bd_model::{Case, Condition, Design, Exact, Interp, Judged, State, Value};
+use bd_model::{Case, Condition, Design, Exact, Inputs, Interp, Judged, State, Value};
 use std::alloc::{AllocError, Global};
 
 /// What the case shows of the design; where both conditions are false, the invariant is named.
@@ -36,7 +37,8 @@ pub fn judge(alloc: Global, design: &Design, case: &Case) -> Result<Judged, Allo
     }
 }
 
-fn meets_invariant(
+/// Whether the invariant is true in a state.
+pub fn meets_invariant(
     alloc: Global,
     design: &Design,
     interp: &Interp,
@@ -57,16 +59,36 @@ fn commutes(alloc: Global, design: &Design, case: &Case, next: &State) -> Result
     ensures { IfOk result (λ b. IsTrue b
         ↔ Commutes (design_view design.now) case.now.interp case.now.state case.now.inputs) }
 {
-    let counts = exact_counts(alloc, design, case)?;
+    let before = flushed(alloc, design, &case.interp, &case.state)?;
     let after = flushed(alloc, design, &case.interp, next)?;
-    let mut reached = flushed(alloc, design, &case.interp, &case.state)?;
+    let (interp, state, inputs) = (&case.interp, &case.state, &case.inputs);
+    steps_join(alloc, design, interp, state, inputs, before, &after)
+}
+
+/// Whether some number of steps of the specification leads from the visible state `before` to one that is the same
+/// as `after`, where it is at most the design's and allowed in the cycle from this state, with these inputs. What a
+/// state stands for by any abstraction can be asked about so: flushing gives one such pair.
+pub fn steps_join(
+    alloc: Global,
+    design: &Design,
+    interp: &Interp,
+    state: &State,
+    inputs: &Inputs,
+    before: State,
+    after: &State,
+) -> Result<bool, AllocError>
+    ensures { IfOk result (λ b. IsTrue b ↔ StepsJoin (design_view design.now)
+        interp.now state.now inputs.now before after.now) }
+{
+    let counts = counts_of_cycle(alloc, design, interp, state, inputs)?;
+    let mut reached = before;
     for count in 0..design.steps {
-        if stands(counts.as_slice(), count, &after, &reached) {
+        if stands(counts.as_slice(), count, after, &reached) {
             return Ok(true);
         }
-        reached = spec_step(alloc, design, &case.interp, &reached)?;
+        reached = spec_step(alloc, design, interp, &reached)?;
     }
-    Ok(stands(counts.as_slice(), design.steps, &after, &reached))
+    Ok(stands(counts.as_slice(), design.steps, after, &reached))
 }
 
 /// The counts of the exact items whose condition is true in the case's cycle: each must be the number of steps.
@@ -74,9 +96,20 @@ pub fn exact_counts(alloc: Global, design: &Design, case: &Case) -> Result<Vec<u
     ensures { IfOk result (λ v. (j : ℕ) → AllByRecursion (λ n. n ≡ j) v.items
         ↔ IsAllowed (design_view design.now) case.now.interp case.now.state case.now.inputs j) }
 {
-    let interp = case.interp.as_slice();
-    let state = case.state.as_slice();
-    let inputs = case.inputs.as_slice();
+    counts_of_cycle(alloc, design, &case.interp, &case.state, &case.inputs)
+}
+
+fn counts_of_cycle(
+    alloc: Global,
+    design: &Design,
+    interp: &Interp,
+    state: &State,
+    inputs: &Inputs,
+) -> Result<Vec<u32>, AllocError>
+    ensures { IfOk result (λ v. (j : ℕ) → AllByRecursion (λ n. n ≡ j) v.items
+        ↔ IsAllowed (design_view design.now) interp.now state.now inputs.now j) }
+{
+    let (interp, state, inputs) = (interp.as_slice(), state.as_slice(), inputs.as_slice());
     let env = Env::new(alloc, design.pipe.locals.as_slice(), interp, state, inputs)?;
     true_counts(&env, design.exact.as_slice())
 }

@@ -1,18 +1,22 @@
 //! Values of expressions.
 //!
 //! A value is found form by form. What gives a scalar is valued as a scalar, and a read goes down the writes of its
-//! memory to the first with its address, so no memory is copied but where one is the value. The lets of a machine are
-//! valued once, in order, and kept where later expressions name them. What no lawful design has is false, 0
-//! or the memory of zeros, so no call has a condition on sorts. Recursion goes down the expression alone.
-ghost use Rattle.std.specs.Prelude.{◌≡◌, IfOk, map, slice_index_or};
+//! memory to the first with its address, so no memory is copied but where one is handed out. The lets of a machine are
+//! valued once, in order, and kept where later expressions name them; a memory is kept as the writes that made it. What
+//! no lawful design has is false, 0 or the memory of zeros, so no call has a condition on sorts. Recursion goes down the
+//! expression alone.
+ghost use Rattle.std.specs.Prelude.{◌≡◌, ◌<◌, IfOk, length, map, slice_index_or};
 ghost use Rattle.std.specs.List.{list_all, list_any};
 ghost use Rattle.bd_model.specs.Table.{at, read, write};
 ghost use Rattle.bd_model.specs.ExprView.{expr_view, expr_views, list_of_views};
 ghost use Rattle.bd_model.specs.Value.{value_of, values_of, scalar_of, memory_of, is_true, word_of, table_of, env_of, truth as truth_value};
 ghost use Rattle.bd_model.specs.DesignView.{local_view};
 ghost use Rattle.std.specs.Prelude.{false};
-ghost use Rattle.bd_sim.specs.inner.Env.{env_view};
+ghost use Rattle.bd_sim.specs.inner.Env.{env_view, IsMadeWhole};
+ghost use Rattle.bd_sim.specs.inner.Writes.{kept_value, IsMade};
+ghost use Rattle.bd_sim.specs.declared.writes.Memories.{Memories};
 
+use crate::writes::{Chain, Kept, Memories};
 use bd_model::{
     Design, Expr, Exprs, Inputs, Interp, LetValues, Local, Memory, Scalar, Sequence, Slot, State,
     Table, Value,
@@ -24,9 +28,9 @@ use std::alloc::{AllocError, Global};
 pub struct Env<'a> {
     pub alloc: Global,
     pub interp: &'a [Table],
-    pub state: &'a [Value],
     pub inputs: &'a [Scalar],
-    pub lets: Vec<Value>,
+    pub lets: Vec<Kept>,
+    pub memories: Memories<'a>,
 }
 
 impl<'a> Env<'a> {
@@ -44,15 +48,106 @@ impl<'a> Env<'a> {
         let mut env = Env {
             alloc,
             interp,
-            state,
             inputs,
             lets: Vec::new(alloc),
+            memories: Memories {
+                state,
+                given: &[],
+                writes: Vec::new(alloc),
+            },
         };
         for local in locals {
-            let next = value(&env, &local.value)?;
+            let next = keep(&mut env, &local.value)?;
             env.lets.push(next)?;
         }
         Ok(env)
+    }
+
+    /// What names stand for where the lets have these values.
+    fn given(
+        alloc: Global,
+        interp: &'a [Table],
+        state: &'a [Value],
+        inputs: &'a [Scalar],
+        lets: &'a [Value],
+    ) -> Result<Env<'a>, AllocError>
+        ensures { IfOk result (λ env. env_view env ≡ record {
+          interp = interp.now;
+          state = state.now;
+          inputs = inputs.now;
+          locals = lets.now;
+        }) }
+    {
+        let kept = kept(alloc, lets)?;
+        Ok(Env {
+            alloc,
+            interp,
+            inputs,
+            lets: kept,
+            memories: Memories {
+                state,
+                given: lets,
+                writes: Vec::new(alloc),
+            },
+        })
+    }
+
+    /// What the let at this place is kept as, where there is one.
+    fn local(&self, i: u32) -> Kept
+        ensures value { kept_value self.now.memories result
+            ≡ slice_index_or (env_view self.now).locals i (truth_value false) }
+        ensures made { IsMadeWhole self.now → IsMade self.now.memories result }
+    {
+        match self.lets.get(i as usize) {
+            Some(kept) => *kept,
+            None => Kept::Scalar(Scalar::Bool(false)),
+        }
+    }
+
+    /// The values of the lets.
+    pub fn let_values(&self) -> Result<Vec<Value>, AllocError>
+        ensures { IfOk result (λ v. v.items ≡ (env_view self.now).locals) }
+    {
+        let mut values = Vec::new(self.alloc);
+        for kept in &self.lets {
+            values.push(self.memories.value(self.alloc, *kept)?)?;
+        }
+        Ok(values)
+    }
+}
+
+/// The value of a let, of which a memory is kept as the writes that made it.
+fn keep(env: &mut Env, expr: &Expr) -> Result<Kept, AllocError>
+    requires { IsMadeWhole env.old }
+    ensures value { IfOk result (λ k. kept_value env.new.memories k
+        ≡ value_of (env_view env.old) (expr_view expr.now)) }
+    ensures made { IfOk result (λ k. IsMade env.new.memories k) }
+    ensures same { IfOk result (λ k. env_view env.new ≡ env_view env.old) }
+    ensures whole { IfOk result (λ k. IsMadeWhole env.new) }
+{
+    match expr {
+        Expr::Entry(i) => Ok(match env.memories.state.get(*i as usize) {
+            Some(Value::Scalar(scalar)) => Kept::Scalar(*scalar),
+            Some(Value::Memory(_)) => Kept::Memory(Chain::Entry(*i)),
+            None => Kept::Scalar(Scalar::Bool(false)),
+        }),
+        Expr::Local(i) => Ok(env.local(*i)),
+        Expr::Ite(p, a, b) => {
+            if truth(env, p)? {
+                keep(env, a)
+            } else {
+                keep(env, b)
+            }
+        }
+        Expr::Write(m, a, d) => {
+            let below = keep(env, m)?.memory();
+            let slot = Slot {
+                address: word(env, a)?,
+                value: word(env, d)?,
+            };
+            Ok(Kept::Memory(env.memories.write(below, slot)?))
+        }
+        _ => Ok(Kept::Scalar(scalar(env, expr)?)),
     }
 }
 
@@ -71,14 +166,37 @@ pub fn eval(
         (record { interp = interp.now; state = state.now; inputs = inputs.now; locals = lets.now })
         (expr_view expr.now)) }
 {
-    let env = Env {
+    let env = Env::given(
         alloc,
-        interp: interp.as_slice(),
-        state: state.as_slice(),
-        inputs: inputs.as_slice(),
-        lets: lets.clone()?.into_vec(),
-    };
+        interp.as_slice(),
+        state.as_slice(),
+        inputs.as_slice(),
+        lets.as_slice(),
+    )?;
     value(&env, expr)
+}
+
+/// Lets that were handed in, each kept by its place.
+fn kept(alloc: Global, lets: &[Value]) -> Result<Vec<Kept>, AllocError>
+    ensures { IfOk result (λ v. (m : Memories) → m.given.now ≡ lets.now →
+        map (kept_value m) v.items ≡ lets.now) }
+{
+    let mut kept = Vec::new(alloc);
+    for place in 0..lets.len() {
+        kept.push(kept_at(lets, place))?;
+    }
+    Ok(kept)
+}
+
+fn kept_at(lets: &[Value], place: usize) -> Kept
+    requires { place < length lets.now }
+    ensures { (m : Memories) → m.given.now ≡ lets.now →
+        kept_value m result ≡ slice_index_or lets.now place (truth_value false) }
+{
+    match &lets[place] {
+        Value::Scalar(scalar) => Kept::Scalar(*scalar),
+        Value::Memory(_) => Kept::Memory(Chain::Given(place)),
+    }
 }
 
 /// The values of expressions, in order.
@@ -98,8 +216,8 @@ pub fn value(env: &Env, expr: &Expr) -> Result<Value, AllocError>
     ensures { IfOk result (λ v. v ≡ value_of (env_view env.now) (expr_view expr.now)) }
 {
     match expr {
-        Expr::Entry(i) => value_at(env.state, *i),
-        Expr::Local(i) => value_at(env.lets.as_slice(), *i),
+        Expr::Entry(i) => value_at(env.memories.state, *i),
+        Expr::Local(i) => env.memories.value(env.alloc, env.local(*i)),
         Expr::Ite(p, a, b) => {
             if truth(env, p)? {
                 value(env, a)
@@ -124,9 +242,9 @@ pub fn scalar(env: &Env, expr: &Expr) -> Result<Scalar, AllocError>
 {
     match expr {
         Expr::Bool(b) => Ok(Scalar::Bool(*b)),
-        Expr::Entry(i) => Ok(scalar_at(env.state, *i)),
+        Expr::Entry(i) => Ok(scalar_at(env.memories.state, *i)),
         Expr::Input(i) => Ok(input_at(env.inputs, *i)),
-        Expr::Local(i) => Ok(scalar_at(env.lets.as_slice(), *i)),
+        Expr::Local(i) => Ok(env.local(*i).scalar()),
         Expr::Not(a) => Ok(Scalar::Bool(!truth(env, a)?)),
         Expr::And(parts) => Ok(Scalar::Bool(all_true(env, parts)?)),
         Expr::Or(parts) => Ok(Scalar::Bool(any_true(env, parts)?)),
@@ -173,8 +291,11 @@ fn read_at(env: &Env, memory: &Expr, address: u64) -> Result<u64, AllocError>
         ≡ read (memory_of (value_of (env_view env.now) (expr_view memory.now))) address) }
 {
     match memory {
-        Expr::Entry(i) => Ok(word_at(env.state, *i, address)),
-        Expr::Local(i) => Ok(word_at(env.lets.as_slice(), *i, address)),
+        Expr::Entry(i) => Ok(env.memories.read(Chain::Entry(*i), address)),
+        Expr::Local(i) => {
+            let memory = env.local(*i).memory();
+            Ok(env.memories.read(memory, address))
+        }
         Expr::Ite(p, a, b) => {
             if truth(env, p)? {
                 read_at(env, a, address)
@@ -246,15 +367,6 @@ fn scalar_at(values: &[Value], i: u32) -> Scalar
     match values.get(i as usize) {
         Some(Value::Scalar(scalar)) => *scalar,
         _ => Scalar::Bool(false),
-    }
-}
-
-fn word_at(values: &[Value], i: u32, address: u64) -> u64
-    ensures { result ≡ read (memory_of (slice_index_or values.now i (truth_value false))) address }
-{
-    match values.get(i as usize) {
-        Some(Value::Memory(memory)) => memory.at(address),
-        _ => 0,
     }
 }
 

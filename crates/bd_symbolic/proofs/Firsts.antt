@@ -1,15 +1,17 @@
 -- The terms of entries and inputs before the first cycle.
-use Rattle.std.proofs.Common.{◌≡◌, ℕ, zero, suc, ◌+◌, ◌&&◌, true, false, ◌++◌, List, [], ◌∷◌, map, length, Some, Result, Ok, Err, IfOk, refl, ap, sym, ◌∙◌, subst, arith, append-nil, append_assoc, length-append, zero-add, get_or, ◌<◌}
+use Rattle.std.proofs.Common.{◌≡◌, ℕ, zero, suc, ◌+◌, ◌*◌, ◌&&◌, true, false, ◌++◌, List, [], ◌∷◌, map, length, Some, Result, Ok, Err, IfOk, refl, ap, sym, ◌∙◌, subst, arith, append-nil, append_assoc, length-append, zero-add, get_or, ◌<◌}
 use Rattle.std.specs.Prelude.{◌==◌, slice_get, slice_index_or, if◌then◌else◌}
 use Rattle.std.specs.List.{AllZip, AllByRecursion}
 use Rattle.std.specs.declared.alloc.AllocError.{AllocError}
 use Rattle.std.proofs.Math.Path.{fun_ext}
+use Rattle.std.proofs.lemmas.List.{length-map}
 use Rattle.std.proofs.lemmas.Option.{slice_get-get_or}
-use Rattle.bd_model.specs.DesignView.{DesignView, PortView}
+use Rattle.bd_model.specs.DesignView.{DesignView, PortView, design_view, port_view}
 use Rattle.bd_model.specs.Table.{at, read, row_value, slot_value}
 use Rattle.bd_model.specs.Value.{scalar_word, scalar_truth, truth}
 use Rattle.bd_model.specs.Fits.{scalar_sort, value_sort}
 use Rattle.bd_model.specs.Lawful.{entry_sorts}
+use Rattle.bd_model.specs.declared.design.Design.{Design}
 use Rattle.bd_model.specs.declared.design.Sort.{Sort}
 use Rattle.bd_model.specs.declared.design.Sort.TheVariants as sort
 use Rattle.bd_model.specs.declared.design.Entry as entry
@@ -29,12 +31,14 @@ use Rattle.bd_terms.proofs.Growth.{HasSort-Extends, denoted-Extends}
 use Rattle.bd_symbolic.specs.World.{slot_row, value_table, denotes_value, world_of}
 use Rattle.bd_symbolic.specs.DesignSymbols.{IsDeclared, KeepsDesign, GrowsWithin, sort_use, entry_use, port_use}
 use Rattle.bd_symbolic.specs.Symbolic.{HaveSorts}
-use Rattle.bd_symbolic.specs.States.{StateHasSorts, DenotesCases, port_sorts}
+use Rattle.bd_symbolic.specs.States.{StateHasSorts, DenotesCases, DenotesEntries, DenotesInputs, port_sorts}
+use Rattle.bd_symbolic.specs.Widened.{widened}
 use Rattle.bd_symbolic.specs.inner.First.{KeepsUse, IsFirstTerm, FirstTerms}
 use Rattle.bd_symbolic.specs.declared.state.SymState.{SymState}
 use Rattle.bd_symbolic.proofs.Growing.{Grows-self, Grows-trans, KeepsDesign-Grows}
 use Rattle.bd_symbolic.proofs.Applying.{Grows-one}
 use Rattle.bd_symbolic.proofs.Worlds.{IsWorldOf-world_of}
+use Rattle.bd_symbolic.proofs.Widening.{repeated-there}
 
 -- the table of a memory has at an address what the memory reads there
 slots_read : (rows : List Slot) (a default : ℕ) → scalar_word (row_value (map slot_row rows) (a ∷ []) (scalar.Word default)) ≡ slot_value rows a default
@@ -84,35 +88,56 @@ firsts_sorted symbols nodes n (x ∷ ids) (t ∷ sorts) h = (h.0.sorted, firsts_
 
 -- what they denote in a world that has the values' tables for the symbols
 firsts_denote : {V : Type 0} (f : V → Value) (d : V) (symbols : ℕ → Sym) (nodes : List Node) (w : World) (n : ℕ) (ids : List ℕ) (sorts : List Sort) (values : List V) → FirstTerms symbols nodes n ids sorts
-    → AllZip (λ s v. value_sort (f v) ≡ s) sorts values → ((k : ℕ) → w (symbols (n + k)) ≡ value_table (f (slice_index_or values k d))) → AllZip (λ id v. denoted w nodes id ≡ denotes_value (f v)) ids values
+    → AllZip (λ s v. value_sort (f v) ≡ s) sorts values → ((k : ℕ) → k < length values → w (symbols (n + k)) ≡ value_table (f (slice_index_or values k d))) → AllZip (λ id v. denoted w nodes id ≡ denotes_value (f v)) ids values
 firsts_denote f d symbols nodes w n [] [] [] h k is = tt
 firsts_denote f d symbols nodes w n [] [] (v ∷ values) h k is = absurd k
 firsts_denote f d symbols nodes w n [] (t ∷ sorts) values h k is = absurd h
 firsts_denote f d symbols nodes w n (x ∷ ids) [] values h k is = absurd h
 firsts_denote f d symbols nodes w n (x ∷ ids) (t ∷ sorts) [] h k is = absurd k
 firsts_denote f d symbols nodes w n (x ∷ ids) (t ∷ sorts) (v ∷ values) h k is = (
-  h.0.denotes w (f v) k.0 (subst (λ m. w (symbols m) ≡ value_table (f v)) (omega arith) (is zero)),
+  h.0.denotes w (f v) k.0 (subst (λ m. w (symbols m) ≡ value_table (f v)) (omega arith) (is zero (omega arith))),
   firsts_denote f d symbols nodes w (suc n) ids sorts values h.1 k.1
-      (λ i. subst (λ m. w (symbols m) ≡ value_table (f (slice_index_or values i d))) (omega arith) (is (suc i))),
+      (λ i within. subst (λ m. w (symbols m) ≡ value_table (f (slice_index_or values i d))) (omega arith) (is (suc i) (omega (arith, within)))),
 )
 
--- the sort of each entry and input, and the terms before the first cycle
-pub state_sorted : (d : DesignView) (nodes : List Node) (state : SymState) → FirstTerms symbol.Entry nodes 0 state.entries (entry_sorts d.pipe) → FirstTerms symbol.Input nodes 0 state.inputs (port_sorts d.pipe) → StateHasSorts d.pipe nodes state
-state_sorted d nodes state h k = record {
-  entries = firsts_sorted symbol.Entry nodes 0 state.entries (entry_sorts d.pipe) h;
-  inputs = firsts_sorted symbol.Input nodes 0 state.inputs (port_sorts d.pipe) k;
+-- the terms of entries denote the values of a state
+pub entries_denote : (d : DesignView) (nodes : List Node) (ids : List ℕ) → FirstTerms symbol.Entry nodes 0 ids (entry_sorts d.pipe) → DenotesEntries d nodes ids
+entries_denote d nodes ids h = record {
+  denotes = λ w values fits is.
+      firsts_denote (λ v. v) (truth false) symbol.Entry nodes w 0 ids (entry_sorts d.pipe) values h
+      ((AllZip-map_first (λ s v. value_sort v ≡ s) (λ (x : entry.Entry). x.sort) d.pipe.entries values).1 fits)
+      (λ i within. subst (λ m. w (symbol.Entry m) ≡ value_table (slice_index_or values i (truth false))) (sym (zero-add i)) (is i within));
 }
 
-pub state_denotes : (d : DesignView) (nodes : List Node) (state : SymState) → FirstTerms symbol.Entry nodes 0 state.entries (entry_sorts d.pipe) → FirstTerms symbol.Input nodes 0 state.inputs (port_sorts d.pipe) → DenotesCases d nodes state
-state_denotes d nodes state h k = record {
-  denotes = λ c addresses fits. record {
-    world = IsWorldOf-world_of d c.interp c.state c.inputs addresses fits.interp;
-    entries = firsts_denote (λ v. v) (truth false) symbol.Entry nodes (world_of c.interp c.state c.inputs addresses) 0 state.entries (entry_sorts d.pipe) c.state h
-        ((AllZip-map_first (λ s v. value_sort v ≡ s) (λ (x : entry.Entry). x.sort) d.pipe.entries c.state).1 fits.state) (λ i. subst (λ m. world_of c.interp c.state c.inputs addresses (symbol.Entry m) ≡ value_table (slice_index_or c.state i (truth false))) (sym (zero-add i)) refl);
-    inputs = firsts_denote value.Scalar (scalar.Bool false) symbol.Input nodes (world_of c.interp c.state c.inputs addresses) 0 state.inputs (port_sorts d.pipe) c.inputs k
-        ((AllZip-map_first (λ s x. scalar_sort x ≡ s) (λ (p : PortView). p.sort) d.pipe.ports c.inputs).1 fits.inputs) (λ i. subst (λ m. world_of c.interp c.state c.inputs addresses (symbol.Input m) ≡ value_table (value.Scalar (slice_index_or c.inputs i (scalar.Bool false)))) (sym (zero-add i)) refl);
-  };
+-- and those of inputs the scalars of their cycle
+pub inputs_denote : (d : DesignView) (cycle : ℕ) (nodes : List Node) (ids : List ℕ) → FirstTerms symbol.Input nodes (cycle * length d.pipe.ports) ids (port_sorts d.pipe) → DenotesInputs d cycle nodes ids
+inputs_denote d cycle nodes ids h = record {
+  denotes = λ w scalars fits is.
+      firsts_denote value.Scalar (scalar.Bool false) symbol.Input nodes w (cycle * length d.pipe.ports) ids (port_sorts d.pipe) scalars h
+      ((AllZip-map_first (λ s x. scalar_sort x ≡ s) (λ (p : PortView). p.sort) d.pipe.ports scalars).1 fits)
+      is;
 }
+
+-- the sort of each entry and input, and the terms before the first cycle
+pub state_sorted : (d : DesignView) (nodes : List Node) (state : SymState) → FirstTerms symbol.Entry nodes 0 state.entries (entry_sorts d.pipe) → FirstTerms symbol.Input nodes (0 * length d.pipe.ports) state.inputs (port_sorts d.pipe) → StateHasSorts d.pipe nodes state
+state_sorted d nodes state h k = record {
+  entries = firsts_sorted symbol.Entry nodes 0 state.entries (entry_sorts d.pipe) h;
+  inputs = firsts_sorted symbol.Input nodes (0 * length d.pipe.ports) state.inputs (port_sorts d.pipe) k;
+}
+
+pub state_denotes : (d : DesignView) (nodes : List Node) (state : SymState) → FirstTerms symbol.Entry nodes 0 state.entries (entry_sorts d.pipe) → FirstTerms symbol.Input nodes (0 * length d.pipe.ports) state.inputs (port_sorts d.pipe) → DenotesCases d nodes state
+state_denotes d nodes state h k = record {
+  denotes = λ c addresses fits.
+      let w : World = world_of c.interp c.state c.inputs addresses in
+      record {
+        world = IsWorldOf-world_of d c.interp c.state c.inputs addresses fits.interp;
+        entries = (entries_denote d nodes state.entries h).denotes w c.state fits.state (λ i within. refl);
+        inputs = (inputs_denote d 0 nodes state.inputs k).denotes w c.inputs fits.inputs
+            (λ i within. subst (λ m. w (symbol.Input m) ≡ value_table (value.Scalar (slice_index_or c.inputs i (scalar.Bool false)))) (first (length d.pipe.ports) i) refl);
+      };
+} where
+  first : (n i : ℕ) → i ≡ 0 * n + i
+  first n i = omega arith
 
 -- the design declares the symbol of each entry, and of each input
 pub entry_declared : (d : DesignView) (i : ℕ) (x : entry.Entry) (s : Sort) → slice_get d.pipe.entries i ≡ Some x → x.sort ≡ s → IsDeclared d (sort_use (symbol.Entry i) s)
@@ -120,27 +145,40 @@ entry_declared d i x sort.Bool h e = ap (entry_use i) h ∙ ap (λ t. Some (sort
 entry_declared d i x sort.Word h e = ap (entry_use i) h ∙ ap (λ t. Some (sort_use (symbol.Entry i) t)) e
 entry_declared d i x sort.Memory h e = ap (entry_use i) h ∙ ap (λ t. Some (sort_use (symbol.Entry i) t)) e
 
+pub entry_first : (d : DesignView) (i : ℕ) (x : entry.Entry) → slice_get d.pipe.entries i ≡ Some x → IsDeclared d (sort_use (symbol.Entry (0 + i)) x.sort)
+entry_first d i x h = subst (λ n. IsDeclared d (sort_use (symbol.Entry n) x.sort)) (sym (zero-add i)) (entry_declared d i x x.sort h refl)
+
 pub port_declared : (d : DesignView) (i : ℕ) (p : PortView) (s : Sort) → slice_get d.pipe.ports i ≡ Some p → p.sort ≡ s → IsDeclared d (sort_use (symbol.Input i) s)
 port_declared d i p sort.Bool h e = ap (port_use i) h ∙ ap (λ t. Some (sort_use (symbol.Input i) t)) e
 port_declared d i p sort.Word h e = ap (port_use i) h ∙ ap (λ t. Some (sort_use (symbol.Input i) t)) e
 port_declared d i p sort.Memory h e = ap (port_use i) h ∙ ap (λ t. Some (sort_use (symbol.Input i) t)) e
 
+-- and that of each input in a cycle
+pub cycle_declared : (d : DesignView) (cycle i : ℕ) (p : PortView) (s : Sort) → slice_get d.pipe.ports i ≡ Some p → p.sort ≡ s → IsDeclared (widened d (cycle + 1)) (sort_use (symbol.Input (cycle * length d.pipe.ports + i)) s)
+cycle_declared d cycle i p s there e =
+    port_declared (widened d (cycle + 1)) (cycle * length d.pipe.ports + i) p s (repeated-there (cycle + 1) cycle d.pipe.ports i p (omega arith) there) e
+
+-- the number of the next input
+pub input-next : (d : Design) (cycle len count index : ℕ) → len ≡ length d.pipe.ports → count ≡ index → cycle * len + count ≡ cycle * length (design_view d).pipe.ports + index
+input-next d cycle len count index e f =
+    ap (λ k. cycle * k + count) (e ∙ sym (length-map d.pipe.ports port_view)) ∙ ap (λ k. cycle * length (design_view d).pipe.ports + k) f
+
 abbrev pub sorts_of_ports : List PortView → List Sort
 sorts_of_ports ports = map (λ (p : PortView). p.sort) ports
 
--- the first n entries, or inputs, have their terms, and the rest is to come
-pub record FirstsDone (d : DesignView) (symbols : ℕ → Sym) (old new : List Node) (sorts rest : List Sort) (n : ℕ) (ids : List ℕ) : Type 0 where
+-- the first n entries, or inputs, have their terms, numbered from a first one, and the rest is to come
+pub record FirstsDone (d : DesignView) (symbols : ℕ → Sym) (first : ℕ) (old new : List Node) (sorts rest : List Sort) (n : ℕ) (ids : List ℕ) : Type 0 where
   pub grows : GrowsWithin d old new
   pub done : List Sort
   pub whole : done ++ rest ≡ sorts
   pub count : length ids ≡ n
-  pub terms : FirstTerms symbols new 0 ids done
+  pub terms : FirstTerms symbols new first ids done
 
-pub firsts_init : (d : DesignView) (symbols : ℕ → Sym) (old : List Node) (sorts : List Sort) → FirstsDone d symbols old old sorts sorts 0 []
-firsts_init d symbols old sorts = record { grows = Grows-self d old; done = []; whole = refl; count = refl; terms = tt }
+pub firsts_init : (d : DesignView) (symbols : ℕ → Sym) (first : ℕ) (old : List Node) (sorts : List Sort) → FirstsDone d symbols first old old sorts sorts 0 []
+firsts_init d symbols first old sorts = record { grows = Grows-self d old; done = []; whole = refl; count = refl; terms = tt }
 
-pub firsts_keep : (d : DesignView) (symbols : ℕ → Sym) (old mid : List Node) (sorts rest : List Sort) (n : ℕ) (ids : List ℕ) (u : Use) → KeepsDesign d old → FirstsDone d symbols old mid sorts rest n ids → IsDeclared d u → KeepsUse mid u
-firsts_keep d symbols old mid sorts rest n ids u k h is = (KeepsDesign-Grows d old mid h.grows k).keeps u is
+pub firsts_keep : (d : DesignView) (symbols : ℕ → Sym) (first : ℕ) (old mid : List Node) (sorts rest : List Sort) (n : ℕ) (ids : List ℕ) (u : Use) → KeepsDesign d old → FirstsDone d symbols first old mid sorts rest n ids → IsDeclared d u → KeepsUse mid u
+firsts_keep d symbols first old mid sorts rest n ids u k h is = (KeepsDesign-Grows d old mid h.grows k).keeps u is
 
 -- an item of a list, at its place
 pub item_there : {A : Type 0} (all items : List A) (i : ℕ) (x : A) → items ≡ all → i < length items → x ≡ get_or items i x → slice_get all i ≡ Some x
@@ -162,21 +200,21 @@ item_of_all P (y ∷ xs) zero x h k = let same : y ≡ x = cc in subst P same h.
 item_of_all P (y ∷ xs) (suc i) x h k = item_of_all P xs i x h.1 k
 
 -- the graph, grown by the term of the symbol at a place
-pub firsts_grow : (d : DesignView) (symbols : ℕ → Sym) (old mid next : List Node) (sorts rest : List Sort) (n : ℕ) (ids : List ℕ) (place : ℕ) (s : Sort) → place ≡ n → FirstsDone d symbols old mid sorts rest n ids → IsDeclared d (sort_use (symbols n) s)
+pub firsts_grow : (d : DesignView) (symbols : ℕ → Sym) (first : ℕ) (old mid next : List Node) (sorts rest : List Sort) (n : ℕ) (ids : List ℕ) (place : ℕ) (s : Sort) → place ≡ first + n → FirstsDone d symbols first old mid sorts rest n ids → IsDeclared d (sort_use (symbols (first + n)) s)
     → Extends mid next → AddsUses mid next (sort_use (symbols place) s ∷ []) → GrowsWithin d old next
-firsts_grow d symbols old mid next sorts rest n ids place s same h is e u =
-    Grows-trans d old mid next h.grows (Grows-one d mid next (sort_use (symbols n) s) is e (subst (λ m. AddsUses mid next (sort_use (symbols m) s ∷ [])) same u))
+firsts_grow d symbols first old mid next sorts rest n ids place s same h is e u =
+    Grows-trans d old mid next h.grows (Grows-one d mid next (sort_use (symbols (first + n)) s) is e (subst (λ m. AddsUses mid next (sort_use (symbols m) s ∷ [])) same u))
 
 -- one term more
-pub firsts_step : (d : DesignView) (symbols : ℕ → Sym) (old mid next : List Node) (sorts : List Sort) (s : Sort) (rest : List Sort) (n : ℕ) (ids : List ℕ) (id place : ℕ) → place ≡ n → FirstsDone d symbols old mid sorts (s ∷ rest) n ids
-    → IsDeclared d (sort_use (symbols n) s) → Extends mid next → AddsUses mid next (sort_use (symbols place) s ∷ []) → IsFirstTerm next (symbols place) s id → FirstsDone d symbols old next sorts rest (n + 1) (ids ++ id ∷ [])
-firsts_step d symbols old mid next sorts s rest n ids id place same h is e u k = record {
-  grows = firsts_grow d symbols old mid next sorts (s ∷ rest) n ids place s same h is e u;
+pub firsts_step : (d : DesignView) (symbols : ℕ → Sym) (first : ℕ) (old mid next : List Node) (sorts : List Sort) (s : Sort) (rest : List Sort) (n : ℕ) (ids : List ℕ) (id place : ℕ) → place ≡ first + n → FirstsDone d symbols first old mid sorts (s ∷ rest) n ids
+    → IsDeclared d (sort_use (symbols (first + n)) s) → Extends mid next → AddsUses mid next (sort_use (symbols place) s ∷ []) → IsFirstTerm next (symbols place) s id → FirstsDone d symbols first old next sorts rest (n + 1) (ids ++ id ∷ [])
+firsts_step d symbols first old mid next sorts s rest n ids id place same h is e u k = record {
+  grows = firsts_grow d symbols first old mid next sorts (s ∷ rest) n ids place s same h is e u;
   done = h.done ++ s ∷ [];
   whole = append_assoc h.done (s ∷ []) rest ∙ h.whole;
   count = omega (arith, length-append ids (id ∷ []), h.count);
-  terms = firsts_push symbols mid next e 0 ids h.done id s h.terms (subst (λ m. IsFirstTerm next (symbols m) s id) (omega (arith, h.count)) k);
+  terms = firsts_push symbols mid next e first ids h.done id s h.terms (subst (λ m. IsFirstTerm next (symbols m) s id) (omega (arith, same, h.count)) k);
 }
 
-pub firsts_done : (d : DesignView) (symbols : ℕ → Sym) (old new : List Node) (sorts : List Sort) (n : ℕ) (ids : List ℕ) → FirstsDone d symbols old new sorts [] n ids → FirstTerms symbols new 0 ids sorts
-firsts_done d symbols old new sorts n ids h = subst (FirstTerms symbols new 0 ids) (sym (append-nil h.done) ∙ h.whole) h.terms
+pub firsts_done : (d : DesignView) (symbols : ℕ → Sym) (first : ℕ) (old new : List Node) (sorts : List Sort) (n : ℕ) (ids : List ℕ) → FirstsDone d symbols first old new sorts [] n ids → FirstTerms symbols new first ids sorts
+firsts_done d symbols first old new sorts n ids h = subst (FirstTerms symbols new first ids) (sym (append-nil h.done) ∙ h.whole) h.terms

@@ -12,3 +12,4 @@ pub mod Firsts
 pub mod Cycles
 pub mod Forms
 pub mod Widening
+pub mod Cutting

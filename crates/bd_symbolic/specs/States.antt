@@ -1,20 +1,22 @@
 -- States of terms, and what a cycle, flush cycles and a step of the specification make of them
 -- (Burch and Dill 1994).
-use Rattle.std.specs.Prelude.{ℕ, List, [], map}
+use Rattle.std.specs.Prelude.{◌≡◌, ◌<◌, ◌+◌, ◌*◌, ℕ, false, List, [], length, map, slice_index_or}
 use Rattle.bd_model.specs.DesignView.{DesignView, MachineView, LocalView, PortView}
-use Rattle.bd_model.specs.Value.{let_values}
+use Rattle.bd_model.specs.Value.{let_values, truth}
 use Rattle.bd_model.specs.Cycle.{step, flush}
-use Rattle.bd_model.specs.Fits.{Fits}
+use Rattle.bd_model.specs.Fits.{Fits, InputsFit, StateFits}
 use Rattle.bd_model.specs.Lawful.{entry_sorts}
 use Rattle.bd_model.specs.declared.design.Sort.{Sort}
 use Rattle.bd_model.specs.declared.case.Case.{Case}
 use Rattle.bd_model.specs.declared.table.Scalar.{Scalar}
+use Rattle.bd_model.specs.declared.table.Scalar.TheVariants as scalar
 use Rattle.bd_model.specs.declared.table.Table.{Table}
 use Rattle.bd_model.specs.declared.table.Value.{Value}
 use Rattle.bd_terms.specs.declared.node.Node.{Node}
+use Rattle.bd_terms.specs.declared.node.Sym.TheVariants as sym
 use Rattle.bd_terms.specs.Denotation.{World}
 use Rattle.bd_symbolic.specs.declared.state.SymState.{SymState}
-use Rattle.bd_symbolic.specs.World.{IsWorldOf, world_of}
+use Rattle.bd_symbolic.specs.World.{IsWorldOf, constant, value_table, world_of}
 use Rattle.bd_symbolic.specs.Symbolic.{HaveSorts, DenoteValues, DenoteScalars}
 
 abbrev pub port_sorts : MachineView → List Sort
@@ -33,6 +35,22 @@ pub record DenotesState (d : DesignView) (w : World) (nodes : List Node) (state 
   pub world : IsWorldOf d interp w
   pub entries : DenoteValues w nodes state.entries values
   pub inputs : DenoteScalars w nodes state.inputs scalars
+
+-- in each world whose first contents are the values of a fitting state, the terms denote them
+pub record DenotesEntries (d : DesignView) (nodes : List Node) (ids : List ℕ) : Type 0 where
+  pub denotes : (w : World) (values : List Value) → StateFits d values
+      → ((i : ℕ) → i < length values → w (sym.Entry i) ≡ value_table (slice_index_or values i (truth false)))
+      → DenoteValues w nodes ids values
+
+-- the number of input i in a cycle, from 0
+abbrev pub input_number : DesignView → ℕ → ℕ → ℕ
+input_number d cycle i = cycle * length d.pipe.ports + i
+
+-- in each world whose inputs in this cycle are fitting scalars, the terms denote them
+pub record DenotesInputs (d : DesignView) (cycle : ℕ) (nodes : List Node) (ids : List ℕ) : Type 0 where
+  pub denotes : (w : World) (scalars : List Scalar) → InputsFit d scalars
+      → ((i : ℕ) → i < length scalars → w (sym.Input (input_number d cycle i)) ≡ constant (slice_index_or scalars i (scalar.Bool false)))
+      → DenoteScalars w nodes ids scalars
 
 -- in the world of each fitting case, whatever the addresses, the terms denote the case's state and inputs
 pub record DenotesCases (d : DesignView) (nodes : List Node) (state : SymState) : Type 0 where

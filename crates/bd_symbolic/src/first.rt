@@ -1,12 +1,14 @@
-//! The state before the first cycle, with a symbol for each entry and each input.
-ghost use Rattle.std.specs.Prelude.{◌≢◌, ◌∷◌, [], IfOk};
+//! The state before the first cycle, with a symbol for each entry and each input, and the inputs of later cycles.
+ghost use Rattle.std.specs.Prelude.{◌≢◌, ◌<◌, ◌+◌, ◌*◌, ◌∷◌, [], IfOk, length};
 ghost use Rattle.bd_model.specs.DesignView.{design_view};
 ghost use Rattle.bd_model.specs.Lawful.{IsLawful, entry_sorts};
 ghost use Rattle.bd_model.specs.declared.design.Sort.TheVariants as kind;
 ghost use Rattle.bd_terms.specs.Graph.{AddsUses, Extends};
 ghost use Rattle.bd_terms.specs.declared.node.Sym.TheVariants as symbol;
 ghost use Rattle.bd_symbolic.specs.DesignSymbols.{GrowsWithin, KeepsDesign, sort_use};
-ghost use Rattle.bd_symbolic.specs.States.{DenotesCases, StateHasSorts, port_sorts};
+ghost use Rattle.bd_symbolic.specs.States.{DenotesCases, DenotesEntries, DenotesInputs, StateHasSorts, port_sorts};
+ghost use Rattle.bd_symbolic.specs.Symbolic.{HaveSorts};
+ghost use Rattle.bd_symbolic.specs.Widened.{widened};
 ghost use Rattle.bd_symbolic.specs.inner.First.{FirstTerms, IsFirstTerm, KeepsUse};
 
 use crate::state::{SymState, TermIds};
@@ -25,8 +27,41 @@ pub fn sym_state(alloc: Global, graph: &mut Graph, design: &Design) -> Result<Sy
     ensures grows { GrowsWithin (design_view design.now) graph.old graph.new }
 {
     let entries = first_entries(alloc, graph, design)?;
-    let inputs = first_inputs(alloc, graph, design)?;
+    let inputs = first_inputs(alloc, graph, design, 0)?;
     Ok(SymState { entries, inputs })
+}
+
+/// A symbol of the design for each latch, and the first contents of each memory. Refused for want of memory, the graph may
+/// keep further nodes.
+pub fn sym_entries(alloc: Global, graph: &mut Graph, design: &Design) -> Result<TermIds, AllocError>
+    requires lawful { IsLawful (design_view design.now) }
+    requires keeps { KeepsDesign (design_view design.now) graph.old }
+    ensures sorted { IfOk result (λ ids.
+        HaveSorts graph.new ids (entry_sorts (design_view design.now).pipe)) }
+    ensures denotes { IfOk result (DenotesEntries (design_view design.now) graph.new) }
+    ensures grows { GrowsWithin (design_view design.now) graph.old graph.new }
+{
+    first_entries(alloc, graph, design)
+}
+
+/// A symbol for each input in a cycle, from 0, of a run of many. Refused for want of memory, the graph may keep further
+/// nodes.
+pub fn sym_inputs(
+    alloc: Global,
+    graph: &mut Graph,
+    design: &Design,
+    cycle: u32,
+) -> Result<TermIds, AllocError>
+    requires lawful { IsLawful (design_view design.now) }
+    requires few { cycle < 16 }
+    requires keeps { KeepsDesign (widened (design_view design.now) (cycle + 1)) graph.old }
+    ensures sorted { IfOk result (λ ids.
+        HaveSorts graph.new ids (port_sorts (design_view design.now).pipe)) }
+    ensures denotes { IfOk result (DenotesInputs (design_view design.now) cycle graph.new) }
+    ensures grows { GrowsWithin (widened (design_view design.now) (cycle + 1))
+        graph.old graph.new }
+{
+    first_inputs(alloc, graph, design, cycle)
 }
 
 // A term for each entry.
@@ -45,17 +80,26 @@ fn first_entries(alloc: Global, graph: &mut Graph, design: &Design) -> Result<Te
     Ok(entries)
 }
 
-// A term for each input.
-fn first_inputs(alloc: Global, graph: &mut Graph, design: &Design) -> Result<TermIds, AllocError>
+// A term for each input in a cycle.
+fn first_inputs(
+    alloc: Global,
+    graph: &mut Graph,
+    design: &Design,
+    cycle: u32,
+) -> Result<TermIds, AllocError>
     requires lawful { IsLawful (design_view design.now) }
-    requires keeps { KeepsDesign (design_view design.now) graph.old }
+    requires few { cycle < 16 }
+    requires keeps { KeepsDesign (widened (design_view design.now) (cycle + 1)) graph.old }
     ensures terms { IfOk result (λ ids.
-        FirstTerms symbol.Input graph.new 0 ids (port_sorts (design_view design.now).pipe)) }
-    ensures grows { GrowsWithin (design_view design.now) graph.old graph.new }
+        FirstTerms symbol.Input graph.new (cycle * length (design_view design.now).pipe.ports)
+        ids (port_sorts (design_view design.now).pipe)) }
+    ensures grows { GrowsWithin (widened (design_view design.now) (cycle + 1))
+        graph.old graph.new }
 {
+    let first = cycle * design.pipe.ports.len() as u32;
     let mut inputs = Sequence::new(alloc);
     for port in design.pipe.ports.as_slice() {
-        let place = inputs.len() as u32;
+        let place = first + inputs.len() as u32;
         inputs.push(first_latch(graph, Sym::Input(place), port.sort)?)?;
     }
     Ok(inputs)

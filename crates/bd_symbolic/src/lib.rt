@@ -16,7 +16,7 @@ mod visible;
 
 pub use cycle::{sym_spec_step, sym_step};
 pub use eval::sym_eval;
-pub use first::sym_state;
+pub use first::{sym_entries, sym_inputs, sym_state};
 pub use flush::sym_flush;
 pub use lets::sym_lets;
 pub use state::{SymState, TermIds};

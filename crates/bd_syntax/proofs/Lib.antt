@@ -1,3 +1,4 @@
+pub mod Completions
 pub mod EachForm
 pub mod Expressions
 pub mod Limits

@@ -25,7 +25,7 @@ use Rattle.bd_syntax.proofs.Results.{holds_then, holds_if, holds_if_both, anythi
 
 -- ---- atoms
 
-name_holds : (t : Node) → IfOk (name_form t) IsNamed
+pub name_holds : (t : Node) → IfOk (name_form t) IsNamed
 unfolding name_form
 name_holds (atom offset text) = holds_if IsNamed (is_name text) (spot offset text) (record { offset = offset; code = NotName }) (λ h. is_name-true text h)
 name_holds (list offset parts) = tt
@@ -129,17 +129,17 @@ pub record AreWithin (ts : Nodes) : Type 0 where
   pub count : node_count ts ≤ 1048576
   pub short : AreShort 1048576 ts
 
-AreWithin-others : (ts : Nodes) → AreWithin ts → AreWithin (others ts)
+pub AreWithin-others : (ts : Nodes) → AreWithin ts → AreWithin (others ts)
 AreWithin-others ts h = record {
   nesting = omega (arith, h.nesting, nesting_inside-others ts);
   count = omega (arith, h.count, node_count-others ts);
   short = AreShort-others 1048576 ts h.short;
 }
 
-AreWithin-inside : (offset : ℕ) (ts : Nodes) → nesting (list offset ts) ≤ 200 → IsShort 1048576 (list offset ts) → AreWithin ts
+pub AreWithin-inside : (offset : ℕ) (ts : Nodes) → nesting (list offset ts) ≤ 200 → IsShort 1048576 (list offset ts) → AreWithin ts
 AreWithin-inside offset ts deep short = record { nesting = omega (arith, deep); count = short.0; short = short.1 }
 
-IsLimited-kept : (t : Node) (e : Expression) → Keeps t e → nesting t ≤ 200 → IsShort 1048576 t → IsLimited e
+pub IsLimited-kept : (t : Node) (e : Expression) → Keeps t e → nesting t ≤ 200 → IsShort 1048576 t → IsLimited e
 IsLimited-kept t e keeps deep short = record { nesting = omega (arith, keeps.nesting, deep); parts = keeps.few 1048576 short }
 
 sort_holds : (t : Node) → IfOk (sort_form t) (λ _. Unit {0})
@@ -151,19 +151,19 @@ AllRead P no_nodes [] = Unit {0}
 AllRead P (node t ts) (x ∷ xs) = P t x × AllRead P ts xs
 AllRead P _ _ = ⊥
 
-each_holds : {A : Type 0} (P : Node → A → Type 0) (form : Node → Result A Fault) → ((t : Node) → IfOk (form t) (P t)) → (ts : Nodes) → IfOk (each_form form ts) (AllRead P ts)
+pub each_holds : {A : Type 0} (P : Node → A → Type 0) (form : Node → Result A Fault) → ((t : Node) → IfOk (form t) (P t)) → (ts : Nodes) → IfOk (each_form form ts) (AllRead P ts)
 each_holds P form h no_nodes = tt
 each_holds P form h (node t ts) =
     holds_then (P t) (AllRead P (node t ts)) (form t) (λ x. each_form form ts >>= λ xs. Ok (x ∷ xs)) (h t)
     (λ x one. holds_then (AllRead P ts) (AllRead P (node t ts)) (each_form form ts) (λ xs. Ok (x ∷ xs)) (each_holds P form h ts) (λ xs all. (one, all)))
 
-length-AllRead : {A : Type 0} (P : Node → A → Type 0) (ts : Nodes) (xs : List A) → AllRead P ts xs → length xs ≡ node_count ts
+pub length-AllRead : {A : Type 0} (P : Node → A → Type 0) (ts : Nodes) (xs : List A) → AllRead P ts xs → length xs ≡ node_count ts
 length-AllRead P no_nodes [] h = refl
 length-AllRead P no_nodes (x ∷ xs) h = absurd h
 length-AllRead P (node t ts) [] h = absurd h
 length-AllRead P (node t ts) (x ∷ xs) h = omega (arith, length-AllRead P ts xs h.1)
 
-All-AllRead : {A : Type 0} (P : Node → A → Type 0) (Q : A → Type 0) → ((t : Node) (x : A) → P t x → Q x) → (ts : Nodes) (xs : List A) → AllRead P ts xs → AllByRecursion Q xs
+pub All-AllRead : {A : Type 0} (P : Node → A → Type 0) (Q : A → Type 0) → ((t : Node) (x : A) → P t x → Q x) → (ts : Nodes) (xs : List A) → AllRead P ts xs → AllByRecursion Q xs
 All-AllRead P Q f no_nodes [] h = tt
 All-AllRead P Q f no_nodes (x ∷ xs) h = absurd h
 All-AllRead P Q f (node t ts) [] h = absurd h
@@ -293,10 +293,10 @@ limited_items place (node t ts) [] deep short h = absurd h
 limited_items place (node t ts) (x ∷ xs) deep short h = (h.0.1 (omega (arith, deep)) short.0, limited_items place ts xs (omega (arith, deep)) short.1 h.1)
 
 -- items that were read from the parts of a file
-abbrev AreItems : Place → Nodes → List ItemView → Type 0
+abbrev pub AreItems : Place → Nodes → List ItemView → Type 0
 AreItems place ts items = AllByRecursion (IsItem place) items × (AreWithin ts → AreLimited items)
 
-items_hold : (place : Place) (ts : Nodes) → IfOk (each_form (item_form place) ts) (AreItems place ts)
+pub items_hold : (place : Place) (ts : Nodes) → IfOk (each_form (item_form place) ts) (AreItems place ts)
 items_hold place ts = IfOk-weaker (each_form (item_form place) ts) (AllRead (IsReadFrom place) ts) (AreItems place ts)
     (λ items all. (
       All-AllRead (IsReadFrom place) (IsItem place) (λ t item read. read.0) ts items all,
@@ -309,7 +309,7 @@ items_hold place ts = IfOk-weaker (each_form (item_form place) ts) (AllRead (IsR
 
 -- ---- files
 
-abbrev IsInside : Nodes → ℕ × Nodes → Type 0
+abbrev pub IsInside : Nodes → ℕ × Nodes → Type 0
 IsInside trees file = AreWithinLimits trees → AreWithin file.1
 
 headed_holds : (head : List ℕ) (t : Node) (ts : Nodes) → IfOk (headed_form head t) (IsInside (node t ts))
@@ -320,7 +320,7 @@ headed_holds head (list offset (node (atom at text) parts)) ts =
     holds_if (IsInside (node (list offset (node (atom at text) parts)) ts)) (same_text text head) (offset, parts) (record { offset = offset; code = WrongHead })
     (λ _ limits. AreWithin-others (node (atom at text) parts) (AreWithin-inside offset (node (atom at text) parts) (omega (arith, limits.0)) limits.1.0))
 
-file_holds : (head : List ℕ) (trees : Nodes) → IfOk (file_form head trees) (IsInside trees)
+pub file_holds : (head : List ℕ) (trees : Nodes) → IfOk (file_form head trees) (IsInside trees)
 file_holds head no_nodes = tt
 file_holds head (node t ts) =
     holds_then (IsInside (node t ts)) (IsInside (node t ts)) (headed_form head t) (λ inside. end_form ts >>= λ end. Ok inside) (headed_holds head t ts)

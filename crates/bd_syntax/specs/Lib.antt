@@ -1,3 +1,4 @@
+pub mod Completion
 pub mod Forms
 pub mod Name
 pub mod Reading

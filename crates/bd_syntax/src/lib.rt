@@ -1,4 +1,4 @@
-//! The forms of machine and invariant files: from trees to items and expressions, or the first fault.
+//! The forms of machine, invariant and completion files: from trees to items and expressions, or the first fault.
 //!
 //! Forms are looked at from left to right, and a list's own shape before its parts, so the first fault is met
 //! first. What a file reads as is a function of its trees (`specs/Reading.antt`), and each reader gives what
@@ -8,6 +8,7 @@
 
 mod ast;
 pub mod atoms;
+mod completion;
 mod expression;
 mod fault;
 mod form;
@@ -21,7 +22,8 @@ mod operator;
 mod read;
 mod read_item;
 
-pub use ast::{Ast, InvAst, Kind};
+pub use ast::{Abstract, Abstracts, Ast, CompAst, InvAst, Kind};
+pub use completion::read_completion;
 pub use fault::{FormFault, bad};
 pub use form::{Form, Forms, Spot};
 pub use item::{Item, Items, Spots};

@@ -17,7 +17,7 @@ use bd_text::{Code, Tree, Trees};
 use std::alloc::Global;
 
 /// The one tree of a file, which begins with this text: its offset, and the parts after it.
-fn file<'a>(trees: &'a Trees, head: &[u8]) -> Result<(usize, &'a [Tree]), FormFault>
+pub(crate) fn file<'a>(trees: &'a Trees, head: &[u8]) -> Result<(usize, &'a [Tree]), FormFault>
     ensures { Gives (λ file. (file.0, nodes_of_all file.1.now)) result
         (file_form head.now (nodes_of trees.now)) }
 {

@@ -205,7 +205,12 @@ fn item_of_head(alloc: Global, offset: usize, head: Head, parts: &[Tree]) -> Res
 }
 
 /// The head that a text is, where so many parts may follow it and it may stand in that place.
-fn head_of(place: Place, offset: usize, text: &[u8], parts: usize) -> Result<Head, FormFault>
+pub(crate) fn head_of(
+    place: Place,
+    offset: usize,
+    text: &[u8],
+    parts: usize,
+) -> Result<Head, FormFault>
     ensures head { Gives (λ head. head) result (head_form place offset parts (head_of text.now)) }
     ensures takes { IfOk result (λ head. head_takes head parts ≡ true) }
 {

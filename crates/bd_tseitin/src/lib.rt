@@ -11,6 +11,3 @@ pub use form::clauses;
 pub use formula::Formula;
 pub use inputs::inputs_of;
 pub use row::{AtomVar, AtomVars};
-
-#[cfg(test)]
-mod tests;

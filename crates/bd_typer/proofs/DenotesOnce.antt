@@ -5,17 +5,18 @@ use Rattle.bd_text.proofs.FirstFaults.{one_first}
 use Rattle.bd_text.proofs.Unique.{one_reading-holds}
 use Rattle.bd_model.specs.DesignView.{DesignView}
 use Rattle.bd_typer.specs.declared.fault.Text.{Text}
-use Rattle.bd_typer.specs.declared.fault.Text.TheVariants.{Pipe, Spec, Inv}
+use Rattle.bd_typer.specs.declared.fault.Text.TheVariants.{Pipe, Spec}
 use Rattle.bd_typer.specs.Faults.{FileFault}
 use Rattle.bd_text.specs.Faults.{HasNoFault, IsFirstFault}
 use Rattle.bd_text.specs.Grammar.{Spells}
 use Rattle.bd_model.specs.DesignView.{design_view}
 use Rattle.bd_model.specs.declared.design.Design.{Design}
+use Rattle.bd_typer.specs.declared.premise.Premise.{Premise}
 use Rattle.bd_typer.specs.declared.fault.TypeFault.{TypeFault}
 use Rattle.bd_typer.specs.declared.fault.TypeFault.TheVariants as faults
 use Rattle.bd_typer.specs.Faults.{GivesIn}
 use Rattle.bd_typer.specs.inner.Located.{OnText}
-use Rattle.bd_typer.specs.Denotes.{Reads, ReadsInv, Denotes, OnDesign}
+use Rattle.bd_typer.specs.Denotes.{Reads, ReadsIf, DenotesWith, OnDesign, premise_file}
 
 reads_once : (file : Text) (source : List ℕ) (r q : Result DesignView FileFault) (R Q : Nodes → Type 0) → ((trees : Nodes) → R trees → Q trees → r ≡ q) → Reads file source r R → Reads file source q Q → r ≡ q
 reads_once file source r q R Q then (inl (o, code, first, is)) (inl (p, other, second, is')) =
@@ -25,13 +26,13 @@ reads_once file source r q R Q then (inr (none, rest)) (inl (o, code, first, is)
 reads_once file source r q R Q then (inr (none, (trees, spells, h))) (inr (fine, (others, spells', g))) =
     then trees h (subst Q (one_reading-holds source others trees spells' spells) g)
 
-reads_inv_once : (inv : Option (List ℕ)) (r q : Result DesignView FileFault) (R Q : Option Nodes → Type 0) → ((trees : Option Nodes) → R trees → Q trees → r ≡ q) → ReadsInv inv r R → ReadsInv inv q Q → r ≡ q
-reads_inv_once None r q R Q then h g = then None h g
-reads_inv_once (Some source) r q R Q then h g = reads_once Inv source r q (λ trees. R (Some trees)) (λ trees. Q (Some trees)) (λ trees. then (Some trees)) h g
+reads_if_once : (file : Text) (text : Option (List ℕ)) (r q : Result DesignView FileFault) (R Q : Option Nodes → Type 0) → ((trees : Option Nodes) → R trees → Q trees → r ≡ q) → ReadsIf file text r R → ReadsIf file text q Q → r ≡ q
+reads_if_once file None r q R Q then h g = then None h g
+reads_if_once file (Some source) r q R Q then h g = reads_once file source r q (λ trees. R (Some trees)) (λ trees. Q (Some trees)) (λ trees. then (Some trees)) h g
 
-pub denotes_once : (pipe spec : List ℕ) (inv : Option (List ℕ)) (r q : Result DesignView FileFault) → Denotes pipe spec inv r → Denotes pipe spec inv q → r ≡ q
-denotes_once pipe spec inv r q h g =
-    reads_once Pipe pipe r q _ _ (λ p. reads_once Spec spec r q _ _ (λ s. reads_inv_once inv r q _ _ (λ i e f. e ∙ sym f))) h g
+pub denotes_once : (premise : Premise) (pipe spec : List ℕ) (third : Option (List ℕ)) (r q : Result DesignView FileFault) → DenotesWith premise pipe spec third r → DenotesWith premise pipe spec third q → r ≡ q
+denotes_once premise pipe spec third r q h g =
+    reads_once Pipe pipe r q _ _ (λ p. reads_once Spec spec r q _ _ (λ s. reads_if_once (premise_file premise) third r q _ _ (λ t e f. e ∙ sym f))) h g
 
 -- ---- reading texts
 

@@ -1,6 +1,6 @@
 -- What is read of trees within the limits is such as joining asks.
 use Rattle.std.proofs.Common.{◌≡◌, Some, Result, Ok, Err, refl, ap, subst}
-use Rattle.std.specs.Prelude.{codes, IfOk}
+use Rattle.std.specs.Prelude.{ℕ, List, IfOk}
 use Rattle.bd_text.specs.Nodes.{Nodes}
 use Rattle.bd_syntax.specs.Forms.{AstView, InvView, ast_view, invariant_view}
 use Rattle.bd_syntax.specs.Reading.{◌>>=◌, Fault, Gives, kind_place, kind_text, file_form, each_form, item_form, machine_form, invariant_form}
@@ -11,7 +11,8 @@ use Rattle.bd_syntax.specs.declared.ast.InvAst.{InvAst}
 use Rattle.bd_syntax.specs.declared.fault.FormFault.{FormFault}
 use Rattle.bd_syntax.specs.declared.fault.FormFault.TheVariants as forms
 use Rattle.bd_syntax.proofs.WellFormed.{machine_holds, invariant_holds}
-use Rattle.bd_typer.specs.Denotes.{inv_form}
+use Rattle.bd_typer.specs.Denotes.{premise_form, premise_head}
+use Rattle.bd_typer.specs.declared.premise.Premise.{Premise}
 use Rattle.bd_typer.specs.Given.{IsMachineFile, IsInvFile}
 
 first_step : {A B : Type 0} (r : Result A Fault) (f : A → Result B Fault) (y : B) → (r >>= f) ≡ Ok y → (x : A) × (f x ≡ Ok y)
@@ -32,9 +33,9 @@ machine_file kind trees ast within h =
     let holds = subst (λ r. IfOk r (λ (a : AstView). IsAst a × (AreWithinLimits trees → AreLimited a.items))) h (machine_holds kind trees) in
     record { kind-is = kind_kept kind trees ast h; formed = holds.0; limited = holds.1 within }
 
-pub inv_file : (trees : Nodes) (inv : InvView) → AreWithinLimits trees → invariant_form (codes "invariant") trees ≡ Ok inv → IsInvFile inv
-inv_file trees inv within h =
-    let holds = subst (λ r. IfOk r (λ (a : InvView). IsInvAst a × (AreWithinLimits trees → IsLimitedInvAst a))) h (invariant_holds (codes "invariant") trees) in
+pub inv_file : (head : List ℕ) (trees : Nodes) (inv : InvView) → AreWithinLimits trees → invariant_form head trees ≡ Ok inv → IsInvFile inv
+inv_file head trees inv within h =
+    let holds = subst (λ r. IfOk r (λ (a : InvView). IsInvAst a × (AreWithinLimits trees → IsLimitedInvAst a))) h (invariant_holds head trees) in
     record { formed = holds.0; limited = holds.1 within }
 
 -- what reading a machine's trees gives
@@ -42,12 +43,12 @@ pub machine_formed : (kind : Kind) (trees : Nodes) (read : Result Ast FormFault)
 machine_formed kind trees (Ok ast) within h = machine_file kind trees (ast_view ast) within h
 machine_formed kind trees (Err fault) within h = tt
 
-pub inv_formed : (trees : Nodes) (read : Result InvAst FormFault) → AreWithinLimits trees → Gives invariant_view read (invariant_form (codes "invariant") trees) → IfOk read (λ inv. IsInvFile (invariant_view inv))
-inv_formed trees (Ok inv) within h = inv_file trees (invariant_view inv) within h
-inv_formed trees (Err fault) within h = tt
+pub inv_formed : (head : List ℕ) (trees : Nodes) (read : Result InvAst FormFault) → AreWithinLimits trees → Gives invariant_view read (invariant_form head trees) → IfOk read (λ inv. IsInvFile (invariant_view inv))
+inv_formed head trees (Ok inv) within h = inv_file head trees (invariant_view inv) within h
+inv_formed head trees (Err fault) within h = tt
 
--- an invariant that is given
-pub inv_gives : (trees : Nodes) (read : Result InvAst FormFault) → Gives invariant_view read (invariant_form (codes "invariant") trees) → Gives (λ (inv : InvAst). Some (invariant_view inv)) read (inv_form (Some trees))
-inv_gives trees (Ok inv) h = rw h refl
-inv_gives trees (Err forms.Memory) h = tt
-inv_gives trees (Err (forms.Bad offset code)) h = rw h refl
+-- a third file that is given
+pub third_gives : (premise : Premise) (trees : Nodes) (read : Result InvAst FormFault) → Gives invariant_view read (invariant_form (premise_head premise) trees) → Gives (λ (inv : InvAst). Some (invariant_view inv)) read (premise_form premise (Some trees))
+third_gives premise trees (Ok inv) h = rw h refl
+third_gives premise trees (Err forms.Memory) h = tt
+third_gives premise trees (Err (forms.Bad offset code)) h = rw h refl

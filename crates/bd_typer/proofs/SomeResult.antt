@@ -11,9 +11,10 @@ use Rattle.bd_text.proofs.SomeReading.{some_reading-holds}
 use Rattle.bd_text.proofs.Steps.{past_end}
 use Rattle.bd_model.specs.DesignView.{DesignView}
 use Rattle.bd_typer.specs.declared.fault.Text.{Text}
-use Rattle.bd_typer.specs.declared.fault.Text.TheVariants.{Pipe, Spec, Inv}
+use Rattle.bd_typer.specs.declared.fault.Text.TheVariants.{Pipe, Spec}
 use Rattle.bd_typer.specs.Faults.{FileFault}
-use Rattle.bd_typer.specs.Denotes.{design_of_trees, Reads, ReadsInv, Denotes}
+use Rattle.bd_typer.specs.declared.premise.Premise.{Premise}
+use Rattle.bd_typer.specs.Denotes.{design_of_trees, premise_file, Reads, ReadsIf, DenotesWith}
 
 -- it holds or it does not
 abbrev Known : Type 0 → Type 0
@@ -100,12 +101,13 @@ reads_some file source Rest then = elim (first_or_none source) [
   | inr none ↦ (let trees = some_reading-holds source none in let rest = then trees.0 in (rest.0, inr (none, (trees.0, trees.1, rest.1))))
 ]
 
-reads_some_inv : (inv : Option (List ℕ)) (Rest : Result DesignView FileFault → Option Nodes → Type 0) → ((trees : Option Nodes) → (r : Result DesignView FileFault) × Rest r trees) → (r : Result DesignView FileFault) × ReadsInv inv r (Rest r)
-reads_some_inv None Rest then = then None
-reads_some_inv (Some source) Rest then = reads_some Inv source (λ r trees. Rest r (Some trees)) (λ trees. then (Some trees))
+reads_some_if : (file : Text) (text : Option (List ℕ)) (Rest : Result DesignView FileFault → Option Nodes → Type 0) → ((trees : Option Nodes) → (r : Result DesignView FileFault) × Rest r trees) → (r : Result DesignView FileFault) × ReadsIf file text r (Rest r)
+reads_some_if file None Rest then = then None
+reads_some_if file (Some source) Rest then = reads_some file source (λ r trees. Rest r (Some trees)) (λ trees. then (Some trees))
 
-pub some_result : (pipe spec : List ℕ) (inv : Option (List ℕ)) → (r : Result DesignView FileFault) × Denotes pipe spec inv r
-some_result pipe spec inv =
-    reads_some Pipe pipe (λ r p. Reads Spec spec r (λ s. ReadsInv inv r (λ i. r ≡ design_of_trees p s i)))
-    (λ p. reads_some Spec spec (λ r s. ReadsInv inv r (λ i. r ≡ design_of_trees p s i))
-    (λ s. reads_some_inv inv (λ r i. r ≡ design_of_trees p s i) (λ i. (design_of_trees p s i, refl))))
+pub some_result : (premise : Premise) (pipe spec : List ℕ) (third : Option (List ℕ)) → (r : Result DesignView FileFault) × DenotesWith premise pipe spec third r
+some_result premise pipe spec third =
+    let file = premise_file premise in
+    reads_some Pipe pipe (λ r p. Reads Spec spec r (λ s. ReadsIf file third r (λ t. r ≡ design_of_trees premise p s t)))
+    (λ p. reads_some Spec spec (λ r s. ReadsIf file third r (λ t. r ≡ design_of_trees premise p s t))
+    (λ s. reads_some_if file third (λ r t. r ≡ design_of_trees premise p s t) (λ t. (design_of_trees premise p s t, refl))))

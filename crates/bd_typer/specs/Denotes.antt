@@ -10,25 +10,51 @@ use Rattle.bd_syntax.specs.Forms.{InvView}
 use Rattle.bd_syntax.specs.Reading.{Fault, machine_form, invariant_form}
 use Rattle.bd_syntax.specs.declared.ast.Kind.TheVariants as kinds
 use Rattle.bd_typer.specs.declared.fault.Text.{Text}
-use Rattle.bd_typer.specs.declared.fault.Text.TheVariants.{Pipe, Spec, Inv}
+use Rattle.bd_typer.specs.declared.fault.Text.TheVariants.{Pipe, Spec, Inv, Start}
 use Rattle.bd_typer.specs.declared.fault.TypeFault.{TypeFault}
 use Rattle.bd_typer.specs.declared.fault.TypeFault.TheVariants as faults
+use Rattle.bd_typer.specs.declared.premise.Premise.{Premise}
+use Rattle.bd_typer.specs.declared.premise.Premise.TheVariants as premises
 use Rattle.bd_typer.specs.Faults.{◌>>=◌, FileFault, in_file}
 use Rattle.bd_typer.specs.Joined.{joined}
 
-abbrev pub inv_form : Option Nodes → Result (Option InvView) Fault
-inv_form None = Ok None
-inv_form (Some trees) = do
-  inv ← invariant_form (codes "invariant") trees
+-- ---- the third file
+
+-- as faults name it
+abbrev pub premise_file : Premise → Text
+premise_file premises.Invariant = Inv
+premise_file premises.Start = Start
+
+-- how its tree begins
+abbrev pub premise_head : Premise → List ℕ
+premise_head premises.Invariant = codes "invariant"
+premise_head premises.Start = codes "start"
+
+abbrev pub premise_form : Premise → Option Nodes → Result (Option InvView) Fault
+premise_form premise None = Ok None
+premise_form premise (Some trees) = do
+  inv ← invariant_form (premise_head premise) trees
   Ok (Some inv)
 
+-- it stands in the design as the invariant, whose faults are those of this file
+abbrev pub file_with : Premise → Text → Text
+file_with premise Inv = premise_file premise
+file_with premise file = file
+
+abbrev pub with_premise : Premise → Result DesignView FileFault → Result DesignView FileFault
+with_premise premise (Ok d) = Ok d
+with_premise premise (Err fault) =
+    Err (record { file = file_with premise fault.file; offset = fault.offset; code = fault.code })
+
+-- ---- the design
+
 -- the design of trees, or their first fault
-unfoldable pub design_of_trees : Nodes → Nodes → Option Nodes → Result DesignView FileFault
-design_of_trees pipe spec inv = do
+unfoldable pub design_of_trees : Premise → Nodes → Nodes → Option Nodes → Result DesignView FileFault
+design_of_trees premise pipe spec third = do
   p ← in_file Pipe (machine_form kinds.Pipeline pipe)
   s ← in_file Spec (machine_form kinds.Specification spec)
-  i ← in_file Inv (inv_form inv)
-  joined p s i
+  t ← in_file (premise_file premise) (premise_form premise third)
+  with_premise premise (joined p s t)
 
 -- a text has a first fault, which is the result, or it spells trees of which the rest holds
 abbrev pub Reads : Text → List ℕ → Result DesignView FileFault → (Nodes → Type 0) → Type 0
@@ -37,15 +63,19 @@ Reads file source result Rest =
     × (result ≡ Err (record { file = file; offset = offset; code = code })))
     ⊎ (HasNoFault source × ((trees : Nodes) × Spells source trees × Rest trees))
 
-abbrev pub ReadsInv : Option (List ℕ) → Result DesignView FileFault → (Option Nodes → Type 0) → Type 0
-ReadsInv None result Rest = Rest None
-ReadsInv (Some source) result Rest = Reads Inv source result (λ trees. Rest (Some trees))
+abbrev pub ReadsIf : Text → Option (List ℕ) → Result DesignView FileFault → (Option Nodes → Type 0) → Type 0
+ReadsIf file None result Rest = Rest None
+ReadsIf file (Some source) result Rest = Reads file source result (λ trees. Rest (Some trees))
 
--- what a pipeline, a specification and an invariant denote: a design, or their first fault
-abbrev pub Denotes : List ℕ → List ℕ → Option (List ℕ) → Result DesignView FileFault → Type 0
-Denotes pipe spec inv result =
+-- what a pipeline, a specification and a third file denote: a design, or their first fault
+abbrev pub DenotesWith : Premise → List ℕ → List ℕ → Option (List ℕ) → Result DesignView FileFault → Type 0
+DenotesWith premise pipe spec third result =
     Reads Pipe pipe result (λ p. Reads Spec spec result (λ s.
-    ReadsInv inv result (λ i. result ≡ design_of_trees p s i)))
+    ReadsIf (premise_file premise) third result (λ t. result ≡ design_of_trees premise p s t)))
+
+-- the same where the third file is an invariant
+abbrev pub Denotes : List ℕ → List ℕ → Option (List ℕ) → Result DesignView FileFault → Type 0
+Denotes pipe spec inv result = DenotesWith premises.Invariant pipe spec inv result
 
 -- what holds of a result, unless memory ran out
 abbrev pub OnDesign : Result Design TypeFault → (Result DesignView FileFault → Type 0) → Type 0

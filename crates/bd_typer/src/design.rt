@@ -10,17 +10,18 @@ ghost use Rattle.bd_model.specs.Lawful.{IsLawful};
 ghost use Rattle.bd_syntax.specs.Forms.{ast_view, invariant_view};
 ghost use Rattle.bd_syntax.specs.Reading.{machine_form};
 ghost use Rattle.bd_syntax.specs.WellFormed.{AreWithinLimits};
-ghost use Rattle.bd_typer.specs.declared.fault.Text.TheVariants.{Inv};
-ghost use Rattle.bd_typer.specs.Denotes.{Denotes, OnDesign, design_of_trees, inv_form};
+ghost use Rattle.bd_typer.specs.declared.fault.Text.TheVariants.{Inv, Start};
+ghost use Rattle.bd_typer.specs.Denotes.{Denotes, DenotesWith, OnDesign, design_of_trees, premise_file, premise_form};
 ghost use Rattle.bd_typer.specs.Faults.{GivesIn, in_file};
 ghost use Rattle.bd_typer.specs.Given.{IsInvFile, IsMachineFile};
 ghost use Rattle.bd_typer.specs.inner.Located.{OnText};
 
 use crate::fault::{DesignFault, Text, TypeFault, located, text_located};
 use crate::joining::join;
+use crate::premise::{Premise, with_premise};
 use bd_model::Design;
 use bd_syntax::laws::reads_within_limits;
-use bd_syntax::{Ast, InvAst, Kind, read_invariant, read_machine};
+use bd_syntax::{Ast, InvAst, Kind, read_invariant, read_machine, read_start};
 use bd_text::{Trees, read_trees};
 use std::alloc::Global;
 
@@ -52,10 +53,33 @@ fn machine(alloc: Global, file: Text, trees: &Trees, kind: Kind) -> Result<Ast, 
 fn invariant(alloc: Global, trees: &Trees) -> Result<InvAst, TypeFault>
     requires { AreWithinLimits (nodes_of trees.now) }
     ensures exact { GivesIn (λ inv. Some (invariant_view inv)) result
-        (in_file Inv (inv_form (Some (nodes_of trees.now)))) }
+        (in_file Inv (premise_form Premise.Invariant (Some (nodes_of trees.now)))) }
     ensures formed { IfOk result (λ inv. IsInvFile (invariant_view inv)) }
 {
     located(Text::Inv, read_invariant(alloc, trees))
+}
+
+/// The forms of a start's trees.
+fn start(alloc: Global, trees: &Trees) -> Result<InvAst, TypeFault>
+    requires { AreWithinLimits (nodes_of trees.now) }
+    ensures exact { GivesIn (λ inv. Some (invariant_view inv)) result
+        (in_file Start (premise_form Premise.Start (Some (nodes_of trees.now)))) }
+    ensures formed { IfOk result (λ inv. IsInvFile (invariant_view inv)) }
+{
+    located(Text::Start, read_start(alloc, trees))
+}
+
+/// The forms of a premise's trees.
+fn premise_form(alloc: Global, premise: Premise, trees: &Trees) -> Result<InvAst, TypeFault>
+    requires { AreWithinLimits (nodes_of trees.now) }
+    ensures exact { GivesIn (λ inv. Some (invariant_view inv)) result
+        (in_file (premise_file premise) (premise_form premise (Some (nodes_of trees.now)))) }
+    ensures formed { IfOk result (λ inv. IsInvFile (invariant_view inv)) }
+{
+    match premise {
+        Premise::Invariant => invariant(alloc, trees),
+        Premise::Start => start(alloc, trees),
+    }
 }
 
 /// The design that trees denote.
@@ -64,48 +88,75 @@ fn design_of_trees(
     alloc: Global,
     pipe: &Trees,
     spec: &Trees,
-    inv: Option<&Trees>,
+    premise: Premise,
+    third: Option<&Trees>,
 ) -> Result<Design, TypeFault>
     requires pipe { AreWithinLimits (nodes_of pipe.now) }
     requires spec { AreWithinLimits (nodes_of spec.now) }
-    requires inv { IfSome inv (λ inv. AreWithinLimits (nodes_of inv.now)) }
-    ensures { GivesIn design_view result (design_of_trees (nodes_of pipe.now)
-        (nodes_of spec.now) (option_map (λ inv. nodes_of inv.now) inv.entry)) }
+    requires third { IfSome third (λ third. AreWithinLimits (nodes_of third.now)) }
+    ensures { GivesIn design_view result (design_of_trees premise (nodes_of pipe.now)
+        (nodes_of spec.now) (option_map (λ third. nodes_of third.now) third.entry)) }
 {
     let pipe = machine(alloc, Text::Pipe, pipe, Kind::Pipeline)?;
     let spec = machine(alloc, Text::Spec, spec, Kind::Specification)?;
-    match inv {
-        None => join(alloc, &pipe, &spec, None),
-        Some(inv) => {
-            let inv = invariant(alloc, inv)?;
-            join(alloc, &pipe, &spec, Some(&inv))
+    match third {
+        None => with_premise(premise, join(alloc, &pipe, &spec, None)),
+        Some(third) => {
+            let third = premise_form(alloc, premise, third)?;
+            with_premise(premise, join(alloc, &pipe, &spec, Some(&third)))
         }
     }
 }
 
 /// The design that texts denote, or their first fault.
-fn denoted(alloc: Global, pipe: &[u8], spec: &[u8], inv: Option<&[u8]>) -> Result<Design, TypeFault>
+fn denoted(
+    alloc: Global,
+    pipe: &[u8],
+    spec: &[u8],
+    premise: Premise,
+    third: Option<&[u8]>,
+) -> Result<Design, TypeFault>
     requires pipe { length pipe.now ≤ 1048576 }
     requires spec { length spec.now ≤ 1048576 }
-    requires inv { IfSome inv (λ inv. length inv.now ≤ 1048576) }
-    ensures { OnDesign result (Denotes pipe.now spec.now (option_map (λ inv. inv.now) inv.entry)) }
+    requires third { IfSome third (λ third. length third.now ≤ 1048576) }
+    ensures { OnDesign result (DenotesWith premise pipe.now spec.now
+        (option_map (λ third. third.now) third.entry)) }
 {
     let pipe = trees(alloc, Text::Pipe, pipe)?;
     let spec = trees(alloc, Text::Spec, spec)?;
-    match inv {
-        None => design_of_trees(alloc, &pipe, &spec, None),
-        Some(inv) => {
-            let inv = trees(alloc, Text::Inv, inv)?;
-            design_of_trees(alloc, &pipe, &spec, Some(&inv))
+    match third {
+        None => design_of_trees(alloc, &pipe, &spec, premise, None),
+        Some(third) => {
+            let third = trees(alloc, premise.file(), third)?;
+            design_of_trees(alloc, &pipe, &spec, premise, Some(&third))
         }
     }
 }
 
-/// The design that texts of at most 1,048,576 bytes denote, or their first fault.
+/// The design that texts of at most 1,048,576 bytes denote, or their first fault. The third says what this premise
+/// does; a start stands in the design as its invariant.
 ///
-/// The passes follow each other, and each goes over the pipeline, the specification and the invariant: the texts
+/// The passes follow each other, and each goes over the pipeline, the specification and the third file: the texts
 /// (`E01` to `E03`), the forms (`E04` to `E06`, `E11`, `E14`), the declarations (`E07`, `E12`, `E13`), the
 /// expressions (`E07` to `E10`, `E17`, `E18`), and the specification against the pipeline (`E15`, `E16`).
+pub fn design_with(
+    alloc: Global,
+    pipe: &[u8],
+    spec: &[u8],
+    premise: Premise,
+    third: Option<&[u8]>,
+) -> Result<Design, DesignFault>
+    requires pipe { length pipe.now ≤ 1048576 }
+    requires spec { length spec.now ≤ 1048576 }
+    requires third { IfSome third (λ third. length third.now ≤ 1048576) }
+    ensures exact { OnDesign result (DenotesWith premise pipe.now spec.now
+        (option_map (λ third. third.now) third.entry)) }
+    ensures lawful { IfOk result (λ d. IsLawful (design_view d)) }
+{
+    denoted(alloc, pipe, spec, premise, third)
+}
+
+/// The design that texts of at most 1,048,576 bytes denote, or their first fault, where the third is an invariant.
 pub fn design_of(
     alloc: Global,
     pipe: &[u8],
@@ -119,5 +170,5 @@ pub fn design_of(
         (Denotes pipe.now spec.now (option_map (λ inv. inv.now) inv.entry)) }
     ensures lawful { IfOk result (λ d. IsLawful (design_view d)) }
 {
-    denoted(alloc, pipe, spec, inv)
+    design_with(alloc, pipe, spec, Premise::Invariant, inv)
 }

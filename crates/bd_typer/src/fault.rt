@@ -18,8 +18,12 @@ pub enum Text {
     Spec,
     /// The invariant.
     Inv,
+    /// The start.
+    Start,
     /// The case.
     Case,
+    /// The trail.
+    Trail,
     /// The proof.
     Proof,
 }

@@ -17,9 +17,11 @@ mod joining;
 pub mod laws;
 mod names;
 mod operation;
+mod premise;
 mod scope;
 mod walk;
 
-pub use design::design_of;
+pub use design::{design_of, design_with};
 pub use fault::{DesignFault, Text, TypeFault};
 pub use joining::join;
+pub use premise::Premise;

@@ -9,7 +9,8 @@ use std::test::Fail;
 
 pub const USAGE: &str = "usage: burch_dill check PIPE SPEC [INV] [--budget N] [--cnf FILE] \
 [--lrat FILE] [--diverse] | replay PIPE SPEC CASE [INV] | run PIPE SPEC CASE CYCLES | gen DEPTH DROP \
-| recheck PIPE SPEC PROOF [INV]\n";
+| recheck PIPE SPEC PROOF [INV] | bounded PIPE SPEC START C [--budget N] \
+| retrace PIPE SPEC TRAIL START\n";
 
 /// A load that is expected, and what it gives.
 #[derive(Clone, Copy)]

@@ -4,6 +4,10 @@ use crate::rows::{
     CHECK, CHECK_WITHIN, REPLAY, Row, STALLING, WITHIN, holds, joined, page, shelf_of, words_of,
 };
 use bd_app::run;
+use bd_examples::gallery::{
+    ACCUMULATOR, ACCUMULATOR_MACHINE, NEVER_FETCHES, OPERAND_BEFORE_STORE, PROGRESS,
+    PROGRESS_MACHINE, ZERO_IS_WRITTEN, ZERO_REGISTER, ZERO_REGISTER_MACHINE,
+};
 use bd_examples::texts::{
     CONSTANT_UNMENTIONED, CONSTANTS, CONSTANTS_ALIKE, DOUBLE_INCREMENT, DOUBLE_INCREMENT_IN_TWO,
     FIVE_STAGE, FORCED_COUNTS, FORCED_TO_NONE, INCREMENT, KEEPING_BIT, KEEPING_MEMORY,
@@ -297,8 +301,8 @@ static DIVERSE: [Check; 2] = [
     },
 ];
 
-/// `five_stage`, and its wrong twin.
-static FIVE_STAGES: [Check; 2] = [
+/// `five_stage`, and designs of the gallery, each with a wrong twin.
+static GALLERY: [Check; 8] = [
     Check {
         name: "five stages",
         pipe: FIVE_STAGE,
@@ -309,6 +313,42 @@ static FIVE_STAGES: [Check; 2] = [
         name: "an operand that isn't loaded",
         pipe: OPERAND_NOT_LOADED,
         spec: SUBSET_OF_DLX,
+        ..WRONG
+    },
+    Check {
+        name: "an accumulator",
+        pipe: ACCUMULATOR,
+        spec: ACCUMULATOR_MACHINE,
+        ..RIGHT
+    },
+    Check {
+        name: "an operand read before the store",
+        pipe: OPERAND_BEFORE_STORE,
+        spec: ACCUMULATOR_MACHINE,
+        ..WRONG
+    },
+    Check {
+        name: "a register that reads zero",
+        pipe: ZERO_REGISTER,
+        spec: ZERO_REGISTER_MACHINE,
+        ..RIGHT
+    },
+    Check {
+        name: "which is written",
+        pipe: ZERO_IS_WRITTEN,
+        spec: ZERO_REGISTER_MACHINE,
+        ..WRONG
+    },
+    Check {
+        name: "progress",
+        pipe: PROGRESS,
+        spec: PROGRESS_MACHINE,
+        ..RIGHT
+    },
+    Check {
+        name: "none",
+        pipe: NEVER_FETCHES,
+        spec: PROGRESS_MACHINE,
         ..WRONG
     },
 ];
@@ -393,7 +433,7 @@ fn printed_by(
 }
 
 /// Whether the check, with these words after its own, is answered as it says.
-fn answers(alloc: Global, check: &Check, more: &[&str]) -> Result<bool, AllocError> {
+pub fn answers(alloc: Global, check: &Check, more: &[&str]) -> Result<bool, AllocError> {
     let pipe = joined(alloc, check.pipe)?;
     let printed = printed_by(alloc, check, pipe.as_str(), more)?;
     shows(alloc, check, pipe.as_str(), printed.as_slice())
@@ -430,8 +470,8 @@ fn checks_designs_by_positive_equality(rt: HostRuntime) -> Result<(), Fail> {
 }
 
 #[test]
-fn checks_five_stages(rt: HostRuntime) -> Result<(), Fail> {
-    for check in &FIVE_STAGES {
+fn checks_gallery(rt: HostRuntime) -> Result<(), Fail> {
+    for check in &GALLERY {
         assert!(rt; answers(rt.alloc(), check, &[])?, "{}", check.name);
         assert!(rt;
             answers(rt.alloc(), check, &["--diverse"])?,

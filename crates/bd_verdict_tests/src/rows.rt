@@ -55,7 +55,7 @@ pub const STALLING: Row<'static> = Row {
     inv: "",
     failing: 0,
     kept: None,
-    err_room: 200,
+    err_room: 400,
     status: 0,
     out: "",
     err: "",

@@ -90,7 +90,7 @@ module _ (d : DesignView) (cycles : ℕ) (nodes : List Node) (root : ℕ) (m : M
   }
 
 -- what is kept of a root is kept of each root like it
-kept-weaker : (d : DesignView) (P Q : List Node → ℕ → Type 0) (m : Mode) (formula : Problem) → ((terms : List Node) (term : ℕ) → P terms term → Q terms term) → IsKeptOf d P m formula → IsKeptOf d Q m formula
+pub kept-weaker : (d : DesignView) (P Q : List Node → ℕ → Type 0) (m : Mode) (formula : Problem) → ((terms : List Node) (term : ℕ) → P terms term → Q terms term) → IsKeptOf d P m formula → IsKeptOf d Q m formula
 kept-weaker d P Q m formula weaker k = record {
   nodes = k.nodes;
   root = k.root;

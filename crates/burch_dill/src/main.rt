@@ -15,27 +15,11 @@ ghost use Rattle.bd_app.specs.Program.{sink_seen};
 ghost use Rattle.bd_app.specs.Words.{texts_of};
 ghost use Rattle.burch_dill.specs.Program.{EndsWith};
 
-mod real_files;
-mod stream;
-
-use crate::real_files::RealFiles;
-use crate::stream::Stream;
 use bd_app::{Ended, run};
 use bd_files::{Files, Sink};
+use bd_host::{RealFiles, Stream, command_line};
 use std::alloc::{AllocError, Global};
 use std::process::ExitCode;
-use std::rt::Env;
-use std::{env, io};
-
-/// The words of the command line, the program's name first. There are none where one of them isn't
-/// text, and no words are a faulty command line.
-fn command_line<R: Env + AllocGlobal>(rt: &R) -> Result<Vec<String>, AllocError> {
-    match env::args(rt) {
-        Ok(words) => words.collect(rt.alloc()),
-        Err(e) if e.kind() == io::ErrorKind::OutOfMemory => Err(AllocError),
-        Err(_) => Ok(Vec::new(rt.alloc())),
-    }
-}
 
 /// The status of an answer, as the system takes it.
 fn exit_code(ended: &Ended) -> ExitCode

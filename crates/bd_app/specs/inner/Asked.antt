@@ -5,14 +5,16 @@ use Rattle.clap.specs.Simple.{Shape, subcommand_of, subcommand_rows_of}
 use Rattle.clap.specs.Faults.{fault_of}
 use Rattle.clap.specs.declared.parser.matches.ArgMatches.{ArgMatches}
 use Rattle.std.specs.Prelude.{ℕ}
+use Rattle.bd_app.specs.Bounded.{bounded_of, HasFewCycles}
 use Rattle.bd_app.specs.Check.{check_of}
-use Rattle.bd_app.specs.Commands.{Question, check, replay, run, gen, recheck, command_line}
+use Rattle.bd_app.specs.Commands.{Question, check, replay, run, gen, recheck, bounded, retrace, command_line}
 use Rattle.bd_app.specs.Generate.{gen_of, HasDepth}
 use Rattle.bd_app.specs.Recheck.{recheck_of}
 use Rattle.bd_app.specs.Replay.{replay_of}
+use Rattle.bd_app.specs.Retrace.{retrace_of}
 use Rattle.bd_app.specs.Run.{run_of}
 use Rattle.bd_app.specs.declared.command.Command.{Command}
-use Rattle.bd_app.specs.declared.command.Command.TheVariants.{Check, Replay, Run, Gen, Recheck}
+use Rattle.bd_app.specs.declared.command.Command.TheVariants.{Check, Replay, Run, Gen, Recheck, Bounded, Retrace}
 
 -- the question that a command asks
 abbrev pub asked : Command → Question
@@ -21,10 +23,13 @@ asked (Replay files) = replay (replay_of files)
 asked (Run options) = run (run_of options)
 asked (Gen options) = gen (gen_of options)
 asked (Recheck files) = recheck (recheck_of files)
+asked (Bounded options) = bounded (bounded_of options)
+asked (Retrace files) = retrace (retrace_of files)
 
 -- the numbers of a command are in their ranges
 abbrev pub IsInRange : Command → Type 0
 IsInRange (Gen options) = HasDepth options
+IsInRange (Bounded options) = HasFewCycles options
 IsInRange _ = Unit {0}
 
 -- a command with one more argument

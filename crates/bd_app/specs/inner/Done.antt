@@ -1,10 +1,7 @@
 -- What the parts of a run say before anything is printed.
 use Rattle.std.specs.Prelude.{◌≡◌, ◌⊎◌, ◌++◌, Bool, ℕ, List, [], ◌∷◌, codes, Option, Result, Ok, Err, IfSome, IfOk, IfErr}
 use Rattle.bd_model.specs.DesignView.{DesignView}
-use Rattle.bd_model.specs.Fits.{Fits}
-use Rattle.bd_model.specs.declared.case.Case.{Case}
-use Rattle.bd_typer.specs.declared.fault.Text.TheVariants as text
-use Rattle.bd_case.specs.Reads.{IsReading}
+use Rattle.bd_bounded.specs.Answer.{HasWork, Says}
 use Rattle.bd_files.specs.Devices.{Held}
 use Rattle.bd_verify.specs.declared.verdict.Work.{Work}
 use Rattle.bd_proof_text.specs.ProofText.{fault}
@@ -13,11 +10,14 @@ use Rattle.bd_proof_text.specs.Tokens.{place}
 use Rattle.bd_app.specs.Recheck.{Proves}
 use Rattle.bd_app.specs.Meaning.{Effects, FilesSeen, IsProofRefused, IsRefused, Meaning}
 use Rattle.bd_app.specs.Sources.{AreRead, Sources}
-use Rattle.bd_app.specs.Verdicts.{IsCaseTextIf, IsVerdict, IsVerdictReport, shown_case}
+use Rattle.bd_app.specs.Bounded.{shown_trail}
+use Rattle.bd_app.specs.Texts.{IsTextOfIf, TextKind, case_kind, trail_kind}
+use Rattle.bd_app.specs.Verdicts.{IsVerdict, shown_case}
 use Rattle.bd_app.specs.declared.answer.Answer.{Answer}
 use Rattle.bd_app.specs.declared.answer.Which.TheVariants as which
 use Rattle.bd_app.specs.declared.answer.Ended.{Ended}
 use Rattle.bd_app.specs.declared.answer.Ended.TheVariants.{Proved, Usage, Refused, BadText, Device, Memory}
+use Rattle.bd_app.specs.declared.command.bounded.ShownRun.{ShownRun}
 use Rattle.bd_app.specs.declared.verdict.Asked.{Asked}
 use Rattle.bd_app.specs.declared.verdict.ShownVerdict.{ShownVerdict}
 
@@ -65,20 +65,20 @@ AreRefused s (Refused file offset code) =
 AreRefused s Memory = Unit {0}
 AreRefused s _ = ⊥
 
--- why bytes are no case of a design
-abbrev pub IsCaseRefused : DesignView → List ℕ → Ended → Type 0
-IsCaseRefused d bytes (Refused file offset code) =
-    (file ≡ text.Case) × IsReading d bytes (Err (record { offset = offset; code = code }))
-IsCaseRefused d bytes Memory = Unit {0}
-IsCaseRefused d bytes _ = ⊥
+-- why bytes are no such text on a design
+abbrev pub IsTextRefused : {V : Type 0} → TextKind V → DesignView → List ℕ → Ended → Type 0
+IsTextRefused k d bytes (Refused file offset code) =
+    (file ≡ k.file) × k.IsReading d bytes (Err (record { offset = offset; code = code }))
+IsTextRefused k d bytes Memory = Unit {0}
+IsTextRefused k d bytes _ = ⊥
 
--- this is said of the case that the bytes are
-pub record IsSaidOf (Says : DesignView → Case → Ended → List ℕ → Type 0) (d : DesignView)
-    (bytes : List ℕ) (a : Answer) : Type 0 where
-  pub case : Case
-  pub read : IsReading d bytes (Ok case)
-  pub fits : Fits d case
-  pub says : Says d case a.ended a.report.items
+-- this is said of the text that the bytes are
+pub record IsSaidOf {V : Type 0} (k : TextKind V) (Says : DesignView → V → Ended → List ℕ → Type 0)
+    (d : DesignView) (bytes : List ℕ) (a : Answer) : Type 0 where
+  pub text : V
+  pub read : k.IsReading d bytes (Ok text)
+  pub fits : k.Fits d text
+  pub says : Says d text a.ended a.report.items
 
 -- the text proves that the design is right, and the answer says so
 pub record IsProvedBy (d : DesignView) (bytes : List ℕ) (a : Answer) : Type 0 where
@@ -109,21 +109,26 @@ pub record OnSources (Said : DesignView → List ℕ → Answer → Type 0)
   pub refused : IfErr r (λ e.
       AreRefused s e ⊎ ((d : DesignView) × AreDesign s d × IsTextRefused d bytes e))
 
--- ---- verdicts
+-- this is said of the design of sources, unless they are refused
+pub record OnDesign (Says : DesignView → Ended → List ℕ → Type 0) (s : Sources)
+    (r : Result Answer Ended) : Type 0 where
+  pub said : IfOk r (λ a. (d : DesignView) × AreDesign s d × Says d a.ended a.report.items)
+  pub refused : IfErr r (AreRefused s)
+
+-- ---- what is shown
 
 -- a verdict on a design, and the text of the case that is shown with it
 pub record IsShown (d : DesignView) (asked : Asked) (shows : Bool) (f : ShownVerdict) :
     Type 0 where
   pub verdict : IsVerdict d asked f.verdict
-  pub case : IsCaseTextIf d (shown_case shows f.verdict) f.case.items
+  pub case : IsTextOfIf case_kind d (shown_case shows f.verdict) f.case.items
 
 -- the same of the design of sources
 abbrev pub IsShownOf : Sources → Asked → Bool → ShownVerdict → Type 0
 IsShownOf s asked shows f = (d : DesignView) × AreDesign s d × IsShown d asked shows f
 
--- an answer that is a verdict on the design of sources, unless they are refused
-pub record IsVerdictOn (asked : Asked) (shows : Bool) (lead : List ℕ) (s : Sources)
-    (r : Result Answer Ended) : Type 0 where
-  pub said : IfOk r (λ a. (d : DesignView) × AreDesign s d
-      × IsVerdictReport asked shows lead d a.ended a.report.items)
-  pub refused : IfErr r (AreRefused s)
+-- an answer to a bounded run of a design, and the text of the trail that is shown with it
+pub record IsShownRun (d : DesignView) (cycles budget : ℕ) (f : ShownRun) : Type 0 where
+  pub says : Says d cycles f.answer
+  pub work : HasWork d cycles budget f.answer
+  pub trail : IsTextOfIf trail_kind d (shown_trail f.answer) f.trail.items

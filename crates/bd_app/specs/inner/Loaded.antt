@@ -16,13 +16,13 @@ bytes_of = option_map (λ bytes. bytes.items)
 
 abbrev pub sources_view : LoadedSources → Sources
 sources_view s =
-    record { pipe = s.pipe.items; spec = s.spec.items; inv = bytes_of s.inv }
+    record { pipe = s.pipe.items; spec = s.spec.items; premise = s.premise; third = bytes_of s.third }
 
 -- few enough bytes for their readers
 pub record AreFew (s : Sources) : Type 0 where
   pub pipe : length s.pipe ≤ 1048576
   pub spec : length s.spec ≤ 1048576
-  pub inv : IfSome s.inv (λ bytes. length bytes ≤ 1048576)
+  pub third : IfSome s.third (λ bytes. length bytes ≤ 1048576)
 
 -- what a load that gave no bytes says of files that are loaded in this order
 abbrev pub IsLoadFault : Option Held → List File → Ended → Type 0

@@ -10,11 +10,12 @@ ghost use Rattle.bd_app.specs.Meaning.{files_seen};
 ghost use Rattle.bd_app.specs.inner.Done.{IsDone};
 
 use crate::answer::{Answer, Ended};
-use crate::load::load_sources;
+use crate::load::{DesignFiles, load_sources};
 use crate::save::save_work;
 use crate::verdict::{Asked, verdict_answer, verdict_on, work};
 use crate::words::{budget, flag, machines_command, mode_at, number_at, option, with, word_at};
 use bd_files::Files;
+use bd_typer::Premise;
 use bd_verify::Mode;
 use clap::{Arg, ArgMatches, Command};
 use std::alloc::{AllocError, Global};
@@ -81,7 +82,13 @@ pub fn answer<F: Files>(
         (files_seen F.held F.faults F.blame files.old)
         (files_seen F.held F.faults F.blame files.new) result }
 {
-    let sources = load_sources(files, options.pipe, options.spec, options.inv)?;
+    let names = DesignFiles {
+        pipe: options.pipe,
+        spec: options.spec,
+        premise: Premise::Invariant,
+        third: options.inv,
+    };
+    let sources = load_sources(files, names)?;
     let shown = verdict_on(alloc, &sources, asked(options), true)?;
     save_work(
         alloc,

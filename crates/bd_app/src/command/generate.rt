@@ -5,14 +5,16 @@ ghost use Rattle.clap.specs.Words.{found_of, rows_of, shape_of};
 ghost use Rattle.clap.specs.declared.builder.command.Command.TheViews.{out-Command as fields_of};
 ghost use Rattle.bd_app.specs.Generate.{gen_asked, gen_command, gen_lead, gen_meaning, gen_of, gen_question, generated, HasDepth};
 ghost use Rattle.bd_app.specs.Meaning.{FilesSeen};
+ghost use Rattle.bd_app.specs.Verdicts.{IsVerdictReport};
 ghost use Rattle.bd_app.specs.inner.Loaded.{AreFew, sources_view};
-ghost use Rattle.bd_app.specs.inner.Done.{IsDone, IsVerdictOn};
+ghost use Rattle.bd_app.specs.inner.Done.{IsDone, OnDesign};
 
 use crate::answer::{Answer, Ended};
 use crate::load::{MAX_FILE, Sources};
 use crate::verdict::{Asked, verdict_answer, verdict_on};
 use crate::words::number_at;
 use bd_gen::design_text;
+use bd_typer::Premise;
 use bd_verify::Mode;
 use clap::{Arg, ArgMatches, Command, value_parser};
 use std::alloc::{AllocError, Global};
@@ -74,7 +76,8 @@ fn sources(alloc: Global, options: GenOptions) -> Result<Sources, AllocError>
     Ok(Sources {
         pipe,
         spec,
-        inv: None,
+        premise: Premise::Invariant,
+        third: None,
     })
 }
 
@@ -93,7 +96,7 @@ fn lead(alloc: Global, options: GenOptions) -> Result<String, AllocError>
 /// The verdict on these texts, with its line.
 fn answer_on(alloc: Global, lead: &str, sources: &Sources) -> Result<Answer, Ended>
     requires { AreFew (sources_view sources.now) }
-    ensures { IsVerdictOn gen_asked false lead.now (sources_view sources.now) result }
+    ensures { OnDesign (IsVerdictReport gen_asked false lead.now) (sources_view sources.now) result }
 {
     let shown = verdict_on(alloc, sources, ASKED, false)?;
     verdict_answer(alloc, lead, shown, ASKED.budget)

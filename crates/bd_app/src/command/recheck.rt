@@ -11,13 +11,13 @@ ghost use Rattle.bd_app.specs.inner.Loaded.{AreFew, sources_view};
 ghost use Rattle.bd_app.specs.inner.Done.{IsBadProof, IsDone, IsProvedBy, OnSources, OnText};
 
 use crate::answer::{Answer, Ended};
-use crate::load::{TextBytes, TextFiles, load_text};
+use crate::load::{DesignFiles, TextBytes, TextFiles, load_text};
 use crate::read::design;
 use crate::words::{machines_command, required, with, word_at};
 use bd_files::Files;
 use bd_foreign::{ProofFault, recheck};
 use bd_model::Design;
-use bd_typer::Text;
+use bd_typer::{Premise, Text};
 use bd_verify::Work;
 use clap::{Arg, ArgMatches, Command};
 use std::alloc::{AllocError, Global};
@@ -37,12 +37,16 @@ pub fn command<'a>(alloc: Global) -> Result<Command<'a>, AllocError>
 pub fn options<'a>(matches: &ArgMatches<'a>) -> Option<TextFiles<'a>>
     ensures { option_map recheck_of result ≡ recheck_question (rows_of (found_of matches.now)) }
 {
-    Some(TextFiles {
-        pipe: word_at(matches, "PIPE")?,
-        spec: word_at(matches, "SPEC")?,
-        text: word_at(matches, "PROOF")?,
-        inv: word_at(matches, "INV"),
-    })
+    let pipe = word_at(matches, "PIPE")?;
+    let spec = word_at(matches, "SPEC")?;
+    let text = word_at(matches, "PROOF")?;
+    let design = DesignFiles {
+        pipe,
+        spec,
+        premise: Premise::Invariant,
+        third: word_at(matches, "INV"),
+    };
+    Some(TextFiles { design, text })
 }
 
 /// The answer that a proof is.

@@ -7,17 +7,18 @@ ghost use Rattle.bd_model.specs.DesignView.{design_view};
 ghost use Rattle.bd_model.specs.Lawful.{IsLawful};
 ghost use Rattle.bd_app.specs.Meaning.{files_seen};
 ghost use Rattle.bd_app.specs.Replay.{judged_words, replay_command, replay_meaning, replay_of, replay_question, IsJudgement};
+ghost use Rattle.bd_app.specs.Texts.{case_kind};
 ghost use Rattle.bd_app.specs.inner.Loaded.{AreFew, sources_view};
-ghost use Rattle.bd_app.specs.inner.Done.{IsCaseRefused, IsDone, IsSaidOf, OnSources, OnText};
+ghost use Rattle.bd_app.specs.inner.Done.{IsDone, IsSaidOf, IsTextRefused, OnSources, OnText};
 
 use crate::answer::{Answer, Ended};
-use crate::load::{TextBytes, TextFiles, load_text};
+use crate::load::{DesignFiles, TextBytes, TextFiles, load_text};
 use crate::read::{case, design};
 use crate::words::{machines_command, required, with, word_at};
 use bd_files::Files;
 use bd_model::{Condition, Design, Judged};
 use bd_sim::judge;
-use bd_typer::Text;
+use bd_typer::{Premise, Text};
 use clap::{Arg, ArgMatches, Command};
 use std::alloc::{AllocError, Global};
 
@@ -36,12 +37,16 @@ pub fn command<'a>(alloc: Global) -> Result<Command<'a>, AllocError>
 pub fn options<'a>(matches: &ArgMatches<'a>) -> Option<TextFiles<'a>>
     ensures { option_map replay_of result ≡ replay_question (rows_of (found_of matches.now)) }
 {
-    Some(TextFiles {
-        pipe: word_at(matches, "PIPE")?,
-        spec: word_at(matches, "SPEC")?,
-        text: word_at(matches, "CASE")?,
-        inv: word_at(matches, "INV"),
-    })
+    let pipe = word_at(matches, "PIPE")?;
+    let spec = word_at(matches, "SPEC")?;
+    let text = word_at(matches, "CASE")?;
+    let design = DesignFiles {
+        pipe,
+        spec,
+        premise: Premise::Invariant,
+        third: word_at(matches, "INV"),
+    };
+    Some(TextFiles { design, text })
 }
 
 /// The line of a judgement.
@@ -74,7 +79,8 @@ fn judged_answer(alloc: Global, judged: Judged) -> Result<Answer, Ended>
 /// What the case of bytes shows.
 fn judged(alloc: Global, design: &Design, bytes: &[u8]) -> Result<Answer, Ended>
     requires { IsLawful (design_view design.now) }
-    ensures { OnText (IsSaidOf IsJudgement) IsCaseRefused (design_view design.now) bytes.now result }
+    ensures { OnText (IsSaidOf case_kind IsJudgement) (IsTextRefused case_kind)
+        (design_view design.now) bytes.now result }
 {
     let case = case(alloc, design, bytes)?;
     match judge(alloc, design, &case) {
@@ -86,7 +92,8 @@ fn judged(alloc: Global, design: &Design, bytes: &[u8]) -> Result<Answer, Ended>
 /// What the case of loaded files shows.
 fn judged_bytes(alloc: Global, bytes: &TextBytes) -> Result<Answer, Ended>
     requires { AreFew (sources_view bytes.now.sources) }
-    ensures { OnSources (IsSaidOf IsJudgement) IsCaseRefused (sources_view bytes.now.sources) bytes.now.text.items result }
+    ensures { OnSources (IsSaidOf case_kind IsJudgement) (IsTextRefused case_kind)
+        (sources_view bytes.now.sources) bytes.now.text.items result }
 {
     let design = design(alloc, &bytes.sources)?;
     judged(alloc, &design, bytes.text.as_slice())

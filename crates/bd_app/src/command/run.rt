@@ -7,19 +7,20 @@ ghost use Rattle.bd_model.specs.DesignView.{design_view};
 ghost use Rattle.bd_model.specs.Lawful.{IsLawful};
 ghost use Rattle.bd_app.specs.Meaning.{files_seen};
 ghost use Rattle.bd_app.specs.Run.{cycle_text, cycles_text, run_command, run_meaning, run_of, run_question, run_text, IsTrace};
+ghost use Rattle.bd_app.specs.Texts.{case_kind};
 ghost use Rattle.bd_app.specs.Words.{in_range, required};
 ghost use Rattle.bd_app.specs.inner.Loaded.{AreFew, sources_view};
-ghost use Rattle.bd_app.specs.inner.Done.{IsCaseRefused, IsDone, IsSaidOf, OnSources, OnText};
+ghost use Rattle.bd_app.specs.inner.Done.{IsDone, IsSaidOf, IsTextRefused, OnSources, OnText};
 
 use crate::answer::{Answer, Ended};
-use crate::load::{TextBytes, TextFiles, load_text};
+use crate::load::{DesignFiles, TextBytes, TextFiles, load_text};
 use crate::read::{case, design};
 use crate::words::{machines_command, number_at, required, with, word_at};
 use bd_case::state_text;
 use bd_files::Files;
 use bd_model::{Case, Design, State};
 use bd_sim::trace;
-use bd_typer::Text;
+use bd_typer::{Premise, Text};
 use clap::{Arg, ArgMatches, Command, value_parser};
 use itoa::Buffer;
 use std::alloc::{AllocError, Global};
@@ -110,7 +111,8 @@ fn run_text(alloc: Global, design: &Design, case: &Case, cycles: u32) -> Result<
 /// The run of the case of bytes.
 fn ran(alloc: Global, design: &Design, bytes: &[u8], cycles: u32) -> Result<Answer, Ended>
     requires { IsLawful (design_view design.now) }
-    ensures { OnText (IsSaidOf (IsTrace cycles)) IsCaseRefused (design_view design.now) bytes.now result }
+    ensures { OnText (IsSaidOf case_kind (IsTrace cycles)) (IsTextRefused case_kind)
+        (design_view design.now) bytes.now result }
 {
     let case = case(alloc, design, bytes)?;
     match run_text(alloc, design, &case, cycles) {
@@ -125,8 +127,8 @@ fn ran(alloc: Global, design: &Design, bytes: &[u8], cycles: u32) -> Result<Answ
 /// The run of the case of loaded files.
 fn ran_bytes(alloc: Global, bytes: &TextBytes, cycles: u32) -> Result<Answer, Ended>
     requires { AreFew (sources_view bytes.now.sources) }
-    ensures { OnSources (IsSaidOf (IsTrace cycles)) IsCaseRefused (sources_view bytes.now.sources) bytes.now.text.items
-        result }
+    ensures { OnSources (IsSaidOf case_kind (IsTrace cycles)) (IsTextRefused case_kind)
+        (sources_view bytes.now.sources) bytes.now.text.items result }
 {
     let design = design(alloc, &bytes.sources)?;
     ran(alloc, &design, bytes.text.as_slice(), cycles)
@@ -142,11 +144,15 @@ pub fn answer<F: Files>(
         (files_seen F.held F.faults F.blame files.old)
         (files_seen F.held F.faults F.blame files.new) result }
 {
-    let names = TextFiles {
+    let design = DesignFiles {
         pipe: options.pipe,
         spec: options.spec,
+        premise: Premise::Invariant,
+        third: None,
+    };
+    let names = TextFiles {
+        design,
         text: options.case,
-        inv: None,
     };
     let bytes = load_text(files, Text::Case, names)?;
     ran_bytes(alloc, &bytes, options.cycles)

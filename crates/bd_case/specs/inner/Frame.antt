@@ -16,7 +16,7 @@ abbrev pub Finds : HashMap (Bor (List ℕ)) ℕ (BuildHasherDefault FoldHasher) 
 Finds places names =
     (q : Bor (List ℕ)) → get (λ a b. pointwise nat_eq a.now b.now) places q ≡ place_of q.now names
 
--- places and kinds are those of the frame's design and version
+-- places and kinds are those of the frame's design and layout
 pub record IsFrame (frame : Frame) : Type 0 where
   pub places : Finds frame.places (all_names (design_view frame.design.now))
-  pub kinds : frame.kinds.items ≡ kinds frame.version (design_view frame.design.now)
+  pub kinds : frame.kinds.items ≡ kinds frame.layout.version (design_view frame.design.now)

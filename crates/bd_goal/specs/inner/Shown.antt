@@ -1,16 +1,17 @@
--- What terms show in the world of each fitting case with any addresses.
-use Rattle.std.specs.Prelude.{◌≡◌, ◌==◌, ℕ, List, [], ◌∷◌, Bool, Result, IfOk, length}
+-- What terms denote in a world where the terms of a state denote values and inputs.
+use Rattle.std.specs.Prelude.{◌≡◌, ◌==◌, ◌↔◌, ◌≤◌, ◌+◌, ℕ, List, [], ◌∷◌, Bool, IsTrue, Result, IfOk, length}
 use Rattle.std.specs.List.{AllZip, AllByRecursion}
 use Rattle.std.specs.declared.alloc.AllocError.{AllocError}
 use mathlib.Core.Bool.{beq}
 use Rattle.bd_model.specs.DesignView.{DesignView, ExactView}
 use Rattle.bd_model.specs.Value.{value_of, env_of, is_true}
-use Rattle.bd_model.specs.Fits.{Fits}
+use Rattle.bd_model.specs.Cycle.{spec_steps}
 use Rattle.bd_model.specs.Lawful.{entry_sorts}
-use Rattle.bd_model.specs.Conditions.{Abstraction}
-use Rattle.bd_model.specs.declared.case.Case.{Case}
+use Rattle.bd_model.specs.Conditions.{Abstraction, IsAllowed}
 use Rattle.bd_model.specs.declared.design.Sort.{Sort}
 use Rattle.bd_model.specs.declared.design.Sort.TheVariants as sort
+use Rattle.bd_model.specs.declared.table.Scalar.{Scalar}
+use Rattle.bd_model.specs.declared.table.Table.{Table}
 use Rattle.bd_model.specs.declared.table.Value.{Value}
 use Rattle.bd_terms.specs.declared.node.Sym.TheVariants as symbol
 use Rattle.bd_terms.specs.declared.node.Node.{Node}
@@ -19,16 +20,12 @@ use Rattle.bd_terms.specs.Denotation.{World, Denoted, applied, contents_of, deno
 use Rattle.bd_symbolic.specs.declared.state.SymState.{SymState}
 use Rattle.bd_symbolic.specs.Symbolic.{DenoteValues, HaveSorts}
 use Rattle.bd_symbolic.specs.States.{DenotesState}
-use Rattle.bd_goal.specs.Claims.{case_world}
+use Rattle.bd_goal.specs.Formula.{EqualFrom, address_number}
 use Rattle.bd_goal.specs.Symbols.{address_use}
 
--- the terms denote these values of the case
-pub record ShowsValues (d : DesignView) (nodes : List Node) (ids : List ℕ) (values : Case → List Value) : Type 0 where
-  pub shows : (c : Case) (q : List ℕ) → Fits d c → DenoteValues (case_world c q) nodes ids (values c)
-
--- the terms of the state denote these values of the case, and its inputs
-pub record ShowsState (d : DesignView) (nodes : List Node) (state : SymState) (values : Case → List Value) : Type 0 where
-  pub shows : (c : Case) (q : List ℕ) → Fits d c → DenotesState d (case_world c q) nodes state c.interp (values c) c.inputs
+-- in the world the term is true exactly where this holds
+abbrev pub Says : World → List Node → ℕ → Type 0 → Type 0
+Says w nodes id claim = IsTrue (truth w nodes id) ↔ claim
 
 -- terms for the visible entries, of their sorts, and no inputs
 pub record IsVisible (d : DesignView) (nodes : List Node) (visible : SymState) : Type 0 where
@@ -38,14 +35,34 @@ pub record IsVisible (d : DesignView) (nodes : List Node) (visible : SymState) :
 -- the visible terms are what the state stands for by the abstraction
 pub record StandsFor (d : DesignView) (old new : List Node) (state : SymState) (abs : Abstraction) (visible : SymState) : Type 0 where
   pub sorted : IsVisible d new visible
-  pub shows : (values : Case → List Value) → ShowsState d old state values → ShowsValues d new visible.entries (λ c. abs c.interp (values c))
+  pub denotes : (w : World) (interp : List Table) (values : List Value) (inputs : List Scalar)
+      → DenotesState d w old state interp values inputs → DenoteValues w new visible.entries (abs interp values)
 
--- truth terms that denote the conditions of the exact items before the cycle
+-- a truth term for each exact item
 pub record AreConditions (d : DesignView) (nodes : List Node) (whens : List ℕ) : Type 0 where
   pub count : length whens ≡ length d.exact
   pub sorted : AllByRecursion (λ id. HasSort nodes id sort.Bool) whens
-  pub shows : (c : Case) (q : List ℕ) → Fits d c
-      → AllZip (λ id (e : ExactView). truth (case_world c q) nodes id ≡ is_true (value_of (env_of d.pipe.locals c.interp c.state c.inputs) e.when)) whens d.exact
+
+-- in the world they denote the items' conditions in a state with inputs
+abbrev pub DenoteConditions : DesignView → World → List Node → List ℕ → List Table → List Value → List Scalar → Type 0
+DenoteConditions d w nodes whens interp values inputs =
+    AllZip (λ id (e : ExactView). truth w nodes id ≡ is_true (value_of (env_of d.pipe.locals interp values inputs) e.when)) whens d.exact
+
+-- latches are equal, and each memory reads equal at the word of its own address in the world
+abbrev pub EqualIn : World → (ℕ → ℕ) → List Value → List Value → Type 0
+EqualIn w number a b = EqualFrom (λ m. applied w (symbol.Address (number m)) []) 0 a b
+
+-- so many steps are allowed, and lead from one visible state to the other, as far as the addresses from the first one on
+-- show in the world
+abbrev pub StandsIn : DesignView → World → List Table → List Value → List Scalar → ℕ → List Value → List Value → ℕ → Type 0
+StandsIn d w interp values inputs first before after j =
+    IsAllowed d interp values inputs j
+    × EqualIn w (λ m. first + address_number d m j) after (spec_steps j d interp before)
+
+-- some number of steps up to n does
+abbrev pub StandsUpTo : DesignView → World → List Table → List Value → List Scalar → ℕ → List Value → List Value → ℕ → Type 0
+StandsUpTo d w interp values inputs first before after n =
+    (j : ℕ) × (j ≤ n) × StandsIn d w interp values inputs first before after j
 
 -- whether two denotations of a sort are equal, memories at a word
 abbrev pub are_equal : Sort → ℕ → Denoted → Denoted → Bool

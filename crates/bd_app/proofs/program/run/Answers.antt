@@ -42,6 +42,24 @@ returns-clause-proved g c =
     (λ none. untaken _ _ r.result put.result _ _ put.ensures.fault put.ensures.report (r.ensures.usage none))
     (λ q asks. answered _ _ q r.result put.result _ _ _ _ put.ensures.fault put.ensures.report (r.ensures.done q asks))).proved
 
+pub returns-clause-kept : goal.returns-clause-kept
+returns-clause-kept g c =
+    let r = c.answer_of-answer in
+    let put = c.put_report-ended in
+    (headline (texts_of c.args.words.now) put.result (files_seen g.F.Files.held g.F.Files.faults g.F.Files.blame c.args.files.now) (files_seen g.F.Files.held g.F.Files.faults g.F.Files.blame r.new.files)
+    (sink_seen g.O.Sink.written g.O.Sink.faults c.args.out.now) (sink_seen g.O.Sink.written g.O.Sink.faults put.new.out)
+    (λ none. untaken _ _ r.result put.result _ _ put.ensures.fault put.ensures.report (r.ensures.usage none))
+    (λ q asks. answered _ _ q r.result put.result _ _ _ _ put.ensures.fault put.ensures.report (r.ensures.done q asks))).kept
+
+pub returns-clause-broken : goal.returns-clause-broken
+returns-clause-broken g c =
+    let r = c.answer_of-answer in
+    let put = c.put_report-ended in
+    (headline (texts_of c.args.words.now) put.result (files_seen g.F.Files.held g.F.Files.faults g.F.Files.blame c.args.files.now) (files_seen g.F.Files.held g.F.Files.faults g.F.Files.blame r.new.files)
+    (sink_seen g.O.Sink.written g.O.Sink.faults c.args.out.now) (sink_seen g.O.Sink.written g.O.Sink.faults put.new.out)
+    (λ none. untaken _ _ r.result put.result _ _ put.ensures.fault put.ensures.report (r.ensures.usage none))
+    (λ q asks. answered _ _ q r.result put.result _ _ _ _ put.ensures.fault put.ensures.report (r.ensures.done q asks))).broken
+
 pub returns-clause-run : goal.returns-clause-run
 returns-clause-run g c =
     let r = c.answer_of-answer in

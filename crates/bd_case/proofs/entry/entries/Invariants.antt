@@ -8,6 +8,6 @@ abbrev pub invariant-loop-tree : goal.invariant-loop-tree
 invariant-loop-tree l = record {
   given : length l.given.items ≡ length l.initial.given.items;
   read :
-      entries_form l.frame.version (design_view l.frame.design.now) l.given.items (nodes_of_all (drop l.tree-index l.trees))
-      ≡ entries_form l.frame.version (design_view l.frame.design.now) l.initial.given.items (nodes_of_all l.trees);
+      entries_form l.frame.layout (design_view l.frame.design.now) l.given.items (nodes_of_all (drop l.tree-index l.trees))
+      ≡ entries_form l.frame.layout (design_view l.frame.design.now) l.initial.given.items (nodes_of_all l.trees);
 }

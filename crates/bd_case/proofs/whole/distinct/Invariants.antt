@@ -5,5 +5,5 @@ use Rattle.bd_case.proofs.whole.distinct.Given as goal
 
 abbrev pub invariant-loop-group : goal.invariant-loop-group
 invariant-loop-group l =
-    list_any (λ (g : List ℕ). repeats [] (constants l.case.interp g)) (drop l.group-index l.group-items)
-    ≡ list_any (λ (g : List ℕ). repeats [] (constants l.case.interp g)) l.group-items
+    list_any (λ (g : List ℕ). repeats [] (constants l.trail.interp g)) (drop l.group-index l.group-items)
+    ≡ list_any (λ (g : List ℕ). repeats [] (constants l.trail.interp g)) l.group-items

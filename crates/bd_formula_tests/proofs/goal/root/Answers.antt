@@ -3,7 +3,7 @@ use Rattle.bd_model.specs.DesignView.{DesignView, design_view}
 use Rattle.bd_model.specs.Lawful.{IsLawful}
 use Rattle.bd_symbolic.specs.DesignSymbols.{KeepsDesign}
 use Rattle.bd_symbolic.proofs.Growing.{KeepsDesign-none}
-use Rattle.bd_goal.specs.Abstraction.{IsLawfulAbstraction}
+use Rattle.bd_abstraction.specs.Abstraction.{IsLawfulAbstraction}
 use Rattle.bd_goal.specs.Symbols.{KeepsAddresses}
 use Rattle.bd_goal.proofs.Known.{KeepsAddresses-empty}
 use Rattle.bd_formula_tests.proofs.ExampleLawful.{example_lawful}

@@ -1,8 +1,8 @@
 use Rattle.std.proofs.Common.{sym, subst}
 use Rattle.std.specs.Prelude.{IfOk}
 use Rattle.bd_model.specs.DesignView.{design_view}
-use Rattle.bd_goal.specs.Abstraction.{abstraction_of}
-use Rattle.bd_goal.specs.declared.abstraction.Abstraction.{Abstraction}
+use Rattle.bd_abstraction.specs.Abstraction.{abstraction_of}
+use Rattle.bd_abstraction.specs.declared.abstraction.Abstraction.{Abstraction}
 use Rattle.bd_goal.specs.inner.Shown.{StandsFor}
 use Rattle.bd_goal.proofs.Standing.{entry-count, flushing-stood}
 use Rattle.bd_goal.proofs.abstracted.abstracted.Goals as goal

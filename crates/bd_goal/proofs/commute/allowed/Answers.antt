@@ -36,7 +36,7 @@ loop-i-preserved c =
     (λ t. eqb-true c.exact-item.result.count c.args.j t, λ e. eq-eqb c.exact-item.result.count c.args.j e) c.loop-i.invariant c.unless.ensures.extends c.unless.ensures.uses c.in_ok-one.ensures.denotes
     c.mk_and.ensures.extends c.mk_and.ensures.uses c.in_ok-all-2.ensures.sorted c.in_ok-all-2.ensures.denotes
 
-pub returns-clause-denotes : goal.returns-clause-denotes
-returns-clause-denotes c =
-    allows-all (design_view c.args.design.now) _ _ c.args.j c.loop-i.i _
+pub returns-clause-says : goal.returns-clause-says
+returns-clause-says c =
+    allows-all (design_view c.args.design.now) _ _ c.args.whens.now c.args.j c.loop-i.i _
     (map-length exact_view c.as_slice-exact-items.result.now c.args.design.now.exact c.loop-i.i c.as_slice-exact-items.ensures c.loop-i-test.false) c.loop-i.invariant

@@ -3,4 +3,4 @@ use Rattle.bd_goal.proofs.Joining.{Allows}
 use Rattle.bd_goal.proofs.commute.allowed.Given as goal
 
 abbrev pub invariant-loop-i : goal.invariant-loop-i
-invariant-loop-i l = Allows (design_view l.design) l.fn.graph l.graph l.j l.i l.all
+invariant-loop-i l = Allows (design_view l.design) l.fn.graph l.graph l.whens l.j l.i l.all

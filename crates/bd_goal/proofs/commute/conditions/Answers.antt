@@ -12,7 +12,7 @@ use Rattle.bd_model.specs.Lawful.{HasSort}
 use Rattle.bd_model.specs.declared.design.Sort.{Sort}
 use Rattle.bd_symbolic.specs.Symbolic.{AreTerms, DenotesExpr, context_in, terms_of}
 use Rattle.bd_goal.proofs.Named.{Gathers, gathers-all, gathers-next, gathers-none, gathers-ready, named-terms, stated-lets, stated-terms, whole-stated}
-use Rattle.bd_goal.proofs.Standing.{conditions-shown, exact-sorts}
+use Rattle.bd_goal.proofs.Standing.{conditions-are, conditions-denote, exact-sorts}
 use Rattle.bd_goal.proofs.commute.conditions.Goals as goal
 
 pub sym_lets-requires-clause-terms : goal.sym_lets-requires-clause-terms
@@ -66,7 +66,16 @@ returns-clause-whens c =
     let d = design_view c.args.design.now in
     let past = map-length exact_view c.as_slice-exact-items.result.now c.args.design.now.exact c.loop-exact.exact-index c.as_slice-exact-items.ensures c.loop-exact-test.false in
     rw c.from_vec.ensures
-    (conditions-shown d _ _ c.args.state.now _ c.requires.before
+    (conditions-are d _ _ c.args.state.now _
+    (gathers-all d (port_sorts d.pipe) _ _ c.args.state.now d.pipe.locals _ (map (λ (e : ExactView). sort.Bool) d.exact) (map (λ (e : ExactView). e.when) d.exact) c.loop-exact.exact-index _ (exact-sorts d c.requires.lawful)
+    (omega (arith, past, length-map d.exact (λ (e : ExactView). e.when))) c.loop-exact.invariant))
+
+pub returns-clause-denotes : goal.returns-clause-denotes
+returns-clause-denotes c =
+    let d = design_view c.args.design.now in
+    let past = map-length exact_view c.as_slice-exact-items.result.now c.args.design.now.exact c.loop-exact.exact-index c.as_slice-exact-items.ensures c.loop-exact-test.false in
+    rw c.from_vec.ensures
+    (conditions-denote d _ _ c.args.state.now _
     (gathers-all d (port_sorts d.pipe) _ _ c.args.state.now d.pipe.locals _ (map (λ (e : ExactView). sort.Bool) d.exact) (map (λ (e : ExactView). e.when) d.exact) c.loop-exact.exact-index _ (exact-sorts d c.requires.lawful)
     (omega (arith, past, length-map d.exact (λ (e : ExactView). e.when))) c.loop-exact.invariant))
 

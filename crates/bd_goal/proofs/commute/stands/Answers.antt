@@ -1,11 +1,11 @@
+use Rattle.std.proofs.Common.{◌+◌}
 use Rattle.bd_model.specs.DesignView.{design_view}
-use Rattle.bd_model.specs.Lawful.{entry_sorts}
 use Rattle.bd_model.specs.declared.design.Sort.TheVariants as sort
 use Rattle.bd_terms.proofs.Growth.{HasSort-Extends}
 use Rattle.bd_goal.specs.Formula.{address_count}
 use Rattle.bd_goal.proofs.Known.{KeepsAddresses-Known, Known-none, Known-trans}
-use Rattle.bd_goal.proofs.Showing.{HaveSorts-later, inside_sorts}
-use Rattle.bd_goal.proofs.Joining.{stands-claimed}
+use Rattle.bd_goal.proofs.Showing.{HaveSorts-later}
+use Rattle.bd_goal.proofs.Joining.{below-count, stands-said}
 use Rattle.bd_goal.proofs.commute.stands.Goals as goal
 
 pub equal-requires-clause-addresses : goal.equal-requires-clause-addresses
@@ -20,20 +20,23 @@ pub equal-requires-clause-theirs : goal.equal-requires-clause-theirs
 equal-requires-clause-theirs c = HaveSorts-later _ _ c.allowed.ensures.extends _ _ c.requires.joined
 
 pub mk_and-requires-clause-first : goal.mk_and-requires-clause-first
-mk_and-requires-clause-first c = HasSort-Extends _ _ c.equal.ensures.grows.extends _ sort.Bool c.in_ok-allowed.ensures.sorted
-
-pub returns-clause-denotes : goal.returns-clause-denotes
-returns-clause-denotes c =
+mk_and-requires-clause-first c =
     let d = design_view c.args.design.now in
-    stands-claimed d _ _ _ _ c.args.after.now c.args.joined.now c.args.j _ _ _ c.allowed.ensures.extends c.equal.ensures.grows.extends c.in_ok-allowed.ensures.sorted c.in_ok-allowed.ensures.denotes
-    (inside_sorts _ _ (entry_sorts d.spec) c.requires.after) (inside_sorts _ _ (entry_sorts d.spec) c.requires.joined) c.in_ok-same.ensures.denotes c.mk_and.ensures.denotes
+    HasSort-Extends _ _ (c.equal.ensures.grows (c.args.first + address_count d) (below-count d c.args.first c.args.j c.requires.few)).extends _ sort.Bool c.in_ok-allowed.ensures.sorted
+
+pub returns-clause-says : goal.returns-clause-says
+returns-clause-says c =
+    let d = design_view c.args.design.now in
+    stands-said d _ _ _ _ c.args.whens.now c.args.after.now c.args.joined.now c.args.first c.args.j _ _ _ c.allowed.ensures.extends
+    (c.equal.ensures.grows (c.args.first + address_count d) (below-count d c.args.first c.args.j c.requires.few)).extends c.in_ok-allowed.ensures.sorted c.in_ok-allowed.ensures.says
+    c.requires.after c.requires.joined c.in_ok-same.ensures.says c.mk_and.ensures.denotes
 
 pub returns-clause-grows : goal.returns-clause-grows
 returns-clause-grows c =
     let d = design_view c.args.design.now in
-    let n = address_count d in
+    let n = c.args.first + address_count d in
     Known-trans d n _ _ _ (Known-none d n _ _ c.allowed.ensures.extends c.allowed.ensures.uses)
-    (Known-trans d n _ _ _ c.equal.ensures.grows (Known-none d n _ _ c.mk_and.ensures.extends c.mk_and.ensures.uses))
+    (Known-trans d n _ _ _ (c.equal.ensures.grows n (below-count d c.args.first c.args.j c.requires.few)) (Known-none d n _ _ c.mk_and.ensures.extends c.mk_and.ensures.uses))
 
 pub returns-in_err-allowed-clause-grows : goal.returns-in_err-allowed-clause-grows
 returns-in_err-allowed-clause-grows c = Known-none (design_view c.args.design.now) _ _ _ c.allowed.ensures.extends c.allowed.ensures.uses
@@ -41,4 +44,5 @@ returns-in_err-allowed-clause-grows c = Known-none (design_view c.args.design.no
 pub returns-in_err-same-clause-grows : goal.returns-in_err-same-clause-grows
 returns-in_err-same-clause-grows c =
     let d = design_view c.args.design.now in
-    Known-trans d (address_count d) _ _ _ (Known-none d (address_count d) _ _ c.allowed.ensures.extends c.allowed.ensures.uses) c.equal.ensures.grows
+    let n = c.args.first + address_count d in
+    Known-trans d n _ _ _ (Known-none d n _ _ c.allowed.ensures.extends c.allowed.ensures.uses) (c.equal.ensures.grows n (below-count d c.args.first c.args.j c.requires.few))

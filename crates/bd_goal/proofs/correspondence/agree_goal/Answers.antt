@@ -1,22 +1,24 @@
-use Rattle.std.proofs.Common.{◌≡◌, ℕ, ◌*◌, ◌+◌, subst, arith}
+use Rattle.std.proofs.Common.{◌*◌, ◌+◌, arith}
 use Rattle.bd_model.specs.Conditions.{MeetsInvariant}
 use Rattle.bd_model.specs.Cycle.{flushed}
-use Rattle.bd_model.specs.DesignView.{design_view}
+use Rattle.bd_model.specs.DesignView.{DesignView, design_view}
 use Rattle.bd_model.specs.Lawful.{entry_sorts}
 use Rattle.bd_model.specs.declared.design.Sort.TheVariants as sort
 use Rattle.bd_terms.proofs.Growth.{Extends-trans, HasSort-Extends}
 use Rattle.bd_symbolic.specs.DesignSymbols.{GrowsWithin}
 use Rattle.bd_symbolic.proofs.Growing.{Grows-trans, KeepsDesign-Grows}
-use Rattle.bd_goal.specs.Abstraction.{abstraction_of}
+use Rattle.bd_abstraction.specs.Abstraction.{abstraction_of}
+use Rattle.bd_goal.specs.Claims.{case_world}
 use Rattle.bd_goal.specs.Formula.{EqualAt, memory_count}
 use Rattle.bd_goal.specs.Symbols.{GrowsKnown}
 use Rattle.bd_goal.proofs.Known.{KeepsAddresses-Known, Known-none, Known-trans, Known-within, Reaches-Known}
-use Rattle.bd_goal.proofs.Showing.{Claims-implies, Claims-later, Claims-same, HaveSorts-later, ShowsState-later, ShowsValues-later, StateHasSorts-later, inside_sorts}
-use Rattle.bd_goal.proofs.Starting.{first-shows, plain-address}
+use Rattle.bd_goal.proofs.Equalling.{AreBelow}
+use Rattle.bd_goal.proofs.Joining.{plain-address}
+use Rattle.bd_goal.proofs.Showing.{DenotesState-later, HaveSorts-later, Says-implies, Says-later, Says-same, StateHasSorts-later, values-later}
 use Rattle.bd_goal.proofs.correspondence.agree_goal.Goals as goal
 
-once : (n : ℕ) → n * 1 ≡ n
-once n = omega arith
+below-once : (d : DesignView) → AreBelow d 0 1 (memory_count d)
+below-once d m inside = omega (arith, inside)
 
 pub invariant-requires-clause-keeps : goal.invariant-requires-clause-keeps
 invariant-requires-clause-keeps c = KeepsDesign-Grows (design_view c.args.design.now) _ _ c.sym_state.ensures.grows c.requires.keeps
@@ -52,29 +54,35 @@ equal-requires-clause-theirs c = c.in_ok-flushed.ensures.shown.sorted.sorted
 
 pub mk_implies-requires-clause-first : goal.mk_implies-requires-clause-first
 mk_implies-requires-clause-first c =
-    HasSort-Extends _ _ (Extends-trans _ _ _ (Extends-trans _ _ _ c.abstracted.ensures.grows.extends c.abstracted-2.ensures.grows.extends) c.equal.ensures.grows.extends) _ sort.Bool c.in_ok-inside.ensures.sorted
+    HasSort-Extends _ _ (Extends-trans _ _ _ (Extends-trans _ _ _ c.abstracted.ensures.grows.extends c.abstracted-2.ensures.grows.extends) (c.equal.ensures.grows (memory_count (design_view c.args.design.now)) (below-once (design_view c.args.design.now))).extends) _ sort.Bool c.in_ok-inside.ensures.sorted
 
 pub returns-clause-denotes : goal.returns-clause-denotes
 returns-clause-denotes c =
     let d = design_view c.args.design.now in
     let abs = abstraction_of d c.args.abs.now in
-    let first = first-shows d _ _ c.in_ok-state.ensures.denotes in
-    let inside = c.in_ok-inside.ensures.denotes (λ x. x.state) first in
-    let given = c.in_ok-given.ensures.shown.shows (λ x. x.state) (ShowsState-later d _ _ c.invariant.ensures.grows.extends _ _ c.in_ok-state.ensures.sorted first) in
-    let ours = ShowsValues-later d _ _ c.abstracted-2.ensures.grows.extends _ _ (inside_sorts _ _ (entry_sorts d.spec) c.in_ok-given.ensures.shown.sorted.sorted) given in
-    let theirs = c.in_ok-flushed.ensures.shown.shows (λ x. x.state) (ShowsState-later d _ _ (Extends-trans _ _ _ c.invariant.ensures.grows.extends c.abstracted.ensures.grows.extends) _ _ c.in_ok-state.ensures.sorted first) in
-    Claims-implies d (λ x q. MeetsInvariant d x.interp x.state) (λ x q. EqualAt (λ m. m) q (abs x.interp x.state) (flushed d x.interp x.state)) _ _ _ _ _
-    (Claims-later d _ _ _ _ sort.Bool (Extends-trans _ _ _ (Extends-trans _ _ _ c.abstracted.ensures.grows.extends c.abstracted-2.ensures.grows.extends) c.equal.ensures.grows.extends) c.in_ok-inside.ensures.sorted inside)
-    (Claims-same d (λ x q. EqualAt (λ m. m * 1 + 0) q (abs x.interp x.state) (flushed d x.interp x.state)) (λ x q. EqualAt (λ m. m) q (abs x.interp x.state) (flushed d x.interp x.state)) _ _
-    (λ x q fits. plain-address q (abs x.interp x.state) (flushed d x.interp x.state)) (c.in_ok-same.ensures.denotes (λ x. abs x.interp x.state) (λ x. flushed d x.interp x.state) ours theirs))
-    c.in_ok-root.ensures.denotes
+    let compared : GrowsKnown d (memory_count d) c.abstracted-2.new.graph c.equal.new.graph = c.equal.ensures.grows (memory_count d) (below-once d) in
+    record {
+      means = λ x q fits.
+          let w = case_world x q in
+          let first = c.in_ok-state.ensures.denotes.denotes x q fits in
+          let second = DenotesState-later d w _ _ c.invariant.ensures.grows.extends _ x.interp x.state x.inputs c.in_ok-state.ensures.sorted first in
+          let third = DenotesState-later d w _ _ (Extends-trans _ _ _ c.invariant.ensures.grows.extends c.abstracted.ensures.grows.extends) _ x.interp x.state x.inputs c.in_ok-state.ensures.sorted first in
+          let inside = c.in_ok-inside.ensures.says w x.interp x.state x.inputs first in
+          let ours = values-later w _ _ c.abstracted-2.ensures.grows.extends _ (entry_sorts d.spec) (abs x.interp x.state) c.in_ok-given.ensures.shown.sorted.sorted (c.in_ok-given.ensures.shown.denotes w x.interp x.state x.inputs second) in
+          let theirs = c.in_ok-flushed.ensures.shown.denotes w x.interp x.state x.inputs third in
+          Says-implies w c.equal.new.graph c.mk_implies.new.self c.in_ok-inside.inside c.in_ok-same.same c.in_ok-root.root (MeetsInvariant d x.interp x.state) (EqualAt (λ m. m) q (abs x.interp x.state) (flushed d x.interp x.state))
+          (Says-later w c.invariant.new.graph c.equal.new.graph c.in_ok-inside.inside sort.Bool (MeetsInvariant d x.interp x.state) (Extends-trans _ _ _ (Extends-trans _ _ _ c.abstracted.ensures.grows.extends c.abstracted-2.ensures.grows.extends) compared.extends) c.in_ok-inside.ensures.sorted inside)
+          (Says-same w c.equal.new.graph c.in_ok-same.same (EqualAt (λ m. m * 1 + 0) q (abs x.interp x.state) (flushed d x.interp x.state)) (EqualAt (λ m. m) q (abs x.interp x.state) (flushed d x.interp x.state))
+          (plain-address q (abs x.interp x.state) (flushed d x.interp x.state)) (c.in_ok-same.ensures.says w (abs x.interp x.state) (flushed d x.interp x.state) ours theirs))
+          c.in_ok-root.ensures.denotes;
+    }
 
 pub returns-clause-symbols : goal.returns-clause-symbols
 returns-clause-symbols c =
     let d = design_view c.args.design.now in
     let front : GrowsWithin d c.args.graph.now c.abstracted-2.new.graph = Grows-trans d _ _ _ (Grows-trans d _ _ _ (Grows-trans d _ _ _ c.sym_state.ensures.grows c.invariant.ensures.grows) c.abstracted.ensures.grows) c.abstracted-2.ensures.grows in
     let n = memory_count d in
-    let compared : GrowsKnown d n c.abstracted-2.new.graph c.equal.new.graph = subst (λ k. GrowsKnown d k c.abstracted-2.new.graph c.equal.new.graph) (once n) c.equal.ensures.grows in
+    let compared : GrowsKnown d n c.abstracted-2.new.graph c.equal.new.graph = c.equal.ensures.grows n (below-once d) in
     let grows : GrowsKnown d n c.args.graph.now c.mk_implies.new.self = Known-trans d n _ _ _ (Known-within d n _ _ front) (Known-trans d n _ _ _ compared (Known-none d n _ _ c.mk_implies.ensures.extends c.mk_implies.ensures.uses)) in
     rw c.memory_count.ensures.count (λ known. Reaches-Known d n _ _ _ grows known)
 
@@ -83,7 +91,7 @@ returns-clause-grows c =
     let d = design_view c.args.design.now in
     let front : GrowsWithin d c.args.graph.now c.abstracted-2.new.graph = Grows-trans d _ _ _ (Grows-trans d _ _ _ (Grows-trans d _ _ _ c.sym_state.ensures.grows c.invariant.ensures.grows) c.abstracted.ensures.grows) c.abstracted-2.ensures.grows in
     let n = memory_count d in
-    let compared : GrowsKnown d n c.abstracted-2.new.graph c.equal.new.graph = subst (λ k. GrowsKnown d k c.abstracted-2.new.graph c.equal.new.graph) (once n) c.equal.ensures.grows in
+    let compared : GrowsKnown d n c.abstracted-2.new.graph c.equal.new.graph = c.equal.ensures.grows n (below-once d) in
     let grows : GrowsKnown d n c.args.graph.now c.mk_implies.new.self = Known-trans d n _ _ _ (Known-within d n _ _ front) (Known-trans d n _ _ _ compared (Known-none d n _ _ c.mk_implies.ensures.extends c.mk_implies.ensures.uses)) in
     grows
 
@@ -100,7 +108,7 @@ pub returns-in_err-flushed-clause-grows : goal.returns-in_err-flushed-clause-gro
 returns-in_err-flushed-clause-grows c = Known-within (design_view c.args.design.now) (memory_count (design_view c.args.design.now)) _ _ (Grows-trans (design_view c.args.design.now) _ _ _ (Grows-trans (design_view c.args.design.now) _ _ _ (Grows-trans (design_view c.args.design.now) _ _ _ c.sym_state.ensures.grows c.invariant.ensures.grows) c.abstracted.ensures.grows) c.abstracted-2.ensures.grows)
 
 pub returns-in_err-same-clause-grows : goal.returns-in_err-same-clause-grows
-returns-in_err-same-clause-grows c = Known-trans (design_view c.args.design.now) (memory_count (design_view c.args.design.now)) _ _ _ (Known-within (design_view c.args.design.now) (memory_count (design_view c.args.design.now)) _ _ (Grows-trans (design_view c.args.design.now) _ _ _ (Grows-trans (design_view c.args.design.now) _ _ _ (Grows-trans (design_view c.args.design.now) _ _ _ c.sym_state.ensures.grows c.invariant.ensures.grows) c.abstracted.ensures.grows) c.abstracted-2.ensures.grows)) (subst (λ k. GrowsKnown (design_view c.args.design.now) k c.abstracted-2.new.graph c.equal.new.graph) (once (memory_count (design_view c.args.design.now))) c.equal.ensures.grows)
+returns-in_err-same-clause-grows c = Known-trans (design_view c.args.design.now) (memory_count (design_view c.args.design.now)) _ _ _ (Known-within (design_view c.args.design.now) (memory_count (design_view c.args.design.now)) _ _ (Grows-trans (design_view c.args.design.now) _ _ _ (Grows-trans (design_view c.args.design.now) _ _ _ (Grows-trans (design_view c.args.design.now) _ _ _ c.sym_state.ensures.grows c.invariant.ensures.grows) c.abstracted.ensures.grows) c.abstracted-2.ensures.grows)) (c.equal.ensures.grows (memory_count (design_view c.args.design.now)) (below-once (design_view c.args.design.now)))
 
 pub returns-in_err-root-clause-grows : goal.returns-in_err-root-clause-grows
-returns-in_err-root-clause-grows c = Known-trans (design_view c.args.design.now) (memory_count (design_view c.args.design.now)) _ _ _ (Known-within (design_view c.args.design.now) (memory_count (design_view c.args.design.now)) _ _ (Grows-trans (design_view c.args.design.now) _ _ _ (Grows-trans (design_view c.args.design.now) _ _ _ (Grows-trans (design_view c.args.design.now) _ _ _ c.sym_state.ensures.grows c.invariant.ensures.grows) c.abstracted.ensures.grows) c.abstracted-2.ensures.grows)) (Known-trans (design_view c.args.design.now) (memory_count (design_view c.args.design.now)) _ _ _ (subst (λ k. GrowsKnown (design_view c.args.design.now) k c.abstracted-2.new.graph c.equal.new.graph) (once (memory_count (design_view c.args.design.now))) c.equal.ensures.grows) (Known-none (design_view c.args.design.now) (memory_count (design_view c.args.design.now)) _ _ c.mk_implies.ensures.extends c.mk_implies.ensures.uses))
+returns-in_err-root-clause-grows c = Known-trans (design_view c.args.design.now) (memory_count (design_view c.args.design.now)) _ _ _ (Known-within (design_view c.args.design.now) (memory_count (design_view c.args.design.now)) _ _ (Grows-trans (design_view c.args.design.now) _ _ _ (Grows-trans (design_view c.args.design.now) _ _ _ (Grows-trans (design_view c.args.design.now) _ _ _ c.sym_state.ensures.grows c.invariant.ensures.grows) c.abstracted.ensures.grows) c.abstracted-2.ensures.grows)) (Known-trans (design_view c.args.design.now) (memory_count (design_view c.args.design.now)) _ _ _ (c.equal.ensures.grows (memory_count (design_view c.args.design.now)) (below-once (design_view c.args.design.now))) (Known-none (design_view c.args.design.now) (memory_count (design_view c.args.design.now)) _ _ c.mk_implies.ensures.extends c.mk_implies.ensures.uses))

@@ -4,7 +4,7 @@ use Rattle.bd_model.specs.DesignView.{design_view}
 use Rattle.bd_model.specs.declared.design.Sort.TheVariants as sort
 use Rattle.bd_symbolic.proofs.Growing.{Grows-trans}
 use Rattle.bd_goal.proofs.Named.{IsNamed, alone-stated, named-sort, named-terms, stated-lets, stated-terms, term-sort}
-use Rattle.bd_goal.proofs.Standing.{invariant-claimed}
+use Rattle.bd_goal.proofs.Standing.{invariant-said}
 use Rattle.bd_goal.proofs.invariant.invariant.Goals as goal
 
 pub sym_lets-requires-clause-terms : goal.sym_lets-requires-clause-terms
@@ -28,10 +28,10 @@ returns-clause-sorted c =
     let named : IsNamed (design_view c.args.design.now) [] c.args.graph.now c.sym_lets.new.graph c.in_ok-alone.alone (design_view c.args.design.now).inv_locals c.in_ok-lets.lets = record { stated = alone-stated (design_view c.args.design.now) c.args.graph.now c.args.state.now _ c.requires.keeps c.requires.sorted c.in_ok-alone.ensures.entries c.in_ok-alone.ensures.inputs; grows = c.sym_lets.ensures.grows; let_terms = c.in_ok-lets.ensures.lets } in
     IfOk-weaker _ _ _ (λ id t. term-sort (design_view c.args.design.now) [] _ _ _ _ _ _ (design_view c.args.design.now).inv sort.Bool id named c.requires.lawful.inv t) c.sym_eval.ensures.term
 
-pub returns-clause-denotes : goal.returns-clause-denotes
-returns-clause-denotes c =
+pub returns-clause-says : goal.returns-clause-says
+returns-clause-says c =
     let named : IsNamed (design_view c.args.design.now) [] c.args.graph.now c.sym_lets.new.graph c.in_ok-alone.alone (design_view c.args.design.now).inv_locals c.in_ok-lets.lets = record { stated = alone-stated (design_view c.args.design.now) c.args.graph.now c.args.state.now _ c.requires.keeps c.requires.sorted c.in_ok-alone.ensures.entries c.in_ok-alone.ensures.inputs; grows = c.sym_lets.ensures.grows; let_terms = c.in_ok-lets.ensures.lets } in
-    invariant-claimed (design_view c.args.design.now) _ _ _ c.args.state.now _ _ _ named c.in_ok-alone.ensures.entries c.in_ok-alone.ensures.inputs c.sym_eval.ensures.term
+    invariant-said (design_view c.args.design.now) _ _ _ c.args.state.now _ _ _ named c.in_ok-alone.ensures.entries c.in_ok-alone.ensures.inputs c.sym_eval.ensures.term
 
 pub returns-clause-grows : goal.returns-clause-grows
 returns-clause-grows c = Grows-trans (design_view c.args.design.now) _ _ _ c.sym_lets.ensures.grows c.sym_eval.ensures.grows

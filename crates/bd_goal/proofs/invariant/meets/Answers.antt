@@ -1,10 +1,9 @@
-use Rattle.std.proofs.lemmas.Result.{IfOk-weaker}
-use Rattle.bd_model.specs.Conditions.{MeetsInvariant}
 use Rattle.bd_model.specs.DesignView.{design_view}
 use Rattle.bd_symbolic.specs.DesignSymbols.{GrowsWithin}
 use Rattle.bd_symbolic.proofs.Growing.{Grows-none, Grows-trans, KeepsDesign-Grows}
+use Rattle.bd_goal.specs.Claims.{case_world}
 use Rattle.bd_goal.proofs.Known.{Reaches-within}
-use Rattle.bd_goal.proofs.Showing.{Claims-not}
+use Rattle.bd_goal.proofs.Standing.{outside-claimed}
 use Rattle.bd_goal.proofs.invariant.meets.Goals as goal
 
 pub invariant-requires-clause-keeps : goal.invariant-requires-clause-keeps
@@ -15,10 +14,8 @@ returns-in_err-inside-clause-grows c = Grows-trans (design_view c.args.design.no
 
 pub returns-clause-denotes : goal.returns-clause-denotes
 returns-clause-denotes c =
-    IfOk-weaker _ _ _
-    (λ id t. Claims-not (design_view c.args.design.now) (λ x q. MeetsInvariant (design_view c.args.design.now) x.interp x.state) _ _ _ id
-    (c.in_ok-inside.ensures.denotes (λ x. x.state) (record { shows = λ x q fits. c.in_ok-state.ensures.denotes.denotes x q fits })) t)
-    c.mk_not.ensures.denotes
+    outside-claimed (design_view c.args.design.now) c.invariant.new.graph c.mk_not.new.self c.in_ok-inside.inside _
+    (λ x q fits. c.in_ok-inside.ensures.says (case_world x q) x.interp x.state x.inputs (c.in_ok-state.ensures.denotes.denotes x q fits)) c.mk_not.ensures.denotes
 
 pub returns-clause-symbols : goal.returns-clause-symbols
 returns-clause-symbols c =

@@ -7,4 +7,4 @@ use Rattle.bd_symbolic.proofs.Firsts.{FirstsDone}
 use Rattle.bd_symbolic.proofs.first.first_entries.Given as goal
 
 abbrev pub invariant-loop-entry : goal.invariant-loop-entry
-invariant-loop-entry l = FirstsDone (design_view l.design) symbol.Entry l.fn.graph l.graph (entry_sorts (design_view l.design).pipe) (map (λ (x : entry.Entry). x.sort) (drop l.entry-index l.entry-items)) l.entry-index l.entries
+invariant-loop-entry l = FirstsDone (design_view l.design) symbol.Entry 0 l.fn.graph l.graph (entry_sorts (design_view l.design).pipe) (map (λ (x : entry.Entry). x.sort) (drop l.entry-index l.entry-items)) l.entry-index l.entries

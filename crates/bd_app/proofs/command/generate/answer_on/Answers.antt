@@ -1,11 +1,12 @@
 use Rattle.std.proofs.Common.{false}
 use Rattle.bd_app.specs.Generate.{gen_asked}
+use Rattle.bd_app.specs.Verdicts.{IsVerdictReport}
 use Rattle.bd_app.specs.inner.Loaded.{sources_view}
-use Rattle.bd_app.proofs.Sources.{verdict_on_sources, verdict_refused}
+use Rattle.bd_app.proofs.Sources.{on_refused, verdict_on_sources}
 use Rattle.bd_app.proofs.command.generate.answer_on.Goals as goal
 
 pub returns-in_err-shown : goal.returns-in_err-shown
-returns-in_err-shown c = verdict_refused gen_asked false c.args.lead.now (sources_view c.args.sources.now) _ c.from_residual.result c.from_residual.ensures.1 c.in_err-shown.ensures.refused
+returns-in_err-shown c = on_refused (IsVerdictReport gen_asked false c.args.lead.now) (sources_view c.args.sources.now) _ c.from_residual.result c.from_residual.ensures.1 c.in_err-shown.ensures.refused
 
 pub returns : goal.returns
 returns c =

@@ -1,13 +1,14 @@
 use Rattle.bd_app.specs.Run.{IsTrace}
+use Rattle.bd_app.specs.Texts.{case_kind}
 use Rattle.bd_app.specs.inner.Loaded.{sources_view}
-use Rattle.bd_app.specs.inner.Done.{IsCaseRefused, IsSaidOf}
+use Rattle.bd_app.specs.inner.Done.{IsSaidOf, IsTextRefused}
 use Rattle.bd_app.proofs.Sources.{on_sources, sources_refused}
 use Rattle.bd_app.proofs.command.run.ran_bytes.Goals as goal
 
 pub returns-in_err-design : goal.returns-in_err-design
 returns-in_err-design c =
-    sources_refused (IsSaidOf (IsTrace c.args.cycles)) IsCaseRefused (sources_view c.args.bytes.now.sources) c.args.bytes.now.text.items _ c.from_residual.result c.from_residual.ensures.1 c.in_err-design.ensures.refused
+    sources_refused (IsSaidOf case_kind (IsTrace c.args.cycles)) (IsTextRefused case_kind) (sources_view c.args.bytes.now.sources) c.args.bytes.now.text.items _ c.from_residual.result c.from_residual.ensures.1 c.in_err-design.ensures.refused
 
 pub returns : goal.returns
 returns c =
-    on_sources (IsSaidOf (IsTrace c.args.cycles)) IsCaseRefused (sources_view c.args.bytes.now.sources) c.args.bytes.now.text.items _ c.ran.result c.in_ok-design.ensures.read (rw c.as_slice.ensures.value at c.ran.ensures)
+    on_sources (IsSaidOf case_kind (IsTrace c.args.cycles)) (IsTextRefused case_kind) (sources_view c.args.bytes.now.sources) c.args.bytes.now.text.items _ c.ran.result c.in_ok-design.ensures.read (rw c.as_slice.ensures.value at c.ran.ensures)

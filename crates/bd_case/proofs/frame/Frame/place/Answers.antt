@@ -7,7 +7,7 @@ use Rattle.bd_case.specs.Reading.{place_of}
 use Rattle.bd_case.specs.declared.kind.EntryKind.{EntryKind}
 use Rattle.bd_case.specs.declared.kind.Version.{Version}
 use Rattle.bd_case.proofs.Places.{place_of-within}
-use Rattle.bd_case.proofs.CaseReadsBack.{names-kinds}
+use Rattle.bd_case.proofs.ReadsBack.{names-kinds}
 use Rattle.bd_case.proofs.frame.Frame.place.Goals as goal
 
 found_within : (version : Version) (d : DesignView) (ks : List EntryKind) (name : List ℕ) (r : Option ℕ) → ks ≡ kinds version d → r ≡ place_of name (all_names d) → IfSome r (λ i. i < length ks)
@@ -17,4 +17,4 @@ found_within version d ks name (Some i) same e = omega (arith, place_of-within n
 pub returns-clause-within : goal.returns-clause-within
 returns-clause-within c =
     let f = c.args.self.now in
-    found_within f.version (design_view f.design.now) f.kinds.items c.args.name.now c.copied.result c.requires.kinds (c.copied.ensures ∙ c.get.ensures.value ∙ c.requires.places c.args.name)
+    found_within f.layout.version (design_view f.design.now) f.kinds.items c.args.name.now c.copied.result c.requires.kinds (c.copied.ensures ∙ c.get.ensures.value ∙ c.requires.places c.args.name)

@@ -1,0 +1,236 @@
+//! `bounded`: whether a pipeline is right for so many cycles, from each state in which the start is
+//! true.
+ghost use Rattle.std.specs.Prelude.{◌≡◌, ◌≤◌, ◌++◌, [], ◌∷◌, false, codes, IfSome, OnOk, IfOk, IfErr, string_bytes};
+ghost use Rattle.std.specs.Option.{option_map};
+ghost use Rattle.clap.specs.Words.{found_of, rows_of, rule_of, shape_of};
+ghost use Rattle.clap.specs.declared.builder.command.Command.TheViews.{out-Command as fields_of};
+ghost use Rattle.bd_model.specs.DesignView.{design_view};
+ghost use Rattle.bd_model.specs.Lawful.{IsLawful};
+ghost use Rattle.bd_bounded.specs.Answer.{HasWork, Says};
+ghost use Rattle.bd_app.specs.Bounded.{bounded_command, bounded_meaning, bounded_of, bounded_question, bounded_words, shown_trail, HasFewCycles, IsBoundedReport};
+ghost use Rattle.bd_app.specs.Meaning.{files_seen};
+ghost use Rattle.bd_app.specs.Texts.{IsTextOfIf, TrailFitsShort, trail_kind};
+ghost use Rattle.bd_app.specs.Words.{in_range, required};
+ghost use Rattle.bd_app.specs.inner.Loaded.{AreFew, sources_view};
+ghost use Rattle.bd_app.specs.inner.Done.{IsDone, IsShownRun, OnDesign};
+
+use crate::answer::{Answer, Ended};
+use crate::load::{DesignFiles, Sources, load_sources};
+use crate::read::design;
+use crate::words::{budget, machines_command, number_at, required, with, word_at};
+use bd_bounded::{Bounded, bounded};
+use bd_case::trail_text;
+use bd_cdcl::Cdcl;
+use bd_files::Files;
+use bd_model::{Design, Trail};
+use bd_typer::Premise;
+use clap::{Arg, ArgMatches, Command, value_parser};
+use std::alloc::{AllocError, Global};
+
+/// Its options.
+#[derive(Clone, Copy, Debug)]
+pub struct BoundedOptions<'a> {
+    pub pipe: &'a str,
+    pub spec: &'a str,
+    pub start: &'a str,
+    pub cycles: u32,
+    pub budget: u32,
+}
+
+/// The number of cycles.
+fn cycles<'a>(alloc: Global) -> Arg<'a>
+    ensures rule { rule_of result ≡ in_range 0 16 (required (codes "C")) }
+    ensures local { result.global ≡ false }
+{
+    Arg::new(alloc, "C")
+        .required(true)
+        .value_parser(value_parser!(u32).range(0..=16))
+}
+
+/// Its words.
+pub fn command<'a>(alloc: Global) -> Result<Command<'a>, AllocError>
+    ensures shape { IfOk result (λ c. shape_of c ≡ bounded_command) }
+    ensures local { IfOk result (λ c. (fields_of c).has_globals ≡ false) }
+{
+    let command = machines_command(alloc, "bounded")?;
+    let command = with(command, required(alloc, "START"))?;
+    let command = with(command, cycles(alloc))?;
+    with(command, budget(alloc))
+}
+
+/// The options that its words give.
+#[tactic(auto, unfolding(crate::specs::Bounded::bounded_question))]
+pub fn options<'a>(matches: &ArgMatches<'a>) -> Option<BoundedOptions<'a>>
+    ensures asked { option_map bounded_of result
+        ≡ bounded_question (rows_of (found_of matches.now)) }
+    ensures bounded { IfSome result HasFewCycles }
+{
+    let pipe = word_at(matches, "PIPE")?;
+    let spec = word_at(matches, "SPEC")?;
+    let start = word_at(matches, "START")?;
+    let cycles = number_at(matches, "C")?;
+    let budget = number_at(matches, "budget")?;
+    if cycles <= 16 {
+        Some(BoundedOptions {
+            pipe,
+            spec,
+            start,
+            cycles,
+            budget,
+        })
+    } else {
+        None
+    }
+}
+
+/// What a design is found to be, and the text of the trail that is shown with it.
+#[derive(Debug, Drop)]
+pub struct ShownRun {
+    pub answer: Bounded,
+    pub trail: Vec<u8>,
+}
+
+/// The trail that is printed with an answer.
+fn shown(answer: &Bounded) -> Option<&Trail>
+    ensures { option_map (λ t. t.now) result ≡ shown_trail answer.now }
+{
+    match answer {
+        Bounded::Broken(_, trail, _) => Some(trail),
+        Bounded::Kept(_) | Bounded::Undecided(_) => None,
+    }
+}
+
+/// Its text.
+fn text_of(alloc: Global, design: &Design, trail: Option<&Trail>) -> Result<Vec<u8>, AllocError>
+    requires lawful { IsLawful (design_view design.now) }
+    requires fits { IfSome (option_map (λ t. t.now) trail) (TrailFitsShort (design_view design.now)) }
+    ensures { IfOk result (λ text. IsTextOfIf trail_kind (design_view design.now)
+        (option_map (λ t. t.now) trail.entry) text.items) }
+{
+    match trail {
+        Some(trail) => trail_text(alloc, design, trail),
+        None => Ok(Vec::new(alloc)),
+    }
+}
+
+/// What a design is found to be over so many cycles.
+fn decide(alloc: Global, design: &Design, cycles: u32, budget: u32) -> Result<Bounded, Ended>
+    requires lawful { IsLawful (design_view design.now) }
+    requires few { cycles ≤ 16 }
+    ensures says { IfOk result (Says (design_view design.now) cycles) }
+    ensures work { IfOk result (HasWork (design_view design.now) cycles budget) }
+    ensures fault { IfErr result (λ e. e ≡ Ended.Memory) }
+{
+    let mut solver = Cdcl::new(alloc);
+    match bounded(alloc, &mut solver, design, cycles, budget) {
+        Ok(answer) => Ok(answer),
+        Err(_) => Err(Ended::Memory),
+    }
+}
+
+/// The same, with the text of its trail.
+fn shown_run(alloc: Global, design: &Design, cycles: u32, budget: u32) -> Result<ShownRun, Ended>
+    requires lawful { IsLawful (design_view design.now) }
+    requires few { cycles ≤ 16 }
+    ensures shown { IfOk result (IsShownRun (design_view design.now) cycles budget) }
+    ensures fault { IfErr result (λ e. e ≡ Ended.Memory) }
+{
+    let answer = decide(alloc, design, cycles, budget)?;
+    match text_of(alloc, design, shown(&answer)) {
+        Ok(trail) => Ok(ShownRun { answer, trail }),
+        Err(_) => Err(Ended::Memory),
+    }
+}
+
+/// Puts an answer in words after a text.
+fn push_words(
+    text: &mut String,
+    answer: &Bounded,
+    cycles: u32,
+    budget: u32,
+) -> Result<(), AllocError>
+    ensures { OnOk result (string_bytes text.new
+        ≡ string_bytes text.old ++ bounded_words cycles budget answer.now) }
+{
+    match answer {
+        Bounded::Kept(_) => write!(text, "correct to {cycles}"),
+        Bounded::Broken(cycle, _, _) => {
+            let cycle = *cycle;
+            write!(text, "wrong commute {cycle}")
+        }
+        Bounded::Undecided(_) => write!(text, "undecided {budget}"),
+    }
+}
+
+/// The line of an answer, and the text of the trail after it.
+fn report(
+    alloc: Global,
+    answer: &Bounded,
+    cycles: u32,
+    budget: u32,
+    trail: &[u8],
+) -> Result<Vec<u8>, AllocError>
+    ensures { IfOk result (λ text. text.items
+        ≡ (bounded_words cycles budget answer.now ++ 10 ∷ []) ++ trail.now) }
+{
+    let mut text = String::new(alloc);
+    push_words(&mut text, answer, cycles, budget)?;
+    text.push_str("\n")?;
+    let mut report = text.into_bytes();
+    report.extend_from_slice(trail)?;
+    Ok(report)
+}
+
+/// The answer on a design.
+fn run_on(alloc: Global, design: &Design, cycles: u32, budget: u32) -> Result<Answer, Ended>
+    requires lawful { IsLawful (design_view design.now) }
+    requires few { cycles ≤ 16 }
+    ensures report { IfOk result (λ a.
+        IsBoundedReport cycles budget (design_view design.now) a.ended a.report.items) }
+    ensures fault { IfErr result (λ e. e ≡ Ended.Memory) }
+{
+    let ShownRun { answer, trail } = shown_run(alloc, design, cycles, budget)?;
+    match report(alloc, &answer, cycles, budget, trail.as_slice()) {
+        Ok(report) => Ok(Answer {
+            ended: Ended::Bounded(answer),
+            report,
+        }),
+        Err(_) => Err(Ended::Memory),
+    }
+}
+
+/// The answer on the design of sources.
+fn run_on_sources(
+    alloc: Global,
+    sources: &Sources,
+    cycles: u32,
+    budget: u32,
+) -> Result<Answer, Ended>
+    requires sources { AreFew (sources_view sources.now) }
+    requires few { cycles ≤ 16 }
+    ensures { OnDesign (IsBoundedReport cycles budget) (sources_view sources.now) result }
+{
+    let design = design(alloc, sources)?;
+    run_on(alloc, &design, cycles, budget)
+}
+
+/// Its answer.
+pub fn answer<F: Files>(
+    alloc: Global,
+    files: &mut F,
+    options: BoundedOptions<'_>,
+) -> Result<Answer, Ended>
+    requires { HasFewCycles options }
+    ensures { IsDone (bounded_meaning (bounded_of options.entry))
+        (files_seen F.held F.faults F.blame files.old)
+        (files_seen F.held F.faults F.blame files.new) result }
+{
+    let names = DesignFiles {
+        pipe: options.pipe,
+        spec: options.spec,
+        premise: Premise::Start,
+        third: Some(options.start),
+    };
+    let sources = load_sources(files, names)?;
+    run_on_sources(alloc, &sources, options.cycles, options.budget)
+}

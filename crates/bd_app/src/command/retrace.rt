@@ -1,0 +1,125 @@
+//! `retrace`: what a trail shows.
+ghost use Rattle.std.specs.Prelude.{◌≡◌, ◌++◌, [], ◌∷◌, false, OnOk, IfOk, IfErr, string_bytes};
+ghost use Rattle.std.specs.Option.{option_map};
+ghost use Rattle.clap.specs.Words.{found_of, rows_of, shape_of};
+ghost use Rattle.clap.specs.declared.builder.command.Command.TheViews.{out-Command as fields_of};
+ghost use Rattle.bd_model.specs.DesignView.{design_view};
+ghost use Rattle.bd_model.specs.Lawful.{IsLawful};
+ghost use Rattle.bd_app.specs.Meaning.{files_seen};
+ghost use Rattle.bd_app.specs.Retrace.{retrace_command, retrace_meaning, retrace_of, retrace_question, retraced_words, IsRetraced};
+ghost use Rattle.bd_app.specs.Texts.{trail_kind};
+ghost use Rattle.bd_app.specs.inner.Loaded.{AreFew, sources_view};
+ghost use Rattle.bd_app.specs.inner.Done.{IsDone, IsSaidOf, IsTextRefused, OnSources, OnText};
+
+use crate::answer::{Answer, Ended};
+use crate::load::{DesignFiles, TextBytes, TextFiles, load_text};
+use crate::read::{design, trail};
+use crate::words::{machines_command, required, with, word_at};
+use bd_files::Files;
+use bd_model::{Design, TrailJudged};
+use bd_sim::judge_trail;
+use bd_typer::{Premise, Text};
+use clap::{ArgMatches, Command};
+use std::alloc::{AllocError, Global};
+
+/// Its words.
+pub fn command<'a>(alloc: Global) -> Result<Command<'a>, AllocError>
+    ensures shape { IfOk result (λ c. shape_of c ≡ retrace_command) }
+    ensures local { IfOk result (λ c. (fields_of c).has_globals ≡ false) }
+{
+    let command = machines_command(alloc, "retrace")?;
+    let command = with(command, required(alloc, "TRAIL"))?;
+    with(command, required(alloc, "START"))
+}
+
+/// Its options, the names of the files of a trail.
+#[tactic(auto, unfolding(crate::specs::Retrace::retrace_question))]
+pub fn options<'a>(matches: &ArgMatches<'a>) -> Option<TextFiles<'a>>
+    ensures { option_map retrace_of result ≡ retrace_question (rows_of (found_of matches.now)) }
+{
+    let pipe = word_at(matches, "PIPE")?;
+    let spec = word_at(matches, "SPEC")?;
+    let text = word_at(matches, "TRAIL")?;
+    let start = word_at(matches, "START")?;
+    let design = DesignFiles {
+        pipe,
+        spec,
+        premise: Premise::Start,
+        third: Some(start),
+    };
+    Some(TextFiles { design, text })
+}
+
+/// Puts a judgement in words after a text.
+fn push_words(text: &mut String, judged: TrailJudged) -> Result<(), AllocError>
+    ensures { OnOk result (string_bytes text.new
+        ≡ string_bytes text.old ++ retraced_words judged) }
+{
+    match judged {
+        TrailJudged::Holds => text.push_str("holds"),
+        TrailJudged::Outside => text.push_str("outside"),
+        TrailJudged::Broken(cycle) => write!(text, "broken commute {cycle}"),
+    }
+}
+
+/// The line of a judgement.
+fn judged_line(alloc: Global, judged: TrailJudged) -> Result<Vec<u8>, AllocError>
+    ensures { IfOk result (λ line. line.items ≡ retraced_words judged ++ 10 ∷ []) }
+{
+    let mut line = String::new(alloc);
+    push_words(&mut line, judged)?;
+    line.push_str("\n")?;
+    Ok(line.into_bytes())
+}
+
+/// The answer that a judgement is.
+fn judged_answer(alloc: Global, judged: TrailJudged) -> Result<Answer, Ended>
+    ensures answer { IfOk result (λ a.
+        (a.ended ≡ Ended.Retraced judged) × (a.report.items ≡ retraced_words judged ++ 10 ∷ [])) }
+    ensures fault { IfErr result (λ e. e ≡ Ended.Memory) }
+{
+    match judged_line(alloc, judged) {
+        Ok(report) => Ok(Answer {
+            ended: Ended::Retraced(judged),
+            report,
+        }),
+        Err(_) => Err(Ended::Memory),
+    }
+}
+
+/// What the trail of bytes shows.
+fn judged(alloc: Global, design: &Design, bytes: &[u8]) -> Result<Answer, Ended>
+    requires { IsLawful (design_view design.now) }
+    ensures { OnText (IsSaidOf trail_kind IsRetraced) (IsTextRefused trail_kind)
+        (design_view design.now) bytes.now result }
+{
+    let trail = trail(alloc, design, bytes)?;
+    match judge_trail(alloc, design, &trail) {
+        Ok(judged) => judged_answer(alloc, judged),
+        Err(_) => Err(Ended::Memory),
+    }
+}
+
+/// What the trail of loaded files shows.
+fn judged_bytes(alloc: Global, bytes: &TextBytes) -> Result<Answer, Ended>
+    requires { AreFew (sources_view bytes.now.sources) }
+    ensures { OnSources (IsSaidOf trail_kind IsRetraced) (IsTextRefused trail_kind)
+        (sources_view bytes.now.sources) bytes.now.text.items result }
+{
+    let design = design(alloc, &bytes.sources)?;
+    judged(alloc, &design, bytes.text.as_slice())
+}
+
+/// Its answer.
+pub fn answer<F: Files>(
+    alloc: Global,
+    files: &mut F,
+    options: TextFiles<'_>,
+) -> Result<Answer, Ended>
+    ensures { IsDone (retrace_meaning (retrace_of options.entry))
+        (files_seen F.held F.faults F.blame files.old)
+        (files_seen F.held F.faults F.blame files.new) result }
+{
+    let bytes = load_text(files, Text::Trail, options)?;
+    judged_bytes(alloc, &bytes)
+}

@@ -1,0 +1,81 @@
+//! Whether a pipeline is right for so many cycles.
+ghost use Rattle.std.specs.Prelude.{◌≡◌, ◌≤◌, ℕ, [], IfOk};
+ghost use Rattle.bd_model.specs.DesignView.{design_view};
+ghost use Rattle.bd_model.specs.Lawful.{IsLawful};
+ghost use Rattle.bd_model.specs.TrailJudged.{IsTrailJudged};
+ghost use Rattle.bd_goal.specs.Bounded.{IsBroken};
+ghost use Rattle.bd_bounded.specs.Answer.{HasWork, Says};
+ghost use Rattle.bd_bounded.specs.Kept.{IsRunRoot};
+
+use crate::answer::Bounded;
+use bd_cdcl::HonestSolver;
+use bd_goal::bounded_goal;
+use bd_model::{Design, Trail, TrailJudged, trails_decide};
+use bd_sim::judge_trail;
+use bd_terms::{Graph, Id};
+use bd_verify::{Decided, decide};
+use std::alloc::{AllocError, Global};
+
+/// Whether a lawful design is right for so many cycles, from every state in which its invariant is true, by any honest
+/// solver, which may add `budget` clauses. Nothing is asked of the invariant after the first state.
+pub fn bounded<S: HonestSolver>(
+    alloc: Global,
+    solver: &mut S,
+    design: &Design,
+    cycles: u32,
+    budget: u32,
+) -> Result<Bounded, AllocError>
+    requires lawful { IsLawful (design_view design.now) }
+    requires few { cycles ≤ 16 }
+    ensures says { IfOk result (Says (design_view design.now) cycles) }
+    ensures work { IfOk result (HasWork (design_view design.now) cycles budget) }
+{
+    trails_decide();
+    let mut graph = Graph::new(alloc);
+    let root = run_root(alloc, &mut graph, design, cycles)?;
+    match decide(alloc, solver, design, &graph, root, cycles, budget)? {
+        Decided::Valid(work) => Ok(Bounded::Kept(work)),
+        Decided::False(trail, work) => {
+            let cycle = broken_cycle(alloc, design, &trail)?;
+            Ok(Bounded::Broken(cycle, trail, work))
+        }
+        Decided::Spent(work) => Ok(Bounded::Undecided(work)),
+    }
+}
+
+// The root that decides the question.
+fn run_root(
+    alloc: Global,
+    graph: &mut Graph,
+    design: &Design,
+    cycles: u32,
+) -> Result<Id, AllocError>
+    requires lawful { IsLawful (design_view design.now) }
+    requires few { cycles ≤ 16 }
+    requires empty { graph.old ≡ [] }
+    ensures { IfOk result (IsRunRoot (design_view design.now) cycles graph.new) }
+{
+    let goal = bounded_goal(alloc, graph, design, cycles)?;
+    Ok(goal.root)
+}
+
+// The first cycle that breaks, of a trail of which one does.
+fn broken_cycle(alloc: Global, design: &Design, trail: &Trail) -> Result<u32, AllocError>
+    requires { IsBroken (design_view design.now) trail.now }
+    ensures { IfOk result (λ cycle.
+        IsTrailJudged (design_view design.now) trail.now (TrailJudged.Broken cycle)) }
+{
+    let judged = judge_trail(alloc, design, trail)?;
+    Ok(cycle_of(judged))
+}
+
+// The cycle that is judged to be broken.
+fn cycle_of(judged: TrailJudged) -> u32
+    requires { (cycle : ℕ) × (judged ≡ TrailJudged.Broken cycle) }
+    ensures { judged ≡ TrailJudged.Broken result }
+{
+    match judged {
+        TrailJudged::Broken(cycle) => cycle,
+        _ => unreachable!(),
+    }
+}

@@ -1,7 +1,0 @@
-use Rattle.std.proofs.Common.{◌≡◌, ℕ, ◌<◌}
-use Rattle.bd_model.specs.declared.design.Sort.TheVariants as kind
-use Rattle.bd_terms.specs.Graph.{sort_at}
-use Rattle.bd_equality.proofs.tests.has_no_memory.Given as goal
-
-abbrev pub invariant-loop-index : goal.invariant-loop-index
-invariant-loop-index l = (k : ℕ) → k < l.index → sort_at l.graph k ≡ kind.Memory → ⊥

@@ -1,0 +1,6 @@
+-- A read that a signal interrupted took nothing.
+use Rattle.std.specs.Io.KnownBytes.{Keeps}
+use Rattle.bd_host.proofs.real_files.read_some.Given as goal
+
+abbrev pub invariant-loop : goal.invariant-loop
+invariant-loop g l = Keeps (g.R.Read.remaining l.initial.source) (g.R.Read.remaining l.source)

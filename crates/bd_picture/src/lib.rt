@@ -1,0 +1,20 @@
+//! A case's commuting diagram for people: as a text of tables, and as a page that stands alone.
+//!
+//! Both print the same cells. A line is an entry, an address of a memory or an input, with its value in each of the
+//! states; what stays 0 is left out, and columns in which nothing changes are folded into the one before.
+#![tactic(auto)]
+
+mod drawing;
+mod grid;
+mod line;
+mod list;
+mod page;
+mod picture;
+mod states;
+mod steps;
+mod table;
+mod words;
+
+pub use page::page_of;
+pub use picture::{Picture, View, picture_of};
+pub use table::text_of;

@@ -1,0 +1,239 @@
+//! A picture as a text.
+ghost use Rattle.std.specs.Prelude.{◌≡◌, ◌++◌, ℕ, List, IfOk};
+
+use crate::grid::{Cell, Grid, Row, sign_of};
+use crate::list::Items;
+use crate::picture::Picture;
+use std::alloc::{AllocError, Global};
+
+/// How many bytes a line has, unless a single cell is longer.
+const WIDTH: usize = 100;
+
+/// A text to which spaces are put only before something else, so that no line ends in one.
+#[derive(Debug, Drop)]
+struct Pen {
+    out: Vec<u8>,
+    column: usize,
+    spaces: usize,
+}
+
+impl Pen {
+    /// Puts a text.
+    fn put(&mut self, text: &[u8]) -> Result<(), AllocError> {
+        if text.is_empty() {
+            return Ok(());
+        }
+        for _space in 0..self.spaces {
+            self.out.push(b' ')?;
+        }
+        self.column = self.column.saturating_add(self.spaces);
+        self.spaces = 0;
+        self.out.extend_from_slice(text)?;
+        self.column = self.column.saturating_add(text.len());
+        Ok(())
+    }
+
+    /// Goes to a column, or one space further where the text is past it.
+    fn go_to(&mut self, column: usize) {
+        self.spaces = column.saturating_sub(self.column);
+    }
+
+    /// Ends the line.
+    fn end(&mut self) -> Result<(), AllocError> {
+        self.out.push(b'\n')?;
+        self.column = 0;
+        self.spaces = 0;
+        Ok(())
+    }
+}
+
+/// How many bytes a cell takes.
+fn width_of(cell: &Cell) -> usize {
+    match sign_of(cell.look) {
+        Some(_) => cell.text.len().saturating_add(2),
+        None => cell.text.len(),
+    }
+}
+
+/// How many bytes a column takes.
+fn column_width(grid: &Grid, column: usize) -> usize {
+    let mut most = match grid.heads.get(column) {
+        Some(head) => head.len(),
+        None => 0,
+    };
+    for row in grid.rows.as_slice() {
+        if let Some(cell) = row.cells.get(column) {
+            most = most.max(width_of(cell));
+        }
+    }
+    most
+}
+
+/// How many bytes the names of rows take, with the mark.
+fn names_width(grid: &Grid) -> usize {
+    let mut most = grid.title.len();
+    for row in grid.rows.as_slice() {
+        most = most.max(row.name.len().saturating_add(1));
+    }
+    most
+}
+
+/// A column of a block: its number and where it begins.
+#[derive(Clone, Copy, Debug)]
+struct Place {
+    column: usize,
+    start: usize,
+}
+
+/// The columns from this one on that one line has room for, at least one.
+fn block_from(alloc: Global, grid: &Grid, from: usize) -> Result<Vec<Place>, AllocError> {
+    let mut places = Vec::new(alloc);
+    let mut at = names_width(grid).saturating_add(2);
+    for column in from..grid.heads.len() {
+        let bar = if column != 0 && column == grid.bar {
+            2
+        } else {
+            0
+        };
+        let start = at.saturating_add(bar);
+        let end = start.saturating_add(column_width(grid, column));
+        if column != from && end > WIDTH {
+            break;
+        }
+        places.push(Place { column, start })?;
+        at = end.saturating_add(2);
+    }
+    Ok(places)
+}
+
+/// Goes to a column, with the bar before it if it has one.
+fn go_to(pen: &mut Pen, grid: &Grid, place: Place) -> Result<(), AllocError> {
+    if place.column != 0 && place.column == grid.bar {
+        pen.go_to(place.start.saturating_sub(2));
+        pen.put(b"|")?;
+    }
+    pen.go_to(place.start);
+    Ok(())
+}
+
+/// Puts the headings of a block.
+fn put_heads(pen: &mut Pen, grid: &Grid, block: &[Place]) -> Result<(), AllocError> {
+    pen.put(grid.title.as_bytes())?;
+    for place in block {
+        go_to(pen, grid, *place)?;
+        if let Some(head) = grid.heads.get(place.column) {
+            pen.put(head.as_slice())?;
+        }
+    }
+    pen.end()
+}
+
+/// Puts a row of a block.
+fn put_row(pen: &mut Pen, grid: &Grid, row: &Row, block: &[Place]) -> Result<(), AllocError> {
+    pen.put(row.name.as_slice())?;
+    if row.visible {
+        pen.put(b"*")?;
+    }
+    for place in block {
+        go_to(pen, grid, *place)?;
+        if let Some(cell) = row.cells.get(place.column) {
+            if let Some(sign) = sign_of(cell.look) {
+                pen.put(&[sign, b' '])?;
+            }
+            pen.put(cell.text.as_slice())?;
+        }
+    }
+    pen.end()
+}
+
+/// Whether a row has no text in a block.
+fn is_blank(row: &Row, block: &[Place]) -> bool {
+    block.iter().all(|place| match row.cells.get(place.column) {
+        Some(cell) => cell.text.is_empty(),
+        None => true,
+    })
+}
+
+/// Puts a grid, in as many blocks as it has columns for, and an empty line after each. A later block has only the rows
+/// that have a text there.
+fn put_grid(alloc: Global, pen: &mut Pen, grid: &Grid) -> Result<(), AllocError> {
+    let mut next = 0;
+    for column in 0..grid.heads.len() {
+        if column < next {
+            continue;
+        }
+        let block = block_from(alloc, grid, column)?;
+        next = column.saturating_add(block.len());
+        put_heads(pen, grid, block.as_slice())?;
+        for row in grid.rows.as_slice() {
+            if column == 0 || !is_blank(row, block.as_slice()) {
+                put_row(pen, grid, row, block.as_slice())?;
+            }
+        }
+        pen.end()?;
+    }
+    Ok(())
+}
+
+/// Where the items of lists begin.
+const INDENT: usize = 11;
+
+/// Puts a list, as many items a line as it has room for.
+fn put_list(pen: &mut Pen, list: &Items) -> Result<(), AllocError> {
+    if list.items.is_empty() {
+        return Ok(());
+    }
+    pen.put(list.title.as_bytes())?;
+    for (number, item) in list.items.iter().enumerate() {
+        let next = pen.column.saturating_add(2);
+        if number != 0 && next.saturating_add(item.len()) > WIDTH {
+            pen.end()?;
+            pen.go_to(INDENT);
+        } else {
+            pen.go_to(next.max(INDENT));
+        }
+        pen.put(item.as_slice())?;
+    }
+    pen.end()
+}
+
+/// The tables and the lists of a picture.
+fn tables(alloc: Global, picture: &Picture) -> Result<Vec<u8>, AllocError> {
+    let mut pen = Pen {
+        out: Vec::new(alloc),
+        column: 0,
+        spaces: 0,
+    };
+    put_grid(alloc, &mut pen, &picture.states)?;
+    put_grid(alloc, &mut pen, &picture.steps)?;
+    put_list(&mut pen, &picture.lets)?;
+    put_list(&mut pen, &picture.rows)?;
+    let Pen { out, .. } = pen;
+    Ok(out)
+}
+
+/// The text of a picture, which begins with its sentence.
+pub fn text_of(alloc: Global, picture: &Picture) -> Result<Vec<u8>, AllocError>
+    ensures { IfOk result (λ text. (rest : List ℕ)
+        × (text.items ≡ picture.now.sentence.items ++ rest)) }
+{
+    let mut text = Vec::from_slice(alloc, picture.sentence.as_slice())?;
+    let tables = tables(alloc, picture)?;
+    let rest = joined(alloc, b"\n\n", tables.as_slice(), LEGEND)?;
+    text.extend_from_slice(rest.as_slice())?;
+    Ok(text)
+}
+
+/// Three texts one after another.
+fn joined(alloc: Global, first: &[u8], second: &[u8], third: &[u8]) -> Result<Vec<u8>, AllocError> {
+    let mut text = Vec::from_slice(alloc, first)?;
+    text.extend_from_slice(second)?;
+    text.extend_from_slice(third)?;
+    Ok(text)
+}
+
+/// What the tables' signs mean.
+const LEGEND: &[u8] = b"
+*: visible to the specification; f2: after 2 flush cycles; an empty cell is unchanged;
+an input stands under the state that its cycle led to; =: the same, #: differs
+";

@@ -1,0 +1,4 @@
+pub mod Loads
+pub mod Refusals
+pub mod Answers
+pub mod Asked

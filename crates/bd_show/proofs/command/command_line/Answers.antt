@@ -1,0 +1,14 @@
+use Rattle.std.proofs.Common.{ap, ap₂, ◌∙◌, true}
+use Rattle.std.proofs.lemmas.Result.{IfOk-weaker}
+use Rattle.clap.specs.Simple.{app_of_fields, on_top, shape_of_fields, with_subcommand}
+use Rattle.bd_show.specs.Commands.{command_line}
+use Rattle.bd_show.proofs.command.command_line.Goals as goal
+
+pub returns : goal.returns
+unfolding command_line
+returns c =
+    let top = ap app_of_fields c.version.ensures ∙ ap (on_top (λ s. record s { has_version = true })) c.new.ensures.app in
+    let show = ap shape_of_fields c.about-show.ensures ∙ c.in_ok-show_command.ensures.shape in
+    let shrink = ap shape_of_fields c.about-shrink.ensures ∙ c.in_ok-shrink_command.ensures.shape in
+    let shows = c.in_ok-subcommand.ensures.shape (ap (λ f. f.has_globals) c.about-show.ensures ∙ c.in_ok-show_command.ensures.local) ∙ ap₂ with_subcommand top show in
+    IfOk-weaker c.subcommand-2.result _ _ (λ r added. added.shape (ap (λ f. f.has_globals) c.about-shrink.ensures ∙ c.in_ok-shrink_command.ensures.local) ∙ ap₂ with_subcommand shows shrink) c.subcommand-2.ensures

@@ -1,0 +1,27 @@
+-- How a run ends: the status, and whether its text goes to the output.
+use Rattle.std.specs.Prelude.{ℕ}
+use Rattle.bd_model.specs.declared.case.Judged.TheVariants as judged
+use Rattle.bd_show.specs.declared.answer.Ended.{Ended}
+use Rattle.bd_show.specs.declared.answer.Ended.TheVariants.{Shown, Shrunk, Unbroken, Told, Usage, Refused, TooLong, Unread, Unsaved, Unwritten, Memory}
+
+abbrev pub status_of : Ended → ℕ
+status_of (Shown judged.Holds) = 0
+status_of (Shown judged.Outside) = 8
+status_of (Shown (judged.Broken k)) = 1
+status_of (Shrunk k) = 0
+status_of (Unbroken j) = 9
+status_of Told = 0
+status_of Usage = 2
+status_of (Refused file offset code) = 3
+status_of (TooLong file) = 3
+status_of (Unread file) = 5
+status_of Unsaved = 5
+status_of Unwritten = 5
+status_of Memory = 6
+
+-- an answer whose text goes to the output
+abbrev pub HasReport : Ended → Type 0
+HasReport (Shown j) = Unit {0}
+HasReport (Shrunk k) = Unit {0}
+HasReport Told = Unit {0}
+HasReport _ = ⊥

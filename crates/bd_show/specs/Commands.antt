@@ -1,0 +1,70 @@
+-- The command line: which words are taken, and what they ask for.
+-- Source: what `clap` makes of the words of a simple command, as the crate states it.
+use Rattle.std.specs.Prelude.{◌⊎◌, ℕ, true, false, List, [], ◌∷◌, codes, Option, Some, None, if◌then◌else◌}
+use Rattle.std.specs.Str.{bytes_eq}
+use Rattle.clap.specs.Faults.{fault_of}
+use Rattle.clap.specs.Kinds.{IsAmong}
+use Rattle.clap.specs.Simple.{App, Shape, new_rule, new_shape, subcommand_of}
+use Rattle.clap.specs.Walk.{Row, first_of}
+use Rattle.clap.specs.declared.error.kind.ErrorKind.TheVariants.{DisplayHelp, DisplayVersion}
+use Rattle.bd_app.specs.Commands.{if_faultless}
+use Rattle.bd_app.specs.Words.{flag, flag_at, machines_command, option, required, ◌>>=◌}
+use Rattle.bd_show.specs.Files.{Names}
+use Rattle.bd_show.specs.Meaning.{Question, Show, show, shrink}
+
+-- show PIPE SPEC CASE [INV] [--whole] [--html FILE]
+abbrev pub show_command : Shape
+show_command =
+    machines_command (codes "show") (required (codes "CASE") ∷ new_rule (codes "INV")
+    ∷ flag (codes "whole") ∷ option (codes "html") ∷ [])
+
+-- shrink PIPE SPEC CASE [INV]
+abbrev pub shrink_command : Shape
+shrink_command =
+    machines_command (codes "shrink") (required (codes "CASE") ∷ new_rule (codes "INV") ∷ [])
+
+-- the files of a case
+unfoldable pub case_names : List Row → Option Names
+case_names rows = do
+  pipe ← first_of (codes "PIPE") rows
+  spec ← first_of (codes "SPEC") rows
+  case ← first_of (codes "CASE") rows
+  Some (record { pipe = pipe; spec = spec; case = Some case; inv = first_of (codes "INV") rows })
+
+unfoldable pub show_question : List Row → Option Question
+show_question rows = do
+  names ← case_names rows
+  Some (show (record {
+    names = names;
+    whole = flag_at (codes "whole") rows;
+    page = first_of (codes "html") rows;
+  }))
+
+unfoldable pub shrink_question : List Row → Option Question
+shrink_question rows = do
+  names ← case_names rows
+  Some (shrink names)
+
+unfoldable pub command_line : App
+command_line = record {
+  top = record (new_shape (codes "bd_view")) { is_leaf = false; has_version = true };
+  subs = show_command ∷ shrink_command ∷ [];
+}
+
+-- what the command of this name asks
+unfoldable pub question_of : List ℕ → List Row → Option Question
+question_of name rows =
+    if bytes_eq name (codes "show") then show_question rows
+    else (if bytes_eq name (codes "shrink") then shrink_question rows else None)
+
+-- what the words ask for, where they are taken: clap finds no fault in them, and they name a command
+unfoldable pub taken : List (List ℕ) → Option Question
+taken words = if_faultless (fault_of command_line words) (do
+  named ← subcommand_of command_line words
+  question_of named.0 named.1)
+
+-- they ask for help, or for the version
+abbrev pub AskHelp : List (List ℕ) → Type 0
+AskHelp words =
+    IsAmong DisplayHelp (fault_of command_line words)
+    ⊎ IsAmong DisplayVersion (fault_of command_line words)

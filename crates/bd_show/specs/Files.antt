@@ -1,0 +1,107 @@
+-- The files that a question reads, and the one that it saves to.
+use Rattle.std.specs.Prelude.{◌≡◌, ◌⊎◌, ◌==◌, ◌||◌, ℕ, List, [], ◌∷◌, ◌++◌, Option, Some, None, Result, Ok, Err, if◌then◌else◌}
+use Rattle.bd_files.specs.Devices.{Blame, Held}
+use Rattle.bd_files.specs.declared.devices.FileCall.TheVariants as call
+use Rattle.bd_text.specs.declared.code.Code.{Code}
+use Rattle.bd_model.specs.DesignView.{DesignView}
+use Rattle.bd_model.specs.Fits.{Fits}
+use Rattle.bd_model.specs.declared.case.Case.{Case}
+use Rattle.bd_case.specs.Reads.{IsReading}
+use Rattle.bd_syntax.specs.Reading.{Fault}
+use Rattle.bd_typer.specs.Denotes.{Denotes}
+use Rattle.bd_typer.specs.Faults.{FileFault}
+use Rattle.bd_typer.specs.declared.fault.Text.{Text}
+use Rattle.bd_typer.specs.declared.fault.Text.TheVariants as text
+use Rattle.bd_app.specs.Words.{Name, given}
+use Rattle.bd_app.specs.Files.{File, HoldsShort, one_if}
+use Rattle.bd_app.specs.Sources.{HoldsShortIf}
+use Rattle.bd_show.specs.declared.load.FileNames.{FileNames}
+
+-- the names of the files of a design, of a case of it, and of an invariant
+pub record Names : Type 0 where
+  pub pipe : Name
+  pub spec : Name
+  pub case : Option Name
+  pub inv : Option Name
+
+abbrev pub names_of : FileNames → Names
+names_of files = record {
+  pipe = files.pipe.now;
+  spec = files.spec.now;
+  case = given files.case;
+  inv = given files.inv;
+}
+
+-- these files, in the order in which they are read
+abbrev pub files_of : Names → List File
+files_of names =
+    (text.Pipe, names.pipe) ∷ (text.Spec, names.spec)
+    ∷ (one_if text.Case names.case ++ one_if text.Inv names.inv)
+
+-- their bytes
+pub record Texts : Type 0 where
+  pub pipe : List ℕ
+  pub spec : List ℕ
+  pub case : Option (List ℕ)
+  pub inv : Option (List ℕ)
+
+-- they are held under the names, not too many
+pub record HoldTexts (held : Held) (names : Names) (texts : Texts) : Type 0 where
+  pub pipe : HoldsShort held (text.Pipe, names.pipe) texts.pipe
+  pub spec : HoldsShort held (text.Spec, names.spec) texts.spec
+  pub case : HoldsShortIf held text.Case names.case texts.case
+  pub inv : HoldsShortIf held text.Inv names.inv texts.inv
+
+-- the last call that failed was the save of the page
+abbrev pub BlamesSave : Option Blame → Option Name → Type 0
+BlamesSave blame page = (name : Name) × (page ≡ Some name) × (blame ≡ Some (call.Save, name))
+
+-- ---- what texts are
+
+-- the files are this design, or have this first fault
+abbrev pub AreDesign : Texts → Result DesignView FileFault → Type 0
+AreDesign texts reading = Denotes texts.pipe texts.spec texts.inv reading
+
+-- a case as it is read: the line of a verdict before it, which begins with `wrong` or `correct`, is a comment
+abbrev pub commented : List ℕ → List ℕ
+commented [] = []
+commented (b ∷ bytes) = (if (b == 119) || (b == 99) then 59 else b) ∷ bytes
+
+-- the text of a case, where there is one, is this case of the design, or has this first fault
+abbrev pub IsCaseOf : DesignView → Option (List ℕ) → Result Case Fault → Type 0
+IsCaseOf d None reading = ⊥
+IsCaseOf d (Some bytes) reading = IsReading d (commented bytes) reading
+
+-- the texts are a design and this case of it
+pub record AreCase (texts : Texts) (d : DesignView) (c : Case) : Type 0 where
+  pub design : AreDesign texts (Ok d)
+  pub case : IsCaseOf d texts.case (Ok c)
+  pub fits : Fits d c
+
+abbrev pub or_none : Option (List ℕ) → List ℕ
+or_none None = []
+or_none (Some bytes) = bytes
+
+-- a file's name, and its bytes
+abbrev pub name_in : Names → Text → Name
+name_in names text.Pipe = names.pipe
+name_in names text.Spec = names.spec
+name_in names text.Inv = or_none names.inv
+name_in names _ = or_none names.case
+
+abbrev pub bytes_in : Texts → Text → List ℕ
+bytes_in texts text.Pipe = texts.pipe
+bytes_in texts text.Spec = texts.spec
+bytes_in texts text.Inv = or_none texts.inv
+bytes_in texts _ = or_none texts.case
+
+-- the last call that failed was the load of this file
+abbrev pub BlamesLoad : Option Blame → Names → Text → Type 0
+BlamesLoad blame names file = blame ≡ Some (call.Load, name_in names file)
+
+-- this is the first fault of the texts: of the design's, or of the case where the design has none
+abbrev pub IsTextFault : Texts → Text → ℕ → Code → Type 0
+IsTextFault texts file offset code =
+    AreDesign texts (Err (record { file = file; offset = offset; code = code }))
+    ⊎ ((file ≡ text.Case) × (d : DesignView) × AreDesign texts (Ok d)
+    × IsCaseOf d texts.case (Err (record { offset = offset; code = code })))

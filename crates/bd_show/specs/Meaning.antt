@@ -1,0 +1,125 @@
+-- What the answers to a question say of its texts, and what is left of the files.
+use Rattle.std.specs.Prelude.{◌≡◌, ◌≤◌, ◌++◌, ℕ, Bool, true, false, List, [], ◌∷◌, codes, Option, None, Some, IfSome}
+use Rattle.std.specs.Fmt.{decimal}
+use Rattle.bd_model.specs.DesignView.{DesignView}
+use Rattle.bd_model.specs.Conditions.{IsJudged}
+use Rattle.bd_model.specs.declared.case.Case.{Case}
+use Rattle.bd_model.specs.declared.case.Condition.{Condition}
+use Rattle.bd_model.specs.declared.case.Judged.{Judged}
+use Rattle.bd_model.specs.declared.case.Judged.TheVariants.{Holds, Outside, Broken}
+use Rattle.bd_shrink.specs.Shrunk.{IsShrunk}
+use Rattle.bd_case.specs.Text as case
+use Rattle.bd_files.specs.Devices.{Held, Rose}
+use Rattle.bd_picture.specs.Sentence.{sentence}
+use Rattle.bd_app.specs.Files.{IsFirstLong, KeepsAllBut}
+use Rattle.bd_app.specs.Meaning.{FilesSeen}
+use Rattle.bd_app.specs.Words.{Name}
+use Rattle.bd_show.specs.Place.{fault_text}
+use Rattle.bd_show.specs.Files.{AreCase, BlamesLoad, BlamesSave, HoldTexts, IsTextFault, Names, Texts, bytes_in, files_of, name_in, or_none}
+use Rattle.bd_show.specs.declared.answer.Ended.{Ended}
+use Rattle.bd_show.specs.declared.answer.Ended.TheVariants.{Shown, Shrunk, Unbroken, Refused, TooLong, Unread, Unsaved, Memory}
+
+-- what is asked: what a case shows, all of it or what is left of it, maybe with a page; or what is left of a case
+pub record Show : Type 0 where
+  pub names : Names
+  pub whole : Bool
+  pub page : Option Name
+
+pub data Question : Type 0 where
+  show : Show → Question
+  shrink : Names → Question
+
+abbrev pub asked_names : Question → Names
+asked_names (show q) = q.names
+asked_names (shrink names) = names
+
+abbrev pub asked_page : Question → Option Name
+asked_page (show q) = q.page
+asked_page (shrink names) = None
+
+-- ---- what an answer says of texts
+
+-- what is shown of a case: all of it, or where it breaks a condition what is left of it
+abbrev pub IsLeft : Bool → DesignView → Case → Judged → Case → Type 0
+IsLeft true d c judged s = s ≡ c
+IsLeft false d c (Broken k) s = IsShrunk d c k s
+IsLeft false d c Holds s = s ≡ c
+IsLeft false d c Outside s = s ≡ c
+
+-- the text begins with the case's own judgement, which what is shown has too
+pub record IsShown (whole : Bool) (d : DesignView) (c : Case) (judged : Judged) (text : List ℕ) :
+    Type 0 where
+  pub is_judged : IsJudged d c judged
+  pub shown : Case
+  pub left : IsLeft whole d c judged shown
+  pub shown_judged : IsJudged d shown judged
+  pub rest : List ℕ
+  pub begins : text ≡ sentence d judged ++ rest
+
+-- the text is a small case that breaks the same condition
+pub record IsSmaller (d : DesignView) (c : Case) (k : Condition) (text : List ℕ) : Type 0 where
+  pub is_judged : IsJudged d c (Broken k)
+  pub left : Case
+  pub shrunk : IsShrunk d c k left
+  pub printed : text ≡ case.text_of d left
+
+abbrev pub unbroken_line : Judged → List ℕ
+unbroken_line Holds = codes "nothing to shrink: the case holds\n"
+unbroken_line Outside = codes "nothing to shrink: the case is outside the invariant\n"
+unbroken_line (Broken k) = []
+
+-- the case breaks nothing
+pub record IsUnbroken (d : DesignView) (c : Case) (judged : Judged) (text : List ℕ) : Type 0 where
+  pub is_judged : IsJudged d c judged
+  pub unbroken : (k : Condition) → ¬ (judged ≡ Broken k)
+  pub line : text ≡ unbroken_line judged
+
+abbrev pub OfCase : Texts → (DesignView → Case → Type 0) → Type 0
+OfCase texts P = (d : DesignView) × (c : Case) × AreCase texts d c × P d c
+
+-- what an answer says of the texts that were read
+abbrev pub Says : Question → Texts → Ended → List ℕ → Type 0
+Says q texts (Refused file offset code) text =
+    IsTextFault texts file offset code
+    × (text ≡ fault_text (name_in (asked_names q) file) (bytes_in texts file) offset code)
+Says (show q) texts (Shown j) text = OfCase texts (λ d c. IsShown q.whole d c j text)
+Says (shrink names) texts (Shrunk k) text = OfCase texts (λ d c. IsSmaller d c k text)
+Says (shrink names) texts (Unbroken j) text = OfCase texts (λ d c. IsUnbroken d c j text)
+Says q texts e text = ⊥
+
+-- ---- what it says of files
+
+-- the texts that are held under the names, and what is said of them
+pub record SaysHeld (q : Question) (held : Held) (e : Ended) (text : List ℕ) : Type 0 where
+  pub texts : Texts
+  pub held_texts : HoldTexts held (asked_names q) texts
+  pub says : Says q texts e text
+
+abbrev pub Means : Question → Option Held → Ended → List ℕ → Type 0
+Means q held (TooLong file) text =
+    IfSome held (λ h. IsFirstLong h (files_of (asked_names q)) file)
+    × (text ≡ name_in (asked_names q) file ++ codes ": E00 file too long\n")
+Means q held (Unread file) text =
+    text ≡ codes "cannot read " ++ name_in (asked_names q) file ++ codes "\n"
+Means q held Unsaved text = text ≡ codes "cannot save " ++ or_none (asked_page q) ++ codes "\n"
+Means q held Memory text = text ≡ codes "out of memory\n"
+Means q held e text = IfSome held (λ h. SaysHeld q h e text)
+
+-- a device's answer comes only of a call that failed, on the file that it names; and no call that fails is passed over
+-- unless memory runs out
+abbrev pub Blames : Question → FilesSeen → FilesSeen → Ended → Type 0
+Blames q before after (Unread file) =
+    Rose before.faults after.faults × BlamesLoad after.blame (asked_names q) file
+Blames q before after Unsaved =
+    Rose before.faults after.faults × BlamesSave after.blame (asked_page q)
+Blames q before after Memory = Unit {0}
+Blames q before after e = after.blame ≡ before.blame
+
+-- the answer to a question, with its text
+pub record IsAnswered (q : Question) (before after : FilesSeen) (e : Ended) (text : List ℕ) :
+    Type 0 where
+  pub means : Means q before.held e text
+  pub blames : Blames q before after e
+  -- nothing is saved under another name than the page's
+  pub others : KeepsAllBut before.held after.held (λ name. asked_page q ≡ Some name)
+  pub never_falls : before.faults ≤ after.faults

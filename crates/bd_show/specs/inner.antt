@@ -1,0 +1,4 @@
+pub mod Loaded
+pub mod Read
+pub mod Answered
+pub mod Asked

@@ -1,0 +1,37 @@
+-- The commands as the definitions see them, and why words ask nothing.
+use Rattle.std.specs.Prelude.{◌≡◌, ◌≢◌, ◌⊎◌, ℕ, List, [], None}
+use Rattle.clap.specs.Faults.{fault_of}
+use Rattle.clap.specs.Simple.{subcommand_of, subcommand_rows_of}
+use Rattle.clap.specs.declared.error.kind.ErrorKind.{ErrorKind}
+use Rattle.clap.specs.declared.error.kind.ErrorKind.TheVariants as kind
+use Rattle.clap.specs.declared.parser.matches.ArgMatches.{ArgMatches}
+use Rattle.bd_show.specs.Commands.{AskHelp, command_line, taken}
+use Rattle.bd_show.specs.Files.{names_of}
+use Rattle.bd_show.specs.Meaning.{Question, show, shrink}
+use Rattle.bd_show.specs.inner.Answered.{show_of}
+use Rattle.bd_show.specs.declared.command.Command.{Command}
+use Rattle.bd_show.specs.declared.command.Command.TheVariants.{Show, Shrink}
+use Rattle.bd_show.specs.declared.command.WordsFault.{WordsFault}
+use Rattle.bd_show.specs.declared.command.WordsFault.TheVariants.{Told, Usage, Memory}
+
+-- the question that a command asks
+abbrev pub asked : Command → Question
+asked (Show options) = show (show_of options)
+asked (Shrink names) = shrink (names_of names)
+
+-- clap finds no fault in the words, and met this subcommand
+pub record IsParsed (words : List (List ℕ)) (m : ArgMatches) : Type 0 where
+  pub no_fault : fault_of command_line words ≡ []
+  pub met : subcommand_rows_of m ≡ subcommand_of command_line words
+
+-- what clap said of a fault of this kind
+abbrev pub IsToldBy : ErrorKind → WordsFault → Type 0
+IsToldBy k (Told text) = (k ≡ kind.DisplayHelp) ⊎ (k ≡ kind.DisplayVersion)
+IsToldBy k (Usage text) = k ≢ kind.OutOfMemory
+IsToldBy k Memory = Unit {0}
+
+-- why words ask nothing
+abbrev pub IsWordsFault : List (List ℕ) → WordsFault → Type 0
+IsWordsFault words (Told text) = (taken words ≡ None) × AskHelp words
+IsWordsFault words (Usage text) = taken words ≡ None
+IsWordsFault words Memory = Unit {0}

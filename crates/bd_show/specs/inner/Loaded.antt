@@ -1,0 +1,71 @@
+-- What loading says of files and leaves of them.
+use Rattle.std.specs.Prelude.{◌≡◌, ◌≤◌, ℕ, List, length, Option, Some, IfSome, IfErr, OnOk, Result, Vec}
+use Rattle.std.specs.declared.alloc.Global.{Global}
+use Rattle.std.specs.Option.{option_map}
+use Rattle.bd_files.specs.Devices.{Rose}
+use Rattle.bd_files.specs.declared.devices.FileCall.TheVariants as call
+use Rattle.bd_typer.specs.declared.fault.Text.{Text}
+use Rattle.bd_app.specs.Files.{IsFirstLong, IsLong}
+use Rattle.bd_app.specs.Meaning.{FilesSeen}
+use Rattle.bd_app.specs.Words.{Name}
+use Rattle.bd_show.specs.Files.{BlamesLoad, Names, Texts, files_of}
+use Rattle.bd_show.specs.declared.load.LoadFault.{LoadFault}
+use Rattle.bd_show.specs.declared.load.LoadFault.TheVariants.{Failed, TooLong, Memory}
+use Rattle.bd_show.specs.declared.load.Texts.{Texts as LoadedTexts}
+
+abbrev pub bytes_of : Option (Vec ℕ Global) → Option (List ℕ)
+bytes_of = option_map (λ bytes. bytes.items)
+
+abbrev pub texts_view : LoadedTexts → Texts
+texts_view t = record {
+  pipe = t.pipe.items;
+  spec = t.spec.items;
+  case = bytes_of t.case;
+  inv = bytes_of t.inv;
+}
+
+-- few enough bytes for their readers
+abbrev pub IsFewIf : Option (List ℕ) → Type 0
+IsFewIf bytes = IfSome bytes (λ b. length b ≤ 1048576)
+
+pub record AreFew (t : Texts) : Type 0 where
+  pub pipe : length t.pipe ≤ 1048576
+  pub spec : length t.spec ≤ 1048576
+  pub inv : IsFewIf t.inv
+
+-- why one file gave no bytes
+abbrev pub IsOneFault : Text → Name → FilesSeen → FilesSeen → LoadFault → Type 0
+IsOneFault file name a b (Failed f) =
+    (f ≡ file) × Rose a.faults b.faults × (b.blame ≡ Some (call.Load, name))
+IsOneFault file name a b (TooLong f) =
+    (f ≡ file) × IfSome a.held (λ h. IsLong h (file, name)) × (b.blame ≡ a.blame)
+IsOneFault file name a b Memory = b.blame ≡ a.blame
+
+-- what a load leaves
+pub record Leaves {T : Type 0} (a b : FilesSeen) (r : Result T LoadFault) : Type 0 where
+  pub blame : OnOk r (b.blame ≡ a.blame)
+  pub held : b.held ≡ a.held
+  pub never_falls : a.faults ≤ b.faults
+
+pub record IsOneLoad {T : Type 0} (file : Text) (name : Name) (a b : FilesSeen)
+    (r : Result T LoadFault) : Type 0 where
+  pub fault : IfErr r (IsOneFault file name a b)
+  pub leaves : Leaves a b r
+
+-- the same of a file that may be named
+pub record IsOneLoadIf {T : Type 0} (file : Text) (name : Option Name) (a b : FilesSeen)
+    (r : Result T LoadFault) : Type 0 where
+  pub fault : IfErr r (λ e. (n : Name) × (name ≡ Some n) × IsOneFault file n a b e)
+  pub leaves : Leaves a b r
+
+-- why one of several files gave no bytes
+abbrev pub IsFault : Names → FilesSeen → FilesSeen → LoadFault → Type 0
+IsFault names a b (Failed file) = Rose a.faults b.faults × BlamesLoad b.blame names file
+IsFault names a b (TooLong file) =
+    IfSome a.held (λ h. IsFirstLong h (files_of names) file) × (b.blame ≡ a.blame)
+IsFault names a b Memory = b.blame ≡ a.blame
+
+pub record IsLoad {T : Type 0} (names : Names) (a b : FilesSeen) (r : Result T LoadFault) :
+    Type 0 where
+  pub fault : IfErr r (IsFault names a b)
+  pub leaves : Leaves a b r

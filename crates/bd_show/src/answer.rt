@@ -1,0 +1,70 @@
+//! How a run ends.
+ghost use Rattle.std.specs.Prelude.{◌≡◌, ◌↔◌, IsTrue};
+ghost use Rattle.bd_show.specs.Answer.{HasReport, status_of};
+
+use bd_model::{Condition, Judged};
+use bd_text::Code;
+use bd_typer::Text;
+
+/// The answer of a run.
+#[derive(Clone, Copy, Debug, PartialEq, Eq)]
+pub enum Ended {
+    /// What the case shows was shown.
+    Shown(Judged),
+    /// A small case that breaks the same condition was printed.
+    Shrunk(Condition),
+    /// The case breaks nothing, so nothing was made small.
+    Unbroken(Judged),
+    /// Help or the version was asked for.
+    Told,
+    /// The words aren't taken.
+    Usage,
+    /// The file has a fault, at that offset in bytes.
+    Refused {
+        file: Text,
+        offset: usize,
+        code: Code,
+    },
+    /// The file has too many bytes.
+    TooLong(Text),
+    /// The file can't be read.
+    Unread(Text),
+    /// The page can't be saved.
+    Unsaved,
+    /// The output failed.
+    Unwritten,
+    /// Want of memory.
+    Memory,
+}
+
+/// An answer, and its text.
+#[derive(Debug, Drop)]
+pub struct Answer {
+    pub ended: Ended,
+    pub text: Vec<u8>,
+}
+
+impl Ended {
+    /// The status that the program ends with.
+    pub fn status(self) -> u8
+        ensures { result ≡ status_of self }
+    {
+        match self {
+            Ended::Shown(Judged::Holds) | Ended::Shrunk(_) | Ended::Told => 0,
+            Ended::Shown(Judged::Broken(_)) => 1,
+            Ended::Usage => 2,
+            Ended::Refused { .. } | Ended::TooLong(_) => 3,
+            Ended::Unread(_) | Ended::Unsaved | Ended::Unwritten => 5,
+            Ended::Memory => 6,
+            Ended::Shown(Judged::Outside) => 8,
+            Ended::Unbroken(_) => 9,
+        }
+    }
+
+    /// Whether its text goes to the output.
+    pub fn has_report(self) -> bool
+        ensures { IsTrue result ↔ HasReport self }
+    {
+        matches!(self, Ended::Shown(_) | Ended::Shrunk(_) | Ended::Told)
+    }
+}

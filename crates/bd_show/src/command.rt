@@ -1,0 +1,152 @@
+//! The command line, read with `clap`.
+ghost use Rattle.std.specs.Prelude.{◌≡◌, false, None, Some, IfOk, IfErr};
+ghost use Rattle.std.specs.Option.{option_map};
+ghost use Rattle.clap.specs.Values.{kind_of};
+ghost use Rattle.clap.specs.Words.{app_of, found_of, rows_of, shape_of};
+ghost use Rattle.clap.specs.declared.builder.command.Command.TheViews.{out-Command as fields_of};
+ghost use Rattle.bd_app.specs.Words.{texts_of};
+ghost use Rattle.bd_show.specs.Files.{names_of};
+ghost use Rattle.bd_show.specs.Commands.{case_names, command_line, question_of, show_command, show_question, shrink_command, shrink_question, taken};
+ghost use Rattle.bd_show.specs.inner.Asked.{IsParsed, IsToldBy, IsWordsFault, asked};
+
+use crate::load::FileNames;
+use crate::show::ShowOptions;
+use crate::words::{flag, flag_at, machines_command, option, required, with, word_at};
+use clap::error::ErrorKind;
+use clap::{Arg, ArgMatches};
+use std::alloc::{AllocError, Global};
+
+/// What the words ask for.
+#[derive(Clone, Copy, Debug)]
+pub enum Command<'a> {
+    /// What a case shows.
+    Show(ShowOptions<'a>),
+    /// What is left of a case.
+    Shrink(FileNames<'a>),
+}
+
+/// Why words ask nothing.
+#[derive(Debug, Drop)]
+pub enum WordsFault {
+    /// They ask for help or for the version, which is this text.
+    Told(Vec<u8>),
+    /// They aren't taken, and this text says why.
+    Usage(Vec<u8>),
+    /// Want of memory.
+    Memory,
+}
+
+impl From<AllocError> for WordsFault {
+    ghost use Rattle.bd_show.specs.declared.command.WordsFault.TheVariants.{Memory};
+
+    ghost from_gives = { λ _ fault. fault ≡ Memory };
+
+    fn from(_: AllocError) -> Self {
+        WordsFault::Memory
+    }
+}
+
+/// The words of `show`.
+fn show_command<'a>(alloc: Global) -> Result<clap::Command<'a>, AllocError>
+    ensures shape { IfOk result (λ c. shape_of c ≡ show_command) }
+    ensures local { IfOk result (λ c. (fields_of c).has_globals ≡ false) }
+{
+    let command = machines_command(alloc, "show")?;
+    let command = with(command, required(alloc, "CASE"))?;
+    let command = with(command, Arg::new(alloc, "INV"))?;
+    let command = with(command, flag(alloc, "whole"))?;
+    with(command, option(alloc, "html"))
+}
+
+/// The words of `shrink`.
+fn shrink_command<'a>(alloc: Global) -> Result<clap::Command<'a>, AllocError>
+    ensures shape { IfOk result (λ c. shape_of c ≡ shrink_command) }
+    ensures local { IfOk result (λ c. (fields_of c).has_globals ≡ false) }
+{
+    let command = machines_command(alloc, "shrink")?;
+    let command = with(command, required(alloc, "CASE"))?;
+    with(command, Arg::new(alloc, "INV"))
+}
+
+/// The whole command line.
+fn command_line<'a>(alloc: Global) -> Result<clap::Command<'a>, AllocError>
+    ensures { IfOk result (λ c. app_of c ≡ command_line) }
+{
+    let show = show_command(alloc)?.about("Shows what a case shows: both ways round its diagram");
+    let shrink = shrink_command(alloc)?.about("Prints a small case that breaks the same condition");
+    clap::Command::new(alloc, "bd_view")
+        .version("1.0")
+        .subcommand(show)?
+        .subcommand(shrink)
+}
+
+/// The names of the files of a case.
+#[tactic(auto, unfolding(crate::specs::Commands::case_names))]
+fn case_names<'a>(matches: &ArgMatches<'a>) -> Option<FileNames<'a>>
+    ensures { option_map names_of result ≡ case_names (rows_of (found_of matches.now)) }
+{
+    Some(FileNames {
+        pipe: word_at(matches, "PIPE")?,
+        spec: word_at(matches, "SPEC")?,
+        case: Some(word_at(matches, "CASE")?),
+        inv: word_at(matches, "INV"),
+    })
+}
+
+/// What the command of this name with these arguments asks for.
+#[tactic(auto, unfolding(crate::specs::Commands::question_of, crate::specs::Commands::show_question, crate::specs::Commands::shrink_question))]
+fn question<'a>(name: &str, matches: &ArgMatches<'a>) -> Option<Command<'a>>
+    ensures { option_map asked result ≡ question_of name.now (rows_of (found_of matches.now)) }
+{
+    if name == "show" {
+        Some(Command::Show(ShowOptions {
+            names: case_names(matches)?,
+            whole: flag_at(matches, "whole"),
+            page: word_at(matches, "html"),
+        }))
+    } else if name == "shrink" {
+        Some(Command::Shrink(case_names(matches)?))
+    } else {
+        None
+    }
+}
+
+/// What clap says of the words in which it finds a fault.
+fn told(alloc: Global, error: &clap::Error) -> Result<WordsFault, AllocError>
+    ensures { IfOk result (IsToldBy (kind_of error.now)) }
+{
+    let text = format!(in alloc; "{error}")?.into_bytes();
+    match error.kind() {
+        ErrorKind::DisplayHelp | ErrorKind::DisplayVersion => Ok(WordsFault::Told(text)),
+        ErrorKind::OutOfMemory => Ok(WordsFault::Memory),
+        _ => Ok(WordsFault::Usage(text)),
+    }
+}
+
+/// What clap makes of the words.
+fn parsed<'a>(alloc: Global, words: &'a [String]) -> Result<ArgMatches<'a>, WordsFault>
+    ensures parsed { IfOk result (IsParsed (texts_of words.entry.now)) }
+    ensures fault { IfErr result (IsWordsFault (texts_of words.entry.now)) }
+{
+    match command_line(alloc)?.try_get_matches_from(words) {
+        Ok(matches) => Ok(matches),
+        Err(error) => Err(told(alloc, &error)?),
+    }
+}
+
+/// What the words ask for, the program's name first.
+pub fn command_of<'a>(alloc: Global, words: &'a [String]) -> Result<Command<'a>, WordsFault>
+    ensures asked { IfOk result (λ c. taken (texts_of words.entry.now) ≡ Some (asked c)) }
+    ensures fault { IfErr result (IsWordsFault (texts_of words.entry.now)) }
+{
+    let matches = parsed(alloc, words)?;
+    let Some((name, matches)) = matches.subcommand() else {
+        return Err(WordsFault::Usage(Vec::from_slice(alloc, NONE)?));
+    };
+    match question(name, matches) {
+        Some(command) => Ok(command),
+        None => Err(WordsFault::Usage(Vec::from_slice(alloc, NONE)?)),
+    }
+}
+
+const NONE: &[u8] = b"usage: bd_view show|shrink PIPE SPEC CASE [INV]; --help says more\n";

@@ -1,0 +1,96 @@
+//! Answers that refuse files.
+ghost use Rattle.std.specs.Prelude.{◌≡◌, ◌++◌, codes, IfOk};
+ghost use Rattle.bd_show.specs.Files.{bytes_in, name_in, names_of, or_none};
+ghost use Rattle.bd_show.specs.Meaning.{Question, Says, asked_names};
+ghost use Rattle.bd_show.specs.inner.Loaded.{bytes_of, texts_view};
+ghost use Rattle.bd_show.specs.inner.Read.{AreRefused};
+ghost use Rattle.bd_show.specs.inner.Answered.{IsUnloaded};
+
+use crate::answer::{Answer, Ended};
+use crate::load::{FileNames, LoadFault, Texts};
+use crate::place::fault_text;
+use bd_typer::{DesignFault, Text};
+use std::alloc::{AllocError, Global};
+
+/// The name of a file.
+fn name_in<'a>(names: FileNames<'a>, file: Text) -> &'a str
+    ensures { result.now ≡ name_in (names_of names.entry) file }
+{
+    match file {
+        Text::Pipe => names.pipe,
+        Text::Spec => names.spec,
+        Text::Inv => names.inv.unwrap_or(""),
+        _ => names.case.unwrap_or(""),
+    }
+}
+
+/// The bytes of a text that may be there.
+fn or_none(bytes: &Option<Vec<u8>>) -> &[u8]
+    ensures { result.now ≡ or_none (bytes_of bytes.now) }
+{
+    match bytes {
+        Some(bytes) => bytes.as_slice(),
+        None => b"",
+    }
+}
+
+/// The bytes of a file.
+fn bytes_in(texts: &Texts, file: Text) -> &[u8]
+    ensures { result.now ≡ bytes_in (texts_view texts.now) file }
+{
+    match file {
+        Text::Pipe => texts.pipe.as_slice(),
+        Text::Spec => texts.spec.as_slice(),
+        Text::Inv => or_none(&texts.inv),
+        _ => or_none(&texts.case),
+    }
+}
+
+/// The answer that texts are refused.
+pub fn refused(
+    alloc: Global,
+    names: FileNames<'_>,
+    texts: &Texts,
+    fault: DesignFault,
+) -> Result<Answer, AllocError>
+    requires { AreRefused (texts_view texts.now) fault }
+    ensures { IfOk result (λ a. (q : Question) → asked_names q ≡ names_of names.entry →
+        Says q (texts_view texts.now) a.ended a.text.items) }
+{
+    match fault {
+        DesignFault::Bad { file, offset, code } => {
+            let name = name_in(names, file).as_bytes();
+            let text = fault_text(alloc, name, bytes_in(texts, file), offset, code)?;
+            let ended = Ended::Refused { file, offset, code };
+            Ok(Answer { ended, text })
+        }
+        DesignFault::Memory => Err(AllocError),
+    }
+}
+
+/// A text in three parts.
+pub fn joined(alloc: Global, first: &str, second: &str, third: &str) -> Result<Vec<u8>, AllocError>
+    ensures { IfOk result (λ text. text.items ≡ first.now ++ second.now ++ third.now) }
+{
+    let mut text = Vec::from_slice(alloc, first.as_bytes())?;
+    text.extend_from_slice(second.as_bytes())?;
+    text.extend_from_slice(third.as_bytes())?;
+    Ok(text)
+}
+
+/// The answer that a file gave no bytes.
+pub fn unloaded(alloc: Global, names: FileNames<'_>, fault: LoadFault) -> Result<Answer, AllocError>
+    ensures { IfOk result (λ a. IsUnloaded (names_of names.entry) fault a.ended a.text.items) }
+{
+    match fault {
+        LoadFault::Failed(file) => Ok(Answer {
+            ended: Ended::Unread(file),
+            text: joined(alloc, "cannot read ", name_in(names, file), "\n")?,
+        }),
+        LoadFault::TooLong(file) => Ok(Answer {
+            ended: Ended::TooLong(file),
+            text: joined(alloc, name_in(names, file), ": E00 file too long", "\n")?,
+        }),
+        LoadFault::Memory => Err(AllocError),
+    }
+}

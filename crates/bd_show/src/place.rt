@@ -1,0 +1,125 @@
+//! Where a fault stands in its file, and how it is shown.
+ghost use Rattle.std.specs.Prelude.{◌≡◌, ◌==◌, ◌++◌, [], count_by, drop, take, map, IfOk, OnOk};
+ghost use Rattle.bd_show.specs.Place.{blank, excerpt, fault_text, last_line, line_of, placed};
+
+use bd_text::Code;
+use itoa::Buffer;
+use std::alloc::{AllocError, Global};
+
+/// What stands before an offset, all where there is less.
+fn before(text: &[u8], offset: usize) -> &[u8]
+    ensures { result.now ≡ take offset text.now }
+{
+    &text[..offset.min(text.len())]
+}
+
+/// What stands from an offset on, nothing where there is less.
+fn from(text: &[u8], offset: usize) -> &[u8]
+    ensures { result.now ≡ drop offset text.now }
+{
+    &text[offset.min(text.len())..]
+}
+
+/// How many lines end in a text.
+fn ends(text: &[u8]) -> usize
+    ensures { result ≡ count_by (λ b. b == 10) text.now }
+{
+    text.iter().filter(|byte| **byte == b'\n').count()
+}
+
+/// What stands after the last line feed.
+fn last_line(alloc: Global, text: &[u8]) -> Result<Vec<u8>, AllocError>
+    ensures { IfOk result (λ line. line.items ≡ last_line [] text.now) }
+{
+    let mut line = Vec::new(alloc);
+    for byte in text {
+        if *byte == b'\n' {
+            line.clear();
+        } else {
+            line.push(*byte)?;
+        }
+    }
+    Ok(line)
+}
+
+/// Puts what stands before the first line feed.
+fn push_line(out: &mut Vec<u8>, text: &[u8]) -> Result<(), AllocError>
+    ensures { OnOk result (out.new.items ≡ out.old.items ++ line_of text.now) }
+{
+    for byte in text {
+        if *byte == b'\n' {
+            return Ok(());
+        }
+        out.push(*byte)?;
+    }
+    Ok(())
+}
+
+/// Puts a space for each byte, or a tab for a tab.
+fn push_blanks(out: &mut Vec<u8>, text: &[u8]) -> Result<(), AllocError>
+    ensures { OnOk result (out.new.items ≡ out.old.items ++ map blank text.now) }
+{
+    for byte in text {
+        out.push(if *byte == b'\t' { b'\t' } else { b' ' })?;
+    }
+    Ok(())
+}
+
+/// Puts `NAME:LINE:COLUMN: CODE TEXT`.
+fn push_placed(
+    out: &mut Vec<u8>,
+    name: &[u8],
+    line: usize,
+    column: usize,
+    code: Code,
+) -> Result<(), AllocError>
+    ensures { OnOk result (out.new.items
+        ≡ out.old.items ++ placed name.now line column code) }
+{
+    let mut line_buffer = Buffer::new();
+    let mut column_buffer = Buffer::new();
+    out.extend_from_slice(name)?;
+    out.push(b':')?;
+    out.extend_from_slice(line_buffer.format(line).as_bytes())?;
+    out.push(b':')?;
+    out.extend_from_slice(column_buffer.format(column).as_bytes())?;
+    out.extend_from_slice(b": ")?;
+    out.extend_from_slice(code.name().as_bytes())?;
+    out.push(b' ')?;
+    out.extend_from_slice(code.text().as_bytes())?;
+    out.push(b'\n')?;
+    Ok(())
+}
+
+/// Puts a line, and a caret under the byte after its first part.
+fn push_excerpt(out: &mut Vec<u8>, first: &[u8], rest: &[u8]) -> Result<(), AllocError>
+    ensures { OnOk result (out.new.items ≡ out.old.items ++ excerpt first.now rest.now) }
+{
+    out.extend_from_slice(b"  ")?;
+    out.extend_from_slice(first)?;
+    push_line(out, rest)?;
+    out.extend_from_slice(b"\n  ")?;
+    push_blanks(out, first)?;
+    out.extend_from_slice(b"^\n")?;
+    Ok(())
+}
+
+/// A fault of a text as it is shown: its place, its code, its line and a caret.
+pub fn fault_text(
+    alloc: Global,
+    name: &[u8],
+    text: &[u8],
+    offset: usize,
+    code: Code,
+) -> Result<Vec<u8>, AllocError>
+    ensures { IfOk result (λ shown. shown.items ≡ fault_text name.now text.now offset code) }
+{
+    let before = before(text, offset);
+    let first = last_line(alloc, before)?;
+    let line = ends(before).saturating_add(1);
+    let column = first.len().saturating_add(1);
+    let mut shown = Vec::new(alloc);
+    push_placed(&mut shown, name, line, column, code)?;
+    push_excerpt(&mut shown, first.as_slice(), from(text, offset))?;
+    Ok(shown)
+}

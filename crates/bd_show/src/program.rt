@@ -1,0 +1,82 @@
+//! The program's one call.
+ghost use Rattle.bd_files.specs.Devices.{PutsOrFaults};
+ghost use Rattle.bd_app.specs.Meaning.{files_seen};
+ghost use Rattle.bd_app.specs.Program.{sink_seen};
+ghost use Rattle.bd_app.specs.Words.{texts_of};
+ghost use Rattle.bd_show.specs.Program.{IsDone, IsPut, IsRun};
+ghost use Rattle.bd_show.specs.inner.Answered.{ended_of, text_of};
+
+use crate::answer::{Answer, Ended};
+use crate::command::{Command, WordsFault, command_of};
+use crate::{show, shrinking};
+use bd_files::{Files, Sink};
+use std::alloc::{AllocError, Global};
+
+/// The answer to the words, before anything is printed.
+fn answer_of<F: Files>(alloc: Global, words: &[String], files: &mut F) -> Result<Answer, AllocError>
+    ensures { IsDone (texts_of words.now) (files_seen F.held F.faults F.blame files.old)
+        (files_seen F.held F.faults F.blame files.new) (ended_of result) (text_of result) }
+{
+    match command_of(alloc, words) {
+        Ok(Command::Show(options)) => show::answer(alloc, files, options),
+        Ok(Command::Shrink(names)) => shrinking::answer(alloc, files, names),
+        Err(WordsFault::Told(text)) => Ok(Answer {
+            ended: Ended::Told,
+            text,
+        }),
+        Err(WordsFault::Usage(text)) => Ok(Answer {
+            ended: Ended::Usage,
+            text,
+        }),
+        Err(WordsFault::Memory) => Err(AllocError),
+    }
+}
+
+/// Puts a text, as far as it goes.
+fn put_text<E: Sink>(err: &mut E, text: &[u8])
+    ensures { PutsOrFaults E.written E.faults err.old err.new text.now }
+{
+    let _ = err.put(text);
+}
+
+/// Puts an answer on its stream. Where the output fails, or memory ran out, that is the answer.
+fn put<O: Sink, E: Sink>(answer: Result<Answer, AllocError>, out: &mut O, err: &mut E) -> Ended
+    ensures { IsPut (ended_of answer) (text_of answer) result
+        (sink_seen O.written O.faults out.old) (sink_seen O.written O.faults out.new)
+        (sink_seen E.written E.faults err.old) (sink_seen E.written E.faults err.new) }
+{
+    let Ok(Answer { ended, text }) = answer else {
+        put_text(err, b"out of memory\n");
+        return Ended::Memory;
+    };
+    if !ended.has_report() {
+        put_text(err, text.as_slice());
+        return ended;
+    }
+    match out.put(text.as_slice()) {
+        Ok(()) => ended,
+        Err(_) => {
+            put_text(err, b"cannot write\n");
+            Ended::Unwritten
+        }
+    }
+}
+
+/// All that the program does. `words` are the command line, the program's name first. The answer says how the program
+/// ends: with what a case shows or what is left of it, on `out`, or with a fault, whose line is put on `err`.
+pub fn run<F: Files, O: Sink, E: Sink>(
+    alloc: Global,
+    words: &[String],
+    files: &mut F,
+    out: &mut O,
+    err: &mut E,
+) -> Ended
+    ensures { IsRun (texts_of words.now) result
+        (files_seen F.held F.faults F.blame files.old)
+        (files_seen F.held F.faults F.blame files.new)
+        (sink_seen O.written O.faults out.old) (sink_seen O.written O.faults out.new)
+        (sink_seen E.written E.faults err.old) (sink_seen E.written E.faults err.new) }
+{
+    let answer = answer_of(alloc, words, files);
+    put(answer, out, err)
+}

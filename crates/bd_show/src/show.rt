@@ -1,0 +1,194 @@
+//! `show`: what a case shows, as tables, and as a page.
+ghost use Rattle.std.specs.Prelude.{◌≡◌, Ok, IfOk};
+ghost use Rattle.bd_model.specs.Conditions.{IsJudged};
+ghost use Rattle.bd_model.specs.DesignView.{design_view};
+ghost use Rattle.bd_model.specs.Fits.{Fits};
+ghost use Rattle.bd_model.specs.Lawful.{IsLawful};
+ghost use Rattle.bd_app.specs.Meaning.{files_seen};
+ghost use Rattle.bd_app.specs.Words.{given};
+ghost use Rattle.bd_picture.specs.Sentence.{sentence};
+ghost use Rattle.bd_show.specs.Files.{AreDesign, names_of};
+ghost use Rattle.bd_show.specs.Meaning.{IsLeft, IsShown, Question, Says};
+ghost use Rattle.bd_show.specs.inner.Answered.{IsDoneOn, IsSaved, show_of};
+ghost use Rattle.bd_show.specs.inner.Loaded.{AreFew, texts_view};
+
+use crate::answer::{Answer, Ended};
+use crate::fault::{joined, refused, unloaded};
+use crate::load::{FileNames, Texts, load_texts};
+use crate::names::let_names;
+use crate::read::{case, design};
+use bd_diagram::diagram_of;
+use bd_files::{Files, SaveError};
+use bd_model::{Case, Design, Judged};
+use bd_picture::{Picture, View, page_of, picture_of, text_of};
+use bd_shrink::shrink;
+use bd_sim::judge;
+use std::alloc::{AllocError, Global};
+
+/// Its options: the files, whether all of the case is shown, and where a page is saved.
+#[derive(Clone, Copy, Debug)]
+pub struct ShowOptions<'a> {
+    pub names: FileNames<'a>,
+    pub whole: bool,
+    pub page: Option<&'a str>,
+}
+
+/// An answer, and its page where one is shown.
+#[derive(Debug, Drop)]
+struct Seen {
+    answer: Answer,
+    page: Option<Vec<u8>>,
+}
+
+/// What is shown of a case: all of it, or where it breaks a condition what is left of it.
+fn left(
+    alloc: Global,
+    design: &Design,
+    case: &Case,
+    judged: Judged,
+    whole: bool,
+) -> Result<Case, AllocError>
+    requires fits { Fits (design_view design.now) case.now }
+    requires judged { IsJudged (design_view design.now) case.now judged }
+    ensures left { IfOk result (IsLeft whole (design_view design.now) case.now judged) }
+    ensures judged { IfOk result (λ s. IsJudged (design_view design.now) s judged) }
+{
+    match judged {
+        Judged::Broken(which) if !whole => shrink(alloc, design, case, which),
+        _ => case.clone(),
+    }
+}
+
+/// What is printed of a case.
+fn drawn(
+    alloc: Global,
+    design: &Design,
+    case: &Case,
+    judged: Judged,
+    names: &[Vec<u8>],
+) -> Result<Picture, AllocError>
+    requires { IsJudged (design_view design.now) case.now judged }
+    ensures { IfOk result (λ p. p.sentence.items ≡ sentence (design_view design.now) judged) }
+{
+    let diagram = diagram_of(alloc, design, case)?;
+    let view = View {
+        design,
+        case,
+        judged,
+        diagram: &diagram,
+        names,
+    };
+    picture_of(alloc, &view)
+}
+
+/// The answer on a case.
+fn on_case(
+    alloc: Global,
+    design: &Design,
+    case: &Case,
+    whole: bool,
+    names: &[Vec<u8>],
+) -> Result<Seen, AllocError>
+    requires { Fits (design_view design.now) case.now }
+    ensures { IfOk result (λ r. (judged : Judged) × (r.answer.ended ≡ Ended.Shown judged)
+        × IsShown whole (design_view design.now) case.now judged r.answer.text.items) }
+{
+    let judged = judge(alloc, design, case)?;
+    let left = left(alloc, design, case, judged, whole)?;
+    let picture = drawn(alloc, design, &left, judged, names)?;
+    let answer = Answer {
+        ended: Ended::Shown(judged),
+        text: text_of(alloc, &picture)?,
+    };
+    Ok(Seen {
+        answer,
+        page: Some(page_of(alloc, &picture)?),
+    })
+}
+
+/// The answer that texts are refused, without a page.
+fn unseen(answer: Result<Answer, AllocError>) -> Result<Seen, AllocError>
+    ensures { IfOk result (λ r. answer ≡ Ok r.answer) }
+{
+    Ok(Seen {
+        answer: answer?,
+        page: None,
+    })
+}
+
+/// The answer on texts, of which this is the design.
+fn on_design(
+    alloc: Global,
+    options: ShowOptions<'_>,
+    texts: &Texts,
+    design: &Design,
+) -> Result<Seen, AllocError>
+    requires design { AreDesign (texts_view texts.now) (Ok (design_view design.now)) }
+    requires lawful { IsLawful (design_view design.now) }
+    ensures { IfOk result (λ r. Says (Question.show (show_of options.entry)) (texts_view texts.now)
+        r.answer.ended r.answer.text.items) }
+{
+    let names = let_names(alloc, texts.pipe.as_slice())?;
+    match case(alloc, design, texts) {
+        Ok(case) => on_case(alloc, design, &case, options.whole, names.as_slice()),
+        Err(fault) => unseen(refused(alloc, options.names, texts, fault)),
+    }
+}
+
+/// The answer on texts.
+fn on_texts(alloc: Global, options: ShowOptions<'_>, texts: &Texts) -> Result<Seen, AllocError>
+    requires { AreFew (texts_view texts.now) }
+    ensures { IfOk result (λ r. Says (Question.show (show_of options.entry)) (texts_view texts.now)
+        r.answer.ended r.answer.text.items) }
+{
+    match design(alloc, texts) {
+        Ok(design) => on_design(alloc, options, texts, &design),
+        Err(fault) => unseen(refused(alloc, options.names, texts, fault)),
+    }
+}
+
+/// Saves the page of an answer, where one is asked for.
+fn saved<F: Files>(
+    alloc: Global,
+    files: &mut F,
+    page: Option<&str>,
+    drawn: Seen,
+) -> Result<Answer, AllocError>
+    ensures { IsSaved (given page.entry) drawn.answer.ended drawn.answer.text.items
+        (files_seen F.held F.faults F.blame files.old)
+        (files_seen F.held F.faults F.blame files.new) result }
+{
+    let Seen {
+        answer,
+        page: bytes,
+    } = drawn;
+    let (Some(name), Some(bytes)) = (page, bytes) else {
+        return Ok(answer);
+    };
+    match files.save(name, bytes.as_slice()) {
+        Ok(()) => Ok(answer),
+        Err(SaveError::Failed) => Ok(Answer {
+            ended: Ended::Unsaved,
+            text: joined(alloc, "cannot save ", name, "\n")?,
+        }),
+        Err(SaveError::Memory) => Err(AllocError),
+    }
+}
+
+/// Its answer.
+pub fn answer<F: Files>(
+    alloc: Global,
+    files: &mut F,
+    options: ShowOptions<'_>,
+) -> Result<Answer, AllocError>
+    ensures { IsDoneOn (Question.show (show_of options.entry))
+        (files_seen F.held F.faults F.blame files.old)
+        (files_seen F.held F.faults F.blame files.new) result }
+{
+    let texts = match load_texts(files, options.names) {
+        Ok(texts) => texts,
+        Err(fault) => return unloaded(alloc, options.names, fault),
+    };
+    let drawn = on_texts(alloc, options, &texts)?;
+    saved(alloc, files, options.page, drawn)
+}

@@ -1,0 +1,63 @@
+//! The companion program: real files, standard output and standard error for the one call that does its work.
+//!
+//! What is proved ends at `program`: whatever the files and the two streams are, the exit status is that of the answer,
+//! and the answer's clauses hold of these very objects. `main` makes the real ones, and calls it once.
+#![tactic(auto)]
+
+ghost use Rattle.std.specs.Prelude.{◌≡◌, IfOk, OnErr};
+ghost use Rattle.std.specs.Process.{exit_status};
+ghost use Rattle.bd_files.specs.Devices.{PutsOrFaults};
+ghost use Rattle.bd_app.specs.Meaning.{files_seen};
+ghost use Rattle.bd_app.specs.Program.{sink_seen};
+ghost use Rattle.bd_app.specs.Words.{texts_of};
+ghost use Rattle.bd_show.specs.Answer.{status_of};
+ghost use Rattle.bd_view.specs.Program.{EndsWith};
+
+use bd_files::{Files, Sink};
+use bd_host::{RealFiles, Stream, command_line};
+use bd_show::{Ended, run};
+use std::alloc::{AllocError, Global};
+use std::process::ExitCode;
+
+/// The status of an answer, as the system takes it.
+fn exit_code(ended: Ended) -> ExitCode
+    ensures { exit_status result ≡ status_of ended }
+{
+    ExitCode::from(ended.status())
+}
+
+/// The program on any files and sinks. `words` are the command line, unless memory ran out.
+fn program<F: Files, O: Sink, E: Sink>(
+    alloc: Global,
+    words: Result<Vec<String>, AllocError>,
+    files: &mut F,
+    out: &mut O,
+    err: &mut E,
+) -> ExitCode
+    ensures run { IfOk words (λ words. EndsWith (texts_of words.items) (exit_status result)
+        (files_seen F.held F.faults F.blame files.old)
+        (files_seen F.held F.faults F.blame files.new)
+        (sink_seen O.written O.faults out.old) (sink_seen O.written O.faults out.new)
+        (sink_seen E.written E.faults err.old) (sink_seen E.written E.faults err.new)) }
+
+    // Where there is no memory for the words, nothing is done.
+    ensures no_words { OnErr words (exit_status result ≡ status_of Ended.Memory) }
+    ensures no_words_files { OnErr words (files.new ≡ files.old) }
+    ensures no_words_out { OnErr words (out.new ≡ out.old) }
+    ensures no_words_err { OnErr words (err.new ≡ err.old) }
+{
+    match words {
+        Ok(words) => exit_code(run(alloc, words.as_slice(), files, out, err)),
+        Err(_) => exit_code(Ended::Memory),
+    }
+}
+
+fn main(rt: HostRuntime) -> ExitCode {
+    program(
+        rt.alloc(),
+        command_line(&rt),
+        &mut RealFiles::new(rt.alloc(), &rt),
+        &mut Stream::new(rt.stdout()),
+        &mut Stream::new(rt.stderr()),
+    )
+}

@@ -1,6 +1,0 @@
--- A read that a signal interrupted took nothing.
-use Rattle.std.specs.Io.KnownBytes.{Keeps}
-use Rattle.burch_dill.proofs.real_files.read_some.Given as goal
-
-abbrev pub invariant-loop : goal.invariant-loop
-invariant-loop g l = Keeps (g.R.Read.remaining l.initial.source) (g.R.Read.remaining l.source)
