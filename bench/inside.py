@@ -13,9 +13,9 @@ import tempfile
 
 WORD = 8
 PARTS = {
-    "read": "bd_app::design::design",
-    "reduce": "bd_verify::kept::flat_of",
-    "encode": "bd_verify::kept::formula_of",
+    "read": "bd_app::read::design",
+    "reduce": "bd_verify::reduction::flat_of",
+    "encode": "bd_verify::reduction::formula_of",
 }
 
 
@@ -72,7 +72,7 @@ def watch(gdb):
 
     for part, name in PARTS.items():
         Stop(name, lambda part=part: begin(part))
-    Stop("bd_app::report::verdict_answer", lambda: end("solve"))
+    Stop("bd_app::verdict::verdict_answer", lambda: end("solve"))
     Stop("bd_terms::reach::reached", lambda: seen["terms"].append(word(register("rsi") + WORD)))
     Stop("bd_transitive::clauses::triangles", lambda: seen.update(edges=word(register("rsi") + 4 * WORD)))
     gdb.execute("run")

@@ -1,7 +1,7 @@
 """Designs for `burch_dill` as Python programs, and what the program answers as data. For Python 3.9 or later.
 
-A design is written by calls. `Declarations` has what both machines declare; `Pipeline`, `Specification` and
-`Invariant` are the three files; expressions are values of the classes `Word`, `Bool` and `Memory`, one for each sort of
+A design is written by calls. `Declarations` has what both machines declare; `Pipeline`, `Specification`, and
+`Invariant` or `Start` are the three files; expressions are values of the classes `Word`, `Bool` and `Memory`, one for each sort of
 the language (docs/LANGUAGE.md). A Python function over expressions serves as a macro, and `latches` and `memories` make
 arrays of entries. `text()` gives the file, laid out for a reader; the same calls give the same text.
 
@@ -15,7 +15,7 @@ arrays of entries. `text()` gives the file, laid out for a reader; the same call
     spec.next(pc, inc(pc))
     print(check(pipe, spec).outcome.value)
 
-`check`, `replay`, `run` and `recheck` run the built program, once a call. Where a file is wanted (`Source`), a path
+`check`, `replay`, `run`, `recheck`, `bounded` and `retrace` run the built program, once a call. Where a file is wanted (`Source`), a path
 from `pathlib` names a file, and a `str` or `bytes` is the text itself. The program is the argument `program`, else the
 environment's `BURCH_DILL`, else `burch_dill` on the path.
 
@@ -66,7 +66,7 @@ class NoAnswer(BurchDillError):
 class Fault(BurchDillError):
     """The first fault of a file: its code (`E08`), the code's text, and where it is.
 
-    `file` is `pipe`, `spec`, `inv`, `case` or `proof`, `name` the path that was given, or the same word for a text.
+    `file` is `pipe`, `spec`, `inv`, `start`, `case`, `trail` or `proof`, `name` the path that was given, or the same word for a text.
     `line` and `column` count from 1, columns in bytes; `offset` counts bytes from 0, and is None where the program
     names a line and column itself, as it does for lines of proofs.
     """
@@ -416,11 +416,13 @@ class Specification(Machine):
     head = "specification"
 
 
-class Invariant:
-    """What is assumed of the state before a cycle, and has to hold after it: that all these claims are true.
+class Premise:
+    """What is assumed of a state: that all these claims are true.
 
-    They may use the pipeline's latches and memories, the functions of both machines, and lets of the invariant's own.
+    They may use the pipeline's latches and memories, the functions of both machines, and lets of the file's own.
     """
+
+    head: ClassVar[str]
 
     def __init__(self, *claims: Bool) -> None:
         self._lets: List[Tree] = []
@@ -441,7 +443,19 @@ class Invariant:
 
     def text(self) -> str:
         """The file."""
-        return _file_text("invariant", [*self._lets, all_of(self._claims).tree])
+        return _file_text(self.head, [*self._lets, all_of(self._claims).tree])
+
+
+class Invariant(Premise):
+    """What is assumed of the state before a cycle, and has to hold after it."""
+
+    head = "invariant"
+
+
+class Start(Premise):
+    """What is assumed of the first state of a run, and of no state after it."""
+
+    head = "start"
 
 
 # heads of items that share lines with their like
@@ -514,11 +528,8 @@ class Case:
         Raises `DesignError` where a number isn't a word of 64 bits.
         """
         version = 1 if all(isinstance(content, Table) for content in self.symbols.values()) else 2
-        entries = [_entry(_symbol_head(content), name, content) for name, content in self.symbols.items()]
-        entries += [_entry("memory" if isinstance(content, Table) else "latch", name, content)
-                    for name, content in self.state.items()]
-        entries += [_entry("input", name, value) for name, value in self.inputs.items()]
-        return "".join([f"(case {version}", *(f"\n {written(entry)}" for entry in entries), ")\n"])
+        return _content_text(f"case {version}", self.symbols, self.state,
+                             {name: (value,) for name, value in self.inputs.items()})
 
     @staticmethod
     def read(text: str) -> Case:
@@ -526,13 +537,65 @@ class Case:
         trees = read_trees(text)
         if len(trees) != 1 or trees[0][:2] not in (("case", "1"), ("case", "2")):
             raise ValueError("no case")
-        entries = [_named_content(entry) for entry in trees[0][2:]]
-        if len({name for _, name, _ in entries}) < len(entries):
-            raise ValueError("a name is given twice")
-        return Case(
-            {name: content for head, name, content in entries if head in ("function", "predicate", "constant")},
-            {name: content for head, name, content in entries if head in ("latch", "memory")},
-            {name: content for head, name, content in entries if head == "input" and not isinstance(content, Table)})
+        symbols, state, inputs = _contents(trees[0][2:], 1)
+        return Case(symbols, state, {name: values[0] for name, values in inputs.items()})
+
+
+@dataclass(frozen=True)
+class Trail:
+    """A run of a pipeline over a few cycles: the symbols and the first state as in a case, and the inputs' values.
+
+    Each input has a value for each of the `cycles`.
+    """
+
+    symbols: Mapping[str, Union[int, Table]]
+    state: Mapping[str, Content]
+    inputs: Mapping[str, Tuple[Value, ...]]
+    cycles: int
+
+    def text(self) -> str:
+        """The text, as the program prints it.
+
+        Raises `DesignError` where a number isn't a word of 64 bits, or an input has not so many values.
+        """
+        for name, values in self.inputs.items():
+            if len(values) != self.cycles:
+                raise DesignError(f"{name} has {len(values)} values for {self.cycles} cycles")
+        return _content_text(f"trail {self.cycles}", self.symbols, self.state, self.inputs)
+
+    @staticmethod
+    def read(text: str) -> Trail:
+        """The trail of a text. Raises `ValueError` where it isn't one; whether it fits a design, the program says."""
+        trees = read_trees(text)
+        count = trees[0][1] if len(trees) == 1 and trees[0][:1] == ("trail",) and len(trees[0]) > 1 else ""
+        if not isinstance(count, str) or not count.isdecimal():
+            raise ValueError("no trail")
+        return Trail(*_contents(trees[0][2:], int(count)), int(count))
+
+
+def _content_text(head: str, symbols: Mapping[str, Union[int, Table]], state: Mapping[str, Content],
+                  inputs: Mapping[str, Tuple[Value, ...]]) -> str:
+    """The text of a case or a trail."""
+    entries = [_entry(_symbol_head(content), name, content) for name, content in symbols.items()]
+    entries += [_entry("memory" if isinstance(content, Table) else "latch", name, content)
+                for name, content in state.items()]
+    entries += [("input", name, *map(_value_text, values)) for name, values in inputs.items()]
+    return "".join([f"({head}", *(f"\n {written(entry)}" for entry in entries), ")\n"])
+
+
+def _contents(entries: Sequence[Tree], cycles: int) \
+        -> Tuple[Dict[str, Union[int, Table]], Dict[str, Content], Dict[str, Tuple[Value, ...]]]:
+    """The symbols, the state and the inputs of a case or of a trail of so many cycles."""
+    inputs = {str(entry[1]): tuple(map(_value, entry[2:])) for entry in entries if _is_input(entry, cycles)}
+    others = [_named_content(entry) for entry in entries if not _is_input(entry, cycles)]
+    if len({name for _, name, _ in others} | inputs.keys()) < len(entries):
+        raise ValueError("a name is given twice")
+    symbols = {name: content for head, name, content in others if head in ("function", "predicate", "constant")}
+    return symbols, {name: content for head, name, content in others if head in ("latch", "memory")}, inputs
+
+
+def _is_input(entry: Tree, cycles: int) -> bool:
+    return not isinstance(entry, str) and entry[:1] == ("input",) and len(entry) == cycles + 2
 
 
 def _symbol_head(content: Union[int, Table]) -> str:
@@ -569,7 +632,7 @@ def _named_content(entry: Tree) -> Tuple[str, str, Content]:
     if isinstance(entry, str) or len(entry) < 3 or not isinstance(entry[0], str) or not isinstance(entry[1], str):
         raise ValueError(f"{written(entry)} isn't an entry")
     head, name, default, *rows = entry
-    if head in ("latch", "input", "constant") and not rows:
+    if head in ("latch", "constant") and not rows:
         return head, name, _value(default)
     if head not in ("function", "predicate", "memory") or any(isinstance(row, str) or not row for row in rows):
         raise ValueError(f"{written(entry)} isn't an entry")
@@ -580,7 +643,7 @@ def _named_content(entry: Tree) -> Tuple[str, str, Content]:
 
 
 class Outcome(Enum):
-    """What `check` and `recheck` say of a pipeline, by the words that are printed."""
+    """What `check`, `recheck` and `bounded` say of a pipeline, by the words that are printed."""
 
     CORRECT = "correct"
     WRONG_COMMUTE = "wrong commute"
@@ -619,9 +682,30 @@ class Judgement(Enum):
     OUTSIDE = "outside"
 
 
+@dataclass(frozen=True)
+class Bounded:
+    """What a pipeline is found to be for so many cycles from a start: `CORRECT`, `WRONG_COMMUTE` or `UNDECIDED`.
+
+    Of a wrong one, `trail` is a run whose cycle number `broken`, from 1, is the first that is wrong. Of `UNDECIDED`,
+    `learned` is the number of clauses that the budget allowed.
+    """
+
+    outcome: Outcome
+    trail: Optional[Trail] = None
+    broken: Optional[int] = None
+    learned: Optional[int] = None
+
+
+class Retraced(NamedTuple):
+    """What `retrace` says of a trail, and the number of the first broken cycle, from 1, where there is one."""
+
+    judgement: Judgement
+    broken: Optional[int] = None
+
+
 # ---- the program
 
-Source = Union[str, bytes, "os.PathLike[str]", Machine, Invariant, Case]
+Source = Union[str, bytes, "os.PathLike[str]", Machine, Premise, Case, Trail]
 File = Union[str, "os.PathLike[str]"]
 
 Answer = TypeVar("Answer", Outcome, Judgement)
@@ -664,6 +748,32 @@ def recheck(pipe: Source, spec: Source, proof: Source, inv: Optional[Source] = N
             program: Optional[File] = None, timeout: Optional[float] = None) -> Verdict:
     """Whether a proof in LRAT from elsewhere shows that a pipeline is right. A proof that doesn't is a `Fault`."""
     return _verdict(_ask("recheck", {"pipe": pipe, "spec": spec, "proof": proof, "inv": inv}, [], program, timeout))
+
+
+def bounded(pipe: Source, spec: Source, start: Source, cycles: int, *, budget: Optional[int] = None,
+            program: Optional[File] = None, timeout: Optional[float] = None) -> Bounded:
+    """Whether a pipeline is right for so many cycles (0 to 16) from each state in which the start is true.
+
+    `budget` is how many clauses may be learned (the program's own is 200,000). Nothing is said of whether there is
+    such a state.
+    """
+    options = [str(cycles)] + ([] if budget is None else ["--budget", str(budget)])
+    printed = _ask("bounded", {"pipe": pipe, "spec": spec, "start": start}, options, program, timeout)
+    line, _, trail = printed.partition("\n")
+    found = re.fullmatch(r"(correct) to \d+|(wrong commute) (\d+)|(undecided) (\d+)", line)
+    if not found:
+        raise NoAnswer(0, f"this answer isn't known: {line!r}")
+    broken, learned = (int(number) if number else None for number in found.group(3, 5))
+    return Bounded(Outcome(found[1] or found[2] or found[4]), Trail.read(trail) if trail else None, broken, learned)
+
+
+def retrace(pipe: Source, spec: Source, trail: Source, start: Source, *,
+            program: Optional[File] = None, timeout: Optional[float] = None) -> Retraced:
+    """What a trail shows: the first of its cycles that is wrong, or that it doesn't begin where the start is true."""
+    files = {"pipe": pipe, "spec": spec, "trail": trail, "start": start}
+    line = _ask("retrace", files, [], program, timeout).rstrip("\n")
+    words, _, cycle = line.rpartition(" ") if line[-1:].isdigit() else (line, "", "")
+    return Retraced(_answer(Judgement, words), int(cycle) if cycle else None)
 
 
 def _verdict(printed: str) -> Verdict:

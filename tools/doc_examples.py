@@ -1,10 +1,11 @@
 #!/usr/bin/env python3
 """Runs the commands that documents show, and compares what comes out with what the documents print.
 
-    tools/doc_examples.py PROGRAM [FILE ..]            says what differs, and exits with 1 if anything does
-    tools/doc_examples.py PROGRAM --write [FILE ..]    puts into the documents what comes out
+    tools/doc_examples.py PROGRAM .. [FILE.md ..]            says what differs, and exits with 1 if anything does
+    tools/doc_examples.py PROGRAM .. --write [FILE.md ..]    puts into the documents what comes out
 
-Without files it takes README.md, docs/TUTORIAL.md and docs/COUNTEREXAMPLES.md, those of them that are there.
+PROGRAM is a path of `burch_dill` or of `bd_view`, by its name; any other name is taken for `burch_dill`. Without files
+it takes README.md, docs/TUTORIAL.md and docs/COUNTEREXAMPLES.md, those of them that are there.
 
 An example is a block, fenced or indented by four spaces, whose first line begins with `$ `:
 
@@ -15,14 +16,15 @@ An example is a block, fenced or indented by four spaces, whose first line begin
   The lines after it, up to the next command or the end of the block, are its output: standard output and error output
   together, as on a terminal.
 - A line `...` in an output stands for any lines, or none. Such an output isn't written by `--write`.
-- Blocks that begin otherwise are no examples, such as those of `rt`, which builds and proves. But a command of the
+- Blocks that begin otherwise are no examples, such as those of `rt`, which builds and proves. But a command of a
   program without its `$ ` is a fault, so that none is left out by mistake.
 
-The commands of a document run one after the other in one new folder, in which `burch_dill` is PROGRAM and the folders
-at the top of the repository have their names. So paths are those from the top, and a command can save a file that a
-later one of the document reads, without a change to the repository.
+The commands of a document run one after the other in one new folder, in which the programs and the folders at the top
+of the repository have their names. So paths are those from the top, and a command can save a file that a later one of
+the document reads, without a change to the repository.
 
-Where a tool of OTHERS isn't installed, the rest of the block isn't run, and the last line of the report says so.
+Where a tool of OTHERS isn't installed, or a program isn't given, the rest of the block isn't run, and the last line of
+the report says so.
 """
 from __future__ import annotations
 
@@ -39,6 +41,7 @@ from typing import Iterator, NamedTuple
 ROOT = Path(__file__).resolve().parent.parent
 DOCUMENTS = ("README.md", "docs/TUTORIAL.md", "docs/COUNTEREXAMPLES.md")
 OTHERS = ("cadical",)
+PROGRAMS = ("burch_dill", "bd_view")
 PROMPT = "$ "
 CUT = "..."
 SECONDS = 60
@@ -104,8 +107,9 @@ def examples(block: Block) -> list[Example]:
 
 
 def unmarked(block: Block) -> list[int]:
-    """The numbers of the lines that hold a command of the program without the mark."""
-    return [number for number, line in enumerate(block.lines, block.start) if line.startswith("burch_dill ")]
+    """The numbers of the lines that hold a command of a program without the mark."""
+    words = tuple(name + " " for name in PROGRAMS)
+    return [number for number, line in enumerate(block.lines, block.start) if line.startswith(words)]
 
 
 def matches(shown: list[str], printed: list[str]) -> bool:
@@ -114,11 +118,12 @@ def matches(shown: list[str], printed: list[str]) -> bool:
     return re.fullmatch(pattern, "".join(line + "\n" for line in printed)) is not None
 
 
-def prepare(folder: Path, program: Path) -> dict[str, str]:
+def prepare(folder: Path, programs: dict[str, Path]) -> dict[str, str]:
     """Fills the folder in which commands run, and gives the environment for them."""
     commands = folder / ".commands"
     commands.mkdir()
-    (commands / "burch_dill").symlink_to(program)
+    for name, program in programs.items():
+        (commands / name).symlink_to(program)
     for path in ROOT.iterdir():
         if path.is_dir() and not path.name.startswith("."):
             (folder / path.name).symlink_to(path)
@@ -135,22 +140,22 @@ def run(command: str, folder: Path, environment: dict[str, str]) -> list[str]:
     return done.stdout.decode("utf-8", "replace").splitlines()
 
 
-def is_missing(command: str) -> bool:
-    """Whether the command begins with another tool that isn't installed."""
+def is_missing(command: str, programs: dict[str, Path]) -> bool:
+    """Whether the command begins with another tool that isn't installed, or with a program that isn't given."""
     word = command.split()[0]
-    return word in OTHERS and shutil.which(word) is None
+    return (word in OTHERS and shutil.which(word) is None) or (word in PROGRAMS and word not in programs)
 
 
-def run_document(document: list[Block], program: Path) -> list[Result]:
+def run_document(document: list[Block], programs: dict[str, Path]) -> list[Result]:
     """Runs the examples of a document."""
     results = []
     with tempfile.TemporaryDirectory() as name:
         folder = Path(name)
-        environment = prepare(folder, program)
+        environment = prepare(folder, programs)
         for block in document:
             missing = False
             for example in examples(block):
-                missing = missing or is_missing(example.command)
+                missing = missing or is_missing(example.command, programs)
                 printed = None if missing else run(example.command, folder, environment)
                 results.append(Result(example, printed))
     return results
@@ -173,21 +178,28 @@ def write(path: Path, document: list[Block], results: list[Result]) -> None:
     path.write_text("\n".join(lines) + "\n", encoding="utf-8")
 
 
+def name_of(word: str) -> str:
+    """The name by which documents call the program of this path."""
+    return Path(word).name if Path(word).name in PROGRAMS else PROGRAMS[0]
+
+
 def main(words: list[str]) -> int:
     writes = "--write" in words
     words = [word for word in words if word != "--write"]
     if not words or words[0].startswith("-"):
         print(__doc__)
         return 2
-    program = Path(words[0]).resolve()
-    if not os.access(program, os.X_OK):
-        print(f"{program} can't be run")
-        return 2
-    paths = [Path(word) for word in words[1:]] or [ROOT / name for name in DOCUMENTS if (ROOT / name).exists()]
+    programs = {name_of(word): Path(word).resolve() for word in words if not word.endswith(".md")}
+    for program in programs.values():
+        if not os.access(program, os.X_OK):
+            print(f"{program} can't be run")
+            return 2
+    named = [Path(word) for word in words if word.endswith(".md")]
+    paths = named or [ROOT / name for name in DOCUMENTS if (ROOT / name).exists()]
     count = left_out = faults = 0
     for path in paths:
         document = list(blocks(path.read_text(encoding="utf-8").splitlines()))
-        results = run_document(document, program)
+        results = run_document(document, programs)
         name = os.path.relpath(path)
         reports = [f"{name}:{line}: a command without `$ `" for block in document for line in unmarked(block)]
         reports += [difference(name, result) for result in results if result.differs()]

@@ -12,8 +12,9 @@ from typing import Dict
 
 import example
 from burch_dill import FALSE, TRUE, WIDTH, Bool, Case, Declarations, DesignError, Fault, Function, Invariant, Judgement
-from burch_dill import Memory, NoAnswer, Outcome, Pipeline, Predicate, Row, Specification, Table, Word
-from burch_dill import all_of, any_of, check, iff, implies, ite, line_and_column, read_trees, recheck, replay, run
+from burch_dill import Memory, NoAnswer, Outcome, Pipeline, Predicate, Retraced, Row, Specification, Start, Table, Trail
+from burch_dill import Word, all_of, any_of, bounded, check, iff, implies, ite, line_and_column, read_trees, recheck
+from burch_dill import replay, retrace, run
 
 PROGRAM = Path(__file__).resolve().parent.parent / "crates" / "burch_dill"
 DATA = PROGRAM / "data"
@@ -130,6 +131,7 @@ class Designs(unittest.TestCase):
         inv.require(~same)
         self.assertEqual(inv.text(), "(invariant\n (let same bool (= x y))\n (and v (not same)))\n")
         self.assertEqual(Invariant(Bool("v")).text(), "(invariant\n v)\n")
+        self.assertEqual(Start(Bool("v")).text(), "(start\n v)\n")
 
     def test_what_cannot_be_written(self) -> None:
         pipe = counter()
@@ -164,6 +166,21 @@ class Cases(unittest.TestCase):
         self.assertEqual(case.symbols, {"zero": 7, "taken": Table(False, (Row((7,), True),)),
                                         "f": Table(1, (Row((2, 3), 4),))})
         self.assertEqual(Case({}, {}, {}).text(), "(case 1)\n")
+
+    def test_trails(self) -> None:
+        for text in ("(trail 0\n (latch v true)\n (input stall))\n",
+                     "(trail 2\n (constant zero 7)\n (memory rf 0 (5 7))\n (input stall false true))\n"):
+            self.assertEqual(Trail.read(text).text(), text)
+        trail = Trail.read(text)
+        self.assertEqual((trail.cycles, trail.symbols, trail.inputs), (2, {"zero": 7}, {"stall": (False, True)}))
+        with self.assertRaises(DesignError):
+            replace(trail, cycles=3).text()
+
+    def test_what_is_no_trail(self) -> None:
+        for text in ("", "(case 1)", "(trail)", "(trail x)", "(trail 1 (input i))", "(trail 1 (input i 1 2))",
+                     "(trail 0 (input i) (latch i 1))"):
+            with self.subTest(text), self.assertRaises(ValueError):
+                Trail.read(text)
 
     def test_tables(self) -> None:
         table = Table(0, (Row((1,), 2), Row((1,), 3)))
@@ -257,6 +274,22 @@ class Answers(unittest.TestCase):
                 recheck(TWO_STAGE, SPEC, "1 d 1 0\nnothing\n")
             self.assertEqual((raised.exception.offset, raised.exception.line), (None, 2))
 
+    def test_bounded(self) -> None:
+        same = Start(iff(Bool("v"), Bool("w")))
+        self.assertEqual(bounded(TWIN, SPEC, same, 3).outcome, Outcome.CORRECT)
+        apart = Start(Bool("v") & ~Bool("w"))
+        self.assertEqual(bounded(TWIN, SPEC, apart, 0).outcome, Outcome.CORRECT)
+        found = bounded(TWIN, SPEC, apart, 2)
+        self.assertEqual((found.outcome, found.broken), (Outcome.WRONG_COMMUTE, 1))
+        assert found.trail is not None
+        self.assertEqual(found.trail.inputs["stall"][0], False)
+        self.assertEqual(retrace(TWIN, SPEC, found.trail, apart), Retraced(Judgement.BROKEN_COMMUTE, 1))
+        self.assertEqual(retrace(TWIN, SPEC, found.trail, same), Retraced(Judgement.OUTSIDE))
+        self.assertEqual(retrace(TWO_STAGE, SPEC, "(trail 0 (latch pc 0) (memory rf 0) (latch v false) (latch d 0) "
+                                 "(latch o 0) (latch a 0) (input stall))", Start()), Retraced(Judgement.HOLDS))
+        with self.assertRaisesRegex(Fault, "^start:1:8: E08"):
+            bounded(TWIN, SPEC, "(start none)", 1)
+
     def test_example(self) -> None:
         outcomes = {left_out: verdict.outcome for left_out, verdict in example.verdicts(4)}
         wrong, right = Outcome.WRONG_COMMUTE, Outcome.CORRECT
@@ -296,6 +329,7 @@ class Faults(unittest.TestCase):
         case = Case.read(PRINTED)
         for status, ask in ((2, lambda: run(TWO_STAGE, SPEC, case, 1001)),
                             (2, lambda: check(TWO_STAGE, SPEC, budget=-1)),
+                            (2, lambda: bounded(TWO_STAGE, SPEC, Start(), 17)),
                             (5, lambda: check(DATA / "absent.pipe", SPEC)),
                             (0, lambda: check(TWO_STAGE, SPEC, program=shutil.which("true"))),
                             (None, lambda: check(TWO_STAGE, SPEC, program="/absent/burch_dill"))):
