@@ -73,6 +73,12 @@ class Result(NamedTuple):
         return self.printed is not None and not matches(self.example.shown, self.printed)
 
 
+def goes_on(lines: list[str], at: int) -> bool:
+    """Whether an indented block goes on after an empty line: with a line that is no command."""
+    after = next((line for line in lines[at:] if line.strip()), "")
+    return not lines[at].strip() and after.startswith("    ") and not after[4:].startswith(PROMPT)
+
+
 def blocks(lines: list[str]) -> Iterator[Block]:
     """The blocks of code of a document, in their order."""
     at = 0
@@ -84,7 +90,7 @@ def blocks(lines: list[str]) -> Iterator[Block]:
             yield Block(start + 2, lines[start + 1:at + 1], "")
             at += 2
         elif lines[at].startswith("    ") and not "".join(lines[at - 1:at]).strip():
-            while at < len(lines) and lines[at].startswith("    "):
+            while at < len(lines) and (lines[at].startswith("    ") or goes_on(lines, at)):
                 at += 1
             yield Block(start + 1, [line[4:] for line in lines[start:at]], "    ")
         else:
