@@ -119,6 +119,13 @@ def commands() -> Iterator[Command]:
     yield Command("recheck, with an invariant",
                   ("recheck", "twin_valid_bits.pipe", "two_stage.spec", "twin_valid_bits.lrat", "twin_valid_bits.inv"))
     yield Command("recheck, a spoiled proof", ("recheck", *files, "spoiled.lrat"))
+    twin = ("twin_valid_bits.pipe", "two_stage.spec")
+    yield Command("bounded, right", ("bounded", *twin, "valid_bits_alike.start", "3"))
+    yield Command("bounded, wrong", ("bounded", *twin, "valid_bits_apart.start", "2"))
+    yield Command("bounded, undecided", ("bounded", *twin, "valid_bits_apart.start", "2", "--budget", "0"))
+    yield Command("retrace, broken", ("retrace", *twin, "apart.trail", "valid_bits_apart.start"))
+    yield Command("retrace, outside", ("retrace", *twin, "apart.trail", "valid_bits_alike.start"))
+    yield Command("a faulty trail", ("retrace", *twin, "pending_write.case", "valid_bits_apart.start"))
     yield Command("a faulty text", ("check", "two_stage.spec", "two_stage.spec"))
     yield Command("a faulty case", ("replay", *files, "two_stage.spec"))
     yield Command("no file", ("check", "two_stage.pipe", "nowhere"))
@@ -166,6 +173,7 @@ class Place:
         with open(os.path.join(self.folder, "two_stage.lrat"), "rb") as file:
             proof = file.read()
         self.write("spoiled.lrat", proof[:len(proof) // 2] + b"\nx\n")
+        self.write("apart.trail", self.trail("twin_valid_bits.pipe", "two_stage.spec", "valid_bits_apart.start", "2"))
         for name in SAVED:
             self.write(name, OLD)
         self.held = self.files()
@@ -174,6 +182,11 @@ class Place:
         """Saves the proof for a right design."""
         subprocess.run([self.program, "check", *files, "--lrat", proof], cwd=self.folder, check=True,
                        stdout=subprocess.DEVNULL)
+
+    def trail(self, *words: str) -> bytes:
+        """The trail that a bounded run of a wrong design prints."""
+        ran = subprocess.run([self.program, "bounded", *words], cwd=self.folder, stdout=subprocess.PIPE, check=False)
+        return ran.stdout.split(b"\n", 1)[1]
 
     def write(self, name: str, text: bytes) -> None:
         """Writes a file of the folder anew."""
