@@ -148,7 +148,7 @@ module _ (watch : Watch) (place : ℕ) (entry : Assigned) (watching : IsWatching
 
   -- a decision from the start of the last level on is its first literal
   pub decision_lone : (start : ℕ) (marks : List Bool) → entry.reason ≡ None → IsLastStart watch.trail.entries start → start ≤ place → AreUnmarked marks start place
-  decision_lone start marks none last behind p from under =
+  decision_lone start marks none last after p from under =
       let bound : place ≤ start = last.last place (record { within = low; undecided = λ d. ap (λ (a : Assigned). a.reason) (sym (get_or_read watch.trail.entries place entry low read d)) ∙ none }) in
       absurd (omega arith)
 

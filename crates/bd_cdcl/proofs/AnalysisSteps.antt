@@ -66,8 +66,8 @@ module _ (standing : Standing) (trail : List Assigned) (start : ℕ) (conflict :
       apart = so.apart;
     });
     kept_false = is.kept_false;
-    kept_behind = λ l h. shrink trail place l.var (is.kept_behind l h);
-    resolved_behind = All-weaker (λ (a : Assigned). has_variable (front trail (place + 1)) a.literal.var ≡ false) (λ (a : Assigned). has_variable (front trail place) a.literal.var ≡ false) (λ a. shrink trail place a.literal.var) resolved is.resolved_behind;
+    kept_after = λ l h. shrink trail place l.var (is.kept_after l h);
+    resolved_after = All-weaker (λ (a : Assigned). has_variable (front trail (place + 1)) a.literal.var ≡ false) (λ (a : Assigned). has_variable (front trail place) a.literal.var ≡ false) (λ a. shrink trail place a.literal.var) resolved is.resolved_after;
     disjoint = is.disjoint;
     resolved_inside = is.resolved_inside;
     implied = is.implied;
@@ -75,7 +75,7 @@ module _ (standing : Standing) (trail : List Assigned) (start : ℕ) (conflict :
   }
     where
       found : (ks : List Literal) → IsFound trail marks start (place + 1) ks → IsFound trail marks start place ks
-      found [] so = record { place = so.place; behind = so.behind; within = within; is = so.is }
+      found [] so = record { place = so.place; after = so.after; within = within; is = so.is }
         where
           within : so.place < place
           within = elim (cases_eq so.place place) [
@@ -102,7 +102,7 @@ module _ (standing : Standing) (trail : List Assigned) (start : ℕ) (conflict :
     ]
 
     pub at_start : kept ≡ [] → start ≤ place
-    at_start e = let so = subst (IsFound trail marks start (place + 1)) e is.found in omega (arith, so.behind, so.within)
+    at_start e = let so = subst (IsFound trail marks start (place + 1)) e is.found in omega (arith, so.after, so.within)
 
     -- the negation of a marked literal is kept, and if it is the first, no other of the last level is marked
     pub analysis_keeps : (start ≤ place → AreUnmarked marks start place) → place < length marks → IsAnalyzing standing trail start conflict (set marks place false) place (kept ++ negate a.literal ∷ []) resolved
@@ -124,9 +124,9 @@ module _ (standing : Standing) (trail : List Assigned) (start : ℕ) (conflict :
         apart = so.apart;
       });
       kept_false = λ l h. has_either kept (negate a.literal ∷ []) l h (is.kept_false l) (λ new. subst (λ (m : Literal). is_false (literals trail) m ≡ true) (sym (has_single l (negate a.literal) new)) twice);
-      kept_behind = λ l h. has_either kept (negate a.literal ∷ []) l h (λ old. shrink trail place l.var (is.kept_behind l old)) (λ new. subst (λ (m : Literal). has_variable (front trail place) m.var ≡ false) (sym (has_single l (negate a.literal) new)) (placed_at trail standing all place d low).unassigned);
-      resolved_behind = All-weaker (λ (x : Assigned). has_variable (front trail (place + 1)) x.literal.var ≡ false) (λ (x : Assigned). has_variable (front trail place) x.literal.var ≡ false) (λ x. shrink trail place x.literal.var) resolved is.resolved_behind;
-      disjoint = λ l h. has_either kept (negate a.literal ∷ []) l h (is.disjoint l) (λ new. subst (λ (m : Literal). has_variable (literals resolved) m.var ≡ false) (sym (has_single l (negate a.literal) new)) (unresolved resolved is.resolved_behind));
+      kept_after = λ l h. has_either kept (negate a.literal ∷ []) l h (λ old. shrink trail place l.var (is.kept_after l old)) (λ new. subst (λ (m : Literal). has_variable (front trail place) m.var ≡ false) (sym (has_single l (negate a.literal) new)) (placed_at trail standing all place d low).unassigned);
+      resolved_after = All-weaker (λ (x : Assigned). has_variable (front trail (place + 1)) x.literal.var ≡ false) (λ (x : Assigned). has_variable (front trail place) x.literal.var ≡ false) (λ x. shrink trail place x.literal.var) resolved is.resolved_after;
+      disjoint = λ l h. has_either kept (negate a.literal ∷ []) l h (is.disjoint l) (λ new. subst (λ (m : Literal). has_variable (literals resolved) m.var ≡ false) (sym (has_single l (negate a.literal) new)) (unresolved resolved is.resolved_after));
       resolved_inside = is.resolved_inside;
       implied = is.implied;
       found = found kept refl;
@@ -136,18 +136,18 @@ module _ (standing : Standing) (trail : List Assigned) (start : ℕ) (conflict :
         twice = subst (λ (l : Literal). has_literal (literals trail) l ≡ true) (sym (negate_twice a.literal)) here
 
         unresolved : (rs : List Assigned) → All (λ x. has_variable (front trail (place + 1)) x.literal.var ≡ false) rs → has_variable (literals rs) a.literal.var ≡ false
-        unresolved [] behind = refl
-        unresolved (r ∷ rs) behind =
-            or_from _ _ (ne_eqb r.literal.var a.literal.var (λ e. other_variable trail standing all place (place + 1) r.literal.var d (omega arith) low (All-head (λ (x : Assigned). has_variable (front trail (place + 1)) x.literal.var ≡ false) r rs behind) (sym e)))
-            (unresolved rs (All-tail (λ (x : Assigned). has_variable (front trail (place + 1)) x.literal.var ≡ false) r rs behind))
+        unresolved [] after = refl
+        unresolved (r ∷ rs) after =
+            or_from _ _ (ne_eqb r.literal.var a.literal.var (λ e. other_variable trail standing all place (place + 1) r.literal.var d (omega arith) low (All-head (λ (x : Assigned). has_variable (front trail (place + 1)) x.literal.var ≡ false) r rs after) (sym e)))
+            (unresolved rs (All-tail (λ (x : Assigned). has_variable (front trail (place + 1)) x.literal.var ≡ false) r rs after))
 
         found : (ks : List Literal) → ks ≡ kept → IsFound trail (set marks place false) start place (ks ++ negate a.literal ∷ [])
         found [] e =
-            let behind : start ≤ place = at_start (sym e) in
+            let after : start ≤ place = at_start (sym e) in
             record {
-              free = free_in_front trail standing all place start d behind low;
+              free = free_in_front trail standing all place start d after low;
               others = λ l h. absurd (false≢true h);
-              unmarked = λ p from under. get_or-set_other marks place p false false (λ same. absurd (omega arith)) ∙ lone behind p from under;
+              unmarked = λ p from under. get_or-set_other marks place p false false (λ same. absurd (omega arith)) ∙ lone after p from under;
             }
         found (u ∷ rest) e =
             let under : place < start = before_start u rest (sym e) in
@@ -178,8 +178,8 @@ module _ (standing : Standing) (trail : List Assigned) (start : ℕ) (conflict :
       ]
 
       -- the clause's variables are in front of the next place
-      variables_behind : (p : ℕ) (e : Assigned) → place < p → p < length trail → has_variable clause (get_or trail p e).literal.var ≡ false
-      variables_behind p e h within = false_from_ne_true _ (λ there.
+      variables_after : (p : ℕ) (e : Assigned) → place < p → p < length trail → has_variable clause (get_or trail p e).literal.var ≡ false
+      variables_after p e h within = false_from_ne_true _ (λ there.
           let (l, of_clause, same) = literal_of clause (get_or trail p e).literal.var there in
           let none : has_variable (front trail (place + 1)) l.var ≡ false = subst (λ v. has_variable (front trail (place + 1)) v ≡ false) (sym same) (free_in_front trail standing all p (place + 1) e (omega arith) within) in
           elim (cases_Bool (literal_eq l a.literal)) [
@@ -216,10 +216,10 @@ module _ (standing : Standing) (trail : List Assigned) (start : ℕ) (conflict :
         cleared = cleared;
         explains = explains;
         kept_false = is.kept_false;
-        kept_behind = λ l h. shrink trail place l.var (is.kept_behind l h);
-        resolved_behind = All-cons (λ (x : Assigned). has_variable (front trail place) x.literal.var ≡ false) a resolved (placed_at trail standing all place d low).unassigned
-            (All-weaker (λ (x : Assigned). has_variable (front trail (place + 1)) x.literal.var ≡ false) (λ (x : Assigned). has_variable (front trail place) x.literal.var ≡ false) (λ x. shrink trail place x.literal.var) resolved is.resolved_behind);
-        disjoint = λ l h. or_from _ _ (ne_eqb a.literal.var l.var (other_variable trail standing all place (place + 1) l.var d (omega arith) low (is.kept_behind l h))) (is.disjoint l h);
+        kept_after = λ l h. shrink trail place l.var (is.kept_after l h);
+        resolved_after = All-cons (λ (x : Assigned). has_variable (front trail place) x.literal.var ≡ false) a resolved (placed_at trail standing all place d low).unassigned
+            (All-weaker (λ (x : Assigned). has_variable (front trail (place + 1)) x.literal.var ≡ false) (λ (x : Assigned). has_variable (front trail place) x.literal.var ≡ false) (λ x. shrink trail place x.literal.var) resolved is.resolved_after);
+        disjoint = λ l h. or_from _ _ (ne_eqb a.literal.var l.var (other_variable trail standing all place (place + 1) l.var d (omega arith) low (is.kept_after l h))) (is.disjoint l h);
         resolved_inside = λ l h. elim (or_cases (literal_eq l a.literal) _ h) [
           | inl e ↦ subst (λ (m : Literal). has_literal (literals trail) m ≡ true) (sym (literal_eq-true l a.literal e)) here
           | inr e ↦ is.resolved_inside l e
@@ -231,7 +231,7 @@ module _ (standing : Standing) (trail : List Assigned) (start : ℕ) (conflict :
           cleared : (p : ℕ) → place ≤ p → marked (set mid place false) p ≡ false
           cleared p h = elim (cases_eq p place) [
             | inl e ↦ ap (marked (set mid place false)) e ∙ get_or-set_same mid place false false (omega (arith, sets.size))
-            | inr apart ↦ get_or-set_other mid place p false false apart ∙ sets.others p (λ within e. variables_behind p e (omega (arith, apart)) within) ∙ is.cleared p (omega (arith, apart))
+            | inr apart ↦ get_or-set_other mid place p false false apart ∙ sets.others p (λ within e. variables_after p e (omega (arith, apart)) within) ∙ is.cleared p (omega (arith, apart))
           ]
 
           no_decision : (r : Option ℕ) → r ≡ Some id → decisions (assigned a.literal r ∷ resolved) ≡ []
@@ -241,7 +241,7 @@ module _ (standing : Standing) (trail : List Assigned) (start : ℕ) (conflict :
           found : (ks : List Literal) → ks ≡ kept → IsFound trail (set mid place false) start place ks
           found [] e =
               let so = more (at_start (sym e)) in
-              record { place = so.place; behind = so.behind; within = so.within; is = still so.place so.within so.is }
+              record { place = so.place; after = so.after; within = so.within; is = still so.place so.within so.is }
           found (u ∷ rest) e =
               let under : place < start = before_start u rest (sym e) in
               let so = subst (IsFound trail marks start (place + 1)) (sym e) is.found in
@@ -257,7 +257,7 @@ module _ (standing : Standing) (trail : List Assigned) (start : ℕ) (conflict :
                   | inr apart ↦ let under : p < place = omega (arith, apart) in has_left before (a.literal ∷ []) _ (so.marked_there p e under (still p under mark))
                 ];
                 kept_there = λ l h. has_left before (a.literal ∷ []) (negate l) (so.kept_there l h);
-                apart = apart_more resolved (All-tail (λ (x : Assigned). has_variable before x.literal.var ≡ false) a resolved so.apart) is.resolved_behind;
+                apart = apart_more resolved (All-tail (λ (x : Assigned). has_variable before x.literal.var ≡ false) a resolved so.apart) is.resolved_after;
               }) in
               record {
                 placed = (record { unassigned = All-head (λ (x : Assigned). has_variable before x.literal.var ≡ false) a resolved so.apart; reason = reason_there a.reason reason }, rest.placed);
@@ -265,10 +265,10 @@ module _ (standing : Standing) (trail : List Assigned) (start : ℕ) (conflict :
               }
             where
               apart_more : (rs : List Assigned) → All (λ x. has_variable before x.literal.var ≡ false) rs → All (λ x. has_variable (front trail (place + 1)) x.literal.var ≡ false) rs → All (λ x. has_variable (before ++ a.literal ∷ []) x.literal.var ≡ false) rs
-              apart_more rs none behind k e h =
+              apart_more rs none after k e h =
                   let x = get_or rs k e in
                   list_any-append (λ (m : Literal). eqb m.var x.literal.var) before (a.literal ∷ [])
-                  ∙ or_from _ _ (none k e h) (or_from _ _ (ne_eqb a.literal.var x.literal.var (other_variable trail standing all place (place + 1) x.literal.var d (omega arith) low (behind k e h))) refl)
+                  ∙ or_from _ _ (none k e h) (or_from _ _ (ne_eqb a.literal.var x.literal.var (other_variable trail standing all place (place + 1) x.literal.var d (omega arith) low (after k e h))) refl)
 
               clause_unit : open_literals before clause ≡ a.literal ∷ []
               clause_unit = unit_besides before clause a.literal rising implied_here
@@ -294,8 +294,8 @@ analysis_begins standing trail start conflict old marks all clear sets bad close
         true≢false (sym (has_left before [] (negate l) there) ∙ both.1));
   };
   kept_false = λ l h. absurd (false≢true h);
-  kept_behind = λ l h. absurd (false≢true h);
-  resolved_behind = All-nil (λ (a : Assigned). has_variable (front trail (length trail)) a.literal.var ≡ false);
+  kept_after = λ l h. absurd (false≢true h);
+  resolved_after = All-nil (λ (a : Assigned). has_variable (front trail (length trail)) a.literal.var ≡ false);
   disjoint = λ l h. absurd (false≢true h);
   resolved_inside = part_nil (literals trail);
   implied = refl;
@@ -319,7 +319,7 @@ analysis_begins standing trail start conflict old marks all clear sets bad close
         let d : Assigned = assigned l None in
         record {
           place = at.place;
-          behind = elim (cases_lt at.place start) [
+          after = elim (cases_lt at.place start) [
             | inl h ↦ absurd (true≢false (sym (subst (λ (m : Literal). has_literal (front trail start) m ≡ true) (at.is d) (in_front trail at.place start d h at.within)) ∙ not_false))
             | inr h ↦ h
           ];

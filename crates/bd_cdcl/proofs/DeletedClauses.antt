@@ -69,8 +69,8 @@ module _ (standing : Standing) (trail : List Assigned) (all : IsComplete standin
       elim (cases_lt i j) [
         | inl before ↦ absurd (other_variable trail standing all i j (get_or trail j d).literal.var d before low (placed_at trail standing all j d high).unassigned same)
         | inr not_before ↦ elim (cases_lt j i) [
-          | inl behind ↦ absurd (other_variable trail standing all j i (get_or trail i d).literal.var d behind high (placed_at trail standing all i d low).unassigned (sym same))
-          | inr not_behind ↦ omega arith
+          | inl after ↦ absurd (other_variable trail standing all j i (get_or trail i d).literal.var d after high (placed_at trail standing all i d low).unassigned (sym same))
+          | inr not_after ↦ omega arith
         ]
       ]
 
@@ -103,7 +103,7 @@ module _ (standing : Standing) (trail : List Assigned) (all : IsComplete standin
 
   -- a true literal in front of all decisions satisfies a clause that isn't its reason
   pub satisfied_by : (id end place : ℕ) (entry : Assigned) (l : Literal) (clause : List Literal) → ((p : ℕ) → IsDecisionAt trail p → end ≤ p) → has_literal clause l ≡ true → has_literal (literals trail) l ≡ true → IsPlaceOf trail l.var place → entry ≡ get_or trail place entry → place < end → entry.reason ≢ Some id → IsSatisfied trail id clause
-  satisfied_by id end place entry l clause behind here on at read low besides =
+  satisfied_by id end place entry l clause after here on at read low besides =
       let there = place_of trail l on in
       let same : there.place ≡ place = same_place there.place place entry there.within at.within (ap (λ (m : Literal). m.var) (there.is entry) ∙ sym (at.is entry)) in
       let is_l : entry.literal ≡ l = ap (λ (a : Assigned). a.literal) read ∙ ap (λ n. (get_or trail n entry).literal) (sym same) ∙ there.is entry in
@@ -113,7 +113,7 @@ module _ (standing : Standing) (trail : List Assigned) (all : IsComplete standin
           place = place;
           within = at.within;
           is = λ d. sym (get_or_read trail place entry at.within read d);
-          first = λ p decision. let past : end ≤ p = behind p decision in omega arith;
+          first = λ p decision. let past : end ≤ p = after p decision in omega arith;
         };
         here = subst (λ (m : Literal). has_literal clause m ≡ true) (sym is_l) here;
         besides = besides;

@@ -11,7 +11,7 @@ use Rattle.bd_cnf.proofs.Closed.{has_variable_of, part_variable}
 use Rattle.bd_watch.specs.Levels.{Assigned, assigned, literals}
 use Rattle.bd_watch.specs.Trails.{IsDecisionAt, IsLastStart, IsStartFrom, IsPlaceOf}
 use Rattle.bd_watch.specs.Watching.{front, IsAsserting}
-use Rattle.bd_watch.proofs.Parts.{has_here, has_behind, has_left, has_right, has_single, has_either, two_of, literal_of, rising_single}
+use Rattle.bd_watch.proofs.Parts.{has_here, has_later, has_left, has_right, has_single, has_either, two_of, literal_of, rising_single}
 use Rattle.bd_watch.proofs.Fronts.{in_front, place_in_front, place_of, front_within}
 use Rattle.bd_cdcl.specs.declared.lesson.Second.{Second}
 use Rattle.bd_cdcl.specs.inner.Analysis.{IsUnique}
@@ -101,7 +101,7 @@ module _ (trail : List Assigned) (start : ℕ) (marks : List Bool) (u : Literal)
 
   -- two literals of the clause, where there are two
   pub pair_there : 0 < length rest → (has_literal clause s.literal ≡ true) × (u ≢ s.literal)
-  pair_there some = (same s.literal ∙ has_behind s.literal u rest (is.here some), λ e. apart s.literal (is.here some) (sym e))
+  pair_there some = (same s.literal ∙ has_later s.literal u rest (is.here some), λ e. apart s.literal (is.here some) (sym e))
 
   pub two_there : 0 < length rest → 2 ≤ length clause
   two_there some = let both = pair_there some in two_of clause u s.literal (same u ∙ has_here u rest) both.0 both.1
@@ -131,7 +131,7 @@ pub is_cut : (trail : List Assigned) (start floor : ℕ) (o : Option ℕ) → Is
 is_cut trail start floor None last low f n = record { decision = last.decision; low = low; high = omega arith; before = λ p h d. n p d }
 is_cut trail start floor (Some c) last low f n = record {
   decision = f.decision;
-  low = f.behind;
+  low = f.after;
   high = f.first start last.decision low;
   before = λ p h d. elim (cases_lt p floor) [ inl k ↦ k | inr k ↦ let bound : c ≤ p = f.first p d k in absurd (omega arith) ];
 }

@@ -13,7 +13,7 @@ use Rattle.bd_lrat.specs.declared.line.Hint.TheVariants as hint
 use Rattle.bd_lrat.specs.Propagation.{Conflict, Reached, assign, unit_outcome, clause_outcome, and_then, propagate}
 use Rattle.bd_watch.specs.Levels.{Assigned, literals, decided, decisions, reasons, IsReason, ArePlaced, IsComplete}
 use Rattle.bd_cnf.proofs.Closed.{part_push}
-use Rattle.bd_watch.proofs.Parts.{part_nil, has_here, has_behind, has_left, has_pushed, open_shrinks}
+use Rattle.bd_watch.proofs.Parts.{part_nil, has_here, has_later, has_left, has_pushed, open_shrinks}
 use Rattle.bd_watch.proofs.Placed.{complete_consistent}
 
 -- a clause with one open literal, which the whole trail doesn't make false, has that one open on a longer part too
@@ -72,7 +72,7 @@ module _ (standing : Standing) (whole : List Literal) (consistent : IsConsistent
   }
 
   later : (l : Literal) (r : Option ℕ) (ds taken : List Literal) → IsPartOf (cons_option (decided l r) ds) taken → IsPartOf ds taken
-  later l None ds taken has m h = has m (has_behind m l ds h)
+  later l None ds taken has m h = has m (has_later m l ds h)
   later l (Some id) ds taken has m h = has m h
 
   pub replayed : (before : List Literal) (trail : List Assigned) (taken : List Literal) (more : List Hint) → ArePlaced standing before trail → IsPartOf before taken → IsPartOf taken whole → IsPartOf (literals trail) whole → IsPartOf (decisions trail) taken → IsReplayed before trail taken more
@@ -87,7 +87,7 @@ module _ (standing : Standing) (whole : List Literal) (consistent : IsConsistent
       let then = replayed (before ++ a.literal ∷ []) rest now.after more all.1
       (part_push before now.after a.literal (λ m h. now.next.keeps m (longer m h)) now.next.has)
       now.next.inside
-      (λ m h. on m (has_behind m a.literal (literals rest) h))
+      (λ m h. on m (has_later m a.literal (literals rest) h))
       (λ m h. now.next.keeps m (later a.literal a.reason (decisions rest) taken has m h)) in
       record {
         after = then.after;

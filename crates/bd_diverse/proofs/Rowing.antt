@@ -54,19 +54,19 @@ world-empty : (ts : List SymTable) (s t : Sym) → world_of_tables (ts ++ no_row
 world-empty [] s t = if-same (is_symbol s t) no_table
 world-empty (x ∷ ts) s t = ap (λ (w : Table). if is_symbol x.sym t then x.table else w) (world-empty ts s t)
 
-place-behind_by : (x : SymTable) (ts : List SymTable) (s : Sym) (b : Bool) → (place_of ts s ≡ length ts → place_of (ts ++ no_rows s ∷ []) s ≡ length ts)
+place-after_by : (x : SymTable) (ts : List SymTable) (s : Sym) (b : Bool) → (place_of ts s ≡ length ts → place_of (ts ++ no_rows s ∷ []) s ≡ length ts)
     → (if b then 0 else suc (place_of ts s)) ≡ suc (length ts) → (if b then 0 else suc (place_of (ts ++ no_rows s ∷ []) s)) ≡ suc (length ts)
-place-behind_by x ts s true ih h = absurd (omega (arith, h))
-place-behind_by x ts s false ih h = ap suc (ih (omega (arith, h)))
+place-after_by x ts s true ih h = absurd (omega (arith, h))
+place-after_by x ts s false ih h = ap suc (ih (omega (arith, h)))
 
-place-behind : (ts : List SymTable) (s : Sym) → place_of ts s ≡ length ts → place_of (ts ++ no_rows s ∷ []) s ≡ length ts
-place-behind [] s h = ap (λ b. if b then 0 else 1) (is_symbol-self s)
-place-behind (x ∷ ts) s h = place-behind_by x ts s (is_symbol x.sym s) (place-behind ts s) h
+place-after : (ts : List SymTable) (s : Sym) → place_of ts s ≡ length ts → place_of (ts ++ no_rows s ∷ []) s ≡ length ts
+place-after [] s h = ap (λ b. if b then 0 else 1) (is_symbol-self s)
+place-after (x ∷ ts) s h = place-after_by x ts s (is_symbol x.sym s) (place-after ts s) h
 
 -- a row more for a symbol without a table
 pub pushed-new : (ts : List SymTable) (s : Sym) (r : Row) (t : Sym) → place_of ts s ≡ length ts → world_of_tables (row_pushed (ts ++ no_rows s ∷ []) (length ts) r) t ≡ with_row (world_of_tables ts) s r t
 pushed-new ts s r t h =
-    let place = place-behind ts s h in
+    let place = place-after ts s h in
     ap (λ n. world_of_tables (row_pushed (ts ++ no_rows s ∷ []) n r) t) (sym place)
     ∙ pushed-there (ts ++ no_rows s ∷ []) s r t (omega (arith, place, length-append ts (no_rows s ∷ [])))
     ∙ ap (λ (w : Table). if is_symbol s t then more w r else w) (world-empty ts s t)

@@ -141,7 +141,7 @@ pub fn read_bytes<R: Read>(alloc: Global, source: &mut R, most: usize) -> Result
     Ok(bytes)
 }
 
-/// Reads once, at most `room` bytes, and puts them behind those that were read before. None came
+/// Reads once, at most `room` bytes, and puts them after those that were read before. None came
 /// only at the end of the input.
 fn read_piece<R: Read>(source: &mut R, room: usize, bytes: &mut Vec<u8>) -> Result<usize, LoadError>
     requires some { 0 < room }

@@ -51,13 +51,13 @@ lets_sorted d m nodes state lawful h =
     subst (λ c. LetsHaveSorts c m.locals) (sym same) lawful.locals
 
 -- the terms after a machine's lets
-pub behind_lets : (d : DesignView) (m : MachineView) (old mid : List Node) (state : SymState) (lets : List ℕ) → KeepsDesign d old → StateHasSorts m old state → GrowsWithin d old mid → DenoteLets d old mid state m.locals lets → AreTerms mid (terms_of d state lets)
-behind_lets d m old mid state lets k h g l =
+pub after_lets : (d : DesignView) (m : MachineView) (old mid : List Node) (state : SymState) (lets : List ℕ) → KeepsDesign d old → StateHasSorts m old state → GrowsWithin d old mid → DenoteLets d old mid state m.locals lets → AreTerms mid (terms_of d state lets)
+after_lets d m old mid state lets k h g l =
     AreTerms-state d m mid state lets (KeepsDesign-Grows d old mid g k) (StateHasSorts-Extends m old mid state g.extends h) (HaveSorts-inside mid lets (local_sorts m.locals) l.sorted)
 
 -- their sorts
-context_behind : (d : DesignView) (m : MachineView) (old mid : List Node) (state : SymState) (lets : List ℕ) → StateHasSorts m old state → GrowsWithin d old mid → DenoteLets d old mid state m.locals lets → context_in mid (terms_of d state lets) ≡ context_of d m
-context_behind d m old mid state lets h g l = context_in-state d m mid state lets (StateHasSorts-Extends m old mid state g.extends h) l.sorted
+context_after_lets : (d : DesignView) (m : MachineView) (old mid : List Node) (state : SymState) (lets : List ℕ) → StateHasSorts m old state → GrowsWithin d old mid → DenoteLets d old mid state m.locals lets → context_in mid (terms_of d state lets) ≡ context_of d m
+context_after_lets d m old mid state lets h g l = context_in-state d m mid state lets (StateHasSorts-Extends m old mid state g.extends h) l.sorted
 
 some_sorts : (c : Context) (sorts : List Sort) (es : List ExprView) → AllZip (λ s e. HasSort c e s) sorts es → AllByRecursion (HasSomeSort c) es
 some_sorts c [] [] h = tt
@@ -72,13 +72,13 @@ next_sorts d m lawful = (AllZip-map_first (λ s e. HasSort (context_of d m) e s)
 pub nexts_sorted : (d : DesignView) (m : MachineView) (old mid : List Node) (state : SymState) (lets : List ℕ) → IsLawfulMachine d m → StateHasSorts m old state → GrowsWithin d old mid → DenoteLets d old mid state m.locals lets
     → AllByRecursion (HasSomeSort (context_in mid (terms_of d state lets))) m.nexts
 nexts_sorted d m old mid state lets lawful h g l =
-    subst (λ c. AllByRecursion (HasSomeSort c) m.nexts) (sym (context_behind d m old mid state lets h g l)) (some_sorts (context_of d m) (entry_sorts m) m.nexts (next_sorts d m lawful))
+    subst (λ c. AllByRecursion (HasSomeSort c) m.nexts) (sym (context_after_lets d m old mid state lets h g l)) (some_sorts (context_of d m) (entry_sorts m) m.nexts (next_sorts d m lawful))
 
 pub cycle_sorted : (d : DesignView) (m : MachineView) (old mid new : List Node) (state : SymState) (lets ids : List ℕ) → IsLawfulMachine d m → StateHasSorts m old state → GrowsWithin d old mid → DenoteLets d old mid state m.locals lets
     → DenoteExprs mid new (terms_of d state lets) m.nexts ids → HaveSorts new ids (entry_sorts m)
 cycle_sorted d m old mid new state lets ids lawful h g l x =
     exprs_sorted mid new (terms_of d state lets) m.nexts ids (entry_sorts m) x
-    (subst (λ c. AllZip (λ s e. HasSort c e s) (entry_sorts m) m.nexts) (sym (context_behind d m old mid state lets h g l)) (next_sorts d m lawful))
+    (subst (λ c. AllZip (λ s e. HasSort c e s) (entry_sorts m) m.nexts) (sym (context_after_lets d m old mid state lets h g l)) (next_sorts d m lawful))
 
 -- the terms of the next expressions denote the values after the cycle
 pub cycle_denotes : (d : DesignView) (m : MachineView) (old mid new : List Node) (state : SymState) (lets ids : List ℕ) → StateHasSorts m old state → GrowsWithin d old mid → DenoteLets d old mid state m.locals lets
@@ -106,7 +106,7 @@ idle_sorts d (p ∷ ports) h = (h.0.idle, idle_sorts d ports h.1)
 pub idles_sorted : (d : DesignView) (old mid : List Node) (state : SymState) (lets : List ℕ) → IsLawful d → StateHasSorts d.pipe old state → GrowsWithin d old mid → DenoteLets d old mid state d.pipe.locals lets
     → AllByRecursion (HasSomeSort (context_in mid (terms_of d state lets))) (idles d.pipe.ports)
 idles_sorted d old mid state lets lawful h g l =
-    subst (λ c. AllByRecursion (HasSomeSort c) (idles d.pipe.ports)) (sym (context_behind d d.pipe old mid state lets h g l)) (some_sorts (context_of d d.pipe) (port_sorts d.pipe) (idles d.pipe.ports) (idle_sorts d d.pipe.ports lawful.ports))
+    subst (λ c. AllByRecursion (HasSomeSort c) (idles d.pipe.ports)) (sym (context_after_lets d d.pipe old mid state lets h g l)) (some_sorts (context_of d d.pipe) (port_sorts d.pipe) (idles d.pipe.ports) (idle_sorts d d.pipe.ports lawful.ports))
 
 -- a value that is no memory is its scalar
 scalar_denoted : (v : Value) (s : Sort) → denoted_sort (denotes_value v) ≡ s → s ≢ sort.Memory → denotes_value v ≡ denotes_value (value.Scalar (scalar_of v))
@@ -130,7 +130,7 @@ pub idle_denotes : (d : DesignView) (old mid new : List Node) (state : SymState)
     → DenoteExprs mid new (terms_of d state lets) (idles d.pipe.ports) ids → DenotesIdle d old new state ids
 idle_denotes d old mid new state lets ids lawful graph h g l x =
     let sorted : HaveSorts new ids (port_sorts d.pipe) = exprs_sorted mid new (terms_of d state lets) (idles d.pipe.ports) ids (port_sorts d.pipe) x
-    (subst (λ c. AllZip (λ s e. HasSort c e s) (port_sorts d.pipe) (idles d.pipe.ports)) (sym (context_behind d d.pipe old mid state lets h g l)) (idle_sorts d d.pipe.ports lawful.ports)) in
+    (subst (λ c. AllZip (λ s e. HasSort c e s) (port_sorts d.pipe) (idles d.pipe.ports)) (sym (context_after_lets d d.pipe old mid state lets h g l)) (idle_sorts d d.pipe.ports lawful.ports)) in
     record {
       sorted = sorted;
       denotes = λ w interp values inputs k.
@@ -164,11 +164,11 @@ flush_denotes d old mid new state idle next h g i same s p c kept = record {
         entries = subst (λ ids. DenoteValues w mid ids values) (sym same) before.entries;
         inputs = i.denotes w interp values inputs k;
       } in
-      let behind : DenotesState d w new idle interp values xs = DenotesState-Extends d d.pipe w mid new idle interp values xs p.extends s within in
+      let after : DenotesState d w new idle interp values xs = DenotesState-Extends d d.pipe w mid new idle interp values xs p.extends s within in
       record {
         world = k.world;
         entries = c.denotes w interp values xs within;
-        inputs = subst (λ ids. DenoteScalars w new ids xs) (sym kept) behind.inputs;
+        inputs = subst (λ ids. DenoteScalars w new ids xs) (sym kept) after.inputs;
       };
 }
 

@@ -11,7 +11,7 @@ use Rattle.bd_watch.specs.Levels.{Assigned, assigned, literals, decisions}
 use Rattle.bd_watch.specs.Trails.{place_of_decision, decision_places, IsPlaceOf, IsDecisionAt, IsLastStart, IsStartFrom}
 use Rattle.bd_watch.specs.Watching.{front}
 use Rattle.bd_cnf.specs.Standing.{IsBelow}
-use Rattle.bd_watch.proofs.Parts.{has_here, has_behind, literal_of, all_has}
+use Rattle.bd_watch.proofs.Parts.{has_here, has_later, literal_of, all_has}
 use Rattle.bd_watch.proofs.Guards.{front_all}
 
 -- an entry stands in front of each later place
@@ -19,7 +19,7 @@ pub in_front : (trail : List Assigned) (place end : ℕ) (d : Assigned) → plac
 in_front [] place end d h low = absurd (omega arith)
 in_front (a ∷ es) place zero d h low = absurd (omega arith)
 in_front (a ∷ es) zero (suc end) d h low = has_here a.literal (literals (take end es))
-in_front (a ∷ es) (suc place) (suc end) d h low = has_behind (get_or es place d).literal a.literal (literals (take end es)) (in_front es place end d (omega arith) (omega arith))
+in_front (a ∷ es) (suc place) (suc end) d h low = has_later (get_or es place d).literal a.literal (literals (take end es)) (in_front es place end d (omega arith) (omega arith))
 
 -- a literal in front of a place stands at some place
 pub record IsThere (trail : List Assigned) (end : ℕ) (l : Literal) : Type 0 where
@@ -138,10 +138,10 @@ last_start_is starts trail s e last =
 
 -- where all from an index on are after a place, and those before it aren't
 pub start_from_is : (starts : List ℕ) (trail : List Assigned) (place count s : ℕ) → starts ≡ decision_places trail → ((i : ℕ) → count ≤ i → i < length starts → place ≤ get_or starts i 0) → (0 < count → get_or starts (count - 1) 0 < place) → count < length starts → get_or starts count 0 ≡ s → IsStartFrom trail place s
-start_from_is starts trail place count s e behind before low at =
+start_from_is starts trail place count s e after before low at =
     record {
       decision = subst (IsDecisionAt trail) at (listed_decision starts trail count e low);
-      behind = subst (λ n. place ≤ n) at (behind count (omega arith) low);
+      after = subst (λ n. place ≤ n) at (after count (omega arith) low);
       first = λ other so from. let here = decision_listed starts trail other e so in
           elim (cases_lt here.index count) [
             | inl early ↦

@@ -31,7 +31,7 @@ module _ (lists : List (List Watcher)) (l : Literal) (w : Watcher) where
       longer : (ws : List Watcher) → IsListed ws 0 k → IsListed (ws ++ w ∷ []) 0 k
       longer ws so = record {
         place = so.place;
-        behind = so.behind;
+        after = so.after;
         within = omega (arith, so.within, length_push ws w);
         is = λ d. ap (λ (x : Watcher). x.clause) (get_or_append_left ws (w ∷ []) d so.place so.within) ∙ so.is d;
       }
@@ -41,7 +41,7 @@ module _ (lists : List (List Watcher)) (l : Literal) (w : Watcher) where
   now_in_list k h for =
       subst (λ ws. IsListed ws 0 k) (sym (now_listed h)) (record {
         place = length (list_at lists l);
-        behind = omega arith;
+        after = omega arith;
         within = omega (arith, length_push (list_at lists l) w);
         is = λ d. ap (λ (x : Watcher). x.clause) (get_or_push (list_at lists l) w d (length (list_at lists l)) refl) ∙ for;
       })

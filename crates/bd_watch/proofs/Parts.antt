@@ -15,8 +15,8 @@ part_nil ys l h = absurd (false≢true h)
 pub has_here : (l : Literal) (ls : List Literal) → has_literal (l ∷ ls) l ≡ true
 has_here l ls = or_left _ _ (literal_eq-refl l)
 
-pub has_behind : (l m : Literal) (ls : List Literal) → has_literal ls l ≡ true → has_literal (m ∷ ls) l ≡ true
-has_behind l m ls h = or_right (literal_eq l m) _ h
+pub has_later : (l m : Literal) (ls : List Literal) → has_literal ls l ≡ true → has_literal (m ∷ ls) l ≡ true
+has_later l m ls h = or_right (literal_eq l m) _ h
 
 pub has_single : (l m : Literal) → has_literal (m ∷ []) l ≡ true → l ≡ m
 has_single l m h = elim (or_cases (literal_eq l m) false h) [ inl e ↦ literal_eq-true l m e | inr e ↦ absurd (false≢true e) ]
@@ -121,7 +121,7 @@ pub rising_single : (n : ℕ) (ls : List Literal) (u : Literal) → RisesAbove n
 rising_single n [] u up same long = absurd (omega arith)
 rising_single n (l ∷ []) u up same long = absurd (omega arith)
 rising_single n (l ∷ m ∷ ls) u up same long =
-    let e : l.var ≡ m.var = ap (λ (k : Literal). k.var) (same l (has_here l (m ∷ ls)) ∙ sym (same m (has_behind m l (m ∷ ls) (has_here m ls)))) in
+    let e : l.var ≡ m.var = ap (λ (k : Literal). k.var) (same l (has_here l (m ∷ ls)) ∙ sym (same m (has_later m l (m ∷ ls) (has_here m ls)))) in
     let above : l.var < m.var = up.1.0 in omega arith
 
 -- and it is that literal alone, where it has it

@@ -19,12 +19,12 @@ use Rattle.bd_watch.proofs.Values.{same_index}
 
 -- a watcher of another clause than the one at a place is listed after it
 pub listed_next : (ws : List Watcher) (place k : ℕ) (d : Watcher) → k ≢ (get_or ws place d).clause → IsListed ws place k → IsListed ws (place + 1) k
-listed_next ws place k d apart is = record { place = is.place; behind = behind; within = is.within; is = is.is }
+listed_next ws place k d apart is = record { place = is.place; after = after; within = is.within; is = is.is }
   where
-    behind : place + 1 ≤ is.place
-    behind = elim (cases_eq is.place place) [
+    after : place + 1 ≤ is.place
+    after = elim (cases_eq is.place place) [
       | inl e ↦ absurd (apart (sym (is.is d) ∙ ap (λ n. (get_or ws n d).clause) e))
-      | inr other ↦ let at_least : place ≤ is.place = is.behind in omega (arith, other)
+      | inr other ↦ let at_least : place ≤ is.place = is.after in omega (arith, other)
     ]
 
 -- and it still is where that one was taken out
@@ -33,7 +33,7 @@ listed_removed ws new place from k d gone low bound apart is =
     elim (cases_lt (is.place + 1) (length ws)) [
       | inl inside ↦ record {
         place = is.place;
-        behind = is.behind;
+        after = is.after;
         within = omega (arith, gone.shorter);
         is = λ e. ap (λ (w : Watcher). w.clause) (gone.kept is.place e other inside) ∙ is.is e;
       }
@@ -42,7 +42,7 @@ listed_removed ws new place from k d gone low bound apart is =
           let before : place + 1 < length ws = omega (arith, is.within, other) in
           record {
             place = place;
-            behind = bound;
+            after = bound;
             within = omega (arith, gone.shorter);
             is = λ e. ap (λ (w : Watcher). w.clause) (gone.moved e before) ∙ ap (λ n. (get_or ws n e).clause) (sym at_end) ∙ is.is e;
           }

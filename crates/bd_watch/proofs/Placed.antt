@@ -13,7 +13,7 @@ use Rattle.bd_cnf.specs.Trail.{open_literals, IsConsistent, IsClosed, IsPartOf}
 use Rattle.bd_cnf.proofs.Standings.{each_insert}
 use Rattle.bd_lrat.proofs.Keys.{tied}
 use Rattle.bd_watch.specs.Levels.{Assigned, assigned, literals, decided, decisions, IsReason, IsPlaced, ArePlaced, IsComplete}
-use Rattle.bd_watch.proofs.Parts.{part_nil, has_behind, consistent_push, consistent_nil}
+use Rattle.bd_watch.proofs.Parts.{part_nil, has_later, consistent_push, consistent_nil}
 
 pub literals-append : (xs ys : List Assigned) → literals (xs ++ ys) ≡ literals xs ++ literals ys
 literals-append xs ys = map-append (λ (a : Assigned). a.literal) xs ys
@@ -27,8 +27,8 @@ decisions_part [] = part_nil []
 decisions_part (a ∷ rest) = first a.reason (decisions_part rest)
   where
     first : (r : Option ℕ) → IsPartOf (decisions rest) (literals rest) → IsPartOf (decisions (assigned a.literal r ∷ rest)) (literals (a ∷ rest))
-    first None part l h = elim (or_cases _ _ h) [ inl e ↦ or_left (literal_eq l a.literal) _ e | inr e ↦ has_behind l a.literal (literals rest) (part l e) ]
-    first (Some id) part l h = has_behind l a.literal (literals rest) (part l h)
+    first None part l h = elim (or_cases _ _ h) [ inl e ↦ or_left (literal_eq l a.literal) _ e | inr e ↦ has_later l a.literal (literals rest) (part l e) ]
+    first (Some id) part l h = has_later l a.literal (literals rest) (part l h)
 
 module _ (standing : Standing) where
   pub placed_append : (before : List Literal) (xs ys : List Assigned) → ArePlaced standing before xs → ArePlaced standing (before ++ literals xs) ys → ArePlaced standing before (xs ++ ys)

@@ -79,5 +79,5 @@ pub record IsLastStart (trail : List Assigned) (place : ℕ) : Type 0 where
 -- the place of the first decision from a place on
 pub record IsStartFrom (trail : List Assigned) (place start : ℕ) : Type 0 where
   pub decision : IsDecisionAt trail start
-  pub behind : place ≤ start
+  pub after : place ≤ start
   pub first : (other : ℕ) → IsDecisionAt trail other → place ≤ other → start ≤ other

@@ -37,7 +37,7 @@ pub record IsPair (clause : List Literal) (p : WatchedPair) : Type 0 where
 -- from that place on, some watcher of the list is for the clause
 pub record IsListed (watchers : List Watcher) (from clause : ℕ) : Type 0 where
   pub place : ℕ
-  pub behind : from ≤ place
+  pub after : from ≤ place
   pub within : place < length watchers
   pub is : (d : Watcher) → (slice_index_or watchers place d).clause ≡ clause
 

@@ -30,7 +30,7 @@ AreUnmarked marks start end = (place : ℕ) → start ≤ place → place < end 
 -- some is
 pub record IsMarkedIn (marks : List Bool) (start end : ℕ) : Type 0 where
   pub place : ℕ
-  pub behind : start ≤ place
+  pub after : start ≤ place
   pub within : place < end
   pub is : marked marks place ≡ true
 
@@ -50,8 +50,8 @@ pub record IsAnalyzing (standing : Standing) (trail : List Assigned) (start : �
   pub cleared : (place : ℕ) → end ≤ place → marked marks place ≡ false
   pub explains : (before : List Literal) → IsBeside trail marks end kept resolved before → Explains standing before resolved conflict
   pub kept_false : (l : Literal) → has_literal kept l ≡ true → is_false (literals trail) l ≡ true
-  pub kept_behind : (l : Literal) → has_literal kept l ≡ true → has_variable (front trail end) l.var ≡ false
-  pub resolved_behind : All (λ a. has_variable (front trail end) a.literal.var ≡ false) resolved
+  pub kept_after : (l : Literal) → has_literal kept l ≡ true → has_variable (front trail end) l.var ≡ false
+  pub resolved_after : All (λ a. has_variable (front trail end) a.literal.var ≡ false) resolved
   pub disjoint : (l : Literal) → has_literal kept l ≡ true → has_variable (literals resolved) l.var ≡ false
   pub resolved_inside : IsPartOf (literals resolved) (literals trail)
   pub implied : decisions resolved ≡ []

@@ -18,7 +18,7 @@ use Rattle.bd_sim.specs.declared.writes.Kept.TheVariants as kept
 abbrev pub zeros : Memory
 zeros = record { default = 0; rows = [] }
 
--- a memory behind a reference, or else that of zeros
+-- the memory that is referred to, or else that of zeros
 abbrev pub or_zeros : Option (Bor Memory) → Memory
 or_zeros None = zeros
 or_zeros (Some m) = m.now

@@ -18,9 +18,9 @@ returns c =
     let grown : (t : Sym) → world_of_tables (row_pushed c.if-place-len.tables.items c.place-place.result r) t ≡ with_row (world_of_tables old) s r t =
     λ t. elim c.if-place-len.branch [
       | then-place-len+in_ok-push w ↦
-          let behind : c.place-place.result ≡ length old = omega (arith, ap length c.deref.ensures.value, c.deref.ensures.len, c.len.ensures, w.if-place-len.true) in
+          let after : c.place-place.result ≡ length old = omega (arith, ap length c.deref.ensures.value, c.deref.ensures.len, c.len.ensures, w.if-place-len.true) in
           let items : c.if-place-len.tables.items ≡ old ++ no_rows s ∷ [] = (λ j. (w.tables-is j).items) ∙ w.in_ok-push.ensures.items ∙ ap (λ x. old ++ x ∷ []) w.empty.ensures in
-          (λ j. world_of_tables (row_pushed (items j) (behind j) r) t) ∙ pushed-new old s r t (sym at ∙ behind)
+          (λ j. world_of_tables (row_pushed (items j) (after j) r) t) ∙ pushed-new old s r t (sym at ∙ after)
       | else-place-len w ↦
           let inside : place_of old s < length old = omega (arith, at, ap length c.deref.ensures.value, c.deref.ensures.len, c.len.ensures, c.place-place.ensures.inside, w.if-place-len.false) in
           (λ j. world_of_tables (row_pushed ((w.tables-is j).items) (at j) r) t) ∙ pushed-there old s r t inside

@@ -1,7 +1,7 @@
 use Rattle.bd_model.specs.DesignView.{design_view, machine_view}
 use Rattle.bd_symbolic.proofs.Growing.{Grows-trans}
 use Rattle.bd_symbolic.proofs.States.{AreTerms-state}
-use Rattle.bd_symbolic.proofs.Cycles.{IfOk-follows, lets_sorted, behind_lets, nexts_sorted, cycle_sorted, cycle_denotes}
+use Rattle.bd_symbolic.proofs.Cycles.{IfOk-follows, lets_sorted, after_lets, nexts_sorted, cycle_sorted, cycle_denotes}
 use Rattle.bd_symbolic.proofs.cycle.next_entries.Goals as goal
 
 pub sym_lets-requires-clause-terms : goal.sym_lets-requires-clause-terms
@@ -12,7 +12,7 @@ sym_lets-requires-clause-sorted c = lets_sorted (design_view c.args.design.now) 
 
 pub next_terms-requires-clause-terms : goal.next_terms-requires-clause-terms
 next_terms-requires-clause-terms c =
-    behind_lets (design_view c.args.design.now) (machine_view c.args.machine.now) c.args.graph.now _ c.args.state.now _ c.requires.keeps c.requires.sorted c.sym_lets.ensures.grows c.in_ok-lets.ensures.lets
+    after_lets (design_view c.args.design.now) (machine_view c.args.machine.now) c.args.graph.now _ c.args.state.now _ c.requires.keeps c.requires.sorted c.sym_lets.ensures.grows c.in_ok-lets.ensures.lets
 
 pub next_terms-requires-clause-sorted : goal.next_terms-requires-clause-sorted
 next_terms-requires-clause-sorted c =

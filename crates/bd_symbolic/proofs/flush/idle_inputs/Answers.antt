@@ -1,7 +1,7 @@
 use Rattle.bd_model.specs.DesignView.{design_view}
 use Rattle.bd_symbolic.proofs.Growing.{Grows-trans}
 use Rattle.bd_symbolic.proofs.States.{AreTerms-state}
-use Rattle.bd_symbolic.proofs.Cycles.{lets_sorted, behind_lets, idles_sorted, idle_denotes}
+use Rattle.bd_symbolic.proofs.Cycles.{lets_sorted, after_lets, idles_sorted, idle_denotes}
 use Rattle.bd_symbolic.proofs.flush.idle_inputs.Goals as goal
 
 pub sym_lets-requires-clause-terms : goal.sym_lets-requires-clause-terms
@@ -12,7 +12,7 @@ sym_lets-requires-clause-sorted c = lets_sorted (design_view c.args.design.now) 
 
 pub idle_terms-requires-clause-terms : goal.idle_terms-requires-clause-terms
 idle_terms-requires-clause-terms c =
-    behind_lets (design_view c.args.design.now) (design_view c.args.design.now).pipe c.args.graph.now _ c.args.state.now _ c.requires.keeps c.requires.sorted c.sym_lets.ensures.grows c.in_ok-lets.ensures.lets
+    after_lets (design_view c.args.design.now) (design_view c.args.design.now).pipe c.args.graph.now _ c.args.state.now _ c.requires.keeps c.requires.sorted c.sym_lets.ensures.grows c.in_ok-lets.ensures.lets
 
 pub idle_terms-requires-clause-sorted : goal.idle_terms-requires-clause-sorted
 idle_terms-requires-clause-sorted c =

@@ -34,4 +34,4 @@ returns-clause-some c =
     let low : count < length starts = omega (arith, c.if-count-len.false, c.len.ensures, inside.starts.ok.0, c.loop-count.invariant.most) in
     let read : c.index-2.result.now ≡ get_or starts count 0 = get_or_read starts count c.index-2.result.now low c.index-2.ensures 0 in
     subst (λ (t : LeveledTrail). IsStartFrom t.entries c.args.place c.index-2.result.now) c.self.view_is
-    (start_from_is starts inside.entries.items c.args.place count c.index-2.result.now c.self.invariant.started c.loop-count.invariant.behind before low (sym read))
+    (start_from_is starts inside.entries.items c.args.place count c.index-2.result.now c.self.invariant.started c.loop-count.invariant.after before low (sym read))
