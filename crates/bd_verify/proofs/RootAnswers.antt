@@ -7,12 +7,12 @@ use Rattle.bd_model.specs.declared.case.Case.{Case}
 use Rattle.bd_model.specs.declared.case.Trail.{Trail}
 use Rattle.bd_model.proofs.Settled.{IsTrue-settled}
 use Rattle.bd_symbolic.specs.Widened.{HasLawfulSymbols, case_of_trail, widened}
-use Rattle.bd_symbolic.proofs.Widening.{trail-fits, widened-once, widened-symbols}
+use Rattle.bd_symbolic.proofs.Widening.{lawful-symbols, trail-fits, widened-once, widened-symbols}
 use Rattle.bd_terms.specs.declared.node.Node.{Node}
 use Rattle.bd_terms.specs.Denotation.{truth}
 use Rattle.bd_terms.specs.Graph.{IsGraph}
 use Rattle.bd_terms.specs.Valid.{IsValid}
-use Rattle.bd_goal.specs.Claims.{case_world}
+use Rattle.bd_goal.specs.Claims.{Decides, case_world}
 use Rattle.bd_function.specs.declared.flat.FlatSym.{FlatSym}
 use Rattle.bd_cnf.specs.Problem.{Problem}
 use Rattle.bd_lrat.specs.declared.line.Line.{Line}
@@ -26,11 +26,11 @@ use Rattle.bd_verify.specs.declared.verdict.Question.{Question}
 use Rattle.bd_verify.specs.declared.verdict.Work.{Work}
 use Rattle.bd_verify.specs.Decided.{Falsifies, IsKnownRoot, IsRootWork, IsThis, KeepsRoot}
 use Rattle.bd_verify.specs.Kept.{IsFlatOf, IsKept, IsKeptOf, IsRootOf}
-use Rattle.bd_verify.specs.Verdict.{IsAsked, IsWorkOf}
+use Rattle.bd_verify.specs.Verdict.{IsAsked, IsWorkOf, Keeps}
 use Rattle.bd_verify.specs.inner.Questions.{DecidesRoot, FollowsRoot}
 use Rattle.bd_verify.specs.inner.Reduced.{HasFlatOf, HasFormulaOf}
 use Rattle.bd_verify.proofs.FlatDecides.{flat-follows}
-use Rattle.bd_verify.proofs.KeptDecides.{keeps-root, kept-decides, kept-decides-root, refuted}
+use Rattle.bd_verify.proofs.KeptDecides.{keeps-root, kept-decides-of, kept-decides-root, refuted}
 use Rattle.bd_verify.proofs.RootDecides.{root-decides, root-known}
 
 -- what is known of this root is known of the terms that it is of
@@ -115,33 +115,54 @@ kept-weaker d P Q m formula weaker k = record {
   formula_is = k.formula_is;
 }
 
-module _ (d : DesignView) (lawful : IsLawful d) (asked : Question) (nodes : List Node) (root : ℕ) (is : IsRootOf d asked nodes root) where
-  -- a question's root reaches what is known where inputs stand once
-  pub asked-known : IsKnownRoot (widened d 1) nodes root
-  asked-known = subst (λ e. IsKnownRoot e nodes root) (sym (widened-once d)) (root-known d asked nodes root is)
+-- a root of a kind that decides whether some case is such
+module _ (d : DesignView) (lawful : IsLawful d) (such : Case → Type 0) (is_root : List Node → ℕ → Type 0) (known : (terms : List Node) (term : ℕ) → is_root terms term → IsKnownRoot d terms term)
+    (decides : (terms : List Node) (term : ℕ) → is_root terms term → IsGraph terms → Decides d such terms term) (nodes : List Node) (root : ℕ) (is : is_root nodes root) where
+  -- it reaches what is known where inputs stand once
+  pub such-known : IsKnownRoot (widened d 1) nodes root
+  such-known = subst (λ e. IsKnownRoot e nodes root) (sym (widened-once d)) (known nodes root is)
 
-  -- and what is kept of it is kept of the question
-  pub asked-kept : (m : Mode) (formula : Problem) → IsKeptOf (widened d 1) (IsThis nodes root) m formula → IsKept d asked m formula
-  asked-kept m formula k =
-      kept-weaker d (IsThis nodes root) (IsRootOf d asked) m formula
-      (λ terms term this. subst (λ t. IsRootOf d asked t term) (sym this.0) (subst (IsRootOf d asked nodes) (sym this.1) is))
+  -- what is kept of it is kept of its kind
+  pub such-kept : (m : Mode) (formula : Problem) → IsKeptOf (widened d 1) (IsThis nodes root) m formula → IsKeptOf d is_root m formula
+  such-kept m formula k =
+      kept-weaker d (IsThis nodes root) is_root m formula (λ terms term this. subst (λ t. is_root t term) (sym this.0) (subst (is_root nodes) (sym this.1) is))
       (subst (λ e. IsKeptOf e (IsThis nodes root) m formula) (widened-once d) k)
 
-  -- its work is that of the question
-  pub asked-work : (m : Mode) (budget : ℕ) (answer : Found) (w : Work) → IsRootWork d 1 nodes root m budget answer w → IsWorkOf d asked m budget answer w
-  asked-work m budget answer w h =
-      let kept = asked-kept m w.cnf h.kept in
-      record { kept = kept; keeps = kept-decides d asked m w.cnf lawful kept; law = h.law }
+  -- and decides whether some case is such
+  pub such-keeps : (m : Mode) (formula : Problem) → IsKeptOf (widened d 1) (IsThis nodes root) m formula → Keeps d such formula
+  such-keeps m formula k = kept-decides-of d such is_root m formula (lawful-symbols d lawful) known decides (such-kept m formula k)
 
   -- where it is valid no case is such
-  pub asked-none : IsGraph nodes → IsValid d nodes root → (c : Case) → Fits d c → IsAsked asked d c → ⊥
-  asked-none g valid = (root-decides d lawful asked nodes root is g).valid.0 valid
+  pub such-none : IsGraph nodes → IsValid d nodes root → (c : Case) → Fits d c → such c → ⊥
+  such-none g valid = (decides nodes root is g).valid.0 valid
 
   -- and the case of a trail of one cycle in whose world it is false is such
-  pub asked-some : IsGraph nodes → (t : Trail) → Falsifies d 1 nodes root t → Fits d (case_of_trail t) × IsAsked asked d (case_of_trail t)
-  asked-some g t h =
+  pub such-some : IsGraph nodes → (t : Trail) → Falsifies d 1 nodes root t → Fits d (case_of_trail t) × such (case_of_trail t)
+  such-some g t h =
       let fits : Fits d (case_of_trail t) =
       subst (λ e. Fits e (case_of_trail t)) (widened-once d) (subst (λ n. Fits (widened d n) (case_of_trail t)) h.counted (trail-fits d t h.fits)) in (
         fits,
-        (root-decides d lawful asked nodes root is g).to_case (case_of_trail t) h.fails.0 (case_world (case_of_trail t) h.fails.0) fits (record { alike = λ u r args. refl }) h.fails.1,
+        (decides nodes root is g).to_case (case_of_trail t) h.fails.0 (case_world (case_of_trail t) h.fails.0) fits (record { alike = λ u r args. refl }) h.fails.1,
       )
+
+-- a question's root is such
+module _ (d : DesignView) (lawful : IsLawful d) (asked : Question) (nodes : List Node) (root : ℕ) (is : IsRootOf d asked nodes root) where
+  pub asked-known : IsKnownRoot (widened d 1) nodes root
+  asked-known = such-known d lawful (IsAsked asked d) (IsRootOf d asked) (root-known d asked) (root-decides d lawful asked) nodes root is
+
+  pub asked-kept : (m : Mode) (formula : Problem) → IsKeptOf (widened d 1) (IsThis nodes root) m formula → IsKept d asked m formula
+  asked-kept = such-kept d lawful (IsAsked asked d) (IsRootOf d asked) (root-known d asked) (root-decides d lawful asked) nodes root is
+
+  -- its work is that of the question
+  pub asked-work : (m : Mode) (budget : ℕ) (answer : Found) (w : Work) → IsRootWork d 1 nodes root m budget answer w → IsWorkOf d asked m budget answer w
+  asked-work m budget answer w h = record {
+    kept = asked-kept m w.cnf h.kept;
+    keeps = such-keeps d lawful (IsAsked asked d) (IsRootOf d asked) (root-known d asked) (root-decides d lawful asked) nodes root is m w.cnf h.kept;
+    law = h.law;
+  }
+
+  pub asked-none : IsGraph nodes → IsValid d nodes root → (c : Case) → Fits d c → IsAsked asked d c → ⊥
+  asked-none = such-none d lawful (IsAsked asked d) (IsRootOf d asked) (root-known d asked) (root-decides d lawful asked) nodes root is
+
+  pub asked-some : IsGraph nodes → (t : Trail) → Falsifies d 1 nodes root t → Fits d (case_of_trail t) × IsAsked asked d (case_of_trail t)
+  asked-some = such-some d lawful (IsAsked asked d) (IsRootOf d asked) (root-known d asked) (root-decides d lawful asked) nodes root is

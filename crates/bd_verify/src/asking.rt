@@ -67,7 +67,7 @@ pub(crate) fn root_of(
 }
 
 /// The case of a trail of one cycle.
-fn one_cycle(trail: Trail) -> Case
+pub fn one_cycle(trail: Trail) -> Case
     requires { length trail.inputs ≡ 1 }
     ensures { result ≡ case_of_trail trail }
 {

@@ -11,8 +11,9 @@ mod reduction;
 mod settling;
 mod verdict;
 
+pub use asking::one_cycle;
 pub use deciding::{Decided, decide};
 pub use formula::kept;
 pub use laws::{kept_decides, positive_have_no_edge, spent_is_bounded, verdicts_agree};
 pub use settling::{Settled, settle};
-pub use verdict::{Mode, Question, Verdict, Work, verify};
+pub use verdict::{Mode, Question, Verdict, Work, broken, verify};

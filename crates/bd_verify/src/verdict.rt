@@ -121,7 +121,7 @@ fn breaks<S: HonestSolver>(
 }
 
 /// The condition that is judged to be broken.
-fn broken(judged: Judged) -> Condition
+pub fn broken(judged: Judged) -> Condition
     requires { (which : Condition) × (judged ≡ Judged.Broken which) }
     ensures { judged ≡ Judged.Broken result }
 {

@@ -1,0 +1,47 @@
+-- What an answer on an abstraction means (completion functions: Hosabettu, Srivas and Gopalakrishnan 1998), and its
+-- work: the kept formula of the question, and the log of an honest solver's answer over it (Burch and Dill 1994; DIMACS
+-- CNF; textual LRAT).
+use Rattle.std.specs.Prelude.{◌≡◌, ℕ, Bool, true, false}
+use Rattle.bd_model.specs.DesignView.{DesignView}
+use Rattle.bd_model.specs.Fits.{Fits}
+use Rattle.bd_model.specs.Conditions.{Abstraction, JudgedBy}
+use Rattle.bd_model.specs.Right.{Agrees, RightBy}
+use Rattle.bd_model.specs.declared.case.Judged.TheVariants as judged
+use Rattle.bd_goal.specs.Laws.{Differs}
+use Rattle.bd_cdcl.specs.Law.{IsLaw}
+use Rattle.bd_cdcl.specs.declared.solver.Found.{Found}
+use Rattle.bd_cdcl.specs.declared.solver.Found.TheVariants as found
+use Rattle.bd_verify.specs.declared.verdict.Work.{Work}
+use Rattle.bd_verify.specs.Verdict.{Keeps}
+use Rattle.bd_completion.specs.declared.answer.Complete.{Complete}
+use Rattle.bd_completion.specs.declared.answer.Complete.TheVariants.{Right, Wrong, Agree, Differ, Undecided}
+use Rattle.bd_completion.specs.Kept.{IsKeptBy, IsSought}
+
+-- what an answer says of a design and an abstraction: the design is right by it; a fitting case breaks the condition by
+-- it; where agreement is asked, it agrees with flushing wherever the invariant is true; a fitting case's state meets the
+-- invariant, and there the two differ; or nothing
+abbrev pub Says : DesignView → Abstraction → Bool → Complete → Type 0
+Says d abs agree (Right work) = (agree ≡ false) × RightBy d abs
+Says d abs agree (Wrong which c work) =
+    (agree ≡ false) × Fits d c × JudgedBy d abs c (judged.Broken which)
+Says d abs agree (Agree work) = (agree ≡ true) × Agrees d abs
+Says d abs agree (Differ c work) = (agree ≡ true) × Fits d c × Differs d abs c
+Says d abs agree (Undecided work) = Unit {0}
+
+-- the kept formula of the question, which is satisfiable exactly where some fitting case is such as is sought, and the
+-- log of an honest solver's answer over it
+pub record IsWorkBy (d : DesignView) (abs : Abstraction) (agree : Bool) (budget : ℕ) (answer : Found)
+    (work : Work) : Type 0 where
+  pub kept : IsKeptBy d abs agree work.cnf
+  pub keeps : Keeps d (IsSought d abs agree) work.cnf
+  pub law : IsLaw work.cnf budget answer work.log
+
+-- the work of an answer: a refutation where none is such, a model where a case is, else the budget is spent
+abbrev pub HasWork : DesignView → Abstraction → Bool → ℕ → Complete → Type 0
+HasWork d abs agree budget (Right work) = IsWorkBy d abs agree budget found.Refuted work
+HasWork d abs agree budget (Wrong which c work) =
+    (model : _) × IsWorkBy d abs agree budget (found.Model model) work
+HasWork d abs agree budget (Agree work) = IsWorkBy d abs agree budget found.Refuted work
+HasWork d abs agree budget (Differ c work) =
+    (model : _) × IsWorkBy d abs agree budget (found.Model model) work
+HasWork d abs agree budget (Undecided work) = IsWorkBy d abs agree budget found.Spent work

@@ -1,0 +1,123 @@
+//! What a case shows of a pipeline by an abstraction.
+//!
+//! Flushing is the simulator's own. A given abstraction is valued in the state before the cycle and in the state after
+//! it, and the simulator joins what they stand for by steps of the specification.
+ghost use Rattle.std.specs.Prelude.{◌≡◌, ◌↔◌, [], IfOk, IsTrue, map};
+ghost use Rattle.bd_abstraction.specs.Abstraction.{abstraction_of, values_by};
+ghost use Rattle.bd_model.specs.Conditions.{CommutesBy, JudgedBy};
+ghost use Rattle.bd_model.specs.Cycle.{step};
+ghost use Rattle.bd_model.specs.DesignView.{design_view, local_view};
+ghost use Rattle.bd_model.specs.ExprView.{expr_views, list_of_views};
+ghost use Rattle.bd_model.specs.Value.{let_values};
+
+use bd_abstraction::Abstraction;
+use bd_list::Sequence;
+use bd_model::{Case, Condition, Design, Exprs, Inputs, Interp, Judged, LetValues, Locals, State};
+use bd_sim::{eval, judge, meets_invariant, step, steps_join};
+use std::alloc::{AllocError, Global};
+
+/// What the case shows of the design by the abstraction, in place of flushing; where both conditions are false, the
+/// invariant is named. What no lawful design or abstraction has is false, 0 or the memory of zeros, so nothing is asked
+/// of either, nor of the case.
+pub fn judge_by(
+    alloc: Global,
+    design: &Design,
+    abs: &Abstraction,
+    case: &Case,
+) -> Result<Judged, AllocError>
+    ensures { IfOk result (JudgedBy (design_view design.now)
+        (abstraction_of (design_view design.now) abs.now) case.now) }
+{
+    match abs {
+        Abstraction::Flushing => judge(alloc, design, case),
+        Abstraction::Given { lets, parts } => judge_given(alloc, design, lets, parts, case),
+    }
+}
+
+// What it shows by the values of given expressions after their lets.
+fn judge_given(
+    alloc: Global,
+    design: &Design,
+    lets: &Locals,
+    parts: &Exprs,
+    case: &Case,
+) -> Result<Judged, AllocError>
+    ensures { IfOk result (JudgedBy (design_view design.now)
+        (values_by (map local_view lets.now) (list_of_views (expr_views parts.now))) case.now) }
+{
+    if !meets_invariant(alloc, design, &case.interp, &case.state)? {
+        return Ok(Judged::Outside);
+    }
+    let next = step(alloc, design, &case.interp, &case.state, &case.inputs)?;
+    if !meets_invariant(alloc, design, &case.interp, &next)? {
+        return Ok(Judged::Broken(Condition::Invariant));
+    }
+    if commutes(alloc, design, lets, parts, case, &next)? {
+        Ok(Judged::Holds)
+    } else {
+        Ok(Judged::Broken(Condition::Commute))
+    }
+}
+
+// Whether some number of steps of the specification, at most the design's and allowed, lead from what the case's state
+// stands for to what `next` does, in which the cycle ends.
+fn commutes(
+    alloc: Global,
+    design: &Design,
+    lets: &Locals,
+    parts: &Exprs,
+    case: &Case,
+    next: &State,
+) -> Result<bool, AllocError>
+    requires { next.now
+        ≡ step (design_view design.now).pipe case.now.interp case.now.state case.now.inputs }
+    ensures { IfOk result (λ b. IsTrue b ↔ CommutesBy (design_view design.now)
+        (values_by (map local_view lets.now) (list_of_views (expr_views parts.now)))
+        case.now.interp case.now.state case.now.inputs) }
+{
+    let before = given(alloc, design, lets, parts, &case.interp, &case.state)?;
+    let after = given(alloc, design, lets, parts, &case.interp, next)?;
+    let (interp, state, inputs) = (&case.interp, &case.state, &case.inputs);
+    steps_join(alloc, design, interp, state, inputs, before, &after)
+}
+
+// The values of given expressions after their lets, with no input.
+fn given(
+    alloc: Global,
+    design: &Design,
+    lets: &Locals,
+    parts: &Exprs,
+    interp: &Interp,
+    state: &State,
+) -> Result<State, AllocError>
+    ensures { IfOk result (λ visible. visible ≡ values_by
+        (map local_view lets.now) (list_of_views (expr_views parts.now)) interp.now state.now) }
+{
+    let inputs = Sequence::new(alloc);
+    let locals = values_of_lets(alloc, design, lets, interp, state, &inputs)?;
+    let mut visible = Vec::new(alloc);
+    for part in &parts.items {
+        visible.push(eval(alloc, design, part, interp, state, &inputs, &locals)?)?;
+    }
+    Ok(Sequence::from_vec(visible))
+}
+
+// The values of lets, each after the earlier ones.
+fn values_of_lets(
+    alloc: Global,
+    design: &Design,
+    lets: &Locals,
+    interp: &Interp,
+    state: &State,
+    inputs: &Inputs,
+) -> Result<LetValues, AllocError>
+    ensures { IfOk result (λ values. values
+        ≡ let_values interp.now state.now inputs.now (map local_view lets.now)) }
+{
+    let mut values = Sequence::new(alloc);
+    for local in lets.as_slice() {
+        let value = eval(alloc, design, &local.value, interp, state, inputs, &values)?;
+        values.push(value)?;
+    }
+    Ok(values)
+}
