@@ -18,8 +18,8 @@ use Rattle.bd_completion.specs.declared.answer.Complete.TheVariants.{Right, Wron
 use Rattle.bd_completion.specs.Kept.{IsKeptBy, IsSought}
 
 -- what an answer says of a design and an abstraction: the design is right by it; a fitting case breaks the condition by
--- it; where agreement is asked, it agrees with flushing wherever the invariant is true; a fitting case's state meets the
--- invariant, and there the two differ; or nothing
+-- it; where agreement is asked, it agrees with flushing wherever the invariant is true; the invariant is true in the
+-- state of a fitting case, and there the two differ; or nothing
 abbrev pub Says : DesignView → Abstraction → Bool → Complete → Type 0
 Says d abs agree (Right work) = (agree ≡ false) × RightBy d abs
 Says d abs agree (Wrong which c work) =
