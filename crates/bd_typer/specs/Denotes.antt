@@ -6,17 +6,19 @@ use Rattle.bd_text.specs.Grammar.{Spells}
 use Rattle.bd_text.specs.declared.code.Code.{Code}
 use Rattle.bd_model.specs.DesignView.{DesignView, design_view}
 use Rattle.bd_model.specs.declared.design.Design.{Design}
+use Rattle.bd_syntax.specs.Completion.{completion_form}
 use Rattle.bd_syntax.specs.Forms.{InvView}
 use Rattle.bd_syntax.specs.Reading.{Fault, machine_form, invariant_form}
 use Rattle.bd_syntax.specs.declared.ast.Kind.TheVariants as kinds
 use Rattle.bd_typer.specs.declared.fault.Text.{Text}
-use Rattle.bd_typer.specs.declared.fault.Text.TheVariants.{Pipe, Spec, Inv, Start}
+use Rattle.bd_typer.specs.declared.fault.Text.TheVariants.{Pipe, Spec, Comp, Inv, Start}
 use Rattle.bd_typer.specs.declared.fault.TypeFault.{TypeFault}
 use Rattle.bd_typer.specs.declared.fault.TypeFault.TheVariants as faults
+use Rattle.bd_typer.specs.declared.joining.Joined.{Joined}
 use Rattle.bd_typer.specs.declared.premise.Premise.{Premise}
 use Rattle.bd_typer.specs.declared.premise.Premise.TheVariants as premises
 use Rattle.bd_typer.specs.Faults.{◌>>=◌, FileFault, in_file}
-use Rattle.bd_typer.specs.Joined.{joined}
+use Rattle.bd_typer.specs.Joined.{JoinedView, joined, joined_completion, joined_view}
 
 -- ---- the third file
 
@@ -57,13 +59,13 @@ design_of_trees premise pipe spec third = do
   with_premise premise (joined p s t)
 
 -- a text has a first fault, which is the result, or it spells trees of which the rest holds
-abbrev pub Reads : Text → List ℕ → Result DesignView FileFault → (Nodes → Type 0) → Type 0
+abbrev pub Reads : {A : Type 0} → Text → List ℕ → Result A FileFault → (Nodes → Type 0) → Type 0
 Reads file source result Rest =
     ((offset : ℕ) × (code : Code) × IsFirstFault source offset code
     × (result ≡ Err (record { file = file; offset = offset; code = code })))
     ⊎ (HasNoFault source × ((trees : Nodes) × Spells source trees × Rest trees))
 
-abbrev pub ReadsIf : Text → Option (List ℕ) → Result DesignView FileFault → (Option Nodes → Type 0) → Type 0
+abbrev pub ReadsIf : {A : Type 0} → Text → Option (List ℕ) → Result A FileFault → (Option Nodes → Type 0) → Type 0
 ReadsIf file None result Rest = Rest None
 ReadsIf file (Some source) result Rest = Reads file source result (λ trees. Rest (Some trees))
 
@@ -77,9 +79,35 @@ DenotesWith premise pipe spec third result =
 abbrev pub Denotes : List ℕ → List ℕ → Option (List ℕ) → Result DesignView FileFault → Type 0
 Denotes pipe spec inv result = DenotesWith premises.Invariant pipe spec inv result
 
--- what holds of a result, unless memory ran out
-abbrev pub OnDesign : Result Design TypeFault → (Result DesignView FileFault → Type 0) → Type 0
-OnDesign (Ok d) P = P (Ok (design_view d))
-OnDesign (Err (faults.Bad file offset code)) P =
+-- ---- the design and the abstraction
+
+-- those of trees, or their first fault
+unfoldable pub completed_of_trees : Nodes → Nodes → Nodes → Option Nodes → Result JoinedView FileFault
+completed_of_trees pipe spec comp inv = do
+  p ← in_file Pipe (machine_form kinds.Pipeline pipe)
+  s ← in_file Spec (machine_form kinds.Specification spec)
+  c ← in_file Comp (completion_form comp)
+  i ← in_file Inv (premise_form premises.Invariant inv)
+  joined_completion p s c i
+
+-- what a pipeline, a specification, a completion and an invariant denote: a design and an abstraction, or their first
+-- fault
+abbrev pub DenotesCompleted : List ℕ → List ℕ → List ℕ → Option (List ℕ) → Result JoinedView FileFault → Type 0
+DenotesCompleted pipe spec comp inv result =
+    Reads Pipe pipe result (λ p. Reads Spec spec result (λ s. Reads Comp comp result (λ c.
+    ReadsIf Inv inv result (λ i. result ≡ completed_of_trees p s c i))))
+
+-- ---- results
+
+-- what holds of a result as its view shows it, unless memory ran out
+abbrev pub OnGiven : {A B : Type 0} → (A → B) → Result A TypeFault → (Result B FileFault → Type 0) → Type 0
+OnGiven view (Ok x) P = P (Ok (view x))
+OnGiven view (Err (faults.Bad file offset code)) P =
     P (Err (record { file = file; offset = offset; code = code }))
-OnDesign (Err faults.Memory) P = Unit {0}
+OnGiven view (Err faults.Memory) P = Unit {0}
+
+abbrev pub OnDesign : Result Design TypeFault → (Result DesignView FileFault → Type 0) → Type 0
+OnDesign result P = OnGiven design_view result P
+
+abbrev pub OnJoined : Result Joined TypeFault → (Result JoinedView FileFault → Type 0) → Type 0
+OnJoined result P = OnGiven joined_view result P

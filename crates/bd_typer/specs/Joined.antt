@@ -2,17 +2,21 @@
 -- pipeline, the specification and the invariant. The language is this project's own.
 use Rattle.std.specs.Prelude.{ℕ, true, false, List, [], ◌∷◌, ◌++◌, map, length, replicate, Option, Some, None, Result, Ok}
 use Rattle.std.specs.List.{filter_map}
+use Rattle.bd_abstraction.specs.Abstraction.{AbstractionView, flushing, given, abstraction_view}
 use Rattle.bd_model.specs.declared.design.Sort.TheVariants as sorts
 use Rattle.bd_model.specs.declared.design.Entry as entry
 use Rattle.bd_model.specs.declared.design.Symbol as symbol
 use Rattle.bd_model.specs.ExprView.{ExprView, Truth}
-use Rattle.bd_model.specs.DesignView.{DesignView, MachineView, LocalView}
+use Rattle.bd_model.specs.DesignView.{DesignView, MachineView, LocalView, design_view}
+use Rattle.bd_syntax.specs.Completion.{CompView}
 use Rattle.bd_syntax.specs.Forms.{ItemView, flush_item, steps_item, AstView, InvView}
 use Rattle.bd_syntax.specs.Reading.{Fault}
-use Rattle.bd_typer.specs.declared.fault.Text.TheVariants.{Pipe, Spec, Inv}
+use Rattle.bd_typer.specs.declared.fault.Text.TheVariants.{Pipe, Spec, Comp, Inv}
+use Rattle.bd_typer.specs.declared.joining.Joined.{Joined}
 use Rattle.bd_typer.specs.declared.names.Meaning.{Meaning}
 use Rattle.bd_typer.specs.declared.names.Meaning.TheVariants.{Entry}
 use Rattle.bd_typer.specs.Faults.{◌>>=◌, FileFault, in_file, without_faults}
+use Rattle.bd_typer.specs.Completions.{completion_faults, typed_abstracts}
 use Rattle.bd_typer.specs.Declarations.{declaration_faults, invariant_faults}
 use Rattle.bd_typer.specs.NameMap.{NameMap, no_names, scope_of, shared_names}
 use Rattle.bd_typer.specs.Typing.{typed}
@@ -24,6 +28,18 @@ use Rattle.bd_typer.specs.Across.{across_faults}
 abbrev pub declared_inv : AstView → AstView → Option InvView → Result (Unit {0}) Fault
 declared_inv pipe spec None = Ok (tt {0})
 declared_inv pipe spec (Some inv) = without_faults (invariant_faults pipe spec inv)
+
+-- no completion has no fault
+abbrev pub declared_comp : AstView → AstView → Option CompView → Result (Unit {0}) Fault
+declared_comp pipe spec None = Ok (tt {0})
+declared_comp pipe spec (Some comp) = without_faults (completion_faults pipe spec comp)
+
+unfoldable pub declared_with : AstView → AstView → Option CompView → Option InvView → Result (Unit {0}) FileFault
+declared_with pipe spec comp inv = do
+  first ← in_file Pipe (without_faults (declaration_faults pipe))
+  second ← in_file Spec (without_faults (declaration_faults spec))
+  third ← in_file Comp (declared_comp pipe spec comp)
+  in_file Inv (declared_inv pipe spec inv)
 
 unfoldable pub declared : AstView → AstView → Option InvView → Result (Unit {0}) FileFault
 declared pipe spec inv = do
@@ -71,6 +87,15 @@ typed_inv names (Some inv) = do
   t ← typed_items false (start names 0) inv.items
   e ← typed t.names false sorts.Bool inv.value
   Ok (record { locals = t.locals; value = e })
+
+-- what a completion abstracts to, after the names of an invariant and those of so many entries: one that isn't given
+-- to what flushing shows
+unfoldable pub typed_completion : NameMap → NameMap → ℕ → Option CompView → Result AbstractionView Fault
+typed_completion names spec entries None = Ok flushing
+typed_completion names spec entries (Some comp) = do
+  t ← typed_items false (start names 0) comp.lets
+  parts ← typed_abstracts t.names spec (replicate entries (Truth false)) comp.parts
+  Ok (given t.locals parts)
 
 -- ---- the design
 
@@ -124,3 +149,26 @@ joined pipe spec inv = do
   i ← in_file Inv (typed_inv (shared_names p.typed.names s.typed.names) inv)
   last ← in_file Spec (without_faults (across_faults p.typed.names spec.items))
   Ok (assembled pipe.items p s i)
+
+-- a design, and what its states stand for
+pub record JoinedView : Type 0 where
+  pub design : DesignView
+  pub abs : AbstractionView
+
+abbrev pub joined_view : Joined → JoinedView
+joined_view j = record { design = design_view j.design; abs = abstraction_view j.abs }
+
+-- the design and the abstraction of files, or their first fault
+unfoldable pub joined_with : AstView → AstView → Option CompView → Option InvView → Result JoinedView FileFault
+joined_with pipe spec comp inv = do
+  first ← declared_with pipe spec comp inv
+  p ← in_file Pipe (typed_machine no_names [] pipe.items)
+  s ← in_file Spec (typed_machine p.typed.names p.symbols spec.items)
+  a ← in_file Comp (typed_completion (shared_names p.typed.names s.typed.names) s.typed.names (length s.entries) comp)
+  i ← in_file Inv (typed_inv (shared_names p.typed.names s.typed.names) inv)
+  last ← in_file Spec (without_faults (across_faults p.typed.names spec.items))
+  Ok (record { design = assembled pipe.items p s i; abs = a })
+
+-- where a completion is given
+abbrev pub joined_completion : AstView → AstView → CompView → Option InvView → Result JoinedView FileFault
+joined_completion pipe spec comp inv = joined_with pipe spec (Some comp) inv

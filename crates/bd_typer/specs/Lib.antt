@@ -1,4 +1,5 @@
 pub mod Across
+pub mod Completions
 pub mod Declarations
 pub mod Denotes
 pub mod Faults

