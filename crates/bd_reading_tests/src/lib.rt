@@ -4,6 +4,8 @@
 #[cfg(test)]
 mod cases;
 #[cfg(test)]
+mod completions;
+#[cfg(test)]
 mod designs;
 #[cfg(test)]
 mod faults;

@@ -4,9 +4,11 @@ use Rattle.std.specs.Prelude.{IfOk, IfSome}
 use Rattle.std.specs.Option.{option_map}
 use Rattle.std.specs.Borrow.{Bor}
 use Rattle.bd_text.specs.Nodes.{Nodes}
+use Rattle.bd_abstraction.specs.Abstraction.{IsLawfulAbstraction}
 use Rattle.bd_model.specs.DesignView.{DesignView, design_view}
 use Rattle.bd_model.specs.Lawful.{IsLawful}
 use Rattle.bd_model.specs.declared.design.Design.{Design}
+use Rattle.bd_syntax.specs.Completion.{CompView}
 use Rattle.bd_syntax.specs.Forms.{AstView, InvView, invariant_view}
 use Rattle.bd_syntax.specs.Reading.{machine_form, invariant_form}
 use Rattle.bd_syntax.specs.WellFormed.{AreWithinLimits}
@@ -19,10 +21,12 @@ use Rattle.bd_typer.specs.declared.fault.TypeFault.{TypeFault}
 use Rattle.bd_typer.specs.declared.premise.Premise.{Premise}
 use Rattle.bd_typer.specs.Denotes.{design_of_trees, premise_file, premise_form, premise_head, with_premise, Reads, ReadsIf, DenotesWith, OnDesign}
 use Rattle.bd_typer.specs.Faults.{◌>>=◌, FileFault, in_file, GivesIn}
-use Rattle.bd_typer.specs.Given.{IsMachineFile, IsInvFile}
-use Rattle.bd_typer.specs.Joined.{joined}
+use Rattle.bd_typer.specs.Given.{IsMachineFile, IsCompFile, IsInvFile}
+use Rattle.bd_typer.specs.Joined.{joined, joined_view, joined_with}
+use Rattle.bd_typer.specs.declared.joining.Joined.{Joined}
+use Rattle.bd_typer.proofs.Abstractions.{view_lawful}
 use Rattle.bd_typer.proofs.Faultless.{in_file_ok}
-use Rattle.bd_typer.proofs.Lawfulness.{joined_lawful}
+use Rattle.bd_typer.proofs.Lawfulness.{both_lawful, joined_lawful}
 use Rattle.bd_typer.proofs.ReadFiles.{machine_file, inv_file}
 use Rattle.bd_typer.proofs.Sound.{then_ok}
 
@@ -31,6 +35,14 @@ pub given_lawful : (result : Result Design TypeFault) (pipe spec : AstView) (inv
     → GivesIn design_view result (joined pipe spec inv) → IfOk result (λ d. IsLawful (design_view d))
 given_lawful (Ok d) pipe spec inv p s i h = joined_lawful pipe spec inv (design_view d) p s i h
 given_lawful (Err fault) pipe spec inv p s i h = tt
+
+-- what joining returns with its abstraction is lawful
+pub given_both : (result : Result Joined TypeFault) (pipe spec : AstView) (comp : Option CompView) (inv : Option InvView) → IsMachineFile kinds.Pipeline pipe → IsMachineFile kinds.Specification spec → IfSome comp IsCompFile → IfSome inv IsInvFile
+    → GivesIn joined_view result (joined_with pipe spec comp inv) → IfOk result (λ j. IsLawful (design_view j.design)) × IfOk result (λ j. IsLawfulAbstraction (design_view j.design) j.abs)
+given_both (Ok j) pipe spec comp inv p s c i h =
+    let both = both_lawful pipe spec comp inv (joined_view j) p s c i h in
+    (both.0, view_lawful (design_view j.design) j.abs both.1)
+given_both (Err fault) pipe spec comp inv p s c i h = (tt, tt)
 
 pub seen_inv : (inv : Option (Bor InvAst)) → IfSome inv (λ (ast : Bor InvAst). IsInvFile (invariant_view ast.now)) → IfSome (option_map (λ (ast : Bor InvAst). invariant_view ast.now) inv) IsInvFile
 seen_inv None h = tt

@@ -6,11 +6,13 @@ use Rattle.bd_model.specs.declared.design.Sort.TheVariants as sorts
 use Rattle.bd_model.specs.declared.design.Entry as entry
 use Rattle.bd_syntax.specs.Words.{same_text}
 use Rattle.bd_syntax.specs.Forms.{ItemView, latch_item, memory_item, input_item, function_item, predicate_item, let_item, next_item, flush_item, steps_item, exact_item, distinct_item, AstView}
+use Rattle.bd_syntax.specs.Completion.{CompView}
 use Rattle.bd_syntax.specs.Reading.{Fault}
 use Rattle.bd_syntax.specs.declared.form.Spot.{Spot}
 use Rattle.bd_typer.specs.declared.fault.Text.{Text}
 use Rattle.bd_typer.specs.Faults.{in_file, fault, faults_at, is_before, first_of, least, refused_by, without_faults}
-use Rattle.bd_typer.specs.Declarations.{declared_name, entry_name, next_name, offsets, name_faults, next_faults, count_faults, declaration_faults}
+use Rattle.bd_typer.specs.Completions.{abstract_names, tree_offsets, abstract_faults, completion_faults}
+use Rattle.bd_typer.specs.Declarations.{declared_name, entry_name, next_name, offsets, name_faults, next_faults, count_faults, declaration_faults, taken_names}
 use Rattle.bd_typer.specs.Across.{agrees, is_entry, offset_unless, missing_entry, differing_symbol, across_faults}
 use Rattle.bd_typer.specs.NameMap.{NameMap, no_names}
 use Rattle.bd_typer.specs.Repeats.{NameSet, no_texts, with_text, with_names, repeated, fresh}
@@ -100,6 +102,16 @@ pub entries_given : (items : List ItemView) → IsDeclared items → AllByRecurs
 entries_given items h =
     let given : NameSet = with_names no_texts (filter_map next_name items) in
     entries_named (λ q. given q ≡ true) items (none_fresh given given (filter_map entry_name items) (λ q g. g) h.nexts)
+
+-- each latch and memory of the specification has an abstract
+pub entries_abstracted : (pipe spec : AstView) (comp : CompView) → completion_faults pipe spec comp ≡ [] → AllByRecursion (λ (e : entry.Entry). with_names no_texts (abstract_names comp) e.name ≡ true) (filter_map declared_entry spec.items)
+entries_abstracted pipe spec comp h =
+    let given : NameSet = with_names no_texts (abstract_names comp) in
+    let without : List Spot = fresh given (filter_map entry_name spec.items) in
+    let p = both_empty (name_faults (taken_names pipe spec) comp.lets) (abstract_faults spec comp) h in
+    let q = both_empty (faults_at MissingOrTwice (offsets (repeated no_texts (abstract_names comp)))) (faults_at MissingOrTwice (tree_offsets comp without)) p.1 in
+    let none = map_empty (λ (n : Spot). comp.offset) without (map_empty (fault MissingOrTwice) (tree_offsets comp without) q.1) in
+    entries_named (λ t. given t ≡ true) spec.items (none_fresh given given (filter_map entry_name spec.items) (λ t g. g) none)
 
 -- ---- across files
 

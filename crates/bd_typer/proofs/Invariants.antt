@@ -39,11 +39,11 @@ pub record InvIs (symbols : List symbol.Symbol) (entries : List Sort) (locals : 
 
 module _ (symbols : List symbol.Symbol) (entries : List Sort) where
   -- the lets so far
-  record LetsAre (t : Typed) : Type 0 where
-    names : NamesFit (inv_names symbols entries t.locals) t.flags false t.names
-    flag_count : length t.flags ≡ length t.locals
-    lets : LetsHaveSorts (inv_names symbols entries []) t.locals
-    limits : AllByRecursion (λ (l : LocalView). IsWithinLimits l.value) t.locals
+  pub record LetsAre (t : Typed) : Type 0 where
+    pub names : NamesFit (inv_names symbols entries t.locals) t.flags false t.names
+    pub flag_count : length t.flags ≡ length t.locals
+    pub lets : LetsHaveSorts (inv_names symbols entries []) t.locals
+    pub limits : AllByRecursion (λ (l : LocalView). IsWithinLimits l.value) t.locals
 
   fits_more : (locals : List LocalView) (flags : List Bool) (l : LocalView) (uses : Bool) (m : Meaning) → Fits (inv_names symbols entries locals) flags false m → Fits (inv_names symbols entries (locals ++ l ∷ [])) (flags ++ uses ∷ []) false m
   fits_more locals flags l uses (Entry n s) h = h
@@ -97,7 +97,7 @@ module _ (symbols : List symbol.Symbol) (entries : List Sort) where
   item_is t u (exact_item offset count when) ok is limited h = absurd (cc is.fits)
   item_is t u (distinct_item offset names) ok is limited h = absurd (cc is.fits)
 
-  items_are : (items : List ItemView) (t u : Typed) → LetsAre t → AllByRecursion (IsItem places.Invariant) items → AllByRecursion IsLimitedItem items → typed_items false t items ≡ Ok u → LetsAre u × (length u.locals ≤ length t.locals + length items)
+  pub items_are : (items : List ItemView) (t u : Typed) → LetsAre t → AllByRecursion (IsItem places.Invariant) items → AllByRecursion IsLimitedItem items → typed_items false t items ≡ Ok u → LetsAre u × (length u.locals ≤ length t.locals + length items)
   items_are [] t u ok is limited h =
       let e : t ≡ u = cc h in
       subst (λ v. LetsAre v × (length v.locals ≤ length t.locals + 0)) e (ok, omega arith)

@@ -1,29 +1,39 @@
--- The design of files that are read is lawful.
-use Rattle.std.proofs.Common.{◌≡◌, ◌≤◌, ℕ, true, List, [], ◌∷◌, ◌++◌, length, Option, Ok, refl, ap, sym, ◌∙◌, subst, arith, length-append}
-use Rattle.std.specs.Prelude.{IfSome}
+-- The design of files that are read is lawful, and so is the abstraction.
+use Rattle.std.proofs.Common.{◌≡◌, ◌≤◌, ℕ, true, false, List, [], ◌∷◌, ◌++◌, length, Option, Some, None, Result, Ok, refl, ap, sym, ◌∙◌, subst, arith, length-append}
+use Rattle.std.specs.Prelude.{IfSome, replicate, slice_get}
 use Rattle.std.specs.List.{filter_map, AllByRecursion}
+use Rattle.bd_abstraction.specs.Abstraction.{AbstractionView, flushing, given}
+use Rattle.bd_model.specs.ExprView.{Truth}
 use Rattle.bd_model.specs.DesignView.{DesignView, PortView, ExactView}
+use Rattle.bd_model.specs.declared.design.Entry as entry
+use Rattle.bd_model.specs.declared.design.Sort.{Sort}
 use Rattle.bd_model.specs.Lawful.{IsLawful, IsLawfulPort, IsLawfulExact, IsLawfulGroup, uses_input}
 use Rattle.bd_model.specs.declared.design.Sort.TheVariants as sorts
+use Rattle.bd_syntax.specs.Completion.{CompView}
 use Rattle.bd_syntax.specs.Forms.{ItemView, latch_item, memory_item, input_item, function_item, predicate_item, let_item, next_item, flush_item, steps_item, exact_item, distinct_item, AstView, InvView}
 use Rattle.bd_syntax.specs.Reading.{kind_place}
 use Rattle.bd_syntax.specs.WellFormed.{HasParts, IsItem}
 use Rattle.bd_syntax.specs.declared.ast.Kind.TheVariants.{Pipeline, Specification}
 use Rattle.bd_syntax.specs.declared.head.Place.{Place}
 use Rattle.bd_syntax.specs.declared.head.Place.TheVariants as places
-use Rattle.bd_typer.specs.declared.fault.Text.TheVariants.{Pipe, Spec, Inv}
+use Rattle.bd_typer.specs.declared.fault.Text.TheVariants.{Pipe, Spec, Comp, Inv}
+use Rattle.bd_typer.specs.declared.names.Meaning.TheVariants.{Entry}
 use Rattle.bd_typer.specs.Across.{across_faults}
+use Rattle.bd_typer.specs.Completions.{abstract_names, completion_faults, typed_abstracts}
 use Rattle.bd_typer.specs.Declarations.{declaration_faults}
-use Rattle.bd_typer.specs.Faults.{◌>>=◌, in_file, without_faults}
-use Rattle.bd_typer.specs.Given.{IsMachineFile, IsInvFile}
-use Rattle.bd_typer.specs.Joined.{declared_inv, declared, TypedMachine, typed_machine, TypedInv, typed_inv, flush_count, steps_count, first_count, assembled, joined}
+use Rattle.bd_typer.specs.Faults.{◌>>=◌, FileFault, in_file, without_faults}
+use Rattle.bd_typer.specs.Given.{IsMachineFile, IsCompFile, IsInvFile}
+use Rattle.bd_typer.specs.Joined.{declared_comp, declared_inv, declared, start, TypedMachine, typed_machine, typed_completion, TypedInv, typed_inv, flush_count, steps_count, first_count, assembled, JoinedView, joined_with, joined}
 use Rattle.bd_typer.specs.NameMap.{no_names, shared_names}
-use Rattle.bd_typer.proofs.Faultless.{in_file_ok, none_of, IsDeclared, is_declared, agree_alone, IsAcross, is_across, IsShared, map_empty}
-use Rattle.bd_typer.proofs.Invariants.{InvIs, inv_is, shared_fit}
-use Rattle.bd_typer.proofs.Machines.{MachineIs, machine_is, machine_lawful, has_sort, symbols_stand, all_weaker, fixed_of, given_of}
+use Rattle.bd_typer.specs.Repeats.{no_texts, with_names}
+use Rattle.bd_typer.specs.Walk.{typed_items}
+use Rattle.bd_typer.proofs.Abstractions.{IsLawfulView, parts_have_sorts}
+use Rattle.bd_typer.proofs.Faultless.{entries_abstracted, in_file_ok, none_of, IsDeclared, is_declared, agree_alone, IsAcross, is_across, IsShared, map_empty}
+use Rattle.bd_typer.proofs.Invariants.{InvIs, inv_is, inv_names, items_are, shared_fit}
+use Rattle.bd_typer.proofs.Machines.{MachineIs, at_place, was_entry, machine_is, machine_lawful, has_sort, symbols_stand, all_weaker, fixed_of, given_of}
 use Rattle.bd_typer.proofs.DesignNames.{all_append, arities_small, names_well, names_different, visible_stands, visible_different}
-use Rattle.bd_typer.proofs.DeclaredNames.{input_entry}
-use Rattle.bd_typer.proofs.Sound.{then_ok}
+use Rattle.bd_typer.proofs.DeclaredNames.{declared_entry, input_entry}
+use Rattle.bd_typer.proofs.Sound.{NamesFit, then_ok}
 use Rattle.bd_typer.proofs.TypedItems.{IsPort, IsExact, IsGroup, port_entry, sorts_of, fits_now}
 
 -- the items of a machine file have their parts
@@ -130,64 +140,137 @@ module _ (pipe_items spec_items : List ItemView) (pipe spec : TypedMachine) (i :
     );
   }
 
--- a machine file whose declarations have no fault
-declarations_fine : (pipe spec : AstView) (inv : Option InvView) (x : Unit {0}) → declared pipe spec inv ≡ Ok x → IsDeclared pipe.items × IsDeclared spec.items
+-- the declarations of files of which none has a fault
+record AreDeclared (pipe spec : AstView) (comp : Option CompView) : Type 0 where
+  pipe-is : IsDeclared pipe.items
+  spec-is : IsDeclared spec.items
+  comp-is : declared_comp pipe spec comp ≡ Ok (tt {0})
+
+declarations_fine : (pipe spec : AstView) (comp : Option CompView) (inv : Option InvView) (x : Unit {0}) → declared pipe spec comp inv ≡ Ok x → AreDeclared pipe spec comp
 unfolding declared
-declarations_fine pipe spec inv x h =
-    let a = then_ok (in_file Pipe (without_faults (declaration_faults pipe))) (λ first. in_file Spec (without_faults (declaration_faults spec)) >>= λ second. in_file Inv (declared_inv pipe spec inv)) x h in
-    let b = then_ok (in_file Spec (without_faults (declaration_faults spec))) (λ second. in_file Inv (declared_inv pipe spec inv)) x a.2 in
-    (is_declared pipe (none_of (declaration_faults pipe) a.0 (in_file_ok Pipe _ a.0 a.1)), is_declared spec (none_of (declaration_faults spec) b.0 (in_file_ok Spec _ b.0 b.1)))
+declarations_fine pipe spec comp inv x h =
+    let a = then_ok (in_file Pipe (without_faults (declaration_faults pipe))) (λ first. in_file Spec (without_faults (declaration_faults spec)) >>= λ second. in_file Comp (declared_comp pipe spec comp) >>= λ third. in_file Inv (declared_inv pipe spec inv)) x h in
+    let b = then_ok (in_file Spec (without_faults (declaration_faults spec))) (λ second. in_file Comp (declared_comp pipe spec comp) >>= λ third. in_file Inv (declared_inv pipe spec inv)) x a.2 in
+    let g = then_ok (in_file Comp (declared_comp pipe spec comp)) (λ third. in_file Inv (declared_inv pipe spec inv)) x b.2 in
+    record {
+      pipe-is = is_declared pipe (none_of (declaration_faults pipe) a.0 (in_file_ok Pipe _ a.0 a.1));
+      spec-is = is_declared spec (none_of (declaration_faults spec) b.0 (in_file_ok Spec _ b.0 b.1));
+      comp-is = in_file_ok Comp (declared_comp pipe spec comp) g.0 g.1;
+    }
 
 -- the steps of joining, each of which has no fault
-record Steps (pipe spec : AstView) (inv : Option InvView) (d : DesignView) : Type 0 where
-  declared : IsDeclared pipe.items × IsDeclared spec.items
+record Steps (pipe spec : AstView) (comp : Option CompView) (inv : Option InvView) (j : JoinedView) : Type 0 where
+  declared : AreDeclared pipe spec comp
   p : TypedMachine
   p-is : typed_machine no_names [] pipe.items ≡ Ok p
   s : TypedMachine
   s-is : typed_machine p.typed.names p.symbols spec.items ≡ Ok s
+  a : AbstractionView
+  a-is : typed_completion (shared_names p.typed.names s.typed.names) s.typed.names (length s.entries) comp ≡ Ok a
   i : TypedInv
   i-is : typed_inv (shared_names p.typed.names s.typed.names) inv ≡ Ok i
   across : IsAcross p.typed.names spec.items
-  d-is : assembled pipe.items p s i ≡ d
+  j-is : record { design = assembled pipe.items p s i; abs = a } ≡ j
 
-steps_of : (pipe spec : AstView) (inv : Option InvView) (d : DesignView) → joined pipe spec inv ≡ Ok d → Steps pipe spec inv d
-unfolding joined
-steps_of pipe spec inv d h =
-    let a = then_ok (declared pipe spec inv) (λ first. in_file Pipe (typed_machine no_names [] pipe.items) >>= λ p. in_file Spec (typed_machine p.typed.names p.symbols spec.items) >>= λ s.
-    in_file Inv (typed_inv (shared_names p.typed.names s.typed.names) inv) >>= λ i. in_file Spec (without_faults (across_faults p.typed.names spec.items)) >>= λ last. Ok (assembled pipe.items p s i)) d h in
-    let b = then_ok (in_file Pipe (typed_machine no_names [] pipe.items)) (λ p. in_file Spec (typed_machine p.typed.names p.symbols spec.items) >>= λ s.
-    in_file Inv (typed_inv (shared_names p.typed.names s.typed.names) inv) >>= λ i. in_file Spec (without_faults (across_faults p.typed.names spec.items)) >>= λ last. Ok (assembled pipe.items p s i)) d a.2 in
-    let p = b.0 in
-    let c = then_ok (in_file Spec (typed_machine p.typed.names p.symbols spec.items)) (λ s.
-    in_file Inv (typed_inv (shared_names p.typed.names s.typed.names) inv) >>= λ i. in_file Spec (without_faults (across_faults p.typed.names spec.items)) >>= λ last. Ok (assembled pipe.items p s i)) d b.2 in
-    let s = c.0 in
-    let e = then_ok (in_file Inv (typed_inv (shared_names p.typed.names s.typed.names) inv)) (λ i. in_file Spec (without_faults (across_faults p.typed.names spec.items)) >>= λ last. Ok (assembled pipe.items p s i)) d c.2 in
-    let g = then_ok (in_file Spec (without_faults (across_faults p.typed.names spec.items))) (λ last. Ok (assembled pipe.items p s e.0)) d e.2 in
-    record {
-      declared = declarations_fine pipe spec inv a.0 a.1;
-      p = p;
-      p-is = in_file_ok Pipe (typed_machine no_names [] pipe.items) p b.1;
-      s = s;
-      s-is = in_file_ok Spec (typed_machine p.typed.names p.symbols spec.items) s c.1;
-      i = e.0;
-      i-is = in_file_ok Inv (typed_inv (shared_names p.typed.names s.typed.names) inv) e.0 e.1;
-      across = is_across p.typed.names spec.items (none_of (across_faults p.typed.names spec.items) g.0 (in_file_ok Spec (without_faults (across_faults p.typed.names spec.items)) g.0 g.1));
-      d-is = cc g.2;
-    }
+module _ (pipe spec : AstView) (comp : Option CompView) (inv : Option InvView) (j : JoinedView) where
+  abbrev Made : Type 0
+  Made = Result JoinedView FileFault
 
-pub joined_lawful : (pipe spec : AstView) (inv : Option InvView) (d : DesignView) → IsMachineFile Pipeline pipe → IsMachineFile Specification spec → IfSome inv IsInvFile → joined pipe spec inv ≡ Ok d → IsLawful d
-joined_lawful pipe spec inv d pipe_file spec_file inv_given h =
-    let t = steps_of pipe spec inv d h in
+  -- what follows each step
+  abbrev after_inv : TypedMachine → TypedMachine → AbstractionView → TypedInv → Made
+  after_inv p s a i = in_file Spec (without_faults (across_faults p.typed.names spec.items)) >>= λ last. Ok (record { design = assembled pipe.items p s i; abs = a })
+
+  abbrev after_comp : TypedMachine → TypedMachine → AbstractionView → Made
+  after_comp p s a = in_file Inv (typed_inv (shared_names p.typed.names s.typed.names) inv) >>= after_inv p s a
+
+  abbrev after_spec : TypedMachine → TypedMachine → Made
+  after_spec p s = in_file Comp (typed_completion (shared_names p.typed.names s.typed.names) s.typed.names (length s.entries) comp) >>= after_comp p s
+
+  abbrev after_pipe : TypedMachine → Made
+  after_pipe p = in_file Spec (typed_machine p.typed.names p.symbols spec.items) >>= after_spec p
+
+  steps_of : joined_with pipe spec comp inv ≡ Ok j → Steps pipe spec comp inv j
+  unfolding joined_with
+  steps_of h =
+      let first = then_ok (declared pipe spec comp inv) (λ first. in_file Pipe (typed_machine no_names [] pipe.items) >>= after_pipe) j h in
+      let p = then_ok (in_file Pipe (typed_machine no_names [] pipe.items)) after_pipe j first.2 in
+      let s = then_ok (in_file Spec (typed_machine p.0.typed.names p.0.symbols spec.items)) (after_spec p.0) j p.2 in
+      let names = shared_names p.0.typed.names s.0.typed.names in
+      let a = then_ok (in_file Comp (typed_completion names s.0.typed.names (length s.0.entries) comp)) (after_comp p.0 s.0) j s.2 in
+      let i = then_ok (in_file Inv (typed_inv names inv)) (after_inv p.0 s.0 a.0) j a.2 in
+      let faults = across_faults p.0.typed.names spec.items in
+      let last = then_ok (in_file Spec (without_faults faults)) (λ last. Ok (record { design = assembled pipe.items p.0 s.0 i.0; abs = a.0 })) j i.2 in
+      record {
+        declared = declarations_fine pipe spec comp inv first.0 first.1;
+        p = p.0;
+        p-is = in_file_ok Pipe (typed_machine no_names [] pipe.items) p.0 p.1;
+        s = s.0;
+        s-is = in_file_ok Spec (typed_machine p.0.typed.names p.0.symbols spec.items) s.0 s.1;
+        a = a.0;
+        a-is = in_file_ok Comp (typed_completion names s.0.typed.names (length s.0.entries) comp) a.0 a.1;
+        i = i.0;
+        i-is = in_file_ok Inv (typed_inv names inv) i.0 i.1;
+        across = is_across p.0.typed.names spec.items (none_of faults last.0 (in_file_ok Spec (without_faults faults) last.0 last.1));
+        j-is = cc last.2;
+      }
+
+-- what a completion abstracts to, once the machine files are gone through
+module _ (pipe spec : AstView) (p s : TypedMachine) (i : TypedInv) (is : MachineIs s.symbols p.typed.names p.symbols spec.items s)
+    (fits : NamesFit (inv_names s.symbols (sorts_of p.entries) []) [] false (shared_names p.typed.names s.typed.names)) where
+  entry_stands : (q : List ℕ) (n : ℕ) (sort : Sort) → s.typed.names q ≡ Some (Entry n sort) → slice_get s.entries n ≡ Some (record { name = q; sort = sort })
+  entry_stands q n sort h = is.scope.back q (Entry n sort) (was_entry s.symbols p.typed.names p.symbols spec.items s is q n sort h)
+
+  entry_once : (n k : ℕ) (x y : entry.Entry) → slice_get s.entries n ≡ Some x → slice_get s.entries k ≡ Some y → x.name ≡ y.name → n ≡ k
+  entry_once n k x y at_n at_k same =
+      let other : is.names x.name ≡ Some (Entry k y.sort) = subst (λ q. is.names q ≡ Some (Entry k y.sort)) (sym same) (is.scope.entries_named k y at_k) in
+      let both : Some (Entry n x.sort) ≡ Some (Entry k y.sort) = sym (is.scope.entries_named n x at_n) ∙ other in
+      cc both
+
+  has_abstract : (comp : CompView) → completion_faults pipe spec comp ≡ [] → (n : ℕ) (x : entry.Entry) → slice_get s.entries n ≡ Some x → with_names no_texts (abstract_names comp) x.name ≡ true
+  has_abstract comp fine n x there =
+      at_place (λ (y : entry.Entry). with_names no_texts (abstract_names comp) y.name ≡ true) (filter_map declared_entry spec.items) n x
+      (entries_abstracted pipe spec comp fine) (subst (λ xs. slice_get xs n ≡ Some x) is.entries there)
+
+  abstraction_lawful : (comp : Option CompView) (a : AbstractionView) → IfSome comp IsCompFile → declared_comp pipe spec comp ≡ Ok (tt {0})
+      → typed_completion (shared_names p.typed.names s.typed.names) s.typed.names (length s.entries) comp ≡ Ok a → IsLawfulView (assembled pipe.items p s i) a
+  unfolding typed_completion
+  abstraction_lawful None a file fine h = let e : flushing ≡ a = cc h in subst (IsLawfulView (assembled pipe.items p s i)) e tt
+  abstraction_lawful (Some comp) a file fine h =
+      let names = shared_names p.typed.names s.typed.names in
+      let sorts = sorts_of p.entries in
+      let unset = replicate (length s.entries) (Truth false) in
+      let t = then_ok (typed_items false (start names 0) comp.lets) (λ t. typed_abstracts t.names s.typed.names unset comp.parts >>= λ parts. Ok (given t.locals parts)) a h in
+      let q = then_ok (typed_abstracts t.0.names s.typed.names unset comp.parts) (λ parts. Ok (given t.0.locals parts)) a t.2 in
+      let e : given t.0.locals q.0 ≡ a = cc q.2 in
+      let lets = items_are s.symbols sorts comp.lets (start names 0) t.0 (record { names = fits; flag_count = refl; lets = tt; limits = tt }) file.formed.lets file.limited.lets.each t.1 in
+      let parts = parts_have_sorts (inv_names s.symbols sorts t.0.locals) t.0.flags t.0.names s.typed.names s.entries lets.0.names entry_stands entry_once comp.parts q.0 file.formed.parts file.limited.each
+      (has_abstract comp (none_of (completion_faults pipe spec comp) (tt {0}) fine)) q.1 in
+      subst (IsLawfulView (assembled pipe.items p s i)) e (record { lets = lets.0.lets; parts = parts })
+
+pub both_lawful : (pipe spec : AstView) (comp : Option CompView) (inv : Option InvView) (j : JoinedView) → IsMachineFile Pipeline pipe → IsMachineFile Specification spec → IfSome comp IsCompFile → IfSome inv IsInvFile
+    → joined_with pipe spec comp inv ≡ Ok j → IsLawful j.design × IsLawfulView j.design j.abs
+both_lawful pipe spec comp inv j pipe_file spec_file comp_given inv_given h =
+    let t = steps_of pipe spec comp inv j h in
     let spec_formed : AllByRecursion (IsItem places.Specification) spec.items = subst (λ k. AllByRecursion (IsItem (kind_place k)) spec.items) spec_file.kind-is spec_file.formed in
     let pipe_parts = parts_of (kind_place pipe.kind) pipe.items pipe_file.formed in
     let spec_parts = parts_of places.Specification spec.items spec_formed in
-    let alone = machine_is t.p.symbols no_names [] pipe.items t.p (λ q n a b no. absurd (cc no)) t.declared.0 (agree_alone pipe.items) pipe_parts pipe_file.limited t.p-is (λ n y there. there) in
+    let alone = machine_is t.p.symbols no_names [] pipe.items t.p (λ q n a b no. absurd (cc no)) t.declared.pipe-is (agree_alone pipe.items) pipe_parts pipe_file.limited t.p-is (λ n y there. there) in
     let stand = symbols_stand t.p.symbols no_names [] pipe.items t.p alone in
-    let s = machine_is t.s.symbols t.p.typed.names t.p.symbols spec.items t.s stand t.declared.1 t.across.agree spec_parts spec_file.limited t.s-is (λ n y there. there) in
-    let p = machine_is t.s.symbols no_names [] pipe.items t.p (λ q n a b no. absurd (cc no)) t.declared.0 (agree_alone pipe.items) pipe_parts pipe_file.limited t.p-is s.scope.kept in
+    let s = machine_is t.s.symbols t.p.typed.names t.p.symbols spec.items t.s stand t.declared.spec-is t.across.agree spec_parts spec_file.limited t.s-is (λ n y there. there) in
+    let p = machine_is t.s.symbols no_names [] pipe.items t.p (λ q n a b no. absurd (cc no)) t.declared.pipe-is (agree_alone pipe.items) pipe_parts pipe_file.limited t.p-is s.scope.kept in
     let names = shared_fit t.s.symbols (sorts_of t.p.entries) t.p.typed.locals t.s.typed.locals t.p.typed.flags t.s.typed.flags (sorts_of t.s.entries) (sorts_of (filter_map input_entry pipe.items)) (sorts_of (filter_map input_entry spec.items)) t.p.typed.names t.s.typed.names
     (fits_now (fixed_of t.s.symbols pipe.items t.p p.names) p.stands t.p.typed t.p.typed (given_of pipe.items) p.walk true)
     (fits_now (fixed_of t.s.symbols spec.items t.s s.names) s.stands t.s.typed t.s.typed (given_of spec.items) s.walk true) in
     let i = inv_is t.s.symbols (sorts_of t.p.entries) (shared_names t.p.typed.names t.s.typed.names) inv t.i names inv_given t.i-is in
-    subst IsLawful t.d-is (design_lawful pipe.items spec.items t.p t.s t.i p s i pipe_file.limited.count spec_file.limited.count pipe_parts (no_inputs spec.items spec_formed)
-    (subst (AllByRecursion (IsShared t.p.typed.names)) (sym s.entries) t.across.shared))
+    let shared = subst (AllByRecursion (IsShared t.p.typed.names)) (sym s.entries) t.across.shared in
+    subst (λ (k : JoinedView). IsLawful k.design × IsLawfulView k.design k.abs) t.j-is (
+      design_lawful pipe.items spec.items t.p t.s t.i p s i pipe_file.limited.count spec_file.limited.count pipe_parts (no_inputs spec.items spec_formed) shared,
+      abstraction_lawful pipe spec t.p t.s t.i s names comp t.a comp_given t.declared.comp-is t.a-is,
+    )
+
+pub joined_lawful : (pipe spec : AstView) (inv : Option InvView) (d : DesignView) → IsMachineFile Pipeline pipe → IsMachineFile Specification spec → IfSome inv IsInvFile → joined pipe spec inv ≡ Ok d → IsLawful d
+unfolding joined
+joined_lawful pipe spec inv d pipe_file spec_file inv_given h =
+    let j = then_ok (joined_with pipe spec None inv) (λ j. Ok j.design) d h in
+    let e : j.0.design ≡ d = cc j.2 in
+    subst IsLawful e (both_lawful pipe spec None inv j.0 pipe_file spec_file tt inv_given j.1).0

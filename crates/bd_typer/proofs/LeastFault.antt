@@ -1,11 +1,12 @@
 -- The first of several faults: the least of their offsets, and there the least of their codes.
-use Rattle.std.proofs.Common.{◌≡◌, ℕ, Bool, true, false, cond, List, [], ◌∷◌, ◌++◌, min, Option, Some, None, refl, ap, ◌∙◌, arith}
+use Rattle.std.proofs.Common.{◌≡◌, ℕ, Bool, true, false, cond, List, [], ◌∷◌, ◌++◌, map, min, Option, Some, None, refl, ap, sym, ◌∙◌, arith}
+use Rattle.std.proofs.lemmas.List.{append-nil}
 use Rattle.std.proofs.lemmas.Bool.Decides.{nat_tests}
 use Rattle.std.specs.Prelude.{◌||◌, ◌&&◌, ◌==◌, nat_lt, nat_le}
 use Rattle.bd_text.specs.declared.code.Code.{Code}
 use Rattle.bd_syntax.specs.Reading.{Fault}
 use Rattle.bd_typer.specs.Faults.{fault, faults_at, code_number, is_before, first_of, least}
-use Rattle.bd_typer.specs.inner.Located.{first_offset, least_offset, fault_at}
+use Rattle.bd_typer.specs.inner.Located.{first_offset, least_offset, at_tree, fault_at}
 
 pub first_offset-assoc : (a b c : Option ℕ) → first_offset a (first_offset b c) ≡ first_offset (first_offset a b) c
 first_offset-assoc None b c = refl
@@ -97,3 +98,16 @@ least-alone c xs = least-faults_at c xs ∙ alone (least_offset xs) where
   alone : (o : Option ℕ) → fault_at c o ≡ first_of (fault_at c o) None
   alone None = refl
   alone (Some a) = refl
+
+-- of faults of one code, and of another in two places
+pub least-others : (c d : Code) (xs ys zs : List ℕ) → least (faults_at c xs ++ (faults_at d ys ++ faults_at d zs))
+    ≡ first_of (fault_at c (least_offset xs)) (first_of (fault_at d (first_offset (least_offset ys) (least_offset zs))) None)
+least-others c d xs ys zs = ap (λ others. least (faults_at c xs ++ others)) (sym (append-nil (faults_at d ys ++ faults_at d zs))) ∙ least-three c d xs ys zs []
+
+-- faults that are all seen at the offset of the file's tree
+pub least-at_tree : {X : Type 0} (tree : ℕ) (f : X → ℕ) (xs : List X) → at_tree tree (least_offset (map f xs)) ≡ least_offset (map (λ (x : X). tree) xs)
+least-at_tree tree f [] = refl
+least-at_tree tree f (x ∷ xs) = by_rest (least_offset (map f xs)) (least_offset (map (λ x. tree) xs)) (least-at_tree tree f xs) where
+  by_rest : (o p : Option ℕ) → at_tree tree o ≡ p → at_tree tree (first_offset (Some (f x)) o) ≡ first_offset (Some tree) p
+  by_rest None p e = ap (first_offset (Some tree)) e
+  by_rest (Some y) p e = let same : tree ≡ min tree tree = omega arith in ap Some same ∙ ap (first_offset (Some tree)) e

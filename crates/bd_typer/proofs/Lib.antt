@@ -1,3 +1,4 @@
+pub mod Abstractions
 pub mod DeclaredNames
 pub mod DenotedLawful
 pub mod DenotesOnce

@@ -2,6 +2,8 @@
 use Rattle.std.proofs.Common.{◌≡◌, Some, Result, Ok, Err, refl, ap, subst}
 use Rattle.std.specs.Prelude.{ℕ, List, IfOk}
 use Rattle.bd_text.specs.Nodes.{Nodes}
+use Rattle.bd_syntax.specs.Completion.{IsCompAst, IsLimitedCompAst, completion_view}
+use Rattle.bd_syntax.specs.declared.ast.CompAst.{CompAst}
 use Rattle.bd_syntax.specs.Forms.{AstView, InvView, ast_view, invariant_view}
 use Rattle.bd_syntax.specs.Reading.{◌>>=◌, Fault, Gives, kind_place, kind_text, file_form, each_form, item_form, machine_form, invariant_form}
 use Rattle.bd_syntax.specs.WellFormed.{AreWithinLimits, IsAst, AreLimited, IsInvAst, IsLimitedInvAst}
@@ -13,7 +15,7 @@ use Rattle.bd_syntax.specs.declared.fault.FormFault.TheVariants as forms
 use Rattle.bd_syntax.proofs.WellFormed.{machine_holds, invariant_holds}
 use Rattle.bd_typer.specs.Denotes.{premise_form, premise_head}
 use Rattle.bd_typer.specs.declared.premise.Premise.{Premise}
-use Rattle.bd_typer.specs.Given.{IsMachineFile, IsInvFile}
+use Rattle.bd_typer.specs.Given.{IsMachineFile, IsCompFile, IsInvFile}
 
 first_step : {A B : Type 0} (r : Result A Fault) (f : A → Result B Fault) (y : B) → (r >>= f) ≡ Ok y → (x : A) × (f x ≡ Ok y)
 first_step (Ok x) f y h = (x, h)
@@ -52,3 +54,7 @@ pub third_gives : (premise : Premise) (trees : Nodes) (read : Result InvAst Form
 third_gives premise trees (Ok inv) h = rw h refl
 third_gives premise trees (Err forms.Memory) h = tt
 third_gives premise trees (Err (forms.Bad offset code)) h = rw h refl
+
+pub comp_formed : (read : Result CompAst FormFault) → IfOk read (λ comp. IsCompAst (completion_view comp)) → IfOk read (λ comp. IsLimitedCompAst (completion_view comp)) → IfOk read (λ comp. IsCompFile (completion_view comp))
+comp_formed (Ok comp) formed limited = record { formed = formed; limited = limited }
+comp_formed (Err fault) formed limited = tt

@@ -5,9 +5,12 @@ use Rattle.std.proofs.lemmas.List.{at_drop_more}
 use Rattle.std.specs.Option.{option_map}
 use Rattle.std.specs.Borrow.{Bor}
 use Rattle.std.specs.List.{cons_option}
+use Rattle.bd_syntax.specs.Completion.{abstract_view}
 use Rattle.bd_syntax.specs.Forms.{ItemView, item_view}
+use Rattle.bd_syntax.specs.declared.ast.Abstract.{Abstract}
 use Rattle.bd_syntax.specs.declared.form.Spot.{Spot}
 use Rattle.bd_syntax.specs.declared.item.Item.{Item}
+use Rattle.bd_typer.specs.Completions.{abstract_name}
 use Rattle.bd_typer.specs.Declarations.{offsets}
 use Rattle.bd_typer.specs.Repeats.{NameSet, with_text, with_names, repeated, fresh}
 use Rattle.bd_typer.specs.inner.Located.{first_offset, least_offset}
@@ -68,23 +71,32 @@ names-step f items i item name lt is e =
     ∙ ap (λ x. cons_option (f (item_view x)) (names_from f items (i + 1))) (sym is)
     ∙ given-names name (f (item_view item)) (names_from f items (i + 1)) e
 
--- one more item is gone through
-module _ (f : ItemView → Option Spot) (items : List Item) (i : ℕ) (item : Item) (name : Option (Bor Spot)) (lt : i < length items) (is : item ≡ get_or items i item) (e : option_map (λ n. n.now) name ≡ f (item_view item)) (t u : NameSet) (same : u ≡ with_names t (given name)) (a b total : Option ℕ) where
-  pub repeated-more : b ≡ first_offset a (least_offset (offsets (repeated t (given name))))
-      → first_offset a (least_offset (offsets (repeated t (names_from f items i)))) ≡ total
-      → first_offset b (least_offset (offsets (repeated u (names_from f items (i + 1))))) ≡ total
+-- the names of the abstracts from a place on
+abbrev pub abstracts_from : List Abstract → ℕ → List Spot
+abstracts_from parts i = map abstract_name (map abstract_view (drop i parts))
+
+pub abstracts-step : (parts : List Abstract) (i : ℕ) (part : Abstract) → i < length parts → part ≡ get_or parts i part → abstracts_from parts i ≡ part.name ∷ abstracts_from parts (i + 1)
+abstracts-step parts i part lt is =
+    at_drop_more (λ xs. map abstract_name (map abstract_view xs)) parts i part lt
+    ∙ ap (λ (x : Abstract). x.name ∷ abstracts_from parts (i + 1)) (sym is)
+
+-- one more name is gone through, where these are the names to come before it and after it
+module _ (names now rest : List Spot) (step : now ≡ names ++ rest) (t u : NameSet) (same : u ≡ with_names t names) (a b total : Option ℕ) where
+  pub repeated-more : b ≡ first_offset a (least_offset (offsets (repeated t names)))
+      → first_offset a (least_offset (offsets (repeated t now))) ≡ total
+      → first_offset b (least_offset (offsets (repeated u rest))) ≡ total
   repeated-more is_b so_far =
-      rw (is_b, same) (sym (repeated-step t (given name) (names_from f items (i + 1)) a)
-      ∙ ap (λ xs. first_offset a (least_offset (offsets (repeated t xs)))) (sym (names-step f items i item name lt is e)) ∙ so_far)
+      rw (is_b, same) (sym (repeated-step t names rest a)
+      ∙ ap (λ xs. first_offset a (least_offset (offsets (repeated t xs)))) (sym step) ∙ so_far)
 
-  pub fresh-more : b ≡ first_offset a (least_offset (offsets (fresh t (given name))))
-      → first_offset a (least_offset (offsets (fresh t (names_from f items i)))) ≡ total
-      → first_offset b (least_offset (offsets (fresh u (names_from f items (i + 1))))) ≡ total
+  pub fresh-more : b ≡ first_offset a (least_offset (offsets (fresh t names)))
+      → first_offset a (least_offset (offsets (fresh t now))) ≡ total
+      → first_offset b (least_offset (offsets (fresh u rest))) ≡ total
   fresh-more is_b so_far =
-      rw (is_b, same) (sym (fresh-step t (given name) (names_from f items (i + 1)) a)
-      ∙ ap (λ xs. first_offset a (least_offset (offsets (fresh t xs)))) (sym (names-step f items i item name lt is e)) ∙ so_far)
+      rw (is_b, same) (sym (fresh-step t names rest a)
+      ∙ ap (λ xs. first_offset a (least_offset (offsets (fresh t xs)))) (sym step) ∙ so_far)
 
-  pub set-more : (all : NameSet) → with_names t (names_from f items i) ≡ all → with_names u (names_from f items (i + 1)) ≡ all
+  pub set-more : (all : NameSet) → with_names t now ≡ all → with_names u rest ≡ all
   set-more all so_far =
-      rw same (sym (with_names-append t (given name) (names_from f items (i + 1)))
-      ∙ ap (with_names t) (sym (names-step f items i item name lt is e)) ∙ so_far)
+      rw same (sym (with_names-append t names rest)
+      ∙ ap (with_names t) (sym step) ∙ so_far)

@@ -210,20 +210,21 @@ pub record WalkIs (f : Fixed) (final t : Typed) (given : NameSet) : Type 0 where
   pub next_count : length t.nexts ≡ length f.entries
   pub nexts : (q : List ℕ) (n : ℕ) (s : Sort) → given q ≡ true → f.names q ≡ Some (Entry n s) → IsTyped (context f final.locals) final.flags true s (next_at t n)
 
+-- a name that is that of an entry
+pub named_entry : (offset : ℕ) (m : Option Meaning) (v : ℕ × Sort) → entry_named offset m ≡ Ok v → m ≡ Some (Entry v.0 v.1)
+named_entry offset (Some (Entry n s)) v h = let e : (n, s) ≡ v = cc h in ap (λ (w : ℕ × Sort). Some (Entry w.0 w.1)) e
+named_entry offset (Some (Input n s)) v h = absurd (cc h)
+named_entry offset (Some (Symbol n a b)) v h = absurd (cc h)
+named_entry offset (Some (Local n s u)) v h = absurd (cc h)
+named_entry offset (Some Later) v h = absurd (cc h)
+named_entry offset None v h = absurd (cc h)
+
 -- a name of an entry meant it before
 entry_meant : (f : Fixed) (names : NameMap) (locals : List LocalView) (flags : List Bool) → NamesAre f names locals flags → (offset : ℕ) (q : List ℕ) (v : ℕ × Sort) → entry_named offset (names q) ≡ Ok v → f.names q ≡ Some (Entry v.0 v.1)
 entry_meant f names locals flags are offset q v h = ⊎_elim
-    (λ (p : names q ≡ f.names q). is_entry (f.names q) (subst (λ m. entry_named offset m ≡ Ok v) p h))
+    (λ (p : names q ≡ f.names q). named_entry offset (f.names q) v (subst (λ m. entry_named offset m ≡ Ok v) p h))
     (λ p. absurd (no_let (names q) h p))
     (are q) where
-      is_entry : (m : Option Meaning) → entry_named offset m ≡ Ok v → m ≡ Some (Entry v.0 v.1)
-      is_entry (Some (Entry n s)) h = let e : (n, s) ≡ v = cc h in ap (λ (w : ℕ × Sort). Some (Entry w.0 w.1)) e
-      is_entry (Some (Input n s)) h = absurd (cc h)
-      is_entry (Some (Symbol n a b)) h = absurd (cc h)
-      is_entry (Some (Local n s u)) h = absurd (cc h)
-      is_entry (Some Later) h = absurd (cc h)
-      is_entry None h = absurd (cc h)
-
       no_let : (m : Option Meaning) → entry_named offset m ≡ Ok v → IsLetNow f locals flags q m → ⊥
       no_let (Some (Entry n s)) h p = p
       no_let (Some (Input n s)) h p = p

@@ -1,5 +1,5 @@
 -- The design that files denote, or their first fault: the passes follow each other, and each goes over the
--- pipeline, the specification and the invariant. The language is this project's own.
+-- pipeline, the specification, a completion and the invariant. The language is this project's own.
 use Rattle.std.specs.Prelude.{ℕ, true, false, List, [], ◌∷◌, ◌++◌, map, length, replicate, Option, Some, None, Result, Ok}
 use Rattle.std.specs.List.{filter_map}
 use Rattle.bd_abstraction.specs.Abstraction.{AbstractionView, flushing, given, abstraction_view}
@@ -34,17 +34,11 @@ abbrev pub declared_comp : AstView → AstView → Option CompView → Result (U
 declared_comp pipe spec None = Ok (tt {0})
 declared_comp pipe spec (Some comp) = without_faults (completion_faults pipe spec comp)
 
-unfoldable pub declared_with : AstView → AstView → Option CompView → Option InvView → Result (Unit {0}) FileFault
-declared_with pipe spec comp inv = do
+unfoldable pub declared : AstView → AstView → Option CompView → Option InvView → Result (Unit {0}) FileFault
+declared pipe spec comp inv = do
   first ← in_file Pipe (without_faults (declaration_faults pipe))
   second ← in_file Spec (without_faults (declaration_faults spec))
   third ← in_file Comp (declared_comp pipe spec comp)
-  in_file Inv (declared_inv pipe spec inv)
-
-unfoldable pub declared : AstView → AstView → Option InvView → Result (Unit {0}) FileFault
-declared pipe spec inv = do
-  first ← in_file Pipe (without_faults (declaration_faults pipe))
-  second ← in_file Spec (without_faults (declaration_faults spec))
   in_file Inv (declared_inv pipe spec inv)
 
 -- ---- expressions
@@ -140,16 +134,6 @@ assembled items pipe spec inv = record {
   distinct = pipe.typed.distinct ++ spec.typed.distinct;
 }
 
--- the design of files, or their first fault
-unfoldable pub joined : AstView → AstView → Option InvView → Result DesignView FileFault
-joined pipe spec inv = do
-  first ← declared pipe spec inv
-  p ← in_file Pipe (typed_machine no_names [] pipe.items)
-  s ← in_file Spec (typed_machine p.typed.names p.symbols spec.items)
-  i ← in_file Inv (typed_inv (shared_names p.typed.names s.typed.names) inv)
-  last ← in_file Spec (without_faults (across_faults p.typed.names spec.items))
-  Ok (assembled pipe.items p s i)
-
 -- a design, and what its states stand for
 pub record JoinedView : Type 0 where
   pub design : DesignView
@@ -161,7 +145,7 @@ joined_view j = record { design = design_view j.design; abs = abstraction_view j
 -- the design and the abstraction of files, or their first fault
 unfoldable pub joined_with : AstView → AstView → Option CompView → Option InvView → Result JoinedView FileFault
 joined_with pipe spec comp inv = do
-  first ← declared_with pipe spec comp inv
+  first ← declared pipe spec comp inv
   p ← in_file Pipe (typed_machine no_names [] pipe.items)
   s ← in_file Spec (typed_machine p.typed.names p.symbols spec.items)
   a ← in_file Comp (typed_completion (shared_names p.typed.names s.typed.names) s.typed.names (length s.entries) comp)
@@ -169,6 +153,12 @@ joined_with pipe spec comp inv = do
   last ← in_file Spec (without_faults (across_faults p.typed.names spec.items))
   Ok (record { design = assembled pipe.items p s i; abs = a })
 
--- where a completion is given
+-- the design where no completion is given
+unfoldable pub joined : AstView → AstView → Option InvView → Result DesignView FileFault
+joined pipe spec inv = do
+  j ← joined_with pipe spec None inv
+  Ok j.design
+
+-- both where one is given
 abbrev pub joined_completion : AstView → AstView → CompView → Option InvView → Result JoinedView FileFault
 joined_completion pipe spec comp inv = joined_with pipe spec (Some comp) inv

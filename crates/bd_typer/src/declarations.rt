@@ -5,19 +5,21 @@
 ghost use Rattle.std.specs.Prelude.{◌≡◌, OnOk, IfOk, List, Some, None, map};
 ghost use Rattle.std.specs.List.{filter_map};
 ghost use Rattle.std.specs.Option.{option_map};
+ghost use Rattle.bd_syntax.specs.Completion.{abstract_view, completion_view};
 ghost use Rattle.bd_syntax.specs.Forms.{item_view, ast_view, invariant_view};
 ghost use Rattle.bd_syntax.specs.Reading.{Gives};
-ghost use Rattle.bd_typer.specs.Declarations.{count_faults, declaration_faults, invariant_faults, not_once, offsets};
+ghost use Rattle.bd_typer.specs.Completions.{abstract_name, completion_faults};
+ghost use Rattle.bd_typer.specs.Declarations.{count_faults, declaration_faults, declared_name, invariant_faults, not_once, offsets, taken_names};
 ghost use Rattle.bd_text.specs.declared.code.Code.TheVariants.{DeclaredTwice, MissingOrTwice, FlushOrSteps};
 ghost use Rattle.bd_typer.specs.Faults.{first_of, least, refused_by, without_faults};
 ghost use Rattle.bd_typer.specs.Joined.{first_count};
 ghost use Rattle.bd_typer.specs.Repeats.{with_names, repeated, fresh};
 ghost use Rattle.bd_typer.specs.inner.Held.{members};
-ghost use Rattle.bd_typer.specs.inner.Located.{fault_at, first_offset, least_offset};
+ghost use Rattle.bd_typer.specs.inner.Located.{at_tree, fault_at, first_offset, least_offset};
 ghost use Rattle.bd_typer.specs.inner.Roles.{role_name, count_offset, counted_with, given, item_count};
 
 use crate::names::NameSet;
-use bd_syntax::{Ast, FormFault, InvAst, Item, Kind, Spot, bad};
+use bd_syntax::{Abstract, Ast, CompAst, FormFault, InvAst, Item, Kind, Spot, bad};
 use bd_text::Code;
 use std::alloc::{AllocError, Global};
 
@@ -158,6 +160,36 @@ fn scan<'a>(texts: &mut NameSet<'a>, role: Role, items: &'a [Item]) -> Result<Sc
     Ok(scanned)
 }
 
+/// Adds the names of abstracts to a set.
+fn scan_abstracts<'a>(
+    texts: &mut NameSet<'a>,
+    parts: &'a [Abstract],
+) -> Result<Option<usize>, AllocError>
+    ensures repeated { IfOk result (λ again. again ≡ least_offset (offsets
+        (repeated (members texts.old) (map abstract_name (map abstract_view parts.now))))) }
+    ensures set { OnOk result (members texts.new
+        ≡ with_names (members texts.old) (map abstract_name (map abstract_view parts.now))) }
+{
+    let mut scanned = Scanned {
+        repeated: None,
+        fresh: None,
+    };
+    for part in parts {
+        scanned = see(texts, scanned, Some(&part.name))?;
+    }
+    Ok(scanned.repeated)
+}
+
+/// The offset of a file's tree, where something is missing.
+fn at_tree(tree: usize, missing: Option<usize>) -> Option<usize>
+    ensures { result ≡ at_tree tree missing }
+{
+    match missing {
+        Some(_) => Some(tree),
+        None => None,
+    }
+}
+
 /// What was given so far of what must stand once: whether it was, and the least offset at which it was again.
 #[derive(Clone, Copy)]
 pub struct Counted {
@@ -250,14 +282,49 @@ pub fn test_machine(alloc: Global, ast: &Ast) -> Result<(), FormFault>
     refuse(twice, first_offset(again, without), counts(ast))
 }
 
+/// The least offset of the names that lets declare after the names that they may not.
+fn taken_twice(
+    alloc: Global,
+    pipe: &Ast,
+    spec: &Ast,
+    lets: &[Item],
+) -> Result<Option<usize>, AllocError>
+    ensures { IfOk result (λ twice. twice ≡ least_offset (offsets
+        (repeated (taken_names (ast_view pipe.now) (ast_view spec.now))
+        (filter_map declared_name (map item_view lets.now))))) }
+{
+    let mut taken = NameSet::new(alloc);
+    scan(&mut taken, Role::Declared, pipe.items.as_slice())?;
+    scan(&mut taken, Role::Symbol, spec.items.as_slice())?;
+    Ok(scan(&mut taken, Role::Declared, lets)?.repeated)
+}
+
+/// Tests the declarations of a completion file.
+pub fn test_completion(
+    alloc: Global,
+    pipe: &Ast,
+    spec: &Ast,
+    comp: &CompAst,
+) -> Result<(), FormFault>
+    ensures { Gives (λ _. tt {0}) result (without_faults
+        (completion_faults (ast_view pipe.now) (ast_view spec.now) (completion_view comp.now))) }
+{
+    let twice = taken_twice(alloc, pipe, spec, comp.lets.as_slice())?;
+    let mut abstracted = NameSet::new(alloc);
+    let again = scan_abstracts(&mut abstracted, comp.parts.as_slice())?;
+    let missing = scan(&mut abstracted, Role::Entry, spec.items.as_slice())?.fresh;
+    refuse(
+        twice,
+        first_offset(again, at_tree(comp.offset, missing)),
+        None,
+    )
+}
+
 /// Tests the declarations of an invariant file.
 pub fn test_invariant(alloc: Global, pipe: &Ast, spec: &Ast, inv: &InvAst) -> Result<(), FormFault>
     ensures { Gives (λ _. tt {0}) result (without_faults
         (invariant_faults (ast_view pipe.now) (ast_view spec.now) (invariant_view inv.now))) }
 {
-    let mut taken = NameSet::new(alloc);
-    scan(&mut taken, Role::Declared, pipe.items.as_slice())?;
-    scan(&mut taken, Role::Symbol, spec.items.as_slice())?;
-    let twice = scan(&mut taken, Role::Declared, inv.items.as_slice())?.repeated;
+    let twice = taken_twice(alloc, pipe, spec, inv.items.as_slice())?;
     refuse(twice, None, None)
 }

@@ -8,21 +8,25 @@ ghost use Rattle.bd_text.specs.View.{nodes_of};
 ghost use Rattle.bd_abstraction.specs.Abstraction.{IsLawfulAbstraction};
 ghost use Rattle.bd_model.specs.DesignView.{design_view};
 ghost use Rattle.bd_model.specs.Lawful.{IsLawful};
+ghost use Rattle.bd_syntax.specs.Completion.{completion_form, completion_view};
 ghost use Rattle.bd_syntax.specs.Forms.{ast_view, invariant_view};
 ghost use Rattle.bd_syntax.specs.Reading.{machine_form};
 ghost use Rattle.bd_syntax.specs.WellFormed.{AreWithinLimits};
-ghost use Rattle.bd_typer.specs.declared.fault.Text.TheVariants.{Inv, Start};
-ghost use Rattle.bd_typer.specs.Denotes.{Denotes, DenotesCompleted, DenotesWith, OnDesign, OnJoined, design_of_trees, premise_file, premise_form};
+ghost use Rattle.bd_typer.specs.declared.fault.Text.TheVariants.{Comp, Inv, Start};
+ghost use Rattle.bd_typer.specs.Denotes.{Denotes, DenotesCompleted, DenotesWith, OnDesign, OnJoined, completed_of_trees, design_of_trees, premise_file, premise_form};
 ghost use Rattle.bd_typer.specs.Faults.{GivesIn, in_file};
-ghost use Rattle.bd_typer.specs.Given.{IsInvFile, IsMachineFile};
+ghost use Rattle.bd_typer.specs.Given.{IsCompFile, IsInvFile, IsMachineFile};
+ghost use Rattle.bd_typer.specs.Joined.{joined_view};
 ghost use Rattle.bd_typer.specs.inner.Located.{OnText};
 
 use crate::fault::{DesignFault, Text, TypeFault, located, text_located};
-use crate::joining::{Joined, join};
+use crate::joining::{Joined, join, join_completion};
 use crate::premise::{Premise, with_premise};
 use bd_model::Design;
 use bd_syntax::laws::reads_within_limits;
-use bd_syntax::{Ast, InvAst, Kind, read_invariant, read_machine, read_start};
+use bd_syntax::{
+    Ast, CompAst, InvAst, Kind, read_completion, read_invariant, read_machine, read_start,
+};
 use bd_text::{Trees, read_trees};
 use std::alloc::Global;
 
@@ -48,6 +52,16 @@ fn machine(alloc: Global, file: Text, trees: &Trees, kind: Kind) -> Result<Ast, 
     ensures formed { IfOk result (λ ast. IsMachineFile kind (ast_view ast)) }
 {
     located(file, read_machine(alloc, trees, kind))
+}
+
+/// The forms of a completion's trees.
+fn completion(alloc: Global, trees: &Trees) -> Result<CompAst, TypeFault>
+    requires { AreWithinLimits (nodes_of trees.now) }
+    ensures exact { GivesIn completion_view result
+        (in_file Comp (completion_form (nodes_of trees.now))) }
+    ensures formed { IfOk result (λ comp. IsCompFile (completion_view comp)) }
+{
+    located(Text::Comp, read_completion(alloc, trees))
 }
 
 /// The forms of an invariant's trees.
@@ -174,6 +188,38 @@ pub fn design_of(
     design_with(alloc, pipe, spec, Premise::Invariant, inv)
 }
 
+/// The design and the abstraction that trees denote.
+#[tactic(auto, unfolding(crate::specs::Denotes::completed_of_trees))]
+fn completed_of_trees(
+    alloc: Global,
+    pipe: &Trees,
+    spec: &Trees,
+    comp: &Trees,
+    inv: Option<&Trees>,
+) -> Result<Joined, TypeFault>
+    requires pipe { AreWithinLimits (nodes_of pipe.now) }
+    requires spec { AreWithinLimits (nodes_of spec.now) }
+    requires comp { AreWithinLimits (nodes_of comp.now) }
+    requires inv { IfSome inv (λ inv. AreWithinLimits (nodes_of inv.now)) }
+    ensures exact { GivesIn joined_view result (completed_of_trees (nodes_of pipe.now)
+        (nodes_of spec.now) (nodes_of comp.now)
+        (option_map (λ inv. nodes_of inv.now) inv.entry)) }
+    ensures lawful { IfOk result (λ joined. IsLawful (design_view joined.design)) }
+    ensures abstraction { IfOk result
+        (λ joined. IsLawfulAbstraction (design_view joined.design) joined.abs) }
+{
+    let pipe = machine(alloc, Text::Pipe, pipe, Kind::Pipeline)?;
+    let spec = machine(alloc, Text::Spec, spec, Kind::Specification)?;
+    let comp = completion(alloc, comp)?;
+    match inv {
+        None => join_completion(alloc, &pipe, &spec, &comp, None),
+        Some(inv) => {
+            let inv = invariant(alloc, inv)?;
+            join_completion(alloc, &pipe, &spec, &comp, Some(&inv))
+        }
+    }
+}
+
 /// The design and the abstraction that texts of at most 1,048,576 bytes denote, or their first fault: a pipeline, a
 /// specification, a completion, which is taken before the invariant in each pass, and an invariant.
 pub fn completed_design(
@@ -193,5 +239,14 @@ pub fn completed_design(
     ensures abstraction { IfOk result
         (λ joined. IsLawfulAbstraction (design_view joined.design) joined.abs) }
 {
-    Err(TypeFault::Memory)
+    let pipe = trees(alloc, Text::Pipe, pipe)?;
+    let spec = trees(alloc, Text::Spec, spec)?;
+    let comp = trees(alloc, Text::Comp, comp)?;
+    match inv {
+        None => completed_of_trees(alloc, &pipe, &spec, &comp, None),
+        Some(inv) => {
+            let inv = trees(alloc, Text::Inv, inv)?;
+            completed_of_trees(alloc, &pipe, &spec, &comp, Some(&inv))
+        }
+    }
 }

@@ -9,25 +9,26 @@ ghost use Rattle.bd_model.specs.ExprView.{Truth, expr_view};
 ghost use Rattle.bd_model.specs.Lawful.{IsLawful};
 ghost use Rattle.bd_model.specs.declared.design.Entry.{Entry};
 ghost use Rattle.bd_model.specs.declared.design.Symbol.{Symbol};
-ghost use Rattle.bd_syntax.specs.Completion.{completion_view};
+ghost use Rattle.bd_syntax.specs.Completion.{IsLimitedCompAst, completion_view};
 ghost use Rattle.bd_syntax.specs.Forms.{ast_view, invariant_view, item_view};
 ghost use Rattle.bd_syntax.specs.Reading.{Gives};
 ghost use Rattle.bd_syntax.specs.WellFormed.{IsLimitedInvAst};
 ghost use Rattle.bd_syntax.specs.declared.ast.Kind.TheVariants.{Pipeline, Specification};
 ghost use Rattle.bd_typer.specs.Faults.{GivesIn};
 ghost use Rattle.bd_typer.specs.Given.{IsCompFile, IsInvFile, IsMachineFile};
-ghost use Rattle.bd_typer.specs.Joined.{assembled, declared, entry_place, joined, joined_completion, joined_view, machine_of, start, typed_inv, typed_machine};
+ghost use Rattle.bd_typer.specs.Joined.{assembled, declared, declared_comp, entry_place, joined, joined_completion, joined_view, joined_with, machine_of, typed_inv, typed_machine};
 ghost use Rattle.bd_typer.specs.inner.Held.{inv_view, machine_view, meanings, meanings_within, typed_view};
 ghost use Rattle.bd_typer.specs.NameMap.{shared_names};
 ghost use Rattle.bd_typer.specs.Walk.{typed_items};
 
 use crate::across::test_across;
-use crate::declarations::{Once, first_count, test_invariant, test_machine};
+use crate::completions::typed_completion;
+use crate::declarations::{Once, first_count, test_completion, test_invariant, test_machine};
 use crate::expression::expression;
 use crate::fault::{Text, TypeFault, located};
 use crate::names::{Meaning, NameMap, Outer};
 use crate::scope::{Scope, scope_of};
-use crate::walk::Typed;
+use crate::walk::{Typed, start};
 use bd_abstraction::Abstraction;
 use bd_model::{
     Design, Distinct, Entries, Exacts, Expr, Exprs, Locals, Machine, Places, Ports, Sort, Symbols,
@@ -35,44 +36,42 @@ use bd_model::{
 use bd_syntax::{Ast, CompAst, FormFault, InvAst, Item};
 use std::alloc::{AllocError, Global};
 
+/// Tests the declarations of a completion, if one is given.
+fn test_given(
+    alloc: Global,
+    pipe: &Ast,
+    spec: &Ast,
+    comp: Option<&CompAst>,
+) -> Result<(), FormFault>
+    ensures { Gives (λ _. tt {0}) result (declared_comp (ast_view pipe.now) (ast_view spec.now)
+        (option_map (λ comp. completion_view comp.now) comp.entry)) }
+{
+    match comp {
+        Some(comp) => test_completion(alloc, pipe, spec, comp),
+        None => Ok(()),
+    }
+}
+
 /// Tests the declarations of the files.
 #[tactic(auto, unfolding(crate::specs::Joined::declared))]
 fn test_declared(
     alloc: Global,
     pipe: &Ast,
     spec: &Ast,
+    comp: Option<&CompAst>,
     inv: Option<&InvAst>,
 ) -> Result<(), TypeFault>
     ensures { GivesIn (λ _. tt {0}) result (declared (ast_view pipe.now) (ast_view spec.now)
+        (option_map (λ comp. completion_view comp.now) comp.entry)
         (option_map (λ inv. invariant_view inv.now) inv.entry)) }
 {
     located(Text::Pipe, test_machine(alloc, pipe))?;
     located(Text::Spec, test_machine(alloc, spec))?;
+    located(Text::Comp, test_given(alloc, pipe, spec, comp))?;
     match inv {
         Some(inv) => located(Text::Inv, test_invariant(alloc, pipe, spec, inv)),
         None => Ok(()),
     }
-}
-
-/// A walk that begins, over a machine of so many entries.
-fn start<'a>(alloc: Global, names: NameMap<'a>, entries: usize) -> Result<Typed<'a>, AllocError>
-    ensures view { (outer : Option Outer) → IfOk result (λ t. typed_view outer t
-        ≡ start (meanings_within outer (meanings names.entry)) entries) }
-    ensures locals { IfOk result (λ t. length t.locals ≡ 0) }
-{
-    let mut nexts = Vec::new(alloc);
-    for _ in 0..entries {
-        nexts.push(Expr::Bool(false))?;
-    }
-    Ok(Typed {
-        names,
-        ports: Ports::new(alloc),
-        locals: Locals::new(alloc),
-        flags: Vec::new(alloc),
-        nexts,
-        exact: Exacts::new(alloc),
-        distinct: Distinct::new(alloc),
-    })
 }
 
 /// The items of a machine, gone through.
@@ -245,16 +244,31 @@ fn assembled(
     })
 }
 
-/// The design of files, or their first fault.
-#[tactic(auto, unfolding(crate::specs::Joined::joined))]
-fn joined_with(alloc: Global, pipe: &Ast, spec: &Ast, inv: Option<&InvAst>) -> Result<Design, TypeFault>
+/// A design, and what its states stand for.
+#[derive(Debug, PartialEq, Drop)]
+pub struct Joined {
+    pub design: Design,
+    pub abs: Abstraction,
+}
+
+/// The design and the abstraction of files, or their first fault.
+#[tactic(auto, unfolding(crate::specs::Joined::joined_with))]
+fn joined_with(
+    alloc: Global,
+    pipe: &Ast,
+    spec: &Ast,
+    comp: Option<&CompAst>,
+    inv: Option<&InvAst>,
+) -> Result<Joined, TypeFault>
     requires pipe { length pipe.now.items ≤ 1048576 }
     requires spec { length spec.now.items ≤ 1048576 }
+    requires comp { IfSome comp (λ comp. IsLimitedCompAst (completion_view comp.now)) }
     requires inv { IfSome inv (λ inv. IsLimitedInvAst (invariant_view inv.now)) }
-    ensures { GivesIn design_view result (joined (ast_view pipe.now) (ast_view spec.now)
+    ensures { GivesIn joined_view result (joined_with (ast_view pipe.now) (ast_view spec.now)
+        (option_map (λ comp. completion_view comp.now) comp.entry)
         (option_map (λ inv. invariant_view inv.now) inv.entry)) }
 {
-    test_declared(alloc, pipe, spec, inv)?;
+    test_declared(alloc, pipe, spec, comp, inv)?;
     let pipe_items = pipe.items.as_slice();
     let spec_items = spec.items.as_slice();
     let mut symbols = Symbols::new(alloc);
@@ -263,10 +277,32 @@ fn joined_with(alloc: Global, pipe: &Ast, spec: &Ast, inv: Option<&InvAst>) -> R
     let pipe = located(Text::Pipe, typed)?;
     let typed = typed_machine(alloc, &pipe.typed.names, &mut symbols, spec_items);
     let spec = located(Text::Spec, typed)?;
+    let (names, entries) = (&spec.typed.names, spec.entries.len());
+    let typed = typed_completion(alloc, &pipe.typed.names, names, entries, comp);
+    let abs = located(Text::Comp, typed)?;
     let typed = typed_inv(alloc, &pipe.typed.names, &spec.typed.names, inv);
     let inv = located(Text::Inv, typed)?;
     located(Text::Spec, test_across(&pipe.typed.names, spec_items))?;
-    Ok(assembled(alloc, pipe_items, pipe, spec, symbols, inv)?)
+    let design = assembled(alloc, pipe_items, pipe, spec, symbols, inv)?;
+    Ok(Joined { design, abs })
+}
+
+/// The design of files without a completion, or their first fault.
+#[tactic(auto, unfolding(crate::specs::Joined::joined))]
+fn joined_design(
+    alloc: Global,
+    pipe: &Ast,
+    spec: &Ast,
+    inv: Option<&InvAst>,
+) -> Result<Design, TypeFault>
+    requires pipe { length pipe.now.items ≤ 1048576 }
+    requires spec { length spec.now.items ≤ 1048576 }
+    requires inv { IfSome inv (λ inv. IsLimitedInvAst (invariant_view inv.now)) }
+    ensures { GivesIn design_view result (joined (ast_view pipe.now) (ast_view spec.now)
+        (option_map (λ inv. invariant_view inv.now) inv.entry)) }
+{
+    let both = joined_with(alloc, pipe, spec, None, inv)?;
+    Ok(both.design)
 }
 
 /// The design that the forms of a pipeline, a specification and an invariant denote, or their first fault. The forms
@@ -292,14 +328,7 @@ pub fn join(
         (option_map (λ inv. invariant_view inv.now) inv.entry)) }
     ensures lawful { IfOk result (λ d. IsLawful (design_view d)) }
 {
-    joined_with(alloc, pipe, spec, inv)
-}
-
-/// A design, and what its states stand for.
-#[derive(Debug, PartialEq, Drop)]
-pub struct Joined {
-    pub design: Design,
-    pub abs: Abstraction,
+    joined_design(alloc, pipe, spec, inv)
 }
 
 /// The design and the abstraction that the forms of a pipeline, a specification, a completion and an invariant denote,
@@ -310,6 +339,7 @@ pub struct Joined {
 /// invariant's; `E12` is at its tree where a latch or memory of the specification has no `abstract`, and at the name of
 /// a second one; `E08` at a name that is no latch or memory of the specification. The expressions of the abstraction
 /// stand in the specification's order.
+#[tactic(auto, using(crate::proofs::GivenOnce::item_count))]
 pub fn join_completion(
     alloc: Global,
     pipe: &Ast,
@@ -328,5 +358,5 @@ pub fn join_completion(
     ensures abstraction { IfOk result
         (λ joined. IsLawfulAbstraction (design_view joined.design) joined.abs) }
 {
-    Err(TypeFault::Memory)
+    joined_with(alloc, pipe, spec, Some(comp), inv)
 }

@@ -8,6 +8,7 @@
 #![tactic(auto)]
 
 mod across;
+mod completions;
 mod declarations;
 mod design;
 mod expression;

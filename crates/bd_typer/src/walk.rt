@@ -1,14 +1,15 @@
 //! The expressions of a file, item by item.
 
-ghost use Rattle.std.specs.Prelude.{◌≡◌, ◌<◌, ◌≤◌, ◌+◌, ◌++◌, ◌∷◌, [], OnOk, length, map, set};
+ghost use Rattle.std.specs.Prelude.{◌≡◌, ◌<◌, ◌≤◌, ◌+◌, ◌++◌, ◌∷◌, [], IfOk, OnOk, Option, false, length, map, replicate, set};
 ghost use Rattle.bd_model.specs.Lawful.{uses_input};
 ghost use Rattle.bd_typer.specs.NameMap.{declare};
-ghost use Rattle.bd_model.specs.ExprView.{expr_view};
+ghost use Rattle.bd_model.specs.ExprView.{Truth, expr_view};
 ghost use Rattle.bd_syntax.specs.Forms.{expression_of, item_view};
 ghost use Rattle.bd_syntax.specs.Reading.{Gives};
+ghost use Rattle.bd_typer.specs.Joined.{start};
 ghost use Rattle.bd_typer.specs.Repeats.{no_texts};
 ghost use Rattle.bd_typer.specs.Walk.{constant_named, constants, entry_named, typed_distinct, typed_exact, typed_input, typed_item, typed_items, typed_let, typed_next};
-ghost use Rattle.bd_typer.specs.inner.Held.{lookup_names, meanings, typed_view};
+ghost use Rattle.bd_typer.specs.inner.Held.{lookup_names, meanings, meanings_within, typed_view};
 
 use crate::expression::expression;
 use crate::inputs::uses_input;
@@ -34,7 +35,7 @@ pub struct Typed<'a> {
 }
 
 /// The latch or memory of this name.
-fn entry_named(offset: usize, meaning: Option<Meaning>) -> Result<(u32, Sort), FormFault>
+pub fn entry_named(offset: usize, meaning: Option<Meaning>) -> Result<(u32, Sort), FormFault>
     ensures { Gives (λ p. p) result (entry_named offset meaning) }
 {
     match meaning {
@@ -83,16 +84,45 @@ fn constants(alloc: Global, names: Lookup<'_>, spots: &Spots) -> Result<Places, 
     Ok(Places::from_vec(group))
 }
 
-/// Sets the next value of an entry, if there is one of that number.
-#[tactic(auto, using(crate::proofs::Operations::map_set, crate::proofs::Operations::map_past))]
-fn set_next(nexts: &mut Vec<Expr>, number: usize, value: Expr)
-    ensures { map expr_view nexts.new.items
-        ≡ set (map expr_view nexts.old.items) number (expr_view value) }
+/// As many expressions as there are entries, each false before its item.
+pub fn unset(alloc: Global, entries: usize) -> Result<Vec<Expr>, AllocError>
+    ensures { IfOk result (λ values. map expr_view values.items
+        ≡ replicate entries (Truth false)) }
 {
-    if number >= nexts.len() {
+    let mut values = Vec::new(alloc);
+    for _ in 0..entries {
+        values.push(Expr::Bool(false))?;
+    }
+    Ok(values)
+}
+
+/// Sets the expression of an entry, if there is one of that number.
+#[tactic(auto, using(crate::proofs::Operations::map_set, crate::proofs::Operations::map_past))]
+pub fn set_entry(values: &mut Vec<Expr>, number: usize, value: Expr)
+    ensures { map expr_view values.new.items
+        ≡ set (map expr_view values.old.items) number (expr_view value) }
+{
+    if number >= values.len() {
         return;
     }
-    nexts[number] = value;
+    values[number] = value;
+}
+
+/// A walk that begins, over a machine of so many entries.
+pub fn start<'a>(alloc: Global, names: NameMap<'a>, entries: usize) -> Result<Typed<'a>, AllocError>
+    ensures view { (outer : Option Outer) → IfOk result (λ t. typed_view outer t
+        ≡ start (meanings_within outer (meanings names.entry)) entries) }
+    ensures locals { IfOk result (λ t. length t.locals ≡ 0) }
+{
+    Ok(Typed {
+        names,
+        ports: Ports::new(alloc),
+        locals: Locals::new(alloc),
+        flags: Vec::new(alloc),
+        nexts: unset(alloc, entries)?,
+        exact: Exacts::new(alloc),
+        distinct: Distinct::new(alloc),
+    })
 }
 
 impl<'a> Typed<'a> {
@@ -190,7 +220,7 @@ impl<'a> Typed<'a> {
         let meaning = self.lookup(outer).get(name.text.as_slice());
         let (number, sort) = entry_named(name.offset, meaning)?;
         let value = expression(alloc, self.lookup(outer), true, sort, value)?;
-        set_next(&mut self.nexts, number as usize, value);
+        set_entry(&mut self.nexts, number as usize, value);
         Ok(())
     }
 

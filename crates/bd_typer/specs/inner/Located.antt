@@ -37,6 +37,11 @@ abbrev pub least_offset : List ℕ → Option ℕ
 least_offset [] = None
 least_offset (a ∷ offsets) = first_offset (Some a) (least_offset offsets)
 
+-- the offset of a file's tree, where something is missing
+abbrev pub at_tree : ℕ → Option ℕ → Option ℕ
+at_tree tree None = None
+at_tree tree (Some missing) = Some tree
+
 -- the fault of a code at an offset, where there is one
 abbrev pub fault_at : Code → Option ℕ → Option Fault
 fault_at code offset = option_map (fault code) offset

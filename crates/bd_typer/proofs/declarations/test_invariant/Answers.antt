@@ -10,8 +10,6 @@ use Rattle.bd_typer.proofs.declarations.test_invariant.Goals as goal
 pub returns : goal.returns
 returns c =
     let taken = taken_names (ast_view c.args.pipe.now) (ast_view c.args.spec.now) in
-    let first = rw (c.new-taken.ensures, c.as_slice.ensures) at c.in_ok-scan.ensures.set in
-    let second = rw (first, c.as_slice-2.ensures) at c.in_ok-scan-2.ensures.set in
-    let twice = rw (second, c.as_slice-3.ensures) at c.in_ok-twice.ensures.repeated in
+    let twice = rw c.as_slice.ensures at c.in_ok-twice.ensures in
     let told = rw twice at c.refuse.ensures in
     rw (least-alone DeclaredTwice (offsets (repeated taken (filter_map declared_name (map item_view c.args.inv.now.items))))) told
