@@ -1,12 +1,12 @@
 -- What a completion abstracts to has its sorts: one expression for each entry of the specification.
-use Rattle.std.proofs.Common.{◌≡◌, ◌≢◌, ℕ, ◌+◌, ◌<◌, ◌≤◌, Bool, true, false, cond, List, [], ◌∷◌, length, map, set, get_or, Option, Some, None, Ok, refl, ap, sym, ◌∙◌, subst, arith, inl, inr}
+use Rattle.std.proofs.Common.{◌≡◌, ◌≢◌, ℕ, ◌<◌, Bool, true, false, cond, List, [], ◌∷◌, length, map, set, get_or, Some, Ok, refl, ap, sym, ◌∙◌, subst, arith, inl, inr}
 use Rattle.std.specs.Prelude.{◌⊎◌, slice_get, replicate}
 use Rattle.std.specs.List.{AllByRecursion, AllZip}
 use Rattle.std.proofs.lemmas.Bool.{cases_eq}
 use Rattle.std.proofs.lemmas.Option.{slice_get_within}
 use Rattle.std.proofs.lemmas.Grind.{get_or-set_at}
 use Rattle.std.proofs.lemmas.List.{get_or-set_other, length-replicate, length-set}
-use Rattle.bd_abstraction.specs.Abstraction.{AbstractionView, flushing, given, IsLawfulAbstraction, IsLawfulGiven, abstraction_view, context_after}
+use Rattle.bd_abstraction.specs.Abstraction.{AbstractionView, flushing, given, IsLawfulAbstraction, IsLawfulGiven, abstraction_view}
 use Rattle.bd_abstraction.specs.declared.abstraction.Abstraction.{Abstraction}
 use Rattle.bd_abstraction.specs.declared.abstraction.Abstraction.TheVariants as abstraction
 use Rattle.bd_model.specs.DesignView.{DesignView}

@@ -12,7 +12,7 @@ use Rattle.bd_syntax.specs.declared.form.Spot.{Spot}
 use Rattle.bd_typer.specs.Declarations.{entry_name, name_faults, offsets, taken_names}
 use Rattle.bd_typer.specs.Faults.{◌>>=◌, faults_at}
 use Rattle.bd_typer.specs.NameMap.{NameMap}
-use Rattle.bd_typer.specs.Repeats.{NameSet, no_texts, with_names, repeated, fresh}
+use Rattle.bd_typer.specs.Repeats.{no_texts, with_names, repeated, fresh}
 use Rattle.bd_typer.specs.Typing.{typed}
 use Rattle.bd_typer.specs.Walk.{entry_named}
 

@@ -1,6 +1,6 @@
 //! What a completion abstracts to.
 
-ghost use Rattle.std.specs.Prelude.{◌≡◌, IfSome, Some, false, length, map, replicate};
+ghost use Rattle.std.specs.Prelude.{IfSome, Some, false, map, replicate};
 ghost use Rattle.std.specs.Option.{option_map};
 ghost use Rattle.bd_abstraction.specs.Abstraction.{abstraction_view};
 ghost use Rattle.bd_model.specs.ExprView.{Truth, expr_view};

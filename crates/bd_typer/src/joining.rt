@@ -1,11 +1,10 @@
 //! Joining files to a design.
 
-ghost use Rattle.std.specs.Prelude.{◌≡◌, ◌≤◌, ◌+◌, ◌++◌, List, Option, Some, length, map, replicate, IfOk, IfSome, OnOk, true};
+ghost use Rattle.std.specs.Prelude.{◌≡◌, ◌≤◌, ◌+◌, ◌++◌, List, Option, Some, length, map, IfOk, IfSome, OnOk, true};
 ghost use Rattle.std.specs.List.{filter_map};
 ghost use Rattle.std.specs.Option.{option_map};
 ghost use Rattle.bd_abstraction.specs.Abstraction.{IsLawfulAbstraction};
 ghost use Rattle.bd_model.specs.DesignView.{design_view, machine_view as view_of};
-ghost use Rattle.bd_model.specs.ExprView.{Truth, expr_view};
 ghost use Rattle.bd_model.specs.Lawful.{IsLawful};
 ghost use Rattle.bd_model.specs.declared.design.Entry.{Entry};
 ghost use Rattle.bd_model.specs.declared.design.Symbol.{Symbol};
@@ -17,9 +16,8 @@ ghost use Rattle.bd_syntax.specs.declared.ast.Kind.TheVariants.{Pipeline, Specif
 ghost use Rattle.bd_typer.specs.Faults.{GivesIn};
 ghost use Rattle.bd_typer.specs.Given.{IsCompFile, IsInvFile, IsMachineFile};
 ghost use Rattle.bd_typer.specs.Joined.{assembled, declared, declared_comp, entry_place, joined, joined_completion, joined_view, joined_with, machine_of, typed_inv, typed_machine};
-ghost use Rattle.bd_typer.specs.inner.Held.{inv_view, machine_view, meanings, meanings_within, typed_view};
+ghost use Rattle.bd_typer.specs.inner.Held.{inv_view, machine_view, meanings};
 ghost use Rattle.bd_typer.specs.NameMap.{shared_names};
-ghost use Rattle.bd_typer.specs.Walk.{typed_items};
 
 use crate::across::test_across;
 use crate::completions::typed_completion;

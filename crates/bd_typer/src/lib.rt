@@ -1,6 +1,7 @@
-//! Names and sorts: from the forms of files to a design, or to their first fault.
+//! Names and sorts: from the forms of files to a design, and to what a completion abstracts to, or to their first
+//! fault.
 //!
-//! The files are gone through in passes. The declarations of all three come first, then their expressions, and then
+//! The files are gone through in passes. The declarations of all of them come first, then their expressions, and then
 //! the specification against the pipeline. What a file's names mean is a function of its items (`specs/Names.antt`), an
 //! expression is typed and built in one walk (`specs/Typing.antt`), and what files denote is one definition over these
 //! (`specs/Joined.antt`). Names are found in maps, and lists gone through by loops; only expressions are gone into by
