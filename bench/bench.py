@@ -3,7 +3,7 @@
 
 Each design has a row for each mode of `check`, the second with `--diverse`: what the program says; by `gdb`
 (`inside.py`), the time that it takes to read the design, to reduce the question to terms without memories and
-functions, to encode these as clauses, and for what comes behind, from the solver's start to the answer; its processor
+functions, to encode these as clauses, and for what comes after, from the solver's start to the answer; its processor
 time for all, both texts saved, and its peak memory; how many terms the question has, how many are left, and how many
 edges and triangles; the size of the formula that it kept; how many clauses it learned, and the size of the proof that
 it wrote; then the processor times of `minisat` and `cadical` on the kept formula, with their conflicts, and of `z3`
