@@ -1,9 +1,9 @@
 """Designs for `burch_dill` as Python programs, and what the program answers as data. For Python 3.9 or later.
 
 A design is written by calls. `Declarations` has what both machines declare; `Pipeline`, `Specification`, and
-`Invariant` or `Start` are the three files; expressions are values of the classes `Word`, `Bool` and `Memory`, one for each sort of
-the language (docs/LANGUAGE.md). A Python function over expressions serves as a macro, and `latches` and `memories` make
-arrays of entries. `text()` gives the file, laid out for a reader; the same calls give the same text.
+`Invariant` or `Start` are the three files; expressions are values of the classes `Word`, `Bool` and `Memory`, one for
+each sort of the language (docs/LANGUAGE.md). A Python function over expressions serves as a macro, and `latches` and
+`memories` make arrays of entries. `text()` gives the file, laid out for a reader; the same calls give the same text.
 
     both = Declarations()
     inc = both.function("inc", 1)
@@ -15,9 +15,9 @@ arrays of entries. `text()` gives the file, laid out for a reader; the same call
     spec.next(pc, inc(pc))
     print(check(pipe, spec).outcome.value)
 
-`check`, `replay`, `run`, `recheck`, `bounded` and `retrace` run the built program, once a call. Where a file is wanted (`Source`), a path
-from `pathlib` names a file, and a `str` or `bytes` is the text itself. The program is the argument `program`, else the
-environment's `BURCH_DILL`, else `burch_dill` on the path.
+`check`, `replay`, `run`, `recheck`, `bounded` and `retrace` run the built program, once a call. Where a file is wanted
+(`Source`), a path from `pathlib` names a file, and a `str` or `bytes` is the text itself. The program is the argument
+`program`, else the environment's `BURCH_DILL`, else `burch_dill` on the path.
 
 What is raised: `DesignError` where a design can't be written, `Fault` for the first fault of a file, `NoAnswer` where
 the program ends without an answer, all of them `BurchDillError`; and `subprocess.TimeoutExpired` where `timeout`
@@ -66,9 +66,9 @@ class NoAnswer(BurchDillError):
 class Fault(BurchDillError):
     """The first fault of a file: its code (`E08`), the code's text, and where it is.
 
-    `file` is `pipe`, `spec`, `inv`, `start`, `case`, `trail` or `proof`, `name` the path that was given, or the same word for a text.
-    `line` and `column` count from 1, columns in bytes; `offset` counts bytes from 0, and is None where the program
-    names a line and column itself, as it does for lines of proofs.
+    `file` is `pipe`, `spec`, `inv`, `start`, `case`, `trail` or `proof`, `name` the path that was given, or the same
+    word for a text. `line` and `column` count from 1, columns in bytes; `offset` counts bytes from 0, and is None where
+    the program names a line and column itself, as it does for lines of proofs.
     """
 
     def __init__(self, file: str, name: str, offset: Optional[int], line: int, column: int,
