@@ -2,8 +2,9 @@
 
 The program is stopped where it enters and leaves the calls below, which are found in its symbol table. In front of a
 call of `reached` the second argument is a graph of terms, which begins with the list of its nodes; in front of
-`triangles` it is an order, which begins with the list of its vertices, and then has that of its edges. A list is
-three words: where it lies, its length, and its room.
+`triangles` it is an order, which begins with the list of its vertices, and then has that of its edges; in front of
+`load` a formula, which begins with its number of variables, and then has the list of its clauses. A list is three
+words: where it lies, its length, and its room.
 """
 import json
 import os
@@ -20,7 +21,7 @@ PARTS = {
 
 
 def inside(command, limit):
-    """The processor seconds of each part, the terms of each graph and the edges, or nothing without `gdb`."""
+    """The processor seconds of each part, the terms of each graph, the edges and clauses, or nothing without `gdb`."""
     if shutil.which("gdb") is None:
         return {}
     with tempfile.TemporaryDirectory() as folder:
@@ -75,6 +76,7 @@ def watch(gdb):
     Stop("bd_app::verdict::verdict_answer", lambda: end("solve"))
     Stop("bd_terms::reach::reached", lambda: seen["terms"].append(word(register("rsi") + WORD)))
     Stop("bd_transitive::clauses::triangles", lambda: seen.update(edges=word(register("rsi") + 4 * WORD)))
+    Stop("bd_watch::watch::Watch::load", lambda: seen.update(clauses=word(register("rsi") + 2 * WORD)))
     gdb.execute("run")
     with open(os.environ["INSIDE"], "w") as file:
         json.dump(seen, file)

@@ -1,9 +1,10 @@
 """Designs for `burch_dill` as Python programs, and what the program answers as data. For Python 3.9 or later.
 
 A design is written by calls. `Declarations` has what both machines declare; `Pipeline`, `Specification`, and
-`Invariant` or `Start` are the three files; expressions are values of the classes `Word`, `Bool` and `Memory`, one for
-each sort of the language (docs/LANGUAGE.md). A Python function over expressions serves as a macro, and `latches` and
-`memories` make arrays of entries. `text()` gives the file, laid out for a reader; the same calls give the same text.
+`Invariant` or `Start` are the three files, beside which a `Completion` says what a state stands for; expressions are
+values of the classes `Word`, `Bool` and `Memory`, one for each sort of the language (docs/LANGUAGE.md). A Python
+function over expressions serves as a macro, and `latches` and `memories` make arrays of entries. `text()` gives the
+file, laid out for a reader; the same calls give the same text.
 
     both = Declarations()
     inc = both.function("inc", 1)
@@ -15,9 +16,9 @@ each sort of the language (docs/LANGUAGE.md). A Python function over expressions
     spec.next(pc, inc(pc))
     print(check(pipe, spec).outcome.value)
 
-`check`, `replay`, `run`, `recheck`, `bounded` and `retrace` run the built program, once a call. Where a file is wanted
-(`Source`), a path from `pathlib` names a file, and a `str` or `bytes` is the text itself. The program is the argument
-`program`, else the environment's `BURCH_DILL`, else `burch_dill` on the path.
+`check`, `replay`, `run`, `recheck`, `bounded`, `retrace` and `complete` run the built program, once a call. Where a
+file is wanted (`Source`), a path from `pathlib` names a file, and a `str` or `bytes` is the text itself. The program is
+the argument `program`, else the environment's `BURCH_DILL`, else `burch_dill` on the path.
 
 What is raised: `DesignError` where a design can't be written, `Fault` for the first fault of a file, `NoAnswer` where
 the program ends without an answer, all of them `BurchDillError`; and `subprocess.TimeoutExpired` where `timeout`
@@ -66,9 +67,9 @@ class NoAnswer(BurchDillError):
 class Fault(BurchDillError):
     """The first fault of a file: its code (`E08`), the code's text, and where it is.
 
-    `file` is `pipe`, `spec`, `inv`, `start`, `case`, `trail` or `proof`, `name` the path that was given, or the same
-    word for a text. `line` and `column` count from 1, columns in bytes; `offset` counts bytes from 0, and is None where
-    the program names a line and column itself, as it does for lines of proofs.
+    `file` is `pipe`, `spec`, `comp`, `inv`, `start`, `case`, `trail` or `proof`, `name` the path that was given, or the
+    same word for a text. `line` and `column` count from 1, columns in bytes; `offset` counts bytes from 0, and is None
+    where the program names a line and column itself, as it does for lines of proofs.
     """
 
     def __init__(self, file: str, name: str, offset: Optional[int], line: int, column: int,
@@ -416,26 +417,30 @@ class Specification(Machine):
     head = "specification"
 
 
-class Premise:
-    """What is assumed of a state: that all these claims are true.
-
-    They may use the pipeline's latches and memories, the functions of both machines, and lets of the file's own.
-    """
+class OfStates:
+    """A file on states: its expressions may use the pipeline's latches and memories, functions and its own lets."""
 
     head: ClassVar[str]
 
-    def __init__(self, *claims: Bool) -> None:
+    def __init__(self) -> None:
         self._lets: List[Tree] = []
         self._names: Set[str] = set()
-        self._claims: List[Bool] = []
-        for claim in claims:
-            self.require(claim)
 
     def let(self, name: str, value: Sorted) -> Sorted:
         """A name for a value, which is written once."""
         tree = _tree(value, Expression)
         self._lets.append(("let", _new_name(name, self._names), value.sort, tree))
         return type(value)(name)
+
+
+class Premise(OfStates):
+    """What is assumed of a state: that all these claims are true."""
+
+    def __init__(self, *claims: Bool) -> None:
+        super().__init__()
+        self._claims: List[Bool] = []
+        for claim in claims:
+            self.require(claim)
 
     def require(self, claim: Bool) -> None:
         """One more claim."""
@@ -456,6 +461,27 @@ class Start(Premise):
     """What is assumed of the first state of a run, and of no state after it."""
 
     head = "start"
+
+
+class Completion(OfStates):
+    """What a state of the pipeline stands for: a value of each latch and memory of the specification."""
+
+    head = "completion"
+
+    def __init__(self) -> None:
+        super().__init__()
+        self._values: Dict[str, Tree] = {}
+
+    def abstract(self, entry: Sorted, value: Sorted) -> None:
+        """The value of a latch or memory of the specification; each has one."""
+        if str(entry) in self._values:
+            raise DesignError(f"{entry} has a value already")
+        self._values[str(entry)] = _tree(value, type(entry))
+
+    def text(self) -> str:
+        """The file."""
+        abstracts: List[Tree] = [("abstract", name, value) for name, value in self._values.items()]
+        return _file_text(self.head, [*self._lets, *abstracts])
 
 
 # heads of items that share lines with their like
@@ -643,7 +669,7 @@ def _named_content(entry: Tree) -> Tuple[str, str, Content]:
 
 
 class Outcome(Enum):
-    """What `check`, `recheck` and `bounded` say of a pipeline, by the words that are printed."""
+    """What `check`, `recheck`, `bounded` and `complete` say of a pipeline, by the words that are printed."""
 
     CORRECT = "correct"
     WRONG_COMMUTE = "wrong commute"
@@ -651,13 +677,16 @@ class Outcome(Enum):
     VOID = "void"
     UNDECIDED = "undecided"
     PROVED = "correct by proof"
+    AGREES = "agree"
+    DIFFERS = "differ"
 
 
 @dataclass(frozen=True)
 class Verdict:
     """A verdict.
 
-    `case` breaks the condition that a wrong outcome names; with `CORRECT` and an invariant it meets the invariant.
+    `case` breaks the condition that a wrong outcome names; with `CORRECT` and an invariant `check` gives one that meets
+    the invariant; with `DIFFERS` it tells a completion function from flushing.
     Of `UNDECIDED`, `learned` is the number of clauses that the budget allowed, and `seeks_state` is true where no state
     that meets the invariant was found yet.
     """
@@ -705,7 +734,7 @@ class Retraced(NamedTuple):
 
 # ---- the program
 
-Source = Union[str, bytes, "os.PathLike[str]", Machine, Premise, Case, Trail]
+Source = Union[str, bytes, "os.PathLike[str]", Machine, OfStates, Case, Trail]
 File = Union[str, "os.PathLike[str]"]
 
 Answer = TypeVar("Answer", Outcome, Judgement)
@@ -774,6 +803,18 @@ def retrace(pipe: Source, spec: Source, trail: Source, start: Source, *,
     line = _ask("retrace", files, [], program, timeout).rstrip("\n")
     words, _, cycle = line.rpartition(" ") if line[-1:].isdigit() else (line, "", "")
     return Retraced(_answer(Judgement, words), int(cycle) if cycle else None)
+
+
+def complete(pipe: Source, spec: Source, comp: Source, inv: Optional[Source] = None, *, agree: bool = False,
+             budget: Optional[int] = None, program: Optional[File] = None, timeout: Optional[float] = None) -> Verdict:
+    """Whether a pipeline is right where a completion function stands in the place of flushing.
+
+    With `agree`, whether the two are the same in every state that meets the invariant: `AGREES` or `DIFFERS`.
+    """
+    options = ["--agree"] if agree else []
+    options += [] if budget is None else ["--budget", str(budget)]
+    files = {"pipe": pipe, "spec": spec, "comp": comp, "inv": inv}
+    return _verdict(_ask("complete", files, options, program, timeout))
 
 
 def _verdict(printed: str) -> Verdict:

@@ -11,10 +11,10 @@ from pathlib import Path
 from typing import Dict
 
 import example
-from burch_dill import FALSE, TRUE, WIDTH, Bool, Case, Declarations, DesignError, Fault, Function, Invariant, Judgement
-from burch_dill import Memory, NoAnswer, Outcome, Pipeline, Predicate, Retraced, Row, Specification, Start, Table, Trail
-from burch_dill import Word, all_of, any_of, bounded, check, iff, implies, ite, line_and_column, read_trees, recheck
-from burch_dill import replay, retrace, run
+from burch_dill import FALSE, TRUE, WIDTH, Bool, Case, Completion, Declarations, DesignError, Fault, Function, Invariant
+from burch_dill import Judgement, Memory, NoAnswer, Outcome, Pipeline, Predicate, Retraced, Row, Specification, Start
+from burch_dill import Table, Trail, Word, all_of, any_of, bounded, check, complete, iff, implies, ite, line_and_column
+from burch_dill import read_trees, recheck, replay, retrace, run
 
 PROGRAM = Path(__file__).resolve().parent.parent / "crates" / "burch_dill"
 DATA = PROGRAM / "data"
@@ -46,6 +46,15 @@ def two_stages() -> Pipeline:
     pipe.next(o, of["op"](pc))
     pipe.next(a, rf2.read(of["src"](pc)))
     return pipe
+
+
+def write_done() -> Completion:
+    """The completion function of `data/two_stage.comp`."""
+    pc, rf, d, o, a = Word("pc"), Memory("rf"), Word("d"), Word("o"), Word("a")
+    comp = Completion()
+    comp.abstract(pc, pc)
+    comp.abstract(rf, ite(Bool("v"), rf.write(d, Function("alu", 2)(o, a)), rf))
+    return comp
 
 
 def counter(**words: int) -> Pipeline:
@@ -132,6 +141,16 @@ class Designs(unittest.TestCase):
         self.assertEqual(inv.text(), "(invariant\n (let same bool (= x y))\n (and v (not same)))\n")
         self.assertEqual(Invariant(Bool("v")).text(), "(invariant\n v)\n")
         self.assertEqual(Start(Bool("v")).text(), "(start\n v)\n")
+
+    def test_completion(self) -> None:
+        self.assertEqual(read_trees(write_done().text()), read_trees((DATA / "two_stage.comp").read_text()))
+        self.assertEqual(Completion().text(), "(completion)\n")
+        comp = write_done()
+        again = comp.let("again", Word("pc"))
+        self.assertIn(" (let again word pc)\n (abstract pc pc)\n", comp.text())
+        for entry, value in ((Word("pc"), again), (Word("acc"), TRUE)):
+            with self.assertRaises(DesignError):
+                comp.abstract(entry, value)
 
     def test_what_cannot_be_written(self) -> None:
         pipe = counter()
@@ -289,6 +308,22 @@ class Answers(unittest.TestCase):
                                  "(latch o 0) (latch a 0) (input stall))", Start()), Retraced(Judgement.HOLDS))
         with self.assertRaisesRegex(Fault, "^start:1:8: E08"):
             bounded(TWIN, SPEC, "(start none)", 1)
+
+    def test_complete(self) -> None:
+        for comp in (DATA / "two_stage.comp", write_done()):
+            self.assertEqual(complete(TWO_STAGE, SPEC, comp).outcome, Outcome.CORRECT)
+            self.assertEqual(complete(TWO_STAGE, SPEC, comp, agree=True).outcome, Outcome.AGREES)
+        dropped = DATA / "write_dropped.comp"
+        self.assertEqual(complete(TWO_STAGE, SPEC, dropped).outcome, Outcome.WRONG_COMMUTE)
+        verdict = complete(TWO_STAGE, SPEC, dropped, agree=True)
+        assert verdict.case is not None
+        self.assertEqual((verdict.outcome, verdict.is_right), (Outcome.DIFFERS, False))
+        self.assertEqual(verdict.case.state["v"], True)
+        self.assertEqual(complete(TWO_STAGE, SPEC, dropped, Invariant(~Bool("v")), agree=True).outcome, Outcome.AGREES)
+        verdict = complete(TWO_STAGE, SPEC, write_done(), budget=0)
+        self.assertEqual((verdict.outcome, verdict.learned), (Outcome.UNDECIDED, 0))
+        with self.assertRaisesRegex(Fault, "^comp:1:1: E12"):
+            complete(TWO_STAGE, SPEC, "(completion (abstract pc pc))")
 
     def test_example(self) -> None:
         outcomes = {left_out: verdict.outcome for left_out, verdict in example.verdicts(4)}

@@ -6,6 +6,7 @@
 
 pub mod build;
 pub mod cases;
+pub mod completions;
 pub mod designs;
 pub mod draft;
 pub mod forms;
