@@ -6,7 +6,8 @@
 
 - docs/MAP.md: the last column of the table of crates, who uses each, follows from crates.txt.
 - docs/PROVED.md: the list of what `correct` rests on, by following the definitions that the promise of that name cites;
-  and the table of every call, with the names of its contract's parts.
+  the table of every call, with what it needs, whether it wants memory, what it promises and what an error leaves, by the
+  names of its contract's clauses; and the calls that can't want memory.
 - docs/DEFINITIONS.md: each public definition of crates/*/specs with the comment above it, under its module and what the
   head of the module's file says, its source among that; modules of specs/inner, which no public contract cites, are
   left out.
@@ -36,7 +37,14 @@ LIST = ("<!-- correct: made by tools/documents.py -->", "<!-- correct: to here -
 CALLS = ("<!-- calls: made by tools/documents.py -->", "<!-- calls: to here -->")
 USE = re.compile(r"(?:pub )?use Rattle\.(bd_\w+)\.specs\.([\w.]+?)(?:\.\{(.*)\})?(?: as (\w+))?$")
 NAMED = re.compile(r"`((?:crates/)?(?:bd_\w+|burch_dill)/[\w/.]+|(?:bench|tools|docs)/[\w.]+)`")
-FAULTS = re.compile(r"\b(AllocError|\w+Fault|LoadError|SaveError|AddError)\b")
+MEMORY = ("<!-- without memory: made by tools/documents.py -->", "<!-- without memory: to here -->")
+# what a program's run ends as
+ENDS = {"Ended": "`Ended::Memory`", "ExitCode": "its exit status"}
+# calls that can't want memory, by their signatures
+WITHOUT_MEMORY = (
+    "Table::at Memory::at Memory::same State::get Design::fits Graph::node Graph::sort Graph::len Prop::node Prop::len "
+    "Log::new Cdcl::new Cnf::satisfied Checker::check_line Sink::put Page::written Page::faults Shelf::faults Ended::status"
+).split()
 
 HEAD = """# Definitions
 
@@ -299,7 +307,9 @@ def between(text, marks, made):
 
 def proved_text():
     text, faults = (ROOT / "docs/PROVED.md").read_text(), []
-    for marks, made in ((LIST, correct_list()), (CALLS, calls_table())):
+    without, could = without_memory()
+    faults += could
+    for marks, made in ((LIST, correct_list()), (CALLS, calls_table()), (MEMORY, without)):
         changed = between(text, marks, made)
         if changed is None:
             faults.append(f"docs/PROVED.md has no place {marks[0]}")
@@ -320,28 +330,35 @@ def exported(crate):
 
 
 def signatures(crate):
-    """The public calls of a crate that take something, each with its name and the text of its contract."""
-    if crate == "bd_examples" or not (ROOT / "crates" / crate / "src/lib.rt").exists():
+    """The public calls of a crate that take something, and a program's own, each with its name and contract's text."""
+    if crate == "bd_examples":
         return []
-    given, found = exported(crate), []
-    for file in sorted((ROOT / "crates" / crate / "src").glob("*.rt")):
-        owner, trait, lines = None, False, file.read_text().splitlines()
-        for at, line in enumerate(lines):
-            block = re.match(r"(?:pub )?(impl|trait)\b(?:<[^>]*>)? (?:.* for )?(\w+)", line)
-            if block:
-                owner, trait = block.group(2), block.group(1) == "trait"
-            elif line == "}":
-                owner, trait = None, False
-            call = re.match(r"(\s*)(pub )?fn (\w+)", line)
-            if not call or (not call.group(2) and not trait):
-                continue
-            name = f"{owner}::{call.group(3)}" if call.group(1) else call.group(3)
-            if name.split("::")[0] not in given or re.search(r"fn \w+\(\)", line):
-                continue
-            end = at
-            while not re.search(r"(^\s*|[^}] )\{\}?$", lines[end]) and not (trait and lines[end].endswith(";")):
-                end += 1
-            found.append((name, " ".join(part.strip() for part in lines[at:end])))
+    sources = ROOT / "crates" / crate / "src"
+    if not (sources / "lib.rt").exists():
+        return [call for call in signatures_of(sources / "main.rt", {"program"}) if call[0] == "program"]
+    given = exported(crate)
+    return [call for file in sorted(sources.glob("*.rt")) for call in signatures_of(file, given)]
+
+
+def signatures_of(file, given):
+    owner, trait, found, lines = None, False, [], file.read_text().splitlines()
+    for at, line in enumerate(lines):
+        block = re.match(r"(?:pub )?(impl|trait)\b(?:<[^>]*>)? (?:.* for )?(\w+)", line)
+        if block:
+            owner, trait = block.group(2), block.group(1) == "trait"
+        elif line == "}":
+            owner, trait = None, False
+        call = re.match(r"(\s*)(pub )?fn (\w+)", line)
+        if not call or (not call.group(2) and not trait and call.group(3) != "program"):
+            continue
+        name = f"{owner}::{call.group(3)}" if call.group(1) else call.group(3)
+        if name.split("::")[0] not in given or re.search(r"fn \w+\(\)", line):
+            continue
+        end = at
+        while not re.search(r"(^\s*|[^}] )\{\}?$", lines[end]) and not (trait and lines[end].endswith(";")):
+            end += 1
+        said = [part.strip() for part in lines[at : end + 1]]
+        found.append((name, " ".join(part for part in said if not part.startswith("//"))))
     return found
 
 
@@ -352,29 +369,102 @@ def contract(text):
     return [[(name, said) for kind, name, said in clauses if kind == wanted] for wanted in ("requires", "ensures")]
 
 
+def head_and_result(text):
+    """A signature up to its contract, and the type that it gives, or nothing."""
+    head = re.split(r"\b(?:requires|ensures|ghost|where)\b", text)[0].rstrip(" {};")
+    return head, head.split(") ->")[-1].strip() if ") ->" in head else ""
+
+
+def error_of(result):
+    """The type of the errors that a result may be, or nothing. What a program's run ends as is both."""
+    if result in ENDS:
+        return result
+    found = re.match(r"Result<.*?,? ?(\w+)>$", result)
+    return found.group(1) if found else None
+
+
+def errors_of_memory():
+    """The types of errors with one that is want of memory, each with how that one is told."""
+    found, sources = {"AllocError": "`AllocError`", **ENDS}, {}
+    for file in sorted((ROOT / "crates").glob("*/src/**/*.rt")):
+        sources[file] = file.read_text()
+        for name, variants in re.findall(r"^pub enum (\w+)[^{\n]*\{\n(.*?)^\}", sources[file], re.M | re.S):
+            if re.search(r"^    Memory\b", variants, re.M):
+                found[name] = f"`{name}::Memory`"
+    for text in sources.values():
+        for name, other in re.findall(r"^pub type (\w+) = (?:\w+::)*(\w+);", text, re.M):
+            if other in found:
+                found[name] = f"`{name}::Memory`"
+    return found
+
+
+def sequences(crate):
+    """The names that a crate gives to sequences."""
+    files = sorted((ROOT / "crates" / crate / "src").glob("*.rt"))
+    return [name for file in files for name in re.findall(r"^pub type (\w+) = Sequence<", file.read_text(), re.M)]
+
+
+def call_cells(text, errors):
+    """What a call needs, how it wants memory, what it promises, and what an error leaves."""
+    needs, promises = contract(text)
+    head, result = head_and_result(text)
+    error = error_of(result)
+    memory = errors.get(error, "never")
+    if memory == "never" and "alloc: Global" in head:
+        memory = "never, keeps `alloc`"
+    left = [part for part in promises if error and "&mut" in head and says_what_is_left(*part)]
+    told = [part for part in promises if part not in left or not says_of_error(part[1])]
+    if error is None:
+        after = "no error"
+    elif "&mut" not in head:
+        after = "all as it was"
+    else:
+        after = named(left) or "no clause"
+    return named(needs) or "nothing", memory, named(told) or "no clause", after
+
+
+def says_of_error(said):
+    return re.search(r"\b(OnErr|IfErr)\b|(?<!¬ )\bIsErrOf\b", said)
+
+
+def says_what_is_left(name, said):
+    """Whether a promise, one that isn't of success alone, names what stands after the call."""
+    return ".new" in said and not re.search(r"\b(OnOk|IfOk|IsOk|IsOkAnd)\b|≡ Ok \(", said) or name == "run"
+
+
+def calls():
+    """Each public call in the order of the crates: its crate, its name and its cells."""
+    errors = errors_of_memory()
+    return [(crate, name, call_cells(text, errors)) for crate in crates()[0] for name, text in signatures(crate)]
+
+
 def calls_table():
-    rows = ["| Call | Needs | Takes memory | Promises | After an error |", "|---|---|---|---|---|"]
+    rows, found = ["| Call | Needs | Wants memory | Promises | An error leaves |", "|---|---|---|---|---|"], calls()
     for crate in crates()[0]:
-        found = signatures(crate)
-        if found:
-            rows.append(f"| **{crate}** | | | | |")
-        for name, text in found:
-            needs, promises = contract(text)
-            result = text.split("requires")[0].split("ensures")[0].split("->")[-1]
-            memory = "yes" if FAULTS.search(result) or name == "run" else "no"
-            failing = [part for part in promises if part[0] and says_of_error(*part)]
-            others = [part for part in promises if part not in failing]
-            after = named(failing, "") or ("changes nothing" if memory == "yes" and "&mut" not in text else "")
-            rows.append("| " + " | ".join([f"`{name}`", named(needs, "one"), memory, named(others, "one"), after]) + " |")
+        made = [f"| `{name}` | " + " | ".join(cells) + " |" for other, name, cells in found if other == crate]
+        alike = [] if crate == "bd_examples" else sequences(crate)
+        if alike:
+            made.append("| " + ", ".join(f"`{name}`" for name in alike) + " | as `Sequence` | | | |")
+        rows += [f"| **{crate}** | | | | |", *made] if made else []
     return "\n".join(rows)
 
 
-def says_of_error(name, said):
-    return re.search(r"\b(OnErr|IfErr|Err)\b", said) or re.match("err|refused|failed", name)
+def without_memory():
+    """The calls that must not want memory, as one sentence, and what is wrong with those that could."""
+    cells = {name: made for _, name, made in calls()}
+    kinds = {name for crate in crates()[0] for name in sequences(crate)}
+    faults = []
+    for name in WITHOUT_MEMORY:
+        kind, _, call = name.partition("::")
+        row = cells.get(f"Sequence::{call}" if kind in kinds else name)
+        if row is None or not row[1].startswith("never"):
+            faults.append(f"{name} is to take no memory, and " + ("could" if row else "isn't there"))
+    text = ", ".join(f"`{name}`" for name in WITHOUT_MEMORY)
+    return folded(f"{text}.", rest=""), faults
 
 
-def named(clauses, alone):
-    return ", ".join(f"`{name}`" if name else alone for name, _ in clauses)
+def named(clauses):
+    return ", ".join(f"`{name}`" if name else "one" for name, _ in clauses)
 
 
 # ---- all documents
