@@ -8,9 +8,9 @@ use bd_examples::texts::{
 };
 use std::test::Fail;
 
-const BOUNDED: &[&str] = &["burch_dill", "bounded", "p", "s", "i", "3"];
+pub const BOUNDED: &[&str] = &["burch_dill", "bounded", "p", "s", "i", "3"];
 
-const RETRACE: &[&str] = &["burch_dill", "retrace", "p", "s", "c", "i"];
+pub const RETRACE: &[&str] = &["burch_dill", "retrace", "p", "s", "c", "i"];
 
 /// In which the bits of `TURNS_LATE` are false at first.
 const BOTH_FALSE: &str = "(start (let any bool (or a b)) (not any))";

@@ -4,9 +4,13 @@
 #[cfg(test)]
 mod bounded;
 #[cfg(test)]
+mod broken;
+#[cfg(test)]
 mod calls;
 #[cfg(test)]
 mod checks;
+#[cfg(test)]
+mod failing;
 #[cfg(test)]
 mod left_out;
 #[cfg(test)]

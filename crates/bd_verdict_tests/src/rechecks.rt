@@ -8,15 +8,15 @@ use bd_files::{Page, Shelf};
 use std::alloc::{AllocError, Global};
 use std::test::Fail;
 
-const RECHECK: &[&str] = &["burch_dill", "recheck", "p", "s", "c"];
+pub const RECHECK: &[&str] = &["burch_dill", "recheck", "p", "s", "c"];
 
-const RECHECK_WITHIN: &[&str] = &["burch_dill", "recheck", "p", "s", "c", "i"];
+pub const RECHECK_WITHIN: &[&str] = &["burch_dill", "recheck", "p", "s", "c", "i"];
 
 /// A text over the formula of the bit that stands, which is `-1 2`, `1 2` and `-2` under the ids 1 to 3, and the line of
 /// its fault, or nothing where it is a proof. What is accepted was worked out by hand, and `bench/lrat_check.py` agrees.
 type Text = (&'static str, &'static str);
 
-static TEXTS: [Text; 49] = [
+static TEXTS: [Text; 64] = [
     ("4 0 3 1 2 0\n", ""),
     ("4 0 3 1 2 0", ""),
     ("\t4\t0 3\r1 2  0\r\n", ""),
@@ -66,6 +66,22 @@ static TEXTS: [Text; 49] = [
     ("4 0 3 1 2 0 7\n", "1:13: E22 malformed line"),
     ("4 d 1 0 0\n", "1:9: E22 malformed line"),
     ("4 0 3 1 2\n0", "1:1: E22 malformed line"),
+    // cut after each byte, and after some of a second line
+    ("4", "1:1: E22 malformed line"),
+    ("4 ", "1:1: E22 malformed line"),
+    ("4 0", "1:1: E22 malformed line"),
+    ("4 0 ", "1:1: E22 malformed line"),
+    ("4 0 3", "1:1: E22 malformed line"),
+    ("4 0 3 ", "1:1: E22 malformed line"),
+    ("4 0 3 1", "1:1: E22 malformed line"),
+    ("4 0 3 1 ", "1:1: E22 malformed line"),
+    ("4 0 3 1 2", "1:1: E22 malformed line"),
+    ("4 0 3 1 2 ", "1:1: E22 malformed line"),
+    ("4 -1 0 3 1 0", "1:1: E24 no empty clause"),
+    ("4 -1 0 3 1 0\n", "2:1: E24 no empty clause"),
+    ("4 -1 0 3 1 0\n5", "2:1: E22 malformed line"),
+    ("4 -1 0 3 1 0\n5 0 3 2 4", "2:1: E22 malformed line"),
+    ("4 -1 0 3 1 0\n5 0 3 2 4 ", "2:1: E22 malformed line"),
     // what isn't accepted
     ("1 0 1 0", "1:1: E23 not accepted, NotRising"),
     (

@@ -9,7 +9,7 @@ use std::alloc::{AllocError, Global};
 use std::test::Fail;
 
 /// Of two rows for 1 the first counts.
-const INCREMENTS: &str = "(case 1\n (function inc 0 (1 2) (1 1) (2 3))\n (latch pc 1))\n";
+pub const INCREMENTS: &str = "(case 1\n (function inc 0 (1 2) (1 1) (2 3))\n (latch pc 1))";
 
 const PENDING: &str = "(case 1 (latch pc 0) (memory rf 0) (latch v true) (latch d 0) (latch o 0) \
 (latch a 0) (input stall false))";
@@ -255,29 +255,6 @@ fn holds_of_stages(alloc: Global, row: &Row<'static>) -> Result<bool, AllocError
 fn replays_a_pending_write(rt: HostRuntime) -> Result<(), Fail> {
     for row in &PENDING_WRITES {
         assert!(rt; holds_of_stages(rt.alloc(), row)?, "{}", row.name);
-    }
-    Ok(())
-}
-
-/// Whether the case that ends after so many bytes is refused there.
-fn refuses_at(alloc: Global, length: usize) -> Result<bool, AllocError> {
-    let Some(case) = INCREMENTS.get(..length) else {
-        return Ok(false);
-    };
-    let err = format!(in alloc; "case:{length}: E02 unbalanced parenthesis\n")?;
-    let row = Row {
-        case,
-        status: 3,
-        err: err.as_str(),
-        ..REPLAYED
-    };
-    holds(alloc, &row)
-}
-
-#[test]
-fn refuses_a_case_that_is_cut(rt: HostRuntime) -> Result<(), Fail> {
-    for length in 1..58 {
-        assert!(rt; refuses_at(rt.alloc(), length)?, "{length}");
     }
     Ok(())
 }

@@ -1,14 +1,12 @@
-//! Texts that are refused, generated pipelines, failing devices, and what is large or deep.
+//! Texts that are refused, generated pipelines, and what is large or deep.
 
-use crate::rows::{
-    CHECK_WITHIN, REPLAY, Row, SAVES, STALLING, WITHIN, holds, holds_over, shelf_with, words_of,
-};
+use crate::rows::{CHECK_WITHIN, Row, STALLING, WITHIN, holds};
 use bd_examples::texts::{KEEPING_BIT, NO_STEP_ALLOWED, STALLING_BIT};
 use std::alloc::{AllocError, Global};
 use std::test::Fail;
 
 /// `no_step_allowed`, `empty_file`, `nesting_limit`, `faults_across_files`, a check of what isn't text, and generated pipelines.
-static TEXTS: [Row<'static>; 16] = [
+static TEXTS: [Row<'static>; 17] = [
     Row {
         name: "no step allowed",
         pipe: NO_STEP_ALLOWED,
@@ -70,6 +68,13 @@ may stall\n(flush 0)(steps 1) );",
         ..STALLING
     },
     Row {
+        name: "no such file",
+        words: &["burch_dill", "check", "p", "none"],
+        status: 5,
+        err: "cannot read\n",
+        ..STALLING
+    },
+    Row {
         name: "no such invariant",
         words: &["burch_dill", "check", "p", "s", "none"],
         pipe: "",
@@ -124,155 +129,12 @@ may stall\n(flush 0)(steps 1) );",
     },
 ];
 
-/// `failing_devices`.
-static DEVICES: [Row<'static>; 7] = [
-    Row {
-        name: "the first load fails",
-        failing: 1,
-        status: 5,
-        err: "cannot read\n",
-        ..STALLING
-    },
-    Row {
-        name: "the second load fails",
-        failing: 2,
-        status: 5,
-        err: "cannot read\n",
-        ..STALLING
-    },
-    Row {
-        name: "no such file",
-        words: &["burch_dill", "check", "p", "none"],
-        status: 5,
-        err: "cannot read\n",
-        ..STALLING
-    },
-    Row {
-        name: "the third load fails",
-        words: REPLAY,
-        failing: 3,
-        status: 5,
-        err: "cannot read\n",
-        ..STALLING
-    },
-    Row {
-        name: "the fourth load fails",
-        words: WITHIN,
-        failing: 4,
-        status: 5,
-        err: "cannot read\n",
-        ..STALLING
-    },
-    Row {
-        name: "a save of the formula fails",
-        words: SAVES,
-        failing: 3,
-        status: 5,
-        err: "cannot save\n",
-        ..STALLING
-    },
-    Row {
-        name: "a save of the proof fails",
-        words: SAVES,
-        failing: 4,
-        status: 5,
-        err: "cannot save\n",
-        ..STALLING
-    },
-];
-
-/// Whether an output that fails after so many bytes has just those.
-fn cuts_at(alloc: Global, kept: usize) -> Result<bool, AllocError> {
-    let Some(out) = "correct\n".get(..kept) else {
-        return Ok(false);
-    };
-    let row = Row {
-        kept: Some(kept),
-        status: 5,
-        out,
-        err: "cannot write\n",
-        ..STALLING
-    };
-    holds(alloc, &row)
-}
-
-#[test]
-fn puts_a_prefix_where_the_output_fails(rt: HostRuntime) -> Result<(), Fail> {
-    for kept in 0..=8 {
-        assert!(rt; cuts_at(rt.alloc(), kept)?, "{kept}");
-    }
-    Ok(())
-}
-
 #[test]
 fn answers_each_pair_of_texts_twice_alike(rt: HostRuntime) -> Result<(), Fail> {
     for time in 1..=2 {
         for row in &TEXTS {
             assert!(rt; holds(rt.alloc(), row)?, "{}, time {time}", row.name);
         }
-    }
-    Ok(())
-}
-
-#[test]
-fn names_the_device_that_failed(rt: HostRuntime) -> Result<(), Fail> {
-    for row in &DEVICES {
-        assert!(rt; holds(rt.alloc(), row)?, "{}", row.name);
-        let silent = Row {
-            err_room: 0,
-            err: "",
-            ..*row
-        };
-        assert!(rt; holds(rt.alloc(), &silent)?, "{}, silent", row.name);
-    }
-    Ok(())
-}
-
-/// Whether a pipeline that ends after so many bytes is refused there.
-fn refuses_pipe_at(alloc: Global, length: usize) -> Result<bool, AllocError> {
-    let Some(pipe) = STALLING_BIT.get(..length) else {
-        return Ok(false);
-    };
-    let err = format!(in alloc; "pipe:{length}: E02 unbalanced parenthesis\n")?;
-    let row = Row {
-        pipe,
-        status: 3,
-        err: err.as_str(),
-        ..STALLING
-    };
-    holds(alloc, &row)
-}
-
-#[test]
-fn refuses_a_pipeline_that_is_cut(rt: HostRuntime) -> Result<(), Fail> {
-    for length in 1..STALLING_BIT.len() {
-        assert!(rt; refuses_pipe_at(rt.alloc(), length)?, "{length}");
-    }
-    Ok(())
-}
-
-/// Whether a pipeline whose byte at that place is 128 is refused there.
-fn refuses_byte_at(alloc: Global, at: usize) -> Result<bool, AllocError> {
-    let mut pipe = STALLING_BIT.as_bytes().to_vec(alloc)?;
-    let Some(byte) = pipe.get_mut(at) else {
-        return Ok(false);
-    };
-    *byte = 128;
-    let err = format!(in alloc; "pipe:{at}: E01 byte not allowed\n")?;
-    let row = Row {
-        status: 3,
-        err: err.as_str(),
-        ..STALLING
-    };
-    let words = words_of(alloc, row.words)?;
-    let mut files = shelf_with(alloc, &row, pipe.as_slice())?;
-    holds_over(alloc, &row, words.as_slice(), &mut files)
-}
-
-#[test]
-fn refuses_a_byte_that_is_not_allowed(rt: HostRuntime) -> Result<(), Fail> {
-    for at in 0..STALLING_BIT.len() {
-        assert!(rt; refuses_byte_at(rt.alloc(), at)?, "{at}");
     }
     Ok(())
 }
@@ -373,12 +235,5 @@ fn reads_files_of_the_most_bytes(rt: HostRuntime) -> Result<(), Fail> {
         ..STALLING
     };
     assert!(rt; holds(rt.alloc(), &no_case)?);
-    let too_long = Row {
-        pipe: too_long.as_str(),
-        status: 3,
-        err: "pipe:1048576: E00 file too long\n",
-        ..STALLING
-    };
-    assert!(rt; holds(rt.alloc(), &too_long)?);
     Ok(())
 }
