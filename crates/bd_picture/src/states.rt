@@ -1,23 +1,24 @@
-//! The states of both ways, side by side.
+//! The states of both ways, side by side. What differs where they end has a line, also where it stays 0 here.
 //!
 //! The columns are the states before the cycle and after each flush cycle from there, and those after the cycle and
 //! after each flush cycle from there. An input stands under the state that its cycle led to.
 
 use crate::grid::{Cell, Grid, Look, Row};
-use crate::line::{Line, push_lines};
+use crate::line::{Entry, Line, push_lines};
 use crate::picture::View;
+use crate::steps::compared_at;
 use crate::words::{push_number, scalar_text};
 use bd_diagram::Flushing;
 use bd_model::{Design, Inputs, Scalar, State, Value};
 use std::alloc::{AllocError, Global};
 
-/// Whether the specification has the entry at this place.
-pub fn is_visible(design: &Design, place: usize) -> bool {
+/// The place that the entry at this place has in the specification.
+fn place_in_spec(design: &Design, place: usize) -> Option<usize> {
     design
         .visible
         .as_slice()
         .iter()
-        .any(|visible| *visible as usize == place)
+        .position(|visible| *visible as usize == place)
 }
 
 /// The values that states have at a place, those of the first way and then those of the second.
@@ -42,10 +43,23 @@ fn entry_lines(alloc: Global, view: &View<'_>) -> Result<Vec<Line>, AllocError> 
     let first = view.diagram.before.states.as_slice();
     let second = view.diagram.after.states.as_slice();
     for (place, entry) in view.design.pipe.entries.as_slice().iter().enumerate() {
+        let seen = place_in_spec(view.design, place);
+        let compared = match seen {
+            Some(place) => compared_at(alloc, view, place)?,
+            None => Vec::new(alloc),
+        };
+        let entry = Entry {
+            name: entry.name.as_slice(),
+            visible: seen.is_some(),
+        };
         let values = values_at(alloc, first, second, place)?;
-        let visible = is_visible(view.design, place);
-        let name = entry.name.as_slice();
-        push_lines(alloc, &mut lines, name, visible, values.as_slice())?;
+        push_lines(
+            alloc,
+            &mut lines,
+            entry,
+            values.as_slice(),
+            compared.as_slice(),
+        )?;
     }
     Ok(lines)
 }

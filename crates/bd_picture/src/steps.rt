@@ -1,7 +1,7 @@
 //! The specification after each number of steps, beside where the pipeline stands.
 
 use crate::grid::{Cell, Grid, Look, Row};
-use crate::line::{Line, push_lines};
+use crate::line::{Entry, Line, push_lines};
 use crate::picture::View;
 use crate::words::{numbered, scalar_text};
 use bd_diagram::Comparison;
@@ -9,7 +9,7 @@ use bd_model::{Scalar, Value};
 use std::alloc::{AllocError, Global};
 
 /// The values of a visible entry: where the pipeline stands, and after each number of steps.
-fn values_at<'a>(
+pub fn compared_at<'a>(
     alloc: Global,
     view: &View<'a>,
     place: usize,
@@ -30,9 +30,12 @@ fn values_at<'a>(
 fn visible_lines(alloc: Global, view: &View<'_>) -> Result<Vec<Line>, AllocError> {
     let mut lines = Vec::new(alloc);
     for (place, entry) in view.design.spec.entries.as_slice().iter().enumerate() {
-        let values = values_at(alloc, view, place)?;
-        let name = entry.name.as_slice();
-        push_lines(alloc, &mut lines, name, true, values.as_slice())?;
+        let entry = Entry {
+            name: entry.name.as_slice(),
+            visible: true,
+        };
+        let values = compared_at(alloc, view, place)?;
+        push_lines(alloc, &mut lines, entry, values.as_slice(), &[])?;
     }
     Ok(lines)
 }

@@ -178,6 +178,16 @@ fn put_grid(alloc: Global, pen: &mut Pen, grid: &Grid) -> Result<(), AllocError>
 /// Where the items of lists begin.
 const INDENT: usize = 11;
 
+/// Puts lists, and an empty line after them unless both are empty.
+fn put_lists(pen: &mut Pen, lets: &Items, rows: &Items) -> Result<(), AllocError> {
+    put_list(pen, lets)?;
+    put_list(pen, rows)?;
+    if lets.items.is_empty() && rows.items.is_empty() {
+        return Ok(());
+    }
+    pen.end()
+}
+
 /// Puts a list, as many items a line as it has room for.
 fn put_list(pen: &mut Pen, list: &Items) -> Result<(), AllocError> {
     if list.items.is_empty() {
@@ -206,8 +216,7 @@ fn tables(alloc: Global, picture: &Picture) -> Result<Vec<u8>, AllocError> {
     };
     put_grid(alloc, &mut pen, &picture.states)?;
     put_grid(alloc, &mut pen, &picture.steps)?;
-    put_list(&mut pen, &picture.lets)?;
-    put_list(&mut pen, &picture.rows)?;
+    put_lists(&mut pen, &picture.lets, &picture.rows)?;
     let Pen { out, .. } = pen;
     Ok(out)
 }
@@ -233,7 +242,7 @@ fn joined(alloc: Global, first: &[u8], second: &[u8], third: &[u8]) -> Result<Ve
 }
 
 /// What the tables' signs mean.
-const LEGEND: &[u8] = b"
-*: visible to the specification; f2: after 2 flush cycles; an empty cell is unchanged;
+const LEGEND: &[u8] =
+    b"*: visible to the specification; f2: after 2 flush cycles; an empty cell is unchanged;
 an input stands under the state that its cycle led to; =: the same, #: differs
 ";
