@@ -9,7 +9,7 @@ mod proof_fault;
 mod read;
 mod save;
 mod verdict;
-mod words;
+pub mod words;
 
 pub use answer::{Ended, Which};
 pub use bd_typer::Text;

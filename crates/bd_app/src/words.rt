@@ -81,7 +81,7 @@ pub fn number_at(matches: &ArgMatches<'_>, id: &str) -> Option<u32>
 }
 
 /// Whether a flag is given.
-fn flag_at(matches: &ArgMatches<'_>, id: &str) -> bool
+pub fn flag_at(matches: &ArgMatches<'_>, id: &str) -> bool
     ensures { result ≡ flag_at id.now (rows_of (found_of matches.now)) }
 {
     matches.get_one::<bool>(id).unwrap_or(false)

@@ -1,3 +1,4 @@
+pub mod Open
 pub mod Place
 pub mod Files
 pub mod Answer

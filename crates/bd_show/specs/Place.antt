@@ -1,9 +1,11 @@
--- Where a byte of a text stands, and the fault line that shows it. A line ends at a line feed; lines and columns count
+-- Where a byte of a text stands, and the lines that show a fault there. A line ends at a line feed; lines and columns count
 -- from 1, columns in bytes.
-use Rattle.std.specs.Prelude.{ℕ, ◌+◌, ◌==◌, List, [], ◌∷◌, ◌++◌, codes, drop, length, take, map, count_by, if◌then◌else◌}
+use Rattle.std.specs.Prelude.{ℕ, ◌+◌, ◌==◌, ◌||◌, Bool, List, [], ◌∷◌, ◌++◌, codes, drop, length, take, map, count_by, if◌then◌else◌}
 use Rattle.std.specs.Fmt.{decimal}
 use Rattle.bd_text.specs.CodeText.{code_name, code_text}
 use Rattle.bd_text.specs.declared.code.Code.{Code}
+use Rattle.bd_text.specs.declared.code.Code.TheVariants.{Unbalanced, UnknownName}
+use Rattle.bd_show.specs.Open.{open_list}
 
 -- what stands before the first line feed
 abbrev pub line_of : List ℕ → List ℕ
@@ -25,11 +27,11 @@ line_number text offset = count_by (λ b. b == 10) (take offset text) + 1
 abbrev pub column_number : List ℕ → ℕ → ℕ
 column_number text offset = length (before_in_line text offset) + 1
 
--- NAME:LINE:COLUMN: CODE TEXT
-abbrev pub placed : (name : List ℕ) → (line column : ℕ) → Code → List ℕ
-placed name line column code =
+-- NAME:LINE:COLUMN: MESSAGE
+abbrev pub placed : (name : List ℕ) → (line column : ℕ) → (message : List ℕ) → List ℕ
+placed name line column message =
     name ++ codes ":" ++ decimal line ++ codes ":" ++ decimal column ++ codes ": "
-    ++ code_name code ++ codes " " ++ code_text code ++ codes "\n"
+    ++ message ++ codes "\n"
 
 -- a space, or a tab for a tab, so that what comes after it stands under what comes after the byte
 abbrev pub blank : ℕ → ℕ
@@ -40,8 +42,39 @@ abbrev pub excerpt : (first rest : List ℕ) → List ℕ
 excerpt first rest =
     codes "  " ++ first ++ line_of rest ++ codes "\n  " ++ map blank first ++ codes "^\n"
 
+-- a message on a byte of a text
+abbrev pub noted : (name text : List ℕ) → ℕ → (message : List ℕ) → List ℕ
+noted name text offset message =
+    placed name (line_number text offset) (column_number text offset) message
+    ++ excerpt (before_in_line text offset) (drop offset text)
+
+-- a byte that no atom has: a space, a tab, a line end, a parenthesis or a semicolon
+abbrev pub ends_atom : ℕ → Bool
+ends_atom b =
+    (b == 32) || ((b == 9) || ((b == 10) || ((b == 13) || ((b == 40) || ((b == 41) || (b == 59))))))
+
+-- the atom that a text begins with
+abbrev pub atom_of : List ℕ → List ℕ
+atom_of [] = []
+atom_of (b ∷ bytes) = if ends_atom b then [] else b ∷ atom_of bytes
+
+-- what is added to a fault's text: the name that is unknown
+abbrev pub named : Code → List ℕ → List ℕ
+named UnknownName rest = codes ": " ++ atom_of rest
+named _ rest = []
+
+-- CODE TEXT, of a fault before the rest of a text
+abbrev pub message : Code → List ℕ → List ℕ
+message code rest = code_name code ++ codes " " ++ code_text code ++ named code rest
+
+-- of a text that ends inside a list: the list that stays open
+abbrev pub open_note : (name text : List ℕ) → ℕ → Code → List ℕ
+open_note name text offset Unbalanced =
+    if offset == length text then noted name text (open_list text) (codes "this list stays open")
+    else []
+open_note name text offset _ = []
+
 -- a fault of a text as it is shown
 abbrev pub fault_text : (name text : List ℕ) → ℕ → Code → List ℕ
 fault_text name text offset code =
-    placed name (line_number text offset) (column_number text offset) code
-    ++ excerpt (before_in_line text offset) (drop offset text)
+    noted name text offset (message code (drop offset text)) ++ open_note name text offset code

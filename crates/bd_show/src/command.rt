@@ -11,7 +11,7 @@ ghost use Rattle.bd_show.specs.inner.Asked.{IsParsed, IsToldBy, IsWordsFault, as
 
 use crate::load::FileNames;
 use crate::show::ShowOptions;
-use crate::words::{flag, flag_at, machines_command, option, required, with, word_at};
+use bd_app::words::{flag, flag_at, machines_command, option, required, with, word_at};
 use clap::error::ErrorKind;
 use clap::{Arg, ArgMatches};
 use std::alloc::{AllocError, Global};

@@ -6,12 +6,12 @@ mod command;
 mod fault;
 mod load;
 mod names;
+mod open;
 mod place;
 mod program;
 mod read;
 mod show;
 mod shrinking;
-mod words;
 
 pub use answer::Ended;
 pub use program::run;

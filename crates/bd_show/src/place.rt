@@ -1,7 +1,8 @@
 //! Where a fault stands in its file, and how it is shown.
 ghost use Rattle.std.specs.Prelude.{◌≡◌, ◌==◌, ◌++◌, [], count_by, drop, take, map, IfOk, OnOk};
-ghost use Rattle.bd_show.specs.Place.{blank, excerpt, fault_text, last_line, line_of, placed};
+ghost use Rattle.bd_show.specs.Place.{atom_of, blank, ends_atom, excerpt, fault_text, last_line, line_of, message, named, noted, open_note, placed};
 
+use crate::open::open_list;
 use bd_text::Code;
 use itoa::Buffer;
 use std::alloc::{AllocError, Global};
@@ -65,16 +66,16 @@ fn push_blanks(out: &mut Vec<u8>, text: &[u8]) -> Result<(), AllocError>
     Ok(())
 }
 
-/// Puts `NAME:LINE:COLUMN: CODE TEXT`.
+/// Puts `NAME:LINE:COLUMN: MESSAGE`.
 fn push_placed(
     out: &mut Vec<u8>,
     name: &[u8],
     line: usize,
     column: usize,
-    code: Code,
+    message: &[u8],
 ) -> Result<(), AllocError>
     ensures { OnOk result (out.new.items
-        ≡ out.old.items ++ placed name.now line column code) }
+        ≡ out.old.items ++ placed name.now line column message.now) }
 {
     let mut line_buffer = Buffer::new();
     let mut column_buffer = Buffer::new();
@@ -84,9 +85,7 @@ fn push_placed(
     out.push(b':')?;
     out.extend_from_slice(column_buffer.format(column).as_bytes())?;
     out.extend_from_slice(b": ")?;
-    out.extend_from_slice(code.name().as_bytes())?;
-    out.push(b' ')?;
-    out.extend_from_slice(code.text().as_bytes())?;
+    out.extend_from_slice(message)?;
     out.push(b'\n')?;
     Ok(())
 }
@@ -104,7 +103,109 @@ fn push_excerpt(out: &mut Vec<u8>, first: &[u8], rest: &[u8]) -> Result<(), Allo
     Ok(())
 }
 
-/// A fault of a text as it is shown: its place, its code, its line and a caret.
+/// Puts a message on a byte of a text.
+fn push_noted(
+    alloc: Global,
+    out: &mut Vec<u8>,
+    name: &[u8],
+    text: &[u8],
+    offset: usize,
+    message: &[u8],
+) -> Result<(), AllocError>
+    ensures { OnOk result (out.new.items
+        ≡ out.old.items ++ noted name.now text.now offset message.now) }
+{
+    let before = before(text, offset);
+    let first = last_line(alloc, before)?;
+    let line = ends(before).saturating_add(1);
+    let column = first.len().saturating_add(1);
+    push_placed(out, name, line, column, message)?;
+    push_excerpt(out, first.as_slice(), from(text, offset))?;
+    Ok(())
+}
+
+/// Whether a byte stands in no atom.
+fn ends_atom(byte: u8) -> bool
+    ensures { result ≡ ends_atom byte }
+{
+    byte == b' '
+        || byte == b'\t'
+        || byte == b'\n'
+        || byte == b'\r'
+        || byte == b'('
+        || byte == b')'
+        || byte == b';'
+}
+
+/// Puts the atom that a text begins with.
+fn push_atom(out: &mut Vec<u8>, text: &[u8]) -> Result<(), AllocError>
+    ensures { OnOk result (out.new.items ≡ out.old.items ++ atom_of text.now) }
+{
+    for byte in text {
+        if ends_atom(*byte) {
+            return Ok(());
+        }
+        out.push(*byte)?;
+    }
+    Ok(())
+}
+
+/// Puts the name that is unknown.
+fn push_named(out: &mut Vec<u8>, code: Code, rest: &[u8]) -> Result<(), AllocError>
+    ensures { OnOk result (out.new.items ≡ out.old.items ++ named code rest.now) }
+{
+    match code {
+        Code::UnknownName => {
+            out.extend_from_slice(b": ")?;
+            push_atom(out, rest)
+        }
+        _ => Ok(()),
+    }
+}
+
+/// What is said of a fault before the rest of a text: its code and text, and the name where it is unknown.
+fn message(alloc: Global, code: Code, rest: &[u8]) -> Result<Vec<u8>, AllocError>
+    ensures { IfOk result (λ said. said.items ≡ message code rest.now) }
+{
+    let mut said = Vec::from_slice(alloc, code.name().as_bytes())?;
+    said.push(b' ')?;
+    said.extend_from_slice(code.text().as_bytes())?;
+    push_named(&mut said, code, rest)?;
+    Ok(said)
+}
+
+/// Puts which list stays open, where the text ends inside one.
+fn push_open(
+    alloc: Global,
+    out: &mut Vec<u8>,
+    name: &[u8],
+    text: &[u8],
+    offset: usize,
+    code: Code,
+) -> Result<(), AllocError>
+    ensures { OnOk result (out.new.items
+        ≡ out.old.items ++ open_note name.now text.now offset code) }
+{
+    match code {
+        Code::Unbalanced => {
+            if offset == text.len() {
+                push_noted(
+                    alloc,
+                    out,
+                    name,
+                    text,
+                    open_list(text),
+                    b"this list stays open",
+                )
+            } else {
+                Ok(())
+            }
+        }
+        _ => Ok(()),
+    }
+}
+
+/// A fault of a text as it is shown: its place, what it is, its line and a caret, and the list that stays open.
 pub fn fault_text(
     alloc: Global,
     name: &[u8],
@@ -114,12 +215,9 @@ pub fn fault_text(
 ) -> Result<Vec<u8>, AllocError>
     ensures { IfOk result (λ shown. shown.items ≡ fault_text name.now text.now offset code) }
 {
-    let before = before(text, offset);
-    let first = last_line(alloc, before)?;
-    let line = ends(before).saturating_add(1);
-    let column = first.len().saturating_add(1);
+    let message = message(alloc, code, from(text, offset))?;
     let mut shown = Vec::new(alloc);
-    push_placed(&mut shown, name, line, column, code)?;
-    push_excerpt(&mut shown, first.as_slice(), from(text, offset))?;
+    push_noted(alloc, &mut shown, name, text, offset, message.as_slice())?;
+    push_open(alloc, &mut shown, name, text, offset, code)?;
     Ok(shown)
 }
