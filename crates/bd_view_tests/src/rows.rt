@@ -6,22 +6,24 @@ use std::alloc::{AllocError, Global};
 
 /// What a run is given, and what it ends with and prints.
 #[derive(Clone, Copy)]
-pub struct Row {
+pub struct Row<'a> {
     pub words: &'static [&'static str],
     /// The pieces of the pipeline's text.
-    pub pipe: &'static [&'static str],
-    pub spec: &'static str,
-    pub case: &'static str,
-    pub inv: &'static str,
+    pub pipe: &'a [&'a str],
+    pub spec: &'a str,
+    pub case: &'a str,
+    pub inv: &'a str,
     pub status: u8,
-    pub out: &'static str,
-    pub err: &'static str,
+    pub out: &'a str,
+    /// Whether more may be printed after that.
+    pub goes_on: bool,
+    pub err: &'a str,
     /// What is held as `h` after the run.
-    pub page: &'static str,
+    pub page: &'a str,
 }
 
 /// Whether the run of a row ends, prints and saves as it says.
-pub fn holds(alloc: Global, row: &Row) -> Result<bool, AllocError> {
+pub fn holds(alloc: Global, row: &Row<'_>) -> Result<bool, AllocError> {
     let words = words_of(alloc, row.words)?;
     holds_of(alloc, row, words.as_slice())
 }
@@ -34,12 +36,12 @@ fn words_of(alloc: Global, texts: &[&str]) -> Result<Vec<String>, AllocError> {
     Ok(words)
 }
 
-fn holds_of(alloc: Global, row: &Row, words: &[String]) -> Result<bool, AllocError> {
+fn holds_of(alloc: Global, row: &Row<'_>, words: &[String]) -> Result<bool, AllocError> {
     let mut files = shelf_of(alloc, row)?;
     holds_over(alloc, row, words, &mut files)
 }
 
-fn shelf_of(alloc: Global, row: &Row) -> Result<Shelf, AllocError> {
+fn shelf_of(alloc: Global, row: &Row<'_>) -> Result<Shelf, AllocError> {
     let mut pipe = Vec::new(alloc);
     for piece in row.pipe {
         pipe.extend_from_slice(piece.as_bytes())?;
@@ -59,17 +61,17 @@ fn file(alloc: Global, name: &str, bytes: &[u8]) -> Result<(String, Vec<u8>), Al
 
 fn holds_over(
     alloc: Global,
-    row: &Row,
+    row: &Row<'_>,
     words: &[String],
     files: &mut Shelf,
 ) -> Result<bool, AllocError> {
-    let mut out = Page::new(alloc, 8000, Vec::new(alloc))?;
+    let mut out = Page::new(alloc, 20_000, Vec::new(alloc))?;
     holds_on(alloc, row, words, files, &mut out)
 }
 
 fn holds_on(
     alloc: Global,
-    row: &Row,
+    row: &Row<'_>,
     words: &[String],
     files: &mut Shelf,
     out: &mut Page,
@@ -78,10 +80,16 @@ fn holds_on(
     let ended = run(alloc, words, files, out, &mut err);
     Ok(
         ended.status() == row.status
-            && out.written() == row.out.as_bytes()
+            && is_printed(out, row)
             && err.written() == row.err.as_bytes()
             && holds_page(files, row.page),
     )
+}
+
+/// Whether what is printed is that of a row.
+fn is_printed(out: &Page, row: &Row<'_>) -> bool {
+    let printed = out.written();
+    printed.starts_with(row.out.as_bytes()) && (row.goes_on || printed.len() == row.out.len())
 }
 
 /// Whether a page is held.

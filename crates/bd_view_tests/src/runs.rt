@@ -8,7 +8,7 @@ use bd_examples::texts::{ONE_STAGE, OPERAND_NOT_LOADED, STALE_OPERAND, SUBSET_OF
 use std::test::Fail;
 
 /// The stale operand, shown.
-const STALE: Row = Row {
+pub const STALE: Row<'static> = Row {
     words: &["bd_view", "show", "p", "s", "c"],
     pipe: STALE_OPERAND,
     spec: ONE_STAGE,
@@ -16,6 +16,7 @@ const STALE: Row = Row {
     inv: "",
     status: 1,
     out: STALE_SHOWN,
+    goes_on: false,
     err: "",
     page: "",
 };
@@ -57,7 +58,7 @@ fn prints_what_is_left(rt: HostRuntime) -> Result<(), Fail> {
 }
 
 /// A case that breaks nothing, as it is, and what shrinks nothing.
-static UNBROKEN: [Row; 3] = [
+static UNBROKEN: [Row<'static>; 3] = [
     Row {
         pipe: TWO_STAGE,
         status: 0,
@@ -90,13 +91,46 @@ fn what_breaks_nothing_isnt_made_small(rt: HostRuntime) -> Result<(), Fail> {
     Ok(())
 }
 
-/// Faults of files and of words.
-static FAULTS: [Row; 4] = [
+/// Faults of files.
+static FAULTS: [Row<'static>; 6] = [
     Row {
         spec: "(specification\n\t(latch pc word)\n\t(next pc q))",
         status: 3,
         out: "",
-        err: "s:3:11: E08 unknown name\n  \t(next pc q))\n  \t         ^\n",
+        err: "s:3:11: E08 unknown name: q\n  \t(next pc q))\n  \t         ^\n",
+        ..STALE
+    },
+    Row {
+        pipe: &[
+            "(pipeline (latch a bool)\n (latch b bool) (latch c bool\n (next a b) (flush 0) (steps 0))\n",
+        ],
+        status: 3,
+        out: "",
+        err: "p:4:1: E02 unbalanced parenthesis\n  \n  ^\n\
+p:2:17: this list stays open\n   (latch b bool) (latch c bool\n                  ^\n",
+        ..STALE
+    },
+    Row {
+        pipe: &["; (\n(pipeline (latch a bool)\n (next a (not a))\n (flush 0) ; )\n (steps 0)"],
+        status: 3,
+        out: "",
+        err: "p:5:11: E02 unbalanced parenthesis\n   (steps 0)\n            ^\n\
+p:2:1: this list stays open\n  (pipeline (latch a bool)\n  ^\n",
+        ..STALE
+    },
+    Row {
+        pipe: &["(pipeline (latch a bool)\n (next a (and a\n  (not a)"],
+        status: 3,
+        out: "",
+        err: "p:3:10: E02 unbalanced parenthesis\n    (not a)\n           ^\n\
+p:2:2: this list stays open\n   (next a (and a\n   ^\n",
+        ..STALE
+    },
+    Row {
+        case: "(case 1))",
+        status: 3,
+        out: "",
+        err: "c:1:9: E02 unbalanced parenthesis\n  (case 1))\n          ^\n",
         ..STALE
     },
     Row {
@@ -104,19 +138,6 @@ static FAULTS: [Row; 4] = [
         status: 5,
         out: "",
         err: "cannot read none\n",
-        ..STALE
-    },
-    Row {
-        words: &["bd_view", "--version"],
-        status: 0,
-        out: "bd_view 1.0\n",
-        ..STALE
-    },
-    Row {
-        words: &["bd_view"],
-        status: 2,
-        out: "",
-        err: "usage: bd_view show|shrink PIPE SPEC CASE [INV]; --help says more\n",
         ..STALE
     },
 ];
