@@ -6,8 +6,8 @@
 
 - docs/MAP.md: the last column of the table of crates, who uses each, follows from crates.txt.
 - docs/PROVED.md: the list of what `correct` rests on, by following the definitions that the promise of that name cites;
-  the table of every call, with what it needs, whether it wants memory, what it promises and what an error leaves, by the
-  names of its contract's clauses; and the calls that can't want memory.
+  the table of every call, with what it needs, whether it wants memory, what it promises and what an error leaves, by
+  the names of its contract's clauses; and the calls that can't want memory.
 - docs/DEFINITIONS.md: each public definition of crates/*/specs with the comment above it, under its module and what the
   head of the module's file says, its source among that; modules of specs/inner, which no public contract cites, are
   left out.
@@ -43,7 +43,8 @@ ENDS = {"Ended": "`Ended::Memory`", "ExitCode": "its exit status"}
 # calls that can't want memory, by their signatures
 WITHOUT_MEMORY = (
     "Table::at Memory::at Memory::same State::get Design::fits Graph::node Graph::sort Graph::len Prop::node Prop::len "
-    "Log::new Cdcl::new Cnf::satisfied Checker::check_line Sink::put Page::written Page::faults Shelf::faults Ended::status"
+    "Log::new Cdcl::new Cnf::satisfied Checker::check_line Sink::put Page::written Page::faults Shelf::faults "
+    "Ended::status"
 ).split()
 
 HEAD = """# Definitions

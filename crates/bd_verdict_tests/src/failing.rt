@@ -1,5 +1,5 @@
-//! Devices that fail: each call of each command on its files, and its output after each byte, also where the error output
-//! fails too.
+//! Devices that fail: each call of each command on its files, and its output after each byte, also where the error
+//! output fails too.
 
 use crate::bounded::{BOUNDED, RETRACE};
 use crate::calls::USAGE;
@@ -33,8 +33,8 @@ const FOUR_LOADS: &[Call] = &[Call::Load, Call::Load, Call::Load, Call::Load];
 
 const LOADS_AND_SAVES: &[Call] = &[Call::Load, Call::Load, Call::SaveFormula, Call::SaveProof];
 
-/// The formula of the stalling bit. With `go` as variable 1 and `a` as 2, variable 3 is `a` after the cycle, 4 says that
-/// the two are the same, 5 that they aren't, and 6, one of both, is false; the clauses of these were checked by hand.
+/// The formula of the stalling bit. With `go` as variable 1 and `a` as 2, variable 3 is `a` after the cycle, 4 says
+/// that the two are the same, 5 that they aren't, and 6, one of both, is false; the clauses were checked by hand.
 const FORMULA: &str =
     "p cnf 6 16\n-1 -2 -3 0\n1 2 -3 0\n-1 2 3 0\n1 -2 3 0\n2 -3 -4 0\n-2 3 -4 0\n-2 -3 4 0\n\
 2 3 4 0\n-2 -3 -5 0\n2 3 -5 0\n2 -3 5 0\n-2 3 5 0\n-4 6 0\n-5 6 0\n4 5 -6 0\n-6 0\n";
