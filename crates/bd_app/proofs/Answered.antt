@@ -2,8 +2,12 @@
 use Rattle.std.proofs.Common.{◌≡◌, ◌≢◌, ◌∙◌, ℕ, List, refl, sym, ap, subst, inl, inr}
 use Rattle.std.specs.Prelude.{◌⊎◌, Option, Some, None, Result, Ok, Err, IfSome, IfOk, IfErr, IsErrOf}
 use Rattle.bd_files.specs.Devices.{Held, Rose, Appends, AppendsPrefix}
+use Rattle.bd_goal.specs.Laws.{Differs}
+use Rattle.bd_model.specs.Conditions.{Abstraction, JudgedBy}
 use Rattle.bd_model.specs.DesignView.{DesignView}
+use Rattle.bd_model.specs.Fits.{Fits}
 use Rattle.bd_model.specs.Right.{IsRight}
+use Rattle.bd_model.specs.declared.case.Judged.TheVariants as judged
 use Rattle.bd_verify.specs.declared.verdict.Question.TheVariants.{Breaks}
 use Rattle.bd_verify.specs.declared.verdict.Work.{Work}
 use Rattle.bd_verify.specs.declared.verdict.Verdict.{Verdict}
@@ -12,20 +16,26 @@ use Rattle.bd_app.specs.Answer.{HasReport}
 use Rattle.bd_bounded.specs.Answer.{HasWork, Says}
 use Rattle.bd_bounded.specs.declared.answer.Bounded.{Bounded as BoundedAnswer}
 use Rattle.bd_bounded.specs.declared.answer.Bounded.TheVariants as runs
+use Rattle.bd_abstraction.specs.Abstraction.{AbstractionView}
+use Rattle.bd_completion.specs.Answer.{HasWork as HasWorkBy, Says as SaysBy}
+use Rattle.bd_completion.specs.declared.answer.Complete.{Complete}
+use Rattle.bd_completion.specs.declared.answer.Complete.TheVariants as completed
 use Rattle.bd_app.specs.Bounded.{BoundedRun, bounded_meaning}
-use Rattle.bd_app.specs.Commands.{Question, check, replay, run, gen, recheck, bounded, retrace, meaning_of, taken}
+use Rattle.bd_app.specs.Complete.{Completion}
+use Rattle.bd_app.specs.Completions.{CompletesTo, abstraction_by}
+use Rattle.bd_app.specs.Commands.{Question, check, replay, run, gen, recheck, bounded, retrace, complete, meaning_of, taken}
 use Rattle.bd_app.specs.Meaning.{Effects, FilesSeen, IsVerdictFor, Meaning}
-use Rattle.bd_app.specs.Program.{ForBounded, ForDesign, ForVerdict, Headline, IsAnswered, SinkSeen}
+use Rattle.bd_app.specs.Program.{ForBounded, ForCompletion, ForDesign, ForVerdict, Headline, IsAnswered, SinkSeen}
 use Rattle.bd_app.specs.Verdicts.{IsVerdict, ended_by}
 use Rattle.bd_app.specs.declared.answer.Answer.{Answer}
 use Rattle.bd_app.specs.declared.answer.Which.TheVariants as which
 use Rattle.bd_app.specs.declared.answer.Ended.{Ended}
-use Rattle.bd_app.specs.declared.answer.Ended.TheVariants.{Proved, Bounded, Usage, Refused, BadText, Device, Memory}
+use Rattle.bd_app.specs.declared.answer.Ended.TheVariants.{Proved, Bounded, Completed, Usage, Refused, BadText, Device, Memory}
 use Rattle.bd_app.specs.declared.verdict.Asked.{Asked}
 use Rattle.bd_app.specs.inner.Done.{IsDone, IsEarlyFault, IsFault, ended_of}
 use Rattle.bd_app.proofs.Effects.{out_effects}
 use Rattle.bd_app.proofs.Results.{IfSome-weaker}
-use Rattle.bd_app.proofs.Verdicts.{no_bounded, no_memory_verdict, no_proved, no_ran, no_replayed, no_retraced, no_usage_verdict, same_verdict, verdict_reports}
+use Rattle.bd_app.proofs.Verdicts.{no_bounded, no_completed, no_memory_verdict, no_proved, no_ran, no_replayed, no_retraced, no_usage_verdict, same_verdict, verdict_reports}
 
 -- ---- what is promised of each command
 
@@ -38,6 +48,7 @@ reports (gen q) held e report is = subst HasReport (sym is.says.ended) (verdict_
 reports (recheck q) held e report is = subst HasReport (sym is.ended) tt
 reports (bounded q) held e report is = subst HasReport (sym is.says.ended) tt
 reports (retrace q) held e report is = subst HasReport (sym is.says.ended) tt
+reports (complete q) held e report is = subst HasReport (sym is.says.ended) tt
 
 -- an answer that is a verdict is one on its design
 pub verdict_for : (q : Question) (held : Option Held) (v : Verdict) (report : List ℕ) → (meaning_of q).IsAnswer held (ended_by v) report → IsVerdictFor (meaning_of q) held v
@@ -60,6 +71,7 @@ verdict_for (gen q) held v report is = record {
 verdict_for (recheck q) held v report is = absurd (no_proved v is.work is.ended)
 verdict_for (bounded q) held v report is = absurd (no_bounded v is.says.answer is.says.ended)
 verdict_for (retrace q) held v report is = absurd (no_retraced v is.says.judgement is.says.ended)
+verdict_for (complete q) held v report is = absurd (no_completed v is.says.answer is.says.ended)
 
 -- an answer that is a proof is one that its design is right
 proved_right : (q : Question) (held : Option Held) (work : Work) (report : List ℕ) → (meaning_of q).IsAnswer held (Proved work) report → IfSome held (λ h. (d : DesignView) × (meaning_of q).Asks h d × IsRight d)
@@ -70,6 +82,7 @@ proved_right (gen q) held work report is = absurd (no_proved is.says.verdict wor
 proved_right (recheck q) held work report is = IfSome-weaker _ _ held (λ h on. (on.design, on.denoted, on.says.right)) is.proves
 proved_right (bounded q) held work report is = absurd (cc is.says.ended)
 proved_right (retrace q) held work report is = absurd (cc is.says.ended)
+proved_right (complete q) held work report is = absurd (cc is.says.ended)
 
 -- an answer on a bounded run is one to a question on such a run, and true of its design
 pub record IsRunOf (q : Question) (held : Option Held) (answer : BoundedAnswer) : Type 0 where
@@ -97,6 +110,37 @@ run_for (bounded q) held answer report is =
       work = subst (λ a. HasWork is.design q.cycles q.budget a) same is.says.work;
     }
 run_for (retrace q) held answer report is = absurd (cc is.says.ended)
+run_for (complete q) held answer report is = absurd (cc is.says.ended)
+
+-- an answer on a completion function is one to a question on such a function, and true of it and its design
+pub record IsCompletionOf (q : Question) (held : Option Held) (answer : Complete) : Type 0 where
+  pub question : Completion
+  pub is_asked : q ≡ complete question
+  pub design : DesignView
+  pub abs : AbstractionView
+  pub asks : IfSome held (λ h. CompletesTo question.names h design abs)
+  pub says : SaysBy design (abstraction_by design abs) question.agree answer
+  pub work : HasWorkBy design (abstraction_by design abs) question.agree question.budget answer
+
+pub completion_for : (q : Question) (held : Option Held) (answer : Complete) (report : List ℕ) → (meaning_of q).IsAnswer held (Completed answer) report → IsCompletionOf q held answer
+completion_for (check q) held answer report is = absurd (no_completed is.says.verdict answer (sym is.says.ended))
+completion_for (replay q) held answer report is = absurd (cc is.says.ended)
+completion_for (run q) held answer report is = absurd (cc is.says.ended)
+completion_for (gen q) held answer report is = absurd (no_completed is.says.verdict answer (sym is.says.ended))
+completion_for (recheck q) held answer report is = absurd (cc is.ended)
+completion_for (bounded q) held answer report is = absurd (cc is.says.ended)
+completion_for (retrace q) held answer report is = absurd (cc is.says.ended)
+completion_for (complete q) held answer report is =
+    let same : is.says.answer ≡ answer = cc is.says.ended in
+    record {
+      question = q;
+      is_asked = refl;
+      design = is.design;
+      abs = is.abs;
+      asks = is.asks;
+      says = subst (λ a. SaysBy is.design (abstraction_by is.design is.abs) q.agree a) same is.says.says;
+      work = subst (λ a. HasWorkBy is.design (abstraction_by is.design is.abs) q.agree q.budget a) same is.says.work;
+    }
 
 -- ---- before anything is printed
 
@@ -227,6 +271,14 @@ module _ (words : List (List ℕ)) (final : Ended) (a b : FilesSeen) (out out' :
       let found = run_for q a.held answer printed.0 (subst (λ e. (meaning_of q).IsAnswer a.held e printed.0) is printed.2) in
       (found.question, asks ∙ ap Some found.is_asked, IfSome-weaker _ _ a.held (λ h asked. (found.design, asked, f found.question found.design found.says found.work)) found.asks)
 
+  for_completion : (answer : Complete) (P : Completion → DesignView → Abstraction → Type 0) (o : Option Question) → taken words ≡ o → final ≡ Completed answer
+      → ((q : Completion) (d : DesignView) (abs : Abstraction) → SaysBy d abs q.agree answer → HasWorkBy d abs q.agree q.budget answer → P q d abs) → ForCompletion a.held words P
+  for_completion answer P None asks is f = elim (usage asks) [ inl h ↦ absurd (cc (is, h)) | inr h ↦ absurd (cc (is, h)) ]
+  for_completion answer P (Some q) asks is f =
+      let printed = (answers q asks).printed (subst HasReport (sym is) tt) in
+      let found = completion_for q a.held answer printed.0 (subst (λ e. (meaning_of q).IsAnswer a.held e printed.0) is printed.2) in
+      (found.question, asks ∙ ap Some found.is_asked, IfSome-weaker _ _ a.held (λ h asked. (found.design, found.abs, asked, f found.question found.design (abstraction_by found.design found.abs) found.says found.work)) found.asks)
+
   for_verdict : (v : Verdict) (P : Asked → DesignView → Type 0) → final ≡ ended_by v → ((asked : Asked) (d : DesignView) → IsVerdict d asked v → P asked d) → ForVerdict a.held words P
   for_verdict v P is f =
       let found = asked_for v (taken words) refl is in
@@ -248,6 +300,11 @@ module _ (words : List (List ℕ)) (final : Ended) (a b : FilesSeen) (out out' :
     kept = λ work is. for_run (runs.Kept work) _ (taken words) refl is (λ q d says work. says);
     broken = λ cycle t work is. for_run (runs.Broken cycle t work) _ (taken words) refl is (λ q d says work. (says.0.fits, says.1));
     bounded_work = λ answer is. for_run answer _ (taken words) refl is (λ q d says work. work);
+    right_by = λ work is. for_completion (completed.Right work) _ (taken words) refl is (λ q d abs says work. says.1);
+    wrong_by = λ k c work is. for_completion (completed.Wrong k c work) (λ q d abs. Fits d c × JudgedBy d abs c (judged.Broken k)) (taken words) refl is (λ q d abs says work. (says.1, says.2));
+    agrees = λ work is. for_completion (completed.Agree work) _ (taken words) refl is (λ q d abs says work. says.1);
+    differs = λ c work is. for_completion (completed.Differ c work) (λ q d abs. Fits d c × Differs d abs c) (taken words) refl is (λ q d abs says work. (says.1, says.2));
+    completion_work = λ answer is. for_completion answer _ (taken words) refl is (λ q d abs says work. work);
     holds = λ c work is. for_design (verdict.Correct (Some c) work) _ is (λ asked d v. v.is_true.1);
     undecided = λ work is. for_verdict (verdict.Undecided Breaks work) _ is (λ asked d v. v.is_true);
     may_give = λ v is. for_verdict v _ is (λ asked d v. v.may_give);

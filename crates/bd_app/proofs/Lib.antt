@@ -6,4 +6,5 @@ pub mod Verdicts
 pub mod Runs
 pub mod Effects
 pub mod Sources
+pub mod Completions
 pub mod Answered

@@ -8,6 +8,7 @@ use Rattle.bd_model.specs.Right.{IsRight}
 use Rattle.bd_model.specs.declared.case.Case.{Case}
 use Rattle.bd_model.specs.declared.case.Condition.{Condition}
 use Rattle.bd_bounded.specs.declared.answer.Bounded.{Bounded}
+use Rattle.bd_completion.specs.declared.answer.Complete.{Complete}
 use Rattle.bd_model.specs.declared.case.Judged.{Judged}
 use Rattle.bd_model.specs.declared.case.Judged.TheVariants as judged
 use Rattle.bd_model.specs.declared.case.TrailJudged.{TrailJudged}
@@ -85,6 +86,12 @@ no_retraced (verdict.Correct c work) j is = cc is
 no_retraced (verdict.Wrong k c work) j is = cc is
 no_retraced (verdict.Void work) j is = cc is
 no_retraced (verdict.Undecided asked work) j is = cc is
+
+pub no_completed : (v : Verdict) (answer : Complete) → ended_by v ≢ endings.Completed answer
+no_completed (verdict.Correct c work) answer is = cc is
+no_completed (verdict.Wrong k c work) answer is = cc is
+no_completed (verdict.Void work) answer is = cc is
+no_completed (verdict.Undecided asked work) answer is = cc is
 
 verdict_in : Ended → Option Verdict
 verdict_in (Correct c work) = Some (verdict.Correct c work)

@@ -2,6 +2,7 @@
 use Rattle.std.specs.Prelude.{ℕ, List, [], ◌∷◌, ◌++◌, codes}
 use Rattle.std.specs.Fmt.{decimal}
 use Rattle.bd_bounded.specs.declared.answer.Bounded.TheVariants as bounded
+use Rattle.bd_completion.specs.declared.answer.Complete.TheVariants as complete
 use Rattle.bd_model.specs.declared.case.Judged.TheVariants as judged
 use Rattle.bd_model.specs.declared.case.TrailJudged.TheVariants as trail
 use Rattle.bd_text.specs.CodeText.{code_name, code_text}
@@ -11,7 +12,7 @@ use Rattle.bd_typer.specs.declared.fault.Text.TheVariants as text
 use Rattle.bd_app.specs.declared.answer.Which.{Which}
 use Rattle.bd_app.specs.declared.answer.Which.TheVariants as which
 use Rattle.bd_app.specs.declared.answer.Ended.{Ended}
-use Rattle.bd_app.specs.declared.answer.Ended.TheVariants.{Correct, Wrong, Void, Undecided, Replayed, Ran, Proved, Bounded, Retraced, Usage, Refused, BadText, Device, Memory}
+use Rattle.bd_app.specs.declared.answer.Ended.TheVariants.{Correct, Wrong, Void, Undecided, Replayed, Ran, Proved, Bounded, Retraced, Completed, Usage, Refused, BadText, Device, Memory}
 use Rattle.bd_app.specs.ProofFaults.{proof_line}
 
 abbrev pub status_of : Ended → ℕ
@@ -30,6 +31,11 @@ status_of (Bounded (bounded.Undecided work)) = 4
 status_of (Retraced trail.Holds) = 0
 status_of (Retraced trail.Outside) = 8
 status_of (Retraced (trail.Broken cycle)) = 1
+status_of (Completed (complete.Right work)) = 0
+status_of (Completed (complete.Wrong k c work)) = 1
+status_of (Completed (complete.Agree work)) = 0
+status_of (Completed (complete.Differ c work)) = 1
+status_of (Completed (complete.Undecided work)) = 4
 status_of Usage = 2
 status_of (Refused t offset code) = 3
 status_of (BadText line column why cnf) = 3
@@ -52,6 +58,7 @@ SavesNothing Ran = Unit {0}
 SavesNothing (Proved work) = Unit {0}
 SavesNothing (Bounded answer) = Unit {0}
 SavesNothing (Retraced j) = Unit {0}
+SavesNothing (Completed answer) = Unit {0}
 SavesNothing Usage = Unit {0}
 SavesNothing (Refused file offset code) = Unit {0}
 SavesNothing (BadText line column why cnf) = Unit {0}
@@ -65,11 +72,13 @@ usage =
     codes "usage: burch_dill check PIPE SPEC [INV] [--budget N] [--cnf FILE] [--lrat FILE] "
     ++ codes "[--diverse] | replay PIPE SPEC CASE [INV] | run PIPE SPEC CASE CYCLES "
     ++ codes "| gen DEPTH DROP | recheck PIPE SPEC PROOF [INV] "
-    ++ codes "| bounded PIPE SPEC START C [--budget N] | retrace PIPE SPEC TRAIL START"
+    ++ codes "| bounded PIPE SPEC START C [--budget N] | retrace PIPE SPEC TRAIL START "
+    ++ codes "| complete PIPE SPEC COMP [INV] [--agree] [--budget N]"
 
 abbrev pub file_word : Text → List ℕ
 file_word text.Pipe = codes "pipe"
 file_word text.Spec = codes "spec"
+file_word text.Comp = codes "comp"
 file_word text.Inv = codes "inv"
 file_word text.Start = codes "start"
 file_word text.Case = codes "case"

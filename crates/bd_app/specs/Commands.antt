@@ -10,6 +10,7 @@ use Rattle.clap.specs.Kinds.{Kinds}
 use Rattle.bd_app.specs.Meaning.{Meaning}
 use Rattle.bd_app.specs.Bounded.{BoundedRun, bounded_command, bounded_meaning, bounded_question}
 use Rattle.bd_app.specs.Check.{Check, check_command, check_meaning, check_question}
+use Rattle.bd_app.specs.Complete.{Completion, complete_command, complete_meaning, complete_question}
 use Rattle.bd_app.specs.Generate.{Gen, gen_command, gen_meaning, gen_question}
 use Rattle.bd_app.specs.Recheck.{Recheck, recheck_command, recheck_meaning, recheck_question}
 use Rattle.bd_app.specs.Replay.{Replay, replay_command, replay_meaning, replay_question}
@@ -26,6 +27,7 @@ pub data Question : Type 0 where
   recheck : Recheck → Question
   bounded : BoundedRun → Question
   retrace : Retrace → Question
+  complete : Completion → Question
 
 -- what it means
 abbrev pub meaning_of : Question → Meaning
@@ -36,6 +38,7 @@ meaning_of (gen q) = gen_meaning q
 meaning_of (recheck q) = recheck_meaning q
 meaning_of (bounded q) = bounded_meaning q
 meaning_of (retrace q) = retrace_meaning q
+meaning_of (complete q) = complete_meaning q
 
 -- a command: its words, and the question of their values
 pub record Command : Type 0 where
@@ -52,6 +55,7 @@ commands =
     ∷ record { shape = recheck_command; question = λ rows. option_map recheck (recheck_question rows) }
     ∷ record { shape = bounded_command; question = λ rows. option_map bounded (bounded_question rows) }
     ∷ record { shape = retrace_command; question = λ rows. option_map retrace (retrace_question rows) }
+    ∷ record { shape = complete_command; question = λ rows. option_map complete (complete_question rows) }
     ∷ []
 
 unfoldable pub command_line : App

@@ -57,7 +57,8 @@ abbrev pub design_files : DesignNames → List File
 design_files names =
     (Pipe, names.pipe) ∷ (Spec, names.spec) ∷ one_if (premise_file names.premise) names.third
 
--- the names of the files of a design and of a text on it: a case, a trail or a proof
+-- the names of the files of a design and of a text on it: a case, a trail, a proof or a
+-- completion function
 pub record TextNames : Type 0 where
   pub design : DesignNames
   pub text : Name

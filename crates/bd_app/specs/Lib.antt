@@ -9,6 +9,8 @@ pub mod Meaning
 pub mod Questions
 pub mod Bounded
 pub mod Check
+pub mod Complete
+pub mod Completions
 pub mod Generate
 pub mod Recheck
 pub mod Replay

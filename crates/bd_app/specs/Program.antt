@@ -2,8 +2,8 @@
 use Rattle.std.specs.Prelude.{◌≡◌, ◌≢◌, ◌≤◌, ◌⊎◌, ℕ, true, List, Option, Some, None, IfSome}
 use Rattle.bd_model.specs.DesignView.{DesignView}
 use Rattle.bd_model.specs.Fits.{Fits, TrailFits}
-use Rattle.bd_model.specs.Conditions.{IsJudged, SomeCaseMeetsInvariant}
-use Rattle.bd_model.specs.Right.{BoundedRight, IsRight}
+use Rattle.bd_model.specs.Conditions.{Abstraction, IsJudged, JudgedBy, SomeCaseMeetsInvariant}
+use Rattle.bd_model.specs.Right.{Agrees, BoundedRight, IsRight, RightBy}
 use Rattle.bd_model.specs.TrailJudged.{IsTrailJudged}
 use Rattle.bd_model.specs.declared.case.Case.{Case}
 use Rattle.bd_model.specs.declared.case.Condition.{Condition}
@@ -13,6 +13,11 @@ use Rattle.bd_model.specs.declared.case.TrailJudged.TheVariants as trail
 use Rattle.bd_bounded.specs.Answer.{HasWork as HasBoundedWork}
 use Rattle.bd_bounded.specs.declared.answer.Bounded.{Bounded as BoundedAnswer}
 use Rattle.bd_bounded.specs.declared.answer.Bounded.TheVariants as run
+use Rattle.bd_abstraction.specs.Abstraction.{AbstractionView}
+use Rattle.bd_completion.specs.Answer.{HasWork as HasWorkBy}
+use Rattle.bd_completion.specs.declared.answer.Complete.{Complete}
+use Rattle.bd_completion.specs.declared.answer.Complete.TheVariants as found
+use Rattle.bd_goal.specs.Laws.{Differs}
 use Rattle.bd_cnf.specs.Problem.{Problem}
 use Rattle.bd_files.specs.Devices.{Held, Rose, Appends, AppendsPrefix, PutsOrFaults}
 use Rattle.bd_proof_text.specs.declared.fault.Why.{Why}
@@ -24,12 +29,14 @@ use Rattle.bd_verify.specs.declared.verdict.Verdict.{Verdict}
 use Rattle.bd_verify.specs.declared.verdict.Work.{Work}
 use Rattle.bd_app.specs.Answer.{HasReport, fault_line_of}
 use Rattle.bd_app.specs.Bounded.{BoundedRun, bounded_meaning}
-use Rattle.bd_app.specs.Commands.{Question, bounded, meaning_of, taken}
+use Rattle.bd_app.specs.Commands.{Question, bounded, complete, meaning_of, taken}
+use Rattle.bd_app.specs.Complete.{Completion}
+use Rattle.bd_app.specs.Completions.{CompletesTo, abstraction_by}
 use Rattle.bd_app.specs.Meaning.{Effects, FilesSeen, IsProofRefused, IsRefused, IsSaved, Meaning}
 use Rattle.bd_app.specs.Verdicts.{MayGive, ended_by}
 use Rattle.bd_app.specs.declared.answer.Which.TheVariants.{Out}
 use Rattle.bd_app.specs.declared.answer.Ended.{Ended}
-use Rattle.bd_app.specs.declared.answer.Ended.TheVariants.{Correct, Wrong, Void, Undecided, Proved, Bounded, Usage, Refused, BadText, Device, Memory}
+use Rattle.bd_app.specs.declared.answer.Ended.TheVariants.{Correct, Wrong, Void, Undecided, Proved, Bounded, Completed, Usage, Refused, BadText, Device, Memory}
 use Rattle.bd_app.specs.declared.verdict.Asked.{Asked}
 
 -- a sink as a caller sees it
@@ -61,6 +68,14 @@ ForBounded held words P =
     (q : BoundedRun) × (taken words ≡ Some (bounded q))
     × IfSome held (λ h. (d : DesignView) × (bounded_meaning q).Asks h d × P q d)
 
+-- they ask about a completion function, and this holds of it, of the design and of what states stand for
+abbrev pub ForCompletion :
+    Option Held → List (List ℕ) → (Completion → DesignView → Abstraction → Type 0) → Type 0
+ForCompletion held words P =
+    (q : Completion) × (taken words ≡ Some (complete q))
+    × IfSome held (λ h. (d : DesignView) × (abs : AbstractionView)
+    × CompletesTo q.names h d abs × P q d (abstraction_by d abs))
+
 -- what the verdict that a run answers says of the design: under every interpretation, from every
 -- state that meets the invariant, and for every list of inputs
 pub record Headline (held : Option Held) (words : List (List ℕ)) (e : Ended) : Type 0 where
@@ -78,6 +93,18 @@ pub record Headline (held : Option Held) (words : List (List ℕ)) (e : Ended) :
   -- their formula is the one that is kept of the question, and their log that of an honest solver
   pub bounded_work : (answer : BoundedAnswer) → e ≡ Bounded answer →
       ForBounded held words (λ q d. HasBoundedWork d q.cycles q.budget answer)
+  -- the same by a completion function in the place of flushing
+  pub right_by : (work : Work) → e ≡ Completed (found.Right work) →
+      ForCompletion held words (λ q d abs. RightBy d abs)
+  pub wrong_by : (k : Condition) (c : Case) (work : Work) → e ≡ Completed (found.Wrong k c work) →
+      ForCompletion held words (λ q d abs. Fits d c × JudgedBy d abs c (Broken k))
+  -- it agrees with flushing in each state that meets the invariant, or this case tells the two apart
+  pub agrees : (work : Work) → e ≡ Completed (found.Agree work) →
+      ForCompletion held words (λ q d abs. Agrees d abs)
+  pub differs : (c : Case) (work : Work) → e ≡ Completed (found.Differ c work) →
+      ForCompletion held words (λ q d abs. Fits d c × Differs d abs c)
+  pub completion_work : (answer : Complete) → e ≡ Completed answer →
+      ForCompletion held words (λ q d abs. HasWorkBy d abs q.agree q.budget answer)
   -- a case that is carried by a correct verdict shows that some state meets the invariant
   pub holds : (c : Case) (work : Work) → e ≡ Correct (Some c) work →
       ForDesign held words (λ d. Fits d c × IsJudged d c Holds)

@@ -3,3 +3,4 @@ pub mod ProofLine
 pub mod Loaded
 pub mod Saved
 pub mod Done
+pub mod Completed

@@ -11,6 +11,7 @@ ghost use Rattle.bd_app.specs.Verdicts.{ended_by};
 use crate::proof_fault::put_proof_fault;
 use bd_bounded::Bounded;
 use bd_cnf::Cnf;
+use bd_completion::Complete;
 use bd_files::{Sink, put_pieces};
 use bd_model::{Case, Condition, Judged, TrailJudged};
 use bd_proof_text::Why;
@@ -52,6 +53,8 @@ pub enum Ended {
     Bounded(Bounded),
     /// What the trail shows.
     Retraced(TrailJudged),
+    /// What is found of a completion function.
+    Completed(Complete),
     /// The words aren't taken.
     Usage,
     /// The file has a fault, at that offset in bytes.
@@ -88,6 +91,7 @@ fn file_word(file: Text) -> &'static [u8]
     match file {
         Text::Pipe => b"pipe",
         Text::Spec => b"spec",
+        Text::Comp => b"comp",
         Text::Inv => b"inv",
         Text::Start => b"start",
         Text::Case => b"case",
@@ -132,14 +136,18 @@ impl Ended {
             | Ended::Ran
             | Ended::Proved(_)
             | Ended::Bounded(Bounded::Kept(_))
-            | Ended::Retraced(TrailJudged::Holds) => 0,
+            | Ended::Retraced(TrailJudged::Holds)
+            | Ended::Completed(Complete::Right(_) | Complete::Agree(_)) => 0,
             Ended::Wrong(_, _, _)
             | Ended::Replayed(Judged::Broken(_))
             | Ended::Bounded(Bounded::Broken(_, _, _))
-            | Ended::Retraced(TrailJudged::Broken(_)) => 1,
+            | Ended::Retraced(TrailJudged::Broken(_))
+            | Ended::Completed(Complete::Wrong(_, _, _) | Complete::Differ(_, _)) => 1,
             Ended::Usage => 2,
             Ended::Refused { .. } | Ended::BadText { .. } => 3,
-            Ended::Undecided(_, _) | Ended::Bounded(Bounded::Undecided(_)) => 4,
+            Ended::Undecided(_, _)
+            | Ended::Bounded(Bounded::Undecided(_))
+            | Ended::Completed(Complete::Undecided(_)) => 4,
             Ended::Device(_) => 5,
             Ended::Memory => 6,
             Ended::Void(_) => 7,
@@ -210,4 +218,4 @@ const USAGE: &[u8] =
     b"usage: burch_dill check PIPE SPEC [INV] [--budget N] [--cnf FILE] [--lrat FILE] [--diverse] \
 | replay PIPE SPEC CASE [INV] | run PIPE SPEC CASE CYCLES | gen DEPTH DROP \
 | recheck PIPE SPEC PROOF [INV] | bounded PIPE SPEC START C [--budget N] \
-| retrace PIPE SPEC TRAIL START\n";
+| retrace PIPE SPEC TRAIL START | complete PIPE SPEC COMP [INV] [--agree] [--budget N]\n";

@@ -1,6 +1,6 @@
 //! The command line, read with `clap`.
 //!
-//! The seven commands are subcommands of one simple command, of which `clap` states what it makes of
+//! The eight commands are subcommands of one simple command, of which `clap` states what it makes of
 //! any words. So which words are taken, and what they ask for, is a definition on the words, and the
 //! code is shown to give it exactly. Each command has a file of its own, and a line in each of the
 //! two functions here that go through the command table.
@@ -13,6 +13,7 @@ ghost use Rattle.bd_app.specs.inner.Asked.{asked, IsInRange, IsParsed};
 
 pub mod bounded;
 pub mod check;
+pub mod complete;
 pub mod generate;
 pub mod recheck;
 pub mod replay;
@@ -21,6 +22,7 @@ pub mod run;
 
 use self::bounded::BoundedOptions;
 use self::check::CheckOptions;
+use self::complete::CompleteOptions;
 use self::generate::GenOptions;
 use self::run::RunOptions;
 use crate::load::TextFiles;
@@ -45,6 +47,8 @@ pub enum Command<'a> {
     Bounded(BoundedOptions<'a>),
     /// What a trail shows.
     Retrace(TextFiles<'a>),
+    /// Whether a pipeline is right by a completion function.
+    Complete(CompleteOptions<'a>),
 }
 
 /// Why words ask for nothing.
@@ -77,7 +81,8 @@ fn command_line<'a>(alloc: Global) -> Result<clap::Command<'a>, AllocError>
         .subcommand(generate::command(alloc)?)?
         .subcommand(recheck::command(alloc)?)?
         .subcommand(bounded::command(alloc)?)?
-        .subcommand(retrace::command(alloc)?)
+        .subcommand(retrace::command(alloc)?)?
+        .subcommand(complete::command(alloc)?)
 }
 
 /// What the command of this name with these arguments asks for.
@@ -101,6 +106,8 @@ fn question<'a>(name: &str, matches: &ArgMatches<'a>) -> Option<Command<'a>>
         Some(Command::Bounded(bounded::options(matches)?))
     } else if name == "retrace" {
         Some(Command::Retrace(retrace::options(matches)?))
+    } else if name == "complete" {
+        Some(Command::Complete(complete::options(matches)?))
     } else {
         None
     }

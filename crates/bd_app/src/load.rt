@@ -112,7 +112,8 @@ pub fn load_sources<F: Files>(files: &mut F, names: DesignFiles<'_>) -> Result<S
     })
 }
 
-/// The names of the files of a design and of a text on it: a case, a trail or a proof.
+/// The names of the files of a design and of a text on it: a case, a trail, a proof or a completion
+/// function.
 #[derive(Clone, Copy, Debug)]
 pub struct TextFiles<'a> {
     pub design: DesignFiles<'a>,
@@ -137,6 +138,7 @@ pub fn load_text<F: Files>(
     ensures loaded_text { IfOk result (λ bytes. IfSome (F.held files.old) (λ held.
         HoldsShort held (file, names.entry.text.now) bytes.text.items)) }
     ensures few { IfOk result (λ bytes. AreFew (sources_view bytes.sources)) }
+    ensures few_text { IfOk result (λ bytes. length bytes.text.items ≤ most_bytes file) }
     ensures left { Loads (text_files file (text_names names.entry))
         (files_seen F.held F.faults F.blame files.old)
         (files_seen F.held F.faults F.blame files.new) result }

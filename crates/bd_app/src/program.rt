@@ -8,24 +8,26 @@
 ghost use Rattle.std.specs.Prelude.{◌≡◌, ◌≢◌, ◌≤◌, ◌⊎◌, ℕ, Option, Some, None, IfOk, IfErr, IsErrOf};
 ghost use Rattle.bd_files.specs.Devices.{Rose, Appends, AppendsPrefix};
 ghost use Rattle.bd_model.specs.Fits.{Fits, TrailFits};
-ghost use Rattle.bd_model.specs.Conditions.{IsJudged, SomeCaseMeetsInvariant};
-ghost use Rattle.bd_model.specs.Right.{BoundedRight, IsRight};
+ghost use Rattle.bd_goal.specs.Laws.{Differs};
+ghost use Rattle.bd_model.specs.Conditions.{IsJudged, JudgedBy, SomeCaseMeetsInvariant};
+ghost use Rattle.bd_model.specs.Right.{Agrees, BoundedRight, IsRight, RightBy};
 ghost use Rattle.bd_model.specs.TrailJudged.{IsTrailJudged};
 ghost use Rattle.bd_verify.specs.declared.verdict.Work.{Work};
 ghost use Rattle.bd_app.specs.Answer.{HasReport};
 ghost use Rattle.bd_app.specs.Commands.{Question, meaning_of, taken};
 ghost use Rattle.bd_app.specs.Meaning.{files_seen};
-ghost use Rattle.bd_app.specs.Program.{ForBounded, ForDesign, IsRun, sink_seen};
+ghost use Rattle.bd_app.specs.Program.{ForBounded, ForCompletion, ForDesign, IsRun, sink_seen};
 ghost use Rattle.bd_app.specs.Words.{texts_of};
 ghost use Rattle.bd_app.specs.inner.Asked.{asked, IsInRange};
 ghost use Rattle.bd_app.specs.inner.Done.{IsDone, IsEarlyFault, ended_of};
 
 use crate::answer::{Answer, Ended, Which};
 use crate::command::{
-    Command, WordsFault, bounded, check, command_of, generate, recheck, replay, retrace,
+    Command, WordsFault, bounded, check, command_of, complete, generate, recheck, replay, retrace,
     run as run_cycles,
 };
 use bd_bounded::Bounded;
+use bd_completion::Complete;
 use bd_files::{Files, Sink};
 use bd_model::{Case, Condition, Judged, Trail, TrailJudged};
 use std::alloc::Global;
@@ -45,6 +47,7 @@ fn answered<F: Files>(alloc: Global, files: &mut F, command: Command<'_>) -> Res
         Command::Recheck(options) => recheck::answer(alloc, files, options),
         Command::Bounded(options) => bounded::answer(alloc, files, options),
         Command::Retrace(options) => retrace::answer(alloc, files, options),
+        Command::Complete(options) => complete::answer(alloc, files, options),
     }
 }
 
@@ -115,6 +118,20 @@ pub fn run<F: Files, O: Sink, E: Sink>(
         result ≡ Ended.Bounded (Bounded.Broken cycle t work) →
         ForBounded (F.held files.old) (texts_of words.now) (λ q d.
         TrailFits d t × IsTrailJudged d t (TrailJudged.Broken cycle)) }
+
+    // The same where a completion function stands in the place of flushing, and whether it agrees with
+    // flushing.
+    ensures right_by { (work : Work) → result ≡ Ended.Completed (Complete.Right work) →
+        ForCompletion (F.held files.old) (texts_of words.now) (λ q d abs. RightBy d abs) }
+    ensures wrong_by { (k : Condition) (c : Case) (work : Work) →
+        result ≡ Ended.Completed (Complete.Wrong k c work) →
+        ForCompletion (F.held files.old) (texts_of words.now) (λ q d abs.
+        Fits d c × JudgedBy d abs c (Judged.Broken k)) }
+    ensures agrees { (work : Work) → result ≡ Ended.Completed (Complete.Agree work) →
+        ForCompletion (F.held files.old) (texts_of words.now) (λ q d abs. Agrees d abs) }
+    ensures differs { (c : Case) (work : Work) → result ≡ Ended.Completed (Complete.Differ c work) →
+        ForCompletion (F.held files.old) (texts_of words.now) (λ q d abs.
+        Fits d c × Differs d abs c) }
 
     // All of it: what each answer means and what causes it, what is saved and what is printed.
     ensures run { IsRun (texts_of words.now) result

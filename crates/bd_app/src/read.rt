@@ -3,20 +3,22 @@
 //! All files are loaded before the first is read, and a design is read before a text on it. So the
 //! first fault in this order refuses: a file that is too long, a fault of the design's files, one of
 //! the case or trail.
-ghost use Rattle.std.specs.Prelude.{IfOk, IfErr, Ok};
+ghost use Rattle.std.specs.Prelude.{◌≤◌, IfOk, IfErr, Ok, length};
+ghost use Rattle.bd_abstraction.specs.Abstraction.{IsLawfulAbstraction, abstraction_view};
 ghost use Rattle.bd_case.specs.Reads.{IsReading, IsTrailReading};
 ghost use Rattle.bd_model.specs.DesignView.{design_view};
 ghost use Rattle.bd_model.specs.Fits.{Fits};
 ghost use Rattle.bd_model.specs.Lawful.{IsLawful};
 ghost use Rattle.bd_app.specs.Texts.{TrailFitsShort, case_kind, trail_kind};
 ghost use Rattle.bd_app.specs.inner.Loaded.{AreFew, sources_view};
+ghost use Rattle.bd_app.specs.inner.Completed.{AreCompletion, AreNoCompletion};
 ghost use Rattle.bd_app.specs.inner.Done.{AreDesign, AreRefused, IsTextRefused};
 
 use crate::answer::Ended;
-use crate::load::Sources;
+use crate::load::{Sources, TextBytes};
 use bd_case::{CaseFault, TrailFault, read_case, read_trail};
 use bd_model::{Case, Design, Trail};
-use bd_typer::{DesignFault, Text, design_with};
+use bd_typer::{DesignFault, Joined, Text, completed_design, design_with};
 use std::alloc::Global;
 
 /// The design of sources.
@@ -38,6 +40,35 @@ pub fn design(alloc: Global, sources: &Sources) -> Result<Design, Ended>
         third,
     ) {
         Ok(design) => Ok(design),
+        Err(DesignFault::Bad { file, offset, code }) => Err(Ended::Refused { file, offset, code }),
+        Err(DesignFault::Memory) => Err(Ended::Memory),
+    }
+}
+
+/// The design of sources, and the completion function of bytes.
+pub fn completion(alloc: Global, bytes: &TextBytes) -> Result<Joined, Ended>
+    requires sources { AreFew (sources_view bytes.now.sources) }
+    requires text { length bytes.now.text.items ≤ 1048576 }
+    ensures read { IfOk result (λ j. AreCompletion (sources_view bytes.now.sources)
+        bytes.now.text.items (design_view j.design) (abstraction_view j.abs)) }
+    ensures lawful { IfOk result (λ j. IsLawful (design_view j.design)) }
+    ensures given { IfOk result (λ j. IsLawfulAbstraction (design_view j.design) j.abs) }
+    ensures refused { IfErr result
+        (AreNoCompletion (sources_view bytes.now.sources) bytes.now.text.items) }
+{
+    let sources = &bytes.sources;
+    let inv = match &sources.third {
+        Some(inv) => Some(inv.as_slice()),
+        None => None,
+    };
+    match completed_design(
+        alloc,
+        sources.pipe.as_slice(),
+        sources.spec.as_slice(),
+        bytes.text.as_slice(),
+        inv,
+    ) {
+        Ok(joined) => Ok(joined),
         Err(DesignFault::Bad { file, offset, code }) => Err(Ended::Refused { file, offset, code }),
         Err(DesignFault::Memory) => Err(Ended::Memory),
     }

@@ -63,7 +63,7 @@ fn shown(verdict: &Verdict, shows: bool) -> Option<&Case>
 }
 
 /// Its text.
-fn text_of(alloc: Global, design: &Design, case: Option<&Case>) -> Result<Vec<u8>, AllocError>
+pub fn text_of(alloc: Global, design: &Design, case: Option<&Case>) -> Result<Vec<u8>, AllocError>
     requires lawful { IsLawful (design_view design.now) }
     requires fits { IfSome (option_map (λ c. c.now) case) (Fits (design_view design.now)) }
     ensures { IfOk result (λ text. IsTextOfIf case_kind (design_view design.now)

@@ -7,14 +7,15 @@ use Rattle.clap.specs.declared.parser.matches.ArgMatches.{ArgMatches}
 use Rattle.std.specs.Prelude.{ℕ}
 use Rattle.bd_app.specs.Bounded.{bounded_of, HasFewCycles}
 use Rattle.bd_app.specs.Check.{check_of}
-use Rattle.bd_app.specs.Commands.{Question, check, replay, run, gen, recheck, bounded, retrace, command_line}
+use Rattle.bd_app.specs.Complete.{complete_of}
+use Rattle.bd_app.specs.Commands.{Question, check, replay, run, gen, recheck, bounded, retrace, complete, command_line}
 use Rattle.bd_app.specs.Generate.{gen_of, HasDepth}
 use Rattle.bd_app.specs.Recheck.{recheck_of}
 use Rattle.bd_app.specs.Replay.{replay_of}
 use Rattle.bd_app.specs.Retrace.{retrace_of}
 use Rattle.bd_app.specs.Run.{run_of}
 use Rattle.bd_app.specs.declared.command.Command.{Command}
-use Rattle.bd_app.specs.declared.command.Command.TheVariants.{Check, Replay, Run, Gen, Recheck, Bounded, Retrace}
+use Rattle.bd_app.specs.declared.command.Command.TheVariants.{Check, Replay, Run, Gen, Recheck, Bounded, Retrace, Complete}
 
 -- the question that a command asks
 abbrev pub asked : Command → Question
@@ -25,6 +26,7 @@ asked (Gen options) = gen (gen_of options)
 asked (Recheck files) = recheck (recheck_of files)
 asked (Bounded options) = bounded (bounded_of options)
 asked (Retrace files) = retrace (retrace_of files)
+asked (Complete options) = complete (complete_of options)
 
 -- the numbers of a command are in their ranges
 abbrev pub IsInRange : Command → Type 0

@@ -13,4 +13,5 @@ returns c =
     let gens = c.in_ok-subcommand-4.ensures.shape c.in_ok-command-4.ensures.local ∙ ap₂ with_subcommand runs c.in_ok-command-4.ensures.shape in
     let rechecks = c.in_ok-subcommand-5.ensures.shape c.in_ok-command-5.ensures.local ∙ ap₂ with_subcommand gens c.in_ok-command-5.ensures.shape in
     let runs_bounded = c.in_ok-subcommand-6.ensures.shape c.in_ok-command-6.ensures.local ∙ ap₂ with_subcommand rechecks c.in_ok-command-6.ensures.shape in
-    IfOk-weaker c.subcommand-7.result _ _ (λ r added. added.shape c.in_ok-command-7.ensures.local ∙ ap₂ with_subcommand runs_bounded c.in_ok-command-7.ensures.shape) c.subcommand-7.ensures
+    let retraces = c.in_ok-subcommand-7.ensures.shape c.in_ok-command-7.ensures.local ∙ ap₂ with_subcommand runs_bounded c.in_ok-command-7.ensures.shape in
+    IfOk-weaker c.subcommand-8.result _ _ (λ r added. added.shape c.in_ok-command-8.ensures.local ∙ ap₂ with_subcommand retraces c.in_ok-command-8.ensures.shape) c.subcommand-8.ensures

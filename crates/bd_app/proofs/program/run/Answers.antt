@@ -60,6 +60,42 @@ returns-clause-broken g c =
     (λ none. untaken _ _ r.result put.result _ _ put.ensures.fault put.ensures.report (r.ensures.usage none))
     (λ q asks. answered _ _ q r.result put.result _ _ _ _ put.ensures.fault put.ensures.report (r.ensures.done q asks))).broken
 
+pub returns-clause-right_by : goal.returns-clause-right_by
+returns-clause-right_by g c =
+    let r = c.answer_of-answer in
+    let put = c.put_report-ended in
+    (headline (texts_of c.args.words.now) put.result (files_seen g.F.Files.held g.F.Files.faults g.F.Files.blame c.args.files.now) (files_seen g.F.Files.held g.F.Files.faults g.F.Files.blame r.new.files)
+    (sink_seen g.O.Sink.written g.O.Sink.faults c.args.out.now) (sink_seen g.O.Sink.written g.O.Sink.faults put.new.out)
+    (λ none. untaken _ _ r.result put.result _ _ put.ensures.fault put.ensures.report (r.ensures.usage none))
+    (λ q asks. answered _ _ q r.result put.result _ _ _ _ put.ensures.fault put.ensures.report (r.ensures.done q asks))).right_by
+
+pub returns-clause-wrong_by : goal.returns-clause-wrong_by
+returns-clause-wrong_by g c =
+    let r = c.answer_of-answer in
+    let put = c.put_report-ended in
+    (headline (texts_of c.args.words.now) put.result (files_seen g.F.Files.held g.F.Files.faults g.F.Files.blame c.args.files.now) (files_seen g.F.Files.held g.F.Files.faults g.F.Files.blame r.new.files)
+    (sink_seen g.O.Sink.written g.O.Sink.faults c.args.out.now) (sink_seen g.O.Sink.written g.O.Sink.faults put.new.out)
+    (λ none. untaken _ _ r.result put.result _ _ put.ensures.fault put.ensures.report (r.ensures.usage none))
+    (λ q asks. answered _ _ q r.result put.result _ _ _ _ put.ensures.fault put.ensures.report (r.ensures.done q asks))).wrong_by
+
+pub returns-clause-agrees : goal.returns-clause-agrees
+returns-clause-agrees g c =
+    let r = c.answer_of-answer in
+    let put = c.put_report-ended in
+    (headline (texts_of c.args.words.now) put.result (files_seen g.F.Files.held g.F.Files.faults g.F.Files.blame c.args.files.now) (files_seen g.F.Files.held g.F.Files.faults g.F.Files.blame r.new.files)
+    (sink_seen g.O.Sink.written g.O.Sink.faults c.args.out.now) (sink_seen g.O.Sink.written g.O.Sink.faults put.new.out)
+    (λ none. untaken _ _ r.result put.result _ _ put.ensures.fault put.ensures.report (r.ensures.usage none))
+    (λ q asks. answered _ _ q r.result put.result _ _ _ _ put.ensures.fault put.ensures.report (r.ensures.done q asks))).agrees
+
+pub returns-clause-differs : goal.returns-clause-differs
+returns-clause-differs g c =
+    let r = c.answer_of-answer in
+    let put = c.put_report-ended in
+    (headline (texts_of c.args.words.now) put.result (files_seen g.F.Files.held g.F.Files.faults g.F.Files.blame c.args.files.now) (files_seen g.F.Files.held g.F.Files.faults g.F.Files.blame r.new.files)
+    (sink_seen g.O.Sink.written g.O.Sink.faults c.args.out.now) (sink_seen g.O.Sink.written g.O.Sink.faults put.new.out)
+    (λ none. untaken _ _ r.result put.result _ _ put.ensures.fault put.ensures.report (r.ensures.usage none))
+    (λ q asks. answered _ _ q r.result put.result _ _ _ _ put.ensures.fault put.ensures.report (r.ensures.done q asks))).differs
+
 pub returns-clause-run : goal.returns-clause-run
 returns-clause-run g c =
     let r = c.answer_of-answer in

@@ -1,0 +1,114 @@
+-- `complete`: whether a pipeline is right by a completion function, or whether that agrees with
+-- flushing.
+use Rattle.std.specs.Prelude.{◌≡◌, Bool, ℕ, List, [], ◌∷◌, ◌++◌, codes, Option, Some, None, IfSome}
+use Rattle.std.specs.Fmt.{decimal}
+use Rattle.clap.specs.Simple.{Shape, new_rule}
+use Rattle.clap.specs.Walk.{Row, first_of}
+use Rattle.bd_abstraction.specs.Abstraction.{AbstractionView}
+use Rattle.bd_completion.specs.Answer.{HasWork, Says}
+use Rattle.bd_completion.specs.declared.answer.Complete.{Complete}
+use Rattle.bd_completion.specs.declared.answer.Complete.TheVariants as complete
+use Rattle.bd_files.specs.Devices.{Held}
+use Rattle.bd_model.specs.Conditions.{Abstraction}
+use Rattle.bd_model.specs.DesignView.{DesignView}
+use Rattle.bd_model.specs.declared.case.Case.{Case}
+use Rattle.bd_model.specs.declared.case.Condition.TheVariants as condition
+use Rattle.bd_typer.specs.declared.fault.Text.TheVariants.{Comp}
+use Rattle.bd_app.specs.Completions.{CompletesTo, IsCompletionFault, abstraction_by}
+use Rattle.bd_app.specs.Files.{TextNames, text_files, text_names, with_invariant}
+use Rattle.bd_app.specs.Meaning.{Meaning, no_proof}
+use Rattle.bd_app.specs.Texts.{IsTextOfIf, case_kind}
+use Rattle.bd_app.specs.Words.{budget_option, flag, flag_at, machines_command, number_at, required, ◌>>=◌}
+use Rattle.bd_app.specs.declared.answer.Ended.{Ended}
+use Rattle.bd_app.specs.declared.answer.Ended.TheVariants.{Completed}
+use Rattle.bd_app.specs.declared.command.complete.CompleteOptions.{CompleteOptions}
+
+-- the pipeline, the specification, the completion function and maybe the invariant; whether agreement
+-- with flushing is asked about; and the budget
+pub record Completion : Type 0 where
+  pub names : TextNames
+  pub agree : Bool
+  pub budget : ℕ
+
+-- ---- its words
+
+-- complete PIPE SPEC COMP [INV] [--agree] [--budget N]
+abbrev pub complete_command : Shape
+complete_command = machines_command (codes "complete") (
+    required (codes "COMP")
+    ∷ new_rule (codes "INV")
+    ∷ flag (codes "agree")
+    ∷ budget_option
+    ∷ [])
+
+unfoldable pub complete_question : List Row → Option Completion
+complete_question rows = do
+  pipe ← first_of (codes "PIPE") rows
+  spec ← first_of (codes "SPEC") rows
+  comp ← first_of (codes "COMP") rows
+  budget ← number_at (codes "budget") rows
+  Some (record {
+    names = record {
+      design = with_invariant pipe spec (first_of (codes "INV") rows);
+      text = comp;
+    };
+    agree = flag_at (codes "agree") rows;
+    budget = budget;
+  })
+
+-- the question of these options
+abbrev pub complete_of : CompleteOptions → Completion
+complete_of options = record {
+  names = text_names options.files;
+  agree = options.agree;
+  budget = options.budget;
+}
+
+-- ---- its answers
+
+-- an answer under this budget, in words
+abbrev pub complete_words : ℕ → Complete → List ℕ
+complete_words budget (complete.Right work) = codes "correct"
+complete_words budget (complete.Wrong condition.Invariant c work) = codes "wrong invariant"
+complete_words budget (complete.Wrong condition.Commute c work) = codes "wrong commute"
+complete_words budget (complete.Agree work) = codes "agree"
+complete_words budget (complete.Differ c work) = codes "differ"
+complete_words budget (complete.Undecided work) = codes "undecided " ++ decimal budget
+
+-- the case that it shows
+abbrev pub shown_break : Complete → Option Case
+shown_break (complete.Wrong k c work) = Some c
+shown_break (complete.Differ c work) = Some c
+shown_break _ = None
+
+-- the answer is true of the design and of the abstraction, has the formula and the log that show it,
+-- and is reported: a line, and the case, where there is one
+pub record IsCompleteReport (agree : Bool) (budget : ℕ) (d : DesignView) (abs : Abstraction)
+    (e : Ended) (report : List ℕ) : Type 0 where
+  pub answer : Complete
+  pub says : Says d abs agree answer
+  pub work : HasWork d abs agree budget answer
+  pub ended : e ≡ Completed answer
+  pub case : List ℕ
+  pub shown : IsTextOfIf case_kind d (shown_break answer) case
+  pub whole : report ≡ (complete_words budget answer ++ 10 ∷ []) ++ case
+
+-- the same of the design and the completion function that are asked about
+pub record IsCompleteAnswer (q : Completion) (held : Option Held) (e : Ended) (report : List ℕ) :
+    Type 0 where
+  pub design : DesignView
+  pub abs : AbstractionView
+  pub asks : IfSome held (λ h. CompletesTo q.names h design abs)
+  pub says : IsCompleteReport q.agree q.budget design (abstraction_by design abs) e report
+
+abbrev pub complete_meaning : Completion → Meaning
+complete_meaning q = record {
+  files = text_files Comp q.names;
+  cnf = None;
+  lrat = None;
+  Asks = λ held d. (abs : AbstractionView) × CompletesTo q.names held d abs;
+  verdict = None;
+  IsTextFault = λ held file offset code. IsCompletionFault q.names held file offset code;
+  IsProofFault = no_proof;
+  IsAnswer = IsCompleteAnswer q;
+}

@@ -1,0 +1,215 @@
+//! `complete`: whether a pipeline is right by a completion function, or whether that agrees with flushing.
+ghost use Rattle.std.specs.Prelude.{◌≡◌, ◌≤◌, ◌++◌, [], ◌∷◌, false, length, IfSome, OnOk, IfOk, IfErr, string_bytes};
+ghost use Rattle.std.specs.Option.{option_map};
+ghost use Rattle.clap.specs.Words.{found_of, rows_of, shape_of};
+ghost use Rattle.clap.specs.declared.builder.command.Command.TheViews.{out-Command as fields_of};
+ghost use Rattle.bd_abstraction.specs.Abstraction.{IsLawfulAbstraction, abstraction_of};
+ghost use Rattle.bd_completion.specs.Answer.{HasWork, Says};
+ghost use Rattle.bd_model.specs.DesignView.{design_view};
+ghost use Rattle.bd_model.specs.Fits.{Fits};
+ghost use Rattle.bd_model.specs.Lawful.{IsLawful};
+ghost use Rattle.bd_app.specs.Complete.{complete_command, complete_meaning, complete_of, complete_question, complete_words, shown_break, IsCompleteReport};
+ghost use Rattle.bd_app.specs.Meaning.{files_seen};
+ghost use Rattle.bd_app.specs.Texts.{IsTextOfIf, case_kind};
+ghost use Rattle.bd_app.specs.inner.Loaded.{AreFew, sources_view};
+ghost use Rattle.bd_app.specs.inner.Completed.{IsShownBreak, OnCompletion};
+ghost use Rattle.bd_app.specs.inner.Done.{IsDone};
+
+use crate::answer::{Answer, Ended};
+use crate::load::{DesignFiles, TextBytes, TextFiles, load_text};
+use crate::read::completion;
+use crate::verdict::text_of;
+use crate::words::{budget, flag, flag_at, machines_command, number_at, required, with, word_at};
+use bd_abstraction::Abstraction;
+use bd_cdcl::Cdcl;
+use bd_completion::{Complete, complete};
+use bd_files::Files;
+use bd_model::{Case, Condition, Design};
+use bd_typer::{Premise, Text};
+use clap::{Arg, ArgMatches, Command};
+use std::alloc::{AllocError, Global};
+
+/// Its options.
+#[derive(Clone, Copy, Debug)]
+pub struct CompleteOptions<'a> {
+    pub files: TextFiles<'a>,
+    pub agree: bool,
+    pub budget: u32,
+}
+
+/// Its words.
+pub fn command<'a>(alloc: Global) -> Result<Command<'a>, AllocError>
+    ensures shape { IfOk result (λ c. shape_of c ≡ complete_command) }
+    ensures local { IfOk result (λ c. (fields_of c).has_globals ≡ false) }
+{
+    let command = machines_command(alloc, "complete")?;
+    let command = with(command, required(alloc, "COMP"))?;
+    let command = with(command, Arg::new(alloc, "INV"))?;
+    let command = with(command, flag(alloc, "agree"))?;
+    with(command, budget(alloc))
+}
+
+/// The options that its words give.
+#[tactic(auto, unfolding(crate::specs::Complete::complete_question))]
+pub fn options<'a>(matches: &ArgMatches<'a>) -> Option<CompleteOptions<'a>>
+    ensures { option_map complete_of result ≡ complete_question (rows_of (found_of matches.now)) }
+{
+    let pipe = word_at(matches, "PIPE")?;
+    let spec = word_at(matches, "SPEC")?;
+    let text = word_at(matches, "COMP")?;
+    let budget = number_at(matches, "budget")?;
+    let design = DesignFiles {
+        pipe,
+        spec,
+        premise: Premise::Invariant,
+        third: word_at(matches, "INV"),
+    };
+    Some(CompleteOptions {
+        files: TextFiles { design, text },
+        agree: flag_at(matches, "agree"),
+        budget,
+    })
+}
+
+/// What is found, and the text of the case that is shown with it.
+#[derive(Debug, Drop)]
+pub struct ShownBreak {
+    pub answer: Complete,
+    pub case: Vec<u8>,
+}
+
+/// The case that is printed with an answer.
+fn shown(answer: &Complete) -> Option<&Case>
+    ensures { option_map (λ c. c.now) result ≡ shown_break answer.now }
+{
+    match answer {
+        Complete::Wrong(_, case, _) | Complete::Differ(case, _) => Some(case),
+        Complete::Right(_) | Complete::Agree(_) | Complete::Undecided(_) => None,
+    }
+}
+
+/// What a design is found to be by an abstraction.
+fn decide(
+    alloc: Global,
+    design: &Design,
+    abs: &Abstraction,
+    agree: bool,
+    budget: u32,
+) -> Result<Complete, Ended>
+    requires lawful { IsLawful (design_view design.now) }
+    requires given { IsLawfulAbstraction (design_view design.now) abs.now }
+    ensures says { IfOk result (Says (design_view design.now)
+        (abstraction_of (design_view design.now) abs.now) agree) }
+    ensures work { IfOk result (HasWork (design_view design.now)
+        (abstraction_of (design_view design.now) abs.now) agree budget) }
+    ensures fault { IfErr result (λ e. e ≡ Ended.Memory) }
+{
+    let mut solver = Cdcl::new(alloc);
+    match complete(alloc, &mut solver, design, abs, agree, budget) {
+        Ok(answer) => Ok(answer),
+        Err(_) => Err(Ended::Memory),
+    }
+}
+
+/// The same, with the text of its case.
+fn shown_answer(
+    alloc: Global,
+    design: &Design,
+    abs: &Abstraction,
+    agree: bool,
+    budget: u32,
+) -> Result<ShownBreak, Ended>
+    requires lawful { IsLawful (design_view design.now) }
+    requires given { IsLawfulAbstraction (design_view design.now) abs.now }
+    ensures shown { IfOk result (IsShownBreak (design_view design.now)
+        (abstraction_of (design_view design.now) abs.now) agree budget) }
+    ensures fault { IfErr result (λ e. e ≡ Ended.Memory) }
+{
+    let answer = decide(alloc, design, abs, agree, budget)?;
+    match text_of(alloc, design, shown(&answer)) {
+        Ok(case) => Ok(ShownBreak { answer, case }),
+        Err(_) => Err(Ended::Memory),
+    }
+}
+
+/// Puts an answer in words after a text.
+fn push_words(text: &mut String, answer: &Complete, budget: u32) -> Result<(), AllocError>
+    ensures { OnOk result (string_bytes text.new
+        ≡ string_bytes text.old ++ complete_words budget answer.now) }
+{
+    match answer {
+        Complete::Right(_) => text.push_str("correct"),
+        Complete::Wrong(Condition::Invariant, _, _) => text.push_str("wrong invariant"),
+        Complete::Wrong(Condition::Commute, _, _) => text.push_str("wrong commute"),
+        Complete::Agree(_) => text.push_str("agree"),
+        Complete::Differ(_, _) => text.push_str("differ"),
+        Complete::Undecided(_) => write!(text, "undecided {budget}"),
+    }
+}
+
+/// The line of an answer, and the text of the case after it.
+fn report(alloc: Global, answer: &Complete, budget: u32, case: &[u8]) -> Result<Vec<u8>, AllocError>
+    ensures { IfOk result (λ text. text.items
+        ≡ (complete_words budget answer.now ++ 10 ∷ []) ++ case.now) }
+{
+    let mut text = String::new(alloc);
+    push_words(&mut text, answer, budget)?;
+    text.push_str("\n")?;
+    let mut report = text.into_bytes();
+    report.extend_from_slice(case)?;
+    Ok(report)
+}
+
+/// The answer on a design and an abstraction.
+fn answer_on(
+    alloc: Global,
+    design: &Design,
+    abs: &Abstraction,
+    agree: bool,
+    budget: u32,
+) -> Result<Answer, Ended>
+    requires lawful { IsLawful (design_view design.now) }
+    requires given { IsLawfulAbstraction (design_view design.now) abs.now }
+    ensures report { IfOk result (λ a. IsCompleteReport agree budget (design_view design.now)
+        (abstraction_of (design_view design.now) abs.now) a.ended a.report.items) }
+    ensures fault { IfErr result (λ e. e ≡ Ended.Memory) }
+{
+    let ShownBreak { answer, case } = shown_answer(alloc, design, abs, agree, budget)?;
+    match report(alloc, &answer, budget, case.as_slice()) {
+        Ok(report) => Ok(Answer {
+            ended: Ended::Completed(answer),
+            report,
+        }),
+        Err(_) => Err(Ended::Memory),
+    }
+}
+
+/// The answer on the design and the completion function of loaded files.
+fn answer_on_bytes(
+    alloc: Global,
+    bytes: &TextBytes,
+    agree: bool,
+    budget: u32,
+) -> Result<Answer, Ended>
+    requires sources { AreFew (sources_view bytes.now.sources) }
+    requires text { length bytes.now.text.items ≤ 1048576 }
+    ensures { OnCompletion (IsCompleteReport agree budget) (sources_view bytes.now.sources)
+        bytes.now.text.items result }
+{
+    let joined = completion(alloc, bytes)?;
+    answer_on(alloc, &joined.design, &joined.abs, agree, budget)
+}
+
+/// Its answer.
+pub fn answer<F: Files>(
+    alloc: Global,
+    files: &mut F,
+    options: CompleteOptions<'_>,
+) -> Result<Answer, Ended>
+    ensures { IsDone (complete_meaning (complete_of options.entry))
+        (files_seen F.held F.faults F.blame files.old)
+        (files_seen F.held F.faults F.blame files.new) result }
+{
+    let bytes = load_text(files, Text::Comp, options.files)?;
+    answer_on_bytes(alloc, &bytes, options.agree, options.budget)
+}
