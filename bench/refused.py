@@ -125,6 +125,11 @@ def commands() -> Iterator[Command]:
     yield Command("bounded, undecided", ("bounded", *twin, "valid_bits_apart.start", "2", "--budget", "0"))
     yield Command("retrace, broken", ("retrace", *twin, "apart.trail", "valid_bits_apart.start"))
     yield Command("retrace, outside", ("retrace", *twin, "apart.trail", "valid_bits_alike.start"))
+    for comp in ("two_stage.comp", "write_dropped.comp"):
+        yield Command(f"complete, {comp}", ("complete", *files, comp))
+        yield Command(f"complete --agree, {comp}", ("complete", *files, comp, "nothing_pending.inv", "--agree"))
+    yield Command("complete, undecided", ("complete", *files, "two_stage.comp", "--budget", "0"))
+    yield Command("a faulty completion function", ("complete", *files, "nothing_pending.inv"))
     yield Command("a faulty trail", ("retrace", *twin, "pending_write.case", "valid_bits_apart.start"))
     yield Command("a faulty text", ("check", "two_stage.spec", "two_stage.spec"))
     yield Command("a faulty case", ("replay", *files, "two_stage.spec"))

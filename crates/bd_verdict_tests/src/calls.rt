@@ -10,7 +10,7 @@ use std::test::Fail;
 pub const USAGE: &str = "usage: burch_dill check PIPE SPEC [INV] [--budget N] [--cnf FILE] \
 [--lrat FILE] [--diverse] | replay PIPE SPEC CASE [INV] | run PIPE SPEC CASE CYCLES | gen DEPTH DROP \
 | recheck PIPE SPEC PROOF [INV] | bounded PIPE SPEC START C [--budget N] \
-| retrace PIPE SPEC TRAIL START\n";
+| retrace PIPE SPEC TRAIL START | complete PIPE SPEC COMP [INV] [--agree] [--budget N]\n";
 
 /// A load that is expected, and what it gives.
 #[derive(Clone, Copy)]
@@ -129,6 +129,12 @@ const CASE_C: Load = Load {
     text: "(case 1 (latch a true) (input go true))",
 };
 
+const COMP_B: Load = Load {
+    name: "b",
+    most: 1_048_576,
+    text: "(completion (abstract a a))",
+};
+
 const INV_I: Load = Load {
     name: "i",
     most: 1_048_576,
@@ -163,7 +169,7 @@ const TAKEN: Calls = Calls {
 };
 
 /// `usage` and others: which calls are made.
-static CALLS: [Calls; 27] = [
+static CALLS: [Calls; 29] = [
     TAKEN,
     Calls {
         words: &["burch_dill", "check", "--budget=200000", "--", "z", "a"],
@@ -206,6 +212,17 @@ static CALLS: [Calls; 27] = [
         words: &["burch_dill", "run", "z", "a", "c", "0"],
         loads: &[PIPE_Z, SPEC_A, CASE_C],
         out: &["cycle 0\n (latch a true)\n"],
+        ..TAKEN
+    },
+    Calls {
+        words: &["burch_dill", "complete", "z", "a", "b"],
+        loads: &[PIPE_Z, SPEC_A, COMP_B],
+        ..TAKEN
+    },
+    Calls {
+        words: &["burch_dill", "complete", "z", "--agree", "a", "b", "i"],
+        loads: &[PIPE_Z, SPEC_A, COMP_B, INV_I],
+        out: &["agree\n"],
         ..TAKEN
     },
     Calls {

@@ -10,6 +10,8 @@ mod calls;
 #[cfg(test)]
 mod checks;
 #[cfg(test)]
+mod completions;
+#[cfg(test)]
 mod failing;
 #[cfg(test)]
 mod left_out;
