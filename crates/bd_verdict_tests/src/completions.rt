@@ -287,7 +287,7 @@ fn shows(
 ) -> Result<bool, AllocError> {
     let (status, page) = printed;
     let (condition, line) = match broken {
-        None => return Ok(status == 0 && page.written() == b"correct\n"),
+        None => return Ok(status == 0 && page.written() == b"correct\n".as_slice()),
         Some(Condition::Invariant) => (Condition::Invariant, b"wrong invariant\n".as_slice()),
         Some(Condition::Commute) => (Condition::Commute, b"wrong commute\n".as_slice()),
     };
@@ -313,7 +313,7 @@ fn has(text: &[u8], part: &[u8]) -> bool {
 fn agrees(completion: &Completion, printed: (u8, Page)) -> bool {
     let (status, page) = printed;
     if completion.agrees {
-        return status == 0 && page.written() == b"agree\n";
+        return status == 0 && page.written() == b"agree\n".as_slice();
     }
     match page.written().strip_prefix(b"differ\n".as_slice()) {
         Some(case) => status == 1 && has(case, completion.differing.as_bytes()),
@@ -672,10 +672,14 @@ fn status_of(alloc: Global, pipe: &[u8]) -> Result<u8, AllocError> {
     let mut out = page(alloc, 100, None)?;
     let mut err = page(alloc, 100, None)?;
     let ended = run(alloc, words.as_slice(), &mut files, &mut out, &mut err);
-    if err.written() == b"comp:1048576: E00 file too long\n" {
+    if err.written() == b"comp:1048576: E00 file too long\n".as_slice() {
         return Ok(ended.status());
     }
-    Ok(if out.written() == b"correct\n" { 0 } else { 1 })
+    Ok(if out.written() == b"correct\n".as_slice() {
+        0
+    } else {
+        1
+    })
 }
 
 #[test]

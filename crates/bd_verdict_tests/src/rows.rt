@@ -81,7 +81,12 @@ fn holds_of(alloc: Global, row: &Row, words: &[String]) -> Result<bool, AllocErr
 }
 
 pub fn shelf_of(alloc: Global, row: &Row) -> Result<Shelf, AllocError> {
-    let pipe = file(alloc, "p", row.pipe.as_bytes())?;
+    shelf_with(alloc, row, row.pipe.as_bytes())
+}
+
+/// The files of a row, with these bytes as its pipeline.
+pub fn shelf_with(alloc: Global, row: &Row, pipe: &[u8]) -> Result<Shelf, AllocError> {
+    let pipe = file(alloc, "p", pipe)?;
     let spec = file(alloc, "s", row.spec.as_bytes())?;
     let case = file(alloc, "c", row.case.as_bytes())?;
     let inv = file(alloc, "i", row.inv.as_bytes())?;
