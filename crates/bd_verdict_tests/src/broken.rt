@@ -1,6 +1,7 @@
 //! Texts that are broken: a byte too long, cut after each byte, and with a byte that isn't allowed at each place.
 
 use crate::bounded::{BOUNDED, RETRACE};
+use crate::completions::{COMPLETE, COMPLETE_WITHIN};
 use crate::rechecks::{RECHECK, RECHECK_WITHIN};
 use crate::replays::INCREMENTS;
 use crate::rows::{CHECK_WITHIN, REPLAY, Row, STALLING, WITHIN, holds_over, shelf_of, words_of};
@@ -52,7 +53,7 @@ const PROOF: Broken = Broken {
     called: "proof",
 };
 
-static TEXTS: [Broken; 9] = [
+static TEXTS: [Broken; 11] = [
     PIPE,
     Broken {
         text: TURNING_BIT,
@@ -116,6 +117,25 @@ static TEXTS: [Broken; 9] = [
             words: RECHECK_WITHIN,
             case: "4 0 3 1 2 0",
             ..RECHECKED
+        },
+        text: "(invariant a)",
+        file: "i",
+        called: "inv",
+    },
+    Broken {
+        run: Row {
+            words: COMPLETE,
+            ..STALLING
+        },
+        text: "(completion (abstract a a))",
+        file: "c",
+        called: "comp",
+    },
+    Broken {
+        run: Row {
+            words: COMPLETE_WITHIN,
+            case: "(completion (abstract a a))",
+            ..STALLING
         },
         text: "(invariant a)",
         file: "i",

@@ -17,13 +17,13 @@ use bd_typer::{DesignFault, Joined, completed_design};
 use std::alloc::{AllocError, Global};
 use std::test::Fail;
 
-const COMPLETE: &[&str] = &["burch_dill", "complete", "p", "s", "c"];
+pub const COMPLETE: &[&str] = &["burch_dill", "complete", "p", "s", "c"];
 
-const COMPLETE_WITHIN: &[&str] = &["burch_dill", "complete", "p", "s", "c", "i"];
+pub const COMPLETE_WITHIN: &[&str] = &["burch_dill", "complete", "p", "s", "c", "i"];
 
 const AGREE: &[&str] = &["burch_dill", "complete", "p", "s", "c", "--agree"];
 
-const AGREE_WITHIN: &[&str] = &["burch_dill", "complete", "p", "s", "c", "i", "--agree"];
+pub const AGREE_WITHIN: &[&str] = &["burch_dill", "complete", "p", "s", "c", "i", "--agree"];
 
 /// A completion function and what is answered of it.
 #[derive(Clone, Copy)]

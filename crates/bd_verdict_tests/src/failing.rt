@@ -3,6 +3,7 @@
 
 use crate::bounded::{BOUNDED, RETRACE};
 use crate::calls::USAGE;
+use crate::completions::{AGREE_WITHIN, COMPLETE};
 use crate::rechecks::{RECHECK, RECHECK_WITHIN};
 use crate::rows::{CHECK_WITHIN, REPLAY, Row, SAVES, STALLING, WITHIN};
 use crate::saves::{Saving, leaves};
@@ -65,7 +66,7 @@ const RETRACED: Row<'static> = Row {
     ..STALLING
 };
 
-static COMMANDS: [Command; 15] = [
+static COMMANDS: [Command; 17] = [
     Command {
         run: Saving {
             row: Row {
@@ -260,6 +261,33 @@ static COMMANDS: [Command; 15] = [
                 name: "retrace",
                 out: "holds\n",
                 ..RETRACED
+            },
+            ..NO_SAVE
+        },
+        calls: FOUR_LOADS,
+    },
+    Command {
+        run: Saving {
+            row: Row {
+                name: "complete",
+                words: COMPLETE,
+                case: "(completion (abstract a a))",
+                out: "correct\n",
+                ..STALLING
+            },
+            ..NO_SAVE
+        },
+        calls: THREE_LOADS,
+    },
+    Command {
+        run: Saving {
+            row: Row {
+                name: "complete with an invariant, of agreement",
+                words: AGREE_WITHIN,
+                case: "(completion (abstract a a))",
+                inv: "(invariant true)",
+                out: "agree\n",
+                ..STALLING
             },
             ..NO_SAVE
         },
