@@ -12,7 +12,7 @@ use bd_examples::texts::{
     TWO_STAGE,
 };
 use bd_files::{Page, Shelf};
-use bd_model::{Condition, Judged};
+use bd_model::{Case, Condition, Judged};
 use bd_typer::{DesignFault, Joined, completed_design};
 use std::alloc::{AllocError, Global};
 use std::test::Fail;
@@ -239,8 +239,10 @@ fn ran(alloc: Global, sources: Sources<'_>, words: &[&str]) -> Result<(u8, Page)
 fn joined_of(alloc: Global, sources: Sources<'_>) -> Result<Joined, DesignFault> {
     let (pipe, spec) = (sources.pipe.as_bytes(), sources.spec.as_bytes());
     let (comp, inv) = (sources.comp.as_bytes(), sources.inv.as_bytes());
-    let most = 1_048_576;
-    if pipe.len() > most || spec.len() > most || comp.len() > most || inv.len() > most {
+    if pipe.len() > 1_048_576 || spec.len() > 1_048_576 {
+        return Err(DesignFault::Memory);
+    }
+    if comp.len() > 1_048_576 || inv.len() > 1_048_576 {
         return Err(DesignFault::Memory);
     }
     if inv.is_empty() {
@@ -250,7 +252,18 @@ fn joined_of(alloc: Global, sources: Sources<'_>) -> Result<Joined, DesignFault>
     }
 }
 
-/// Whether a printed case is judged to break the condition.
+/// Whether a case is judged to break the condition.
+fn is_broken(
+    alloc: Global,
+    joined: &Joined,
+    case: &Case,
+    condition: Condition,
+) -> Result<bool, AllocError> {
+    let judged = judge_by(alloc, &joined.design, &joined.abs, case)?;
+    Ok(judged == Judged::Broken(condition))
+}
+
+/// Whether a printed case is.
 fn breaks_of(
     alloc: Global,
     joined: &Joined,
@@ -258,10 +271,7 @@ fn breaks_of(
     condition: Condition,
 ) -> Result<bool, AllocError> {
     match read_case(alloc, &joined.design, case) {
-        Ok(case) => {
-            let judged = judge_by(alloc, &joined.design, &joined.abs, &case)?;
-            Ok(judged == Judged::Broken(condition))
-        }
+        Ok(case) => is_broken(alloc, joined, &case, condition),
         Err(_) => Ok(false),
     }
 }
@@ -278,47 +288,70 @@ fn breaks(
     }
 }
 
-/// Whether what is printed is that the pipeline is right by the function, or wrong, by a case that is so.
+/// Whether it is said that the pipeline is right by the function, or wrong, by a case that is so.
 fn shows(
     alloc: Global,
     sources: Sources<'_>,
     broken: Option<Condition>,
-    printed: (u8, Page),
+    status: u8,
+    printed: &[u8],
 ) -> Result<bool, AllocError> {
-    let (status, page) = printed;
     let (condition, line) = match broken {
-        None => return Ok(status == 0 && page.written() == b"correct\n".as_slice()),
+        None => return Ok(status == 0 && printed == b"correct\n".as_slice()),
         Some(Condition::Invariant) => (Condition::Invariant, b"wrong invariant\n".as_slice()),
         Some(Condition::Commute) => (Condition::Commute, b"wrong commute\n".as_slice()),
     };
-    match page.written().strip_prefix(line) {
-        Some(case) => Ok(status == 1 && breaks(alloc, sources, case, condition)?),
+    match printed.strip_prefix(line) {
+        Some(case) => {
+            if status == 1 {
+                breaks(alloc, sources, case, condition)
+            } else {
+                Ok(false)
+            }
+        }
         None => Ok(false),
     }
 }
 
+fn is_shown(
+    alloc: Global,
+    completion: &Completion,
+    sources: Sources<'_>,
+    words: &[&str],
+) -> Result<bool, AllocError> {
+    let (status, page) = ran(alloc, sources, words)?;
+    shows(alloc, sources, completion.broken, status, page.written())
+}
+
 /// Whether the text has this one in it.
 fn has(text: &[u8], part: &[u8]) -> bool {
-    let mut rest = text;
-    while let Some((_, after)) = rest.split_first() {
-        if rest.starts_with(part) {
+    for start in 0..text.len() {
+        if text[start..].starts_with(part) {
             return true;
         }
-        rest = after;
     }
     false
 }
 
-/// Whether what is printed is that the function agrees with flushing, or differs, in a case that has this line.
-fn agrees(completion: &Completion, printed: (u8, Page)) -> bool {
-    let (status, page) = printed;
+/// Whether it is said that the function agrees with flushing, or differs, in a case that has this line.
+fn agrees(completion: &Completion, status: u8, printed: &[u8]) -> bool {
     if completion.agrees {
-        return status == 0 && page.written() == b"agree\n".as_slice();
+        return status == 0 && printed == b"agree\n".as_slice();
     }
-    match page.written().strip_prefix(b"differ\n".as_slice()) {
+    match printed.strip_prefix(b"differ\n".as_slice()) {
         Some(case) => status == 1 && has(case, completion.differing.as_bytes()),
         None => false,
     }
+}
+
+fn is_compared(
+    alloc: Global,
+    completion: &Completion,
+    sources: Sources<'_>,
+    words: &[&str],
+) -> Result<bool, AllocError> {
+    let (status, page) = ran(alloc, sources, words)?;
+    Ok(agrees(completion, status, page.written()))
 }
 
 fn answers_of(
@@ -331,11 +364,10 @@ fn answers_of(
     } else {
         (COMPLETE_WITHIN, AGREE_WITHIN)
     };
-    let printed = ran(alloc, sources, words)?;
-    if !shows(alloc, sources, completion.broken, printed)? {
+    if !is_shown(alloc, completion, sources, words)? {
         return Ok(false);
     }
-    Ok(agrees(completion, ran(alloc, sources, asking)?))
+    is_compared(alloc, completion, sources, asking)
 }
 
 /// Whether both questions on the function are answered as it says.
