@@ -1,0 +1,16 @@
+-- A design with one thing changed, of which a question is asked.
+use Rattle.std.specs.Prelude.{◌-◌, true, [], ◌∷◌, ◌++◌}
+use Rattle.bd_model.specs.DesignView.{DesignView}
+use Rattle.bd_model.specs.ExprView.{Truth}
+
+-- one flush cycle less
+abbrev pub less_flushed : DesignView → DesignView
+less_flushed d = record d { flush = d.flush - 1 }
+
+-- the invariant is `true`
+abbrev pub without_invariant : DesignView → DesignView
+without_invariant d = record d { inv_locals = []; inv = Truth true }
+
+-- with the item `(exact 0 true)` too: each cycle has to stand for no step
+abbrev pub without_steps : DesignView → DesignView
+without_steps d = record d { exact = d.exact ++ record { count = 0; when = Truth true } ∷ [] }

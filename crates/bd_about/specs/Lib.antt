@@ -1,0 +1,7 @@
+pub mod Named
+pub mod Marked
+pub mod Reached
+pub mod Unread
+pub mod Changed
+pub mod Findings
+pub mod inner

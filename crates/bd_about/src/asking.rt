@@ -1,0 +1,187 @@
+//! What is found of a design, and of designs with one thing changed.
+ghost use Rattle.std.specs.Prelude.{◌≡◌, ◌<◌, ◌≤◌, false, Ok, IfOk, length, map};
+ghost use Rattle.bd_model.specs.DesignView.{design_view, local_view};
+ghost use Rattle.bd_model.specs.ExprView.{expr_view};
+ghost use Rattle.bd_model.specs.Lawful.{IsLawful};
+ghost use Rattle.bd_about.specs.Changed.{less_flushed, without_invariant, without_steps};
+ghost use Rattle.bd_about.specs.Findings.{AreFindings, IsFinding, finding_of};
+ghost use Rattle.bd_about.specs.inner.Asked.{IsLessFlushed, IsWithoutInvariant, IsWithoutSteps};
+
+use bd_cdcl::Cdcl;
+use bd_model::{Condition, Design, Exact, Expr, Locals, Sequence};
+use bd_verify::{Mode, Verdict, verify};
+use std::alloc::{AllocError, Global};
+
+/// What a verdict found, without its case and its work.
+#[derive(Clone, Copy, Debug, PartialEq, Eq)]
+pub enum Finding {
+    /// The pipeline is right.
+    Right,
+    /// A case breaks the condition.
+    Wrong(Condition),
+    /// No case meets the invariant.
+    Void,
+    /// The budget was spent.
+    Undecided,
+}
+
+/// What is found of a design.
+#[derive(Clone, Copy, Debug, PartialEq, Eq)]
+pub struct Findings {
+    /// As it is.
+    pub own: Finding,
+    /// With one flush cycle less, where it has any.
+    pub less_flushed: Option<Finding>,
+    /// Without its invariant, where one is given.
+    pub without_invariant: Option<Finding>,
+    /// Where each cycle has to stand for no step.
+    pub without_steps: Finding,
+}
+
+/// How many clauses the solver may add for each question.
+pub const BUDGET: u32 = 200_000;
+
+/// The most items of a list.
+const MOST: usize = 2_097_152;
+
+fn finding_of(verdict: &Verdict) -> Finding
+    ensures { result ≡ finding_of verdict.now }
+{
+    match verdict {
+        Verdict::Correct(_, _) => Finding::Right,
+        Verdict::Wrong(condition, _, _) => Finding::Wrong(*condition),
+        Verdict::Void(_) => Finding::Void,
+        Verdict::Undecided(_, _) => Finding::Undecided,
+    }
+}
+
+/// What is found of a design, in diverse mode with the default budget.
+fn found(alloc: Global, design: &Design, given: bool) -> Result<Finding, AllocError>
+    requires { IsLawful (design_view design.now) }
+    ensures { IfOk result (IsFinding (design_view design.now) given) }
+{
+    let mut solver = Cdcl::new(alloc);
+    let verdict = verify(alloc, &mut solver, design, BUDGET, given, Mode::Diverse)?;
+    Ok(finding_of(&verdict))
+}
+
+/// The design with another number of flush cycles.
+fn with_flush(design: Design, flush: u32) -> Design
+    ensures { design_view result ≡ record (design_view design) { flush = flush } }
+{
+    Design { flush, ..design }
+}
+
+/// The design with another invariant, and its own.
+fn with_invariant(design: Design, lets: Locals, inv: Expr) -> (Design, Locals, Expr)
+    ensures design { design_view result.0 ≡ record (design_view design)
+        { inv_locals = map local_view lets; inv = expr_view inv } }
+    ensures lets { map local_view result.1 ≡ (design_view design).inv_locals }
+    ensures inv { expr_view result.2 ≡ (design_view design).inv }
+{
+    let Design {
+        pipe,
+        spec,
+        symbols,
+        visible,
+        flush,
+        steps,
+        inv_locals,
+        inv: own,
+        exact,
+        distinct,
+    } = design;
+    let changed = Design {
+        pipe,
+        spec,
+        symbols,
+        visible,
+        flush,
+        steps,
+        inv_locals: lets,
+        inv,
+        exact,
+        distinct,
+    };
+    (changed, inv_locals, own)
+}
+
+/// The design in which each cycle has to stand for no step. A list that is full is want of memory.
+fn without_steps(design: Design) -> Result<Design, AllocError>
+    ensures changed { IfOk result (λ d. design_view d ≡ without_steps (design_view design)) }
+    ensures room { IfOk result (λ d. length design.exact < 2097152) }
+{
+    if design.exact.len() >= MOST {
+        return Err(AllocError);
+    }
+    let mut design = design;
+    design.exact.push(Exact {
+        count: 0,
+        when: Expr::Bool(true),
+    })?;
+    Ok(design)
+}
+
+/// What is found with one flush cycle less, and the design again.
+fn on_less_flushed(
+    alloc: Global,
+    design: Design,
+    given: bool,
+) -> Result<(Option<Finding>, Design), AllocError>
+    requires { IsLawful (design_view design) }
+    ensures found { IfOk result (λ r. IsLessFlushed (design_view design) given r.0) }
+    ensures again { IfOk result (λ r. design_view r.1 ≡ design_view design) }
+{
+    let flush = design.flush;
+    if flush == 0 {
+        return Ok((None, design));
+    }
+    let changed = with_flush(design, flush - 1);
+    let answer = found(alloc, &changed, given)?;
+    Ok((Some(answer), with_flush(changed, flush)))
+}
+
+/// What is found without the invariant, and the design again.
+fn on_no_invariant(
+    alloc: Global,
+    design: Design,
+    given: bool,
+) -> Result<(Option<Finding>, Design), AllocError>
+    requires { IsLawful (design_view design) }
+    ensures found { IfOk result (λ r. IsWithoutInvariant (design_view design) given r.0) }
+    ensures again { IfOk result (λ r. design_view r.1 ≡ design_view design) }
+{
+    if !given {
+        return Ok((None, design));
+    }
+    let (changed, lets, inv) = with_invariant(design, Sequence::new(alloc), Expr::Bool(true));
+    let answer = found(alloc, &changed, false)?;
+    let (design, _, _) = with_invariant(changed, lets, inv);
+    Ok((Some(answer), design))
+}
+
+/// What is found where each cycle has to stand for no step.
+fn on_no_steps(alloc: Global, design: Design, given: bool) -> Result<Finding, AllocError>
+    requires { IsLawful (design_view design) }
+    ensures { IfOk result (IsWithoutSteps (design_view design) given) }
+{
+    let changed = without_steps(design)?;
+    found(alloc, &changed, given)
+}
+
+/// What is found of a lawful design, where an invariant is given or none.
+pub fn findings_of(alloc: Global, design: Design, given: bool) -> Result<Findings, AllocError>
+    requires { IsLawful (design_view design) }
+    ensures { IfOk result (AreFindings (design_view design) given) }
+{
+    let own = found(alloc, &design, given)?;
+    let (less_flushed, design) = on_less_flushed(alloc, design, given)?;
+    let (without_invariant, design) = on_no_invariant(alloc, design, given)?;
+    let without_steps = on_no_steps(alloc, design, given)?;
+    Ok(Findings {
+        own,
+        less_flushed,
+        without_invariant,
+        without_steps,
+    })
+}

@@ -1,0 +1,14 @@
+//! What can be said of a design without a case: what nothing reads, and what its verdict rests on.
+#![tactic(auto)]
+
+mod about;
+mod asking;
+mod marks;
+mod named;
+mod page;
+mod unread;
+
+pub use about::{About, about_design};
+pub use asking::{Finding, Findings};
+pub use page::LetNames;
+pub use unread::Unread;
