@@ -1,7 +1,7 @@
 -- Designs with one thing changed are lawful.
-use Rattle.std.proofs.Common.{◌≡◌, ◌<◌, ◌≤◌, ◌+◌, ◌-◌, ℕ, true, List, [], ◌∷◌, ◌++◌, length, refl, sym, arith, length-append}
+use Rattle.std.proofs.Common.{◌<◌, ◌≤◌, ◌-◌, ℕ, true, List, [], ◌∷◌, ◌++◌, length, refl, arith, length-append}
 use Rattle.std.specs.List.{AllByRecursion}
-use Rattle.bd_model.specs.DesignView.{DesignView, ExactView, LocalView, MachineView, PortView}
+use Rattle.bd_model.specs.DesignView.{DesignView, ExactView, LocalView, MachineView}
 use Rattle.bd_model.specs.ExprView.{ExprView, Truth}
 use Rattle.bd_model.specs.Lawful.{HasSort, IsLawful, IsLawfulExact, IsLawfulGroup, IsLawfulMachine, IsLawfulPort, IsWithinLimits, LetsHaveSorts, inv_context, without_lets}
 use Rattle.bd_model.specs.declared.design.Sort.TheVariants as sort

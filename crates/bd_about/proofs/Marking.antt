@@ -1,14 +1,13 @@
 -- What is marked after one thing more, and after parts.
-use Rattle.std.proofs.Common.{◌≡◌, ◌≤◌, ℕ, zero, suc, Bool, true, false, List, [], ◌∷◌, ◌++◌, length, get_or, refl, sym, ◌∙◌, ap, arith}
-use Rattle.std.specs.Prelude.{◌||◌, ◌==◌, Result, OnOk}
+use Rattle.std.proofs.Common.{◌≡◌, ℕ, zero, suc, Bool, true, false, List, [], ◌∷◌, ◌++◌, get_or, refl, sym, ◌∙◌, ap}
+use Rattle.std.specs.Prelude.{◌||◌, Result, OnOk}
 use Rattle.std.proofs.lemmas.Result.{on_ok_weaker}
 use Rattle.bd_model.specs.ExprView.{ExprView, ExprViews, no_exprs, expr, expr_view, list_of_views}
 use Rattle.bd_model.specs.declared.expr.Expr.{Expr}
-use Rattle.bd_about.specs.Named.{any_names, any_of, is_same, names}
+use Rattle.bd_about.specs.Named.{any_names, any_of, names}
 use Rattle.bd_about.specs.Marked.{Adds, is_marked}
 use Rattle.bd_about.specs.inner.Marking.{AreMarked}
 use Rattle.bd_about.specs.declared.named.Named.{Named}
-use Rattle.bd_about.specs.declared.named.Named.TheVariants as named
 use Rattle.bd_about.specs.declared.marks.Marks.{Marks}
 
 pub or_false : (b : Bool) → (b || false) ≡ b
@@ -51,10 +50,12 @@ pub both_of : {T E : Type 0} (r : Result T E) (old mid new : Marks) (e a b u v :
     → Adds old mid (λ x. names x (expr_view u)) → OnOk r (Adds mid new (λ x. names x (expr_view v))) → OnOk r (Adds old new (λ x. names x (expr_view e)))
 both_of r old mid new e a b u v parts is_a is_b first second =
     on_ok_weaker r
-    (λ (k : Adds mid new (λ x. names x (expr_view v))). record { each = λ x. (adds_both old mid new (λ y. names y (expr_view u)) (λ y. names y (expr_view v)) first k).each x
-      ∙ ap (λ t. is_marked old x || (names x (expr_view t) || names x (expr_view v))) is_a
-      ∙ ap (λ t. is_marked old x || (names x (expr_view a) || names x (expr_view t))) is_b
-      ∙ ap (λ t. is_marked old x || t) (sym (parts x)) })
+    (λ (k : Adds mid new (λ x. names x (expr_view v))). record {
+      each = λ x. (adds_both old mid new (λ y. names y (expr_view u)) (λ y. names y (expr_view v)) first k).each x
+          ∙ ap (λ t. is_marked old x || (names x (expr_view t) || names x (expr_view v))) is_a
+          ∙ ap (λ t. is_marked old x || (names x (expr_view a) || names x (expr_view t))) is_b
+          ∙ ap (λ t. is_marked old x || t) (sym (parts x));
+    })
     second
 
 -- three parts
@@ -63,12 +64,14 @@ pub three_of : {T E : Type 0} (r : Result T E) (old mid next new : Marks) (e a b
     → Adds old mid (λ x. names x (expr_view u)) → Adds mid next (λ x. names x (expr_view v)) → OnOk r (Adds next new (λ x. names x (expr_view w))) → OnOk r (Adds old new (λ x. names x (expr_view e)))
 three_of r old mid next new e a b d u v w parts is_a is_b is_d first second third =
     on_ok_weaker r
-    (λ (k : Adds next new (λ x. names x (expr_view w))). record { each = λ x.
-      (adds_both old next new (λ y. names y (expr_view u) || names y (expr_view v)) (λ y. names y (expr_view w)) (adds_both old mid next (λ y. names y (expr_view u)) (λ y. names y (expr_view v)) first second) k).each x
-      ∙ ap (λ t. is_marked old x || ((names x (expr_view t) || names x (expr_view v)) || names x (expr_view w))) is_a
-      ∙ ap (λ t. is_marked old x || ((names x (expr_view a) || names x (expr_view t)) || names x (expr_view w))) is_b
-      ∙ ap (λ t. is_marked old x || ((names x (expr_view a) || names x (expr_view b)) || names x (expr_view t))) is_d
-      ∙ ap (λ t. is_marked old x || t) (sym (parts x)) })
+    (λ (k : Adds next new (λ x. names x (expr_view w))). record {
+      each = λ x.
+          (adds_both old next new (λ y. names y (expr_view u) || names y (expr_view v)) (λ y. names y (expr_view w)) (adds_both old mid next (λ y. names y (expr_view u)) (λ y. names y (expr_view v)) first second) k).each x
+          ∙ ap (λ t. is_marked old x || ((names x (expr_view t) || names x (expr_view v)) || names x (expr_view w))) is_a
+          ∙ ap (λ t. is_marked old x || ((names x (expr_view a) || names x (expr_view t)) || names x (expr_view w))) is_b
+          ∙ ap (λ t. is_marked old x || ((names x (expr_view a) || names x (expr_view b)) || names x (expr_view t))) is_d
+          ∙ ap (λ t. is_marked old x || t) (sym (parts x));
+    })
     third
 
 any_of-append : (x : Named) (es fs : List ExprView) → any_of x (es ++ fs) ≡ (any_of x es || any_of x fs)
@@ -82,11 +85,13 @@ any_of-views x (expr e es) = ap (λ b. names x e || b) (any_of-views x es)
 -- where nothing was marked, what the lists name is marked
 pub marked_roots : (a b c d e : Marks) (es : ExprViews) (fs gs hs : List ExprView) → ((x : Named) → is_marked a x ≡ false) → Adds a b (λ x. any_names x es) → Adds b c (λ x. any_of x fs)
     → Adds c d (λ x. any_of x gs) → Adds d e (λ x. any_of x hs) → AreMarked (((list_of_views es ++ fs) ++ gs) ++ hs) e
-marked_roots a b c d e es fs gs hs none first second third fourth = record { each = λ x.
-  fourth.each x
-  ∙ ap (λ t. t || any_of x hs) (third.each x ∙ ap (λ t. t || any_of x gs) (second.each x ∙ ap (λ t. t || any_of x fs) (first.each x ∙ ap (λ t. t || any_names x es) (none x) ∙ sym (any_of-views x es))
-  ∙ sym (any_of-append x (list_of_views es) fs)) ∙ sym (any_of-append x (list_of_views es ++ fs) gs))
-  ∙ sym (any_of-append x ((list_of_views es ++ fs) ++ gs) hs) }
+marked_roots a b c d e es fs gs hs none first second third fourth = record {
+  each = λ x.
+      fourth.each x
+      ∙ ap (λ t. t || any_of x hs) (third.each x ∙ ap (λ t. t || any_of x gs) (second.each x ∙ ap (λ t. t || any_of x fs) (first.each x ∙ ap (λ t. t || any_names x es) (none x) ∙ sym (any_of-views x es))
+      ∙ sym (any_of-append x (list_of_views es) fs)) ∙ sym (any_of-append x (list_of_views es ++ fs) gs))
+      ∙ sym (any_of-append x ((list_of_views es ++ fs) ++ gs) hs);
+}
 
 -- the same of one list, and of one expression
 pub marked_list : (a b : Marks) (es : ExprViews) → ((x : Named) → is_marked a x ≡ false) → Adds a b (λ x. any_names x es) → AreMarked (list_of_views es) b

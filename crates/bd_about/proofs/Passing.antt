@@ -1,14 +1,14 @@
 -- A pass over lets, the last one first, marks what is reached.
-use Rattle.std.proofs.Common.{◌≡◌, ◌⊎◌, ◌<◌, ◌≤◌, ◌+◌, ℕ, zero, suc, Bool, true, false, List, [], ◌∷◌, ◌++◌, length, refl, sym, ◌∙◌, ap, subst, inl, inr, Some, arith, length-append}
-use Rattle.std.specs.Prelude.{◌||◌, ◌&&◌, ◌↔◌, slice_get}
+use Rattle.std.proofs.Common.{◌≡◌, ◌⊎◌, ◌≤◌, ℕ, suc, Bool, true, false, List, length, refl, sym, ◌∙◌, subst, inl, inr, Some, arith}
+use Rattle.std.specs.Prelude.{◌||◌, ◌&&◌, slice_get}
 use Rattle.std.proofs.lemmas.Option.{slice_get_within}
 use Rattle.bd_model.specs.DesignView.{LocalView}
 use Rattle.bd_model.specs.ExprView.{ExprView}
 use Rattle.bd_about.proofs.Listing.{le_cases}
-use Rattle.bd_about.specs.Named.{any_of, names}
+use Rattle.bd_about.specs.Named.{names}
 use Rattle.bd_about.specs.Marked.{Adds, is_marked}
 use Rattle.bd_about.specs.Reached.{IsReached, by_root, by_let}
-use Rattle.bd_about.specs.inner.Marking.{AreMarked, AreReached, LeadsOn, UseEarlier}
+use Rattle.bd_about.specs.inner.Marking.{AreMarked, LeadsOn, UseEarlier}
 use Rattle.bd_about.specs.declared.named.Named.{Named}
 use Rattle.bd_about.specs.declared.named.Named.TheVariants as named
 use Rattle.bd_about.specs.declared.marks.Marks.{Marks}

@@ -1,5 +1,5 @@
--- Where a design is right without steps, its cycles never step.
-use Rattle.std.proofs.Common.{◌≡◌, ◌<◌, ℕ, Bool, List, [], ◌∷◌, ◌++◌, length, sym, ◌∙◌, subst, inl, inr}
+-- Where a design is right without steps, each cycle of it stands for 0 steps.
+use Rattle.std.proofs.Common.{◌≡◌, ◌<◌, ℕ, Bool, true, List, [], ◌∷◌, ◌++◌, length, refl, sym, ◌∙◌, subst, inl, inr}
 use Rattle.std.specs.List.{AllByRecursion}
 use Rattle.bd_model.specs.DesignView.{DesignView, ExactView}
 use Rattle.bd_model.specs.ExprView.{Truth}
@@ -8,7 +8,7 @@ use Rattle.bd_model.specs.Cycle.{flushed}
 use Rattle.bd_model.specs.Fits.{Fits}
 use Rattle.bd_model.specs.Lawful.{IsLawful}
 use Rattle.bd_model.specs.Right.{IsRight}
-use Rattle.bd_model.specs.Conditions.{AllowsCount, IsAllowed, MeetsInvariant, StandsFor, StandsForBy}
+use Rattle.bd_model.specs.Conditions.{AllowsCount, StandsFor}
 use Rattle.bd_model.specs.declared.case.Case.{Case}
 use Rattle.bd_model.specs.declared.case.Condition.TheVariants.{Commute}
 use Rattle.bd_model.proofs.Compose.{compose}
@@ -33,7 +33,7 @@ last P (y ∷ ys) x h = last P ys x h.1
 stands_still : (d : DesignView) (c : Case) (j : ℕ) → StandsFor (without_steps d) c.interp c.state c.inputs j → StandsFor d c.interp c.state c.inputs 0
 stands_still d c j h =
     let item : ExactView = record { count = 0; when = Truth true } in
-    let none : 0 ≡ j = last (AllowsCount (env_of d.pipe.locals c.interp c.state c.inputs) j) d.exact item h.0 tt in
+    let none : 0 ≡ j = last (AllowsCount (env_of d.pipe.locals c.interp c.state c.inputs) j) d.exact item h.0 refl in
     let now : StandsFor (without_steps d) c.interp c.state c.inputs 0 = subst (λ k. StandsFor (without_steps d) c.interp c.state c.inputs k) (sym none) h in
     (front (AllowsCount (env_of d.pipe.locals c.interp c.state c.inputs) 0) d.exact (item ∷ []) now.0, now.1)
 
@@ -43,7 +43,7 @@ never_steps d lawful room right c fits inside =
     let fits_still : Fits e c = record { interp = record { tables = fits.interp.tables; apart = fits.interp.apart }; state = fits.state; inputs = fits.inputs } in
     elim (Commutes-settled e (flushed e) c.interp c.state c.inputs) [
       | inl commutes ↦ stands_still d c commutes.0 commutes.2
-      | inr no ↦ absurd ((compose e (flushed e) (without_steps_lawful d lawful room)).1 right c Commute (record { fits = fits_still; inside = inside; broken = no }))
+      | inr refuted ↦ absurd ((compose e (flushed e) (without_steps_lawful d lawful room)).1 right c Commute (record { fits = fits_still; inside = inside; broken = refuted }))
     ]
 
 right_of : (d : DesignView) (given : Bool) (v : Verdict) → finding.Right ≡ finding_of v → Says d given v → IsRight d

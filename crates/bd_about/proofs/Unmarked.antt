@@ -1,12 +1,11 @@
 -- What no marks have is unread.
-use Rattle.std.proofs.Common.{◌≡◌, ◌⊎◌, ◌∙◌, ℕ, Bool, false, List, [], ◌∷◌, map, length, ap, sym}
-use Rattle.std.specs.Prelude.{◌||◌, ◌↔◌, slice_index_or}
+use Rattle.std.proofs.Common.{◌≡◌, ◌⊎◌, ◌∙◌, ℕ, Bool, false, List, [], ◌∷◌, length, ap, sym}
+use Rattle.std.specs.Prelude.{◌||◌, slice_index_or}
 use Rattle.std.proofs.lemmas.List.{length-map}
 use Rattle.bd_model.specs.DesignView.{design_view, local_view, port_view}
 use Rattle.bd_model.specs.declared.design.Design.{Design}
 use Rattle.bd_about.specs.Reached.{InInvariant, InPipe, InSpec, pipe_roots}
 use Rattle.bd_about.specs.Unread.{IsUnread}
-use Rattle.bd_about.specs.Marked.{is_marked}
 use Rattle.bd_about.specs.inner.Marking.{AreReached, unset_below}
 use Rattle.bd_about.specs.declared.marks.Marks.{Marks}
 use Rattle.bd_about.specs.declared.named.Named.TheVariants.{Entry, Input, Local, Symbol}

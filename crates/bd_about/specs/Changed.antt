@@ -11,6 +11,6 @@ less_flushed d = record d { flush = d.flush - 1 }
 abbrev pub without_invariant : DesignView → DesignView
 without_invariant d = record d { inv_locals = []; inv = Truth true }
 
--- with the item `(exact 0 true)` too: each cycle has to stand for no step
+-- with the item `(exact 0 true)` too: each cycle has to stand for 0 steps
 abbrev pub without_steps : DesignView → DesignView
 without_steps d = record d { exact = d.exact ++ record { count = 0; when = Truth true } ∷ [] }

@@ -1,5 +1,5 @@
 -- What is found of a design and of changed ones.
-use Rattle.std.specs.Prelude.{◌≡◌, ◌<◌, ℕ, Bool, true, false, MatchOption}
+use Rattle.std.specs.Prelude.{◌≡◌, ◌<◌, Bool, true, false, MatchOption}
 use Rattle.bd_model.specs.DesignView.{DesignView}
 use Rattle.bd_model.specs.Fits.{Fits}
 use Rattle.bd_model.specs.Conditions.{MeetsInvariant, StandsFor}
@@ -26,7 +26,13 @@ pub record IsFinding (d : DesignView) (given : Bool) (f : Finding) : Type 0 wher
   pub says : Says d given verdict
   pub work : HasWork d Diverse 200000 verdict
 
--- the findings on a design, with one flush cycle less, without the invariant, and without steps
+-- in each fitting case that meets the invariant the cycle stands for 0 steps
+abbrev pub NeverSteps : DesignView → Type 0
+NeverSteps d = (c : Case) → Fits d c → MeetsInvariant d c.interp c.state →
+    StandsFor d c.interp c.state c.inputs 0
+
+-- the findings on a design, with one flush cycle less, without the invariant, and without steps; where the design
+-- without steps is right, each cycle stands for 0 steps
 pub record AreFindings (d : DesignView) (given : Bool) (r : Findings) : Type 0 where
   pub own : IsFinding d given r.own
   pub less_flushed : MatchOption r.less_flushed (d.flush ≡ 0)
@@ -34,8 +40,4 @@ pub record AreFindings (d : DesignView) (given : Bool) (r : Findings) : Type 0 w
   pub without_invariant : MatchOption r.without_invariant (given ≡ false)
       (λ f. (given ≡ true) × IsFinding (without_invariant d) false f)
   pub without_steps : IsFinding (without_steps d) given r.without_steps
-
--- in each fitting case that meets the invariant the cycle stands for no step
-abbrev pub NeverSteps : DesignView → Type 0
-NeverSteps d = (c : Case) → Fits d c → MeetsInvariant d c.interp c.state →
-    StandsFor d c.interp c.state c.inputs 0
+  pub never_steps : r.without_steps ≡ finding.Right → NeverSteps d

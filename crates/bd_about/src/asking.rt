@@ -34,7 +34,7 @@ pub struct Findings {
     pub less_flushed: Option<Finding>,
     /// Without its invariant, where one is given.
     pub without_invariant: Option<Finding>,
-    /// Where each cycle has to stand for no step.
+    /// Where each cycle has to stand for 0 steps.
     pub without_steps: Finding,
 }
 
@@ -106,7 +106,7 @@ fn with_invariant(design: Design, lets: Locals, inv: Expr) -> (Design, Locals, E
     (changed, inv_locals, own)
 }
 
-/// The design in which each cycle has to stand for no step. A list that is full is want of memory.
+/// The design in which each cycle has to stand for 0 steps. A list that is full is want of memory.
 fn without_steps(design: Design) -> Result<Design, AllocError>
     ensures changed { IfOk result (λ d. design_view d ≡ without_steps (design_view design)) }
     ensures room { IfOk result (λ d. length design.exact < 2097152) }
@@ -160,7 +160,7 @@ fn on_no_invariant(
     Ok((Some(answer), design))
 }
 
-/// What is found where each cycle has to stand for no step.
+/// What is found where each cycle has to stand for 0 steps.
 fn on_no_steps(alloc: Global, design: Design, given: bool) -> Result<Finding, AllocError>
     requires { IsLawful (design_view design) }
     ensures { IfOk result (IsWithoutSteps (design_view design) given) }

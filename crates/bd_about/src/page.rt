@@ -81,7 +81,11 @@ fn push_sizes(out: &mut Vec<u8>, design: &Design) -> Result<(), AllocError> {
     push_count(out, design.pipe.locals.len() as u64, ", flush ")?;
     push_count(out, u64::from(design.flush), ", steps ")?;
     push_count(out, u64::from(design.steps), ", exact items ")?;
-    push_count(out, design.exact.len() as u64, "\nspecification    entries ")?;
+    push_count(
+        out,
+        design.exact.len() as u64,
+        "\nspecification    entries ",
+    )?;
     push_count(out, design.spec.entries.len() as u64, ", lets ")?;
     push_count(out, design.spec.locals.len() as u64, "\n")?;
     push(out, "both             functions and predicates ")?;

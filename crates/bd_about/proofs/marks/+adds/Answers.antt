@@ -1,5 +1,4 @@
 use Rattle.std.proofs.Common.{◌≡◌, ◌∙◌, ap, inl, inr, rules}
-use Rattle.std.specs.Prelude.{◌||◌}
 use Rattle.bd_model.specs.ExprView.{ExprView, Implies, Iff, Equal, Ite, Read, Write, expr_view}
 use Rattle.bd_model.specs.declared.expr.Expr.{Expr, the_lemmas}
 use Rattle.bd_about.specs.Named.{names}

@@ -1,4 +1,4 @@
-use Rattle.std.proofs.Common.{◌≡◌, ◌<◌, ◌≤◌, ◌-◌, suc, Some, map, length, refl, subst, ap, ◌∙◌, arith}
+use Rattle.std.proofs.Common.{◌≡◌, ◌<◌, ◌-◌, suc, Some, map, length, refl, subst, ap, ◌∙◌, arith}
 use Rattle.std.specs.Prelude.{slice_get}
 use Rattle.std.specs.Option.{option_map}
 use Rattle.std.proofs.lemmas.List.{length-map}
@@ -18,8 +18,7 @@ loop-i-preserved c =
     let below : place < length c.args.lets.now = omega (arith, some, c.loop-i.invariant.0) in
     let back : c.loop-i.i ≡ suc place = omega (arith, some) in
     let at : slice_get lets place ≡ Some (local_view c.index-lets-i.result) =
-        slice_get-map local_view c.args.lets.now place ∙ ap (option_map local_view) (slice_get_read c.args.lets.now (length c.args.lets.now) place c.index-lets-i.result refl below c.index-lets-i.is) in
-    (
+    slice_get-map local_view c.args.lets.now place ∙ ap (option_map local_view) (slice_get_read c.args.lets.now (length c.args.lets.now) place c.index-lets-i.result refl below c.index-lets-i.is) in (
       omega (arith, below),
       passed_more lets c.args.marks.now c.loop-i.marks c.add_let.new.marks place (local_view c.index-lets-i.result) c.requires (subst (λ k. Passed lets c.args.marks.now c.loop-i.marks k) back c.loop-i.invariant.1) at c.in_ok-add_let.ensures,
     )

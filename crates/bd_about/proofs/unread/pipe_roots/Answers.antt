@@ -1,5 +1,4 @@
 use Rattle.std.proofs.Common.{map}
-use Rattle.std.proofs.lemmas.Result.{IfOk-weaker}
 use Rattle.bd_model.specs.DesignView.{ExactView, PortView, exact_view, port_view}
 use Rattle.bd_model.specs.ExprView.{Entry, expr_views}
 use Rattle.bd_about.proofs.Marking.{marked_roots}
