@@ -20,10 +20,10 @@ from inside import inside
 
 def completion(writes):
     """The function that makes these writes of the registers in turn, each by a condition, a place and a value."""
-    lines = ["(completion", " (let rf_0 memory rf)"]
+    lines = ["(completion", " (let done_0 memory rf)"]
     for n, (condition, place, value) in enumerate(writes):
-        lines.append(f" (let rf_{n + 1} memory (ite {condition} (write rf_{n} {place} {value}) rf_{n}))")
-    return "\n".join([*lines, " (abstract pc pc)", f" (abstract rf rf_{len(writes)}))"]) + "\n"
+        lines.append(f" (let done_{n + 1} memory (ite {condition} (write done_{n} {place} {value}) done_{n}))")
+    return "\n".join([*lines, " (abstract pc pc)", f" (abstract rf done_{len(writes)}))"]) + "\n"
 
 
 def of_generated(depth):

@@ -3,8 +3,8 @@
 The program is stopped where it enters and leaves the calls below, which are found in its symbol table. In front of a
 call of `reached` the second argument is a graph of terms, which begins with the list of its nodes; in front of
 `triangles` it is an order, which begins with the list of its vertices, and then has that of its edges; in front of
-`load` a formula, which begins with its number of variables, and then has the list of its clauses. A list is three
-words: where it lies, its length, and its room.
+`work` a reduction, whose formula has the list of its clauses from word 43. A list is three words: where it lies, its
+length, and its room.
 """
 import json
 import os
@@ -76,7 +76,7 @@ def watch(gdb):
     Stop("bd_app::verdict::verdict_answer", lambda: end("solve"))
     Stop("bd_terms::reach::reached", lambda: seen["terms"].append(word(register("rsi") + WORD)))
     Stop("bd_transitive::clauses::triangles", lambda: seen.update(edges=word(register("rsi") + 4 * WORD)))
-    Stop("bd_watch::watch::Watch::load", lambda: seen.update(clauses=word(register("rsi") + 2 * WORD)))
+    Stop("bd_verify::deciding::work", lambda: seen.update(clauses=word(register("rsi") + 44 * WORD)))
     gdb.execute("run")
     with open(os.environ["INSIDE"], "w") as file:
         json.dump(seen, file)
