@@ -1,21 +1,27 @@
 -- From what is said of texts to the answer to a question.
-use Rattle.std.proofs.Common.{◌≡◌, ◌≤◌, ◌∙◌, ℕ, List, refl, ap, sym, subst, inl, inr, arith}
-use Rattle.std.specs.Prelude.{◌⊎◌, Option, Some, None, Result, Ok, Err, IfSome, IfOk}
+use Rattle.std.proofs.Common.{◌≡◌, ◌≤◌, ◌∙◌, ℕ, List, refl, sym, subst, inl, inr, arith}
+use Rattle.std.specs.Prelude.{Option, Some, None, Result, Ok, Err, IfSome, IfOk, Vec, is_some}
 use Rattle.std.specs.declared.alloc.AllocError.{AllocError}
+use Rattle.std.specs.declared.alloc.Global.{Global}
 use Rattle.bd_files.specs.Devices.{Held}
 use Rattle.bd_app.specs.Files.{KeepsAllBut}
 use Rattle.bd_app.specs.Meaning.{FilesSeen}
 use Rattle.bd_app.proofs.Results.{IfSome-weaker, rose_after}
 use Rattle.bd_app.proofs.Saves.{keeps_same}
-use Rattle.bd_show.specs.Files.{HoldTexts, Names, Texts}
-use Rattle.bd_show.specs.Meaning.{Blames, IsAnswered, Means, Question, Says, SaysHeld, Show, asked_names, asked_page, show, shrink}
+use Rattle.bd_show.specs.Files.{HoldTexts, Texts}
+use Rattle.bd_show.specs.Meaning.{Blames, Means, Question, Says, SaysHeld, Show, asked_names, asked_page, show, shrink, about}
 use Rattle.bd_show.specs.declared.answer.Answer.{Answer}
 use Rattle.bd_show.specs.declared.answer.Ended.{Ended}
 use Rattle.bd_show.specs.declared.answer.Ended.TheVariants as ended
 use Rattle.bd_show.specs.declared.load.LoadFault.{LoadFault}
 use Rattle.bd_show.specs.declared.load.LoadFault.TheVariants.{Failed, TooLong, Memory}
 use Rattle.bd_show.specs.inner.Answered.{IsDoneOn, IsKept, IsSaved, IsUnloaded}
-use Rattle.bd_show.specs.inner.Loaded.{IsFault, Leaves}
+use Rattle.bd_show.specs.inner.Loaded.{IsFault, Leaves, bytes_of}
+
+-- bytes are given where a file is
+pub bytes_given : (bytes : Option (Vec ℕ Global)) → is_some (bytes_of bytes) ≡ is_some bytes
+bytes_given None = refl
+bytes_given (Some bytes) = refl
 
 -- what files left is the same but for the count of faults
 pub record Stands (a b : FilesSeen) : Type 0 where
@@ -39,37 +45,53 @@ pub said_means : (q : Question) (held : Option Held) (t : Texts) (e : Ended) (te
 said_means q held t (ended.Refused file offset code) text texts says = held_says q held t (ended.Refused file offset code) text texts says
 said_means (show q) held t (ended.Shown j) text texts says = held_says (show q) held t (ended.Shown j) text texts says
 said_means (shrink names) held t (ended.Shown j) text texts says = absurd says
+said_means (about names) held t (ended.Shown j) text texts says = absurd says
 said_means (show q) held t (ended.Shrunk k) text texts says = absurd says
 said_means (shrink names) held t (ended.Shrunk k) text texts says = held_says (shrink names) held t (ended.Shrunk k) text texts says
+said_means (about names) held t (ended.Shrunk k) text texts says = absurd says
 said_means (show q) held t (ended.Unbroken j) text texts says = absurd says
 said_means (shrink names) held t (ended.Unbroken j) text texts says = held_says (shrink names) held t (ended.Unbroken j) text texts says
+said_means (about names) held t (ended.Unbroken j) text texts says = absurd says
+said_means (show q) held t (ended.Described found) text texts says = absurd says
+said_means (shrink names) held t (ended.Described found) text texts says = absurd says
+said_means (about names) held t (ended.Described found) text texts says = held_says (about names) held t (ended.Described found) text texts says
 said_means (show q) held t ended.Told text texts says = absurd says
 said_means (shrink names) held t ended.Told text texts says = absurd says
+said_means (about names) held t ended.Told text texts says = absurd says
 said_means (show q) held t ended.Usage text texts says = absurd says
 said_means (shrink names) held t ended.Usage text texts says = absurd says
+said_means (about names) held t ended.Usage text texts says = absurd says
 said_means (show q) held t (ended.TooLong file) text texts says = absurd says
 said_means (shrink names) held t (ended.TooLong file) text texts says = absurd says
+said_means (about names) held t (ended.TooLong file) text texts says = absurd says
 said_means (show q) held t (ended.Unread file) text texts says = absurd says
 said_means (shrink names) held t (ended.Unread file) text texts says = absurd says
+said_means (about names) held t (ended.Unread file) text texts says = absurd says
 said_means (show q) held t ended.Unsaved text texts says = absurd says
 said_means (shrink names) held t ended.Unsaved text texts says = absurd says
+said_means (about names) held t ended.Unsaved text texts says = absurd says
 said_means (show q) held t ended.Unwritten text texts says = absurd says
 said_means (shrink names) held t ended.Unwritten text texts says = absurd says
+said_means (about names) held t ended.Unwritten text texts says = absurd says
 said_means (show q) held t ended.Memory text texts says = absurd says
 said_means (shrink names) held t ended.Memory text texts says = absurd says
+said_means (about names) held t ended.Memory text texts says = absurd says
 
 pub said_blames : (q : Question) (a b : FilesSeen) (t : Texts) (e : Ended) (text : List ℕ) → b.blame ≡ a.blame → Says q t e text → Blames q a b e
 said_blames q a b t (ended.Refused file offset code) text blame says = blame
 said_blames q a b t (ended.Shown j) text blame says = blame
 said_blames q a b t (ended.Shrunk k) text blame says = blame
 said_blames q a b t (ended.Unbroken j) text blame says = blame
+said_blames q a b t (ended.Described found) text blame says = blame
 said_blames q a b t ended.Told text blame says = blame
 said_blames q a b t ended.Usage text blame says = blame
 said_blames q a b t (ended.TooLong file) text blame says = blame
 said_blames (show q) a b t (ended.Unread file) text blame says = absurd says
 said_blames (shrink names) a b t (ended.Unread file) text blame says = absurd says
+said_blames (about names) a b t (ended.Unread file) text blame says = absurd says
 said_blames (show q) a b t ended.Unsaved text blame says = absurd says
 said_blames (shrink names) a b t ended.Unsaved text blame says = absurd says
+said_blames (about names) a b t ended.Unsaved text blame says = absurd says
 said_blames q a b t ended.Unwritten text blame says = blame
 said_blames q a b t ended.Memory text blame says = tt
 

@@ -10,7 +10,7 @@ use Rattle.clap.specs.declared.error.kind.ErrorKind.TheVariants.{DisplayHelp, Di
 use Rattle.bd_app.specs.Commands.{if_faultless}
 use Rattle.bd_app.specs.Words.{flag, flag_at, machines_command, option, required, ◌>>=◌}
 use Rattle.bd_show.specs.Files.{Names}
-use Rattle.bd_show.specs.Meaning.{Question, Show, show, shrink}
+use Rattle.bd_show.specs.Meaning.{Question, show, shrink, about}
 
 -- show PIPE SPEC CASE [INV] [--whole] [--html FILE]
 abbrev pub show_command : Shape
@@ -23,6 +23,10 @@ abbrev pub shrink_command : Shape
 shrink_command =
     machines_command (codes "shrink") (required (codes "CASE") ∷ new_rule (codes "INV") ∷ [])
 
+-- about PIPE SPEC [INV]
+abbrev pub about_command : Shape
+about_command = machines_command (codes "about") (new_rule (codes "INV") ∷ [])
+
 -- the files of a case
 unfoldable pub case_names : List Row → Option Names
 case_names rows = do
@@ -30,6 +34,13 @@ case_names rows = do
   spec ← first_of (codes "SPEC") rows
   case ← first_of (codes "CASE") rows
   Some (record { pipe = pipe; spec = spec; case = Some case; inv = first_of (codes "INV") rows })
+
+-- the files of a design
+unfoldable pub design_names : List Row → Option Names
+design_names rows = do
+  pipe ← first_of (codes "PIPE") rows
+  spec ← first_of (codes "SPEC") rows
+  Some (record { pipe = pipe; spec = spec; case = None; inv = first_of (codes "INV") rows })
 
 unfoldable pub show_question : List Row → Option Question
 show_question rows = do
@@ -45,17 +56,23 @@ shrink_question rows = do
   names ← case_names rows
   Some (shrink names)
 
+unfoldable pub about_question : List Row → Option Question
+about_question rows = do
+  names ← design_names rows
+  Some (about names)
+
 unfoldable pub command_line : App
 command_line = record {
   top = record (new_shape (codes "bd_view")) { is_leaf = false; has_version = true };
-  subs = show_command ∷ shrink_command ∷ [];
+  subs = show_command ∷ shrink_command ∷ about_command ∷ [];
 }
 
 -- what the command of this name asks
 unfoldable pub question_of : List ℕ → List Row → Option Question
 question_of name rows =
     if bytes_eq name (codes "show") then show_question rows
-    else (if bytes_eq name (codes "shrink") then shrink_question rows else None)
+    else (if bytes_eq name (codes "shrink") then shrink_question rows
+    else (if bytes_eq name (codes "about") then about_question rows else None))
 
 -- what the words ask for, where they are taken: clap finds no fault in them, and they name a command
 unfoldable pub taken : List (List ℕ) → Option Question

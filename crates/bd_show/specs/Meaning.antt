@@ -1,6 +1,5 @@
 -- What the answers to a question say of its texts, and what is left of the files.
-use Rattle.std.specs.Prelude.{◌≡◌, ◌≤◌, ◌++◌, ℕ, Bool, true, false, List, [], ◌∷◌, codes, Option, None, Some, IfSome}
-use Rattle.std.specs.Fmt.{decimal}
+use Rattle.std.specs.Prelude.{◌≡◌, ◌≤◌, ◌++◌, ℕ, Bool, true, false, List, [], codes, Option, None, Some, IfSome, is_some, Ok}
 use Rattle.bd_model.specs.DesignView.{DesignView}
 use Rattle.bd_model.specs.Conditions.{IsJudged}
 use Rattle.bd_model.specs.declared.case.Case.{Case}
@@ -8,6 +7,7 @@ use Rattle.bd_model.specs.declared.case.Condition.{Condition}
 use Rattle.bd_model.specs.declared.case.Judged.{Judged}
 use Rattle.bd_model.specs.declared.case.Judged.TheVariants.{Holds, Outside, Broken}
 use Rattle.bd_shrink.specs.Shrunk.{IsShrunk}
+use Rattle.bd_about.specs.Findings.{AreFindings}
 use Rattle.bd_case.specs.Text as case
 use Rattle.bd_files.specs.Devices.{Held, Rose}
 use Rattle.bd_picture.specs.Sentence.{sentence}
@@ -15,11 +15,12 @@ use Rattle.bd_app.specs.Files.{IsFirstLong, KeepsAllBut}
 use Rattle.bd_app.specs.Meaning.{FilesSeen}
 use Rattle.bd_app.specs.Words.{Name}
 use Rattle.bd_show.specs.Place.{fault_text}
-use Rattle.bd_show.specs.Files.{AreCase, BlamesLoad, BlamesSave, HoldTexts, IsTextFault, Names, Texts, bytes_in, files_of, name_in, or_none}
+use Rattle.bd_show.specs.Files.{AreCase, AreDesign, BlamesLoad, BlamesSave, HoldTexts, IsTextFault, Names, Texts, bytes_in, files_of, name_in, or_none}
 use Rattle.bd_show.specs.declared.answer.Ended.{Ended}
-use Rattle.bd_show.specs.declared.answer.Ended.TheVariants.{Shown, Shrunk, Unbroken, Refused, TooLong, Unread, Unsaved, Memory}
+use Rattle.bd_show.specs.declared.answer.Ended.TheVariants.{Shown, Shrunk, Unbroken, Described, Refused, TooLong, Unread, Unsaved, Memory}
 
--- what is asked: what a case shows, all of it or what is left of it, maybe with a page; or what is left of a case
+-- what is asked: what a case shows, all of it or what is left of it, maybe with a page; what is left of a case; or
+-- what can be said of a design without a case
 pub record Show : Type 0 where
   pub names : Names
   pub whole : Bool
@@ -28,14 +29,17 @@ pub record Show : Type 0 where
 pub data Question : Type 0 where
   show : Show → Question
   shrink : Names → Question
+  about : Names → Question
 
 abbrev pub asked_names : Question → Names
 asked_names (show q) = q.names
 asked_names (shrink names) = names
+asked_names (about names) = names
 
 abbrev pub asked_page : Question → Option Name
 asked_page (show q) = q.page
 asked_page (shrink names) = None
+asked_page (about names) = None
 
 -- ---- what an answer says of texts
 
@@ -74,6 +78,9 @@ pub record IsUnbroken (d : DesignView) (c : Case) (judged : Judged) (text : List
   pub unbroken : (k : Condition) → ¬ (judged ≡ Broken k)
   pub line : text ≡ unbroken_line judged
 
+abbrev pub OfDesign : Texts → (DesignView → Type 0) → Type 0
+OfDesign texts P = (d : DesignView) × AreDesign texts (Ok d) × P d
+
 abbrev pub OfCase : Texts → (DesignView → Case → Type 0) → Type 0
 OfCase texts P = (d : DesignView) × (c : Case) × AreCase texts d c × P d c
 
@@ -85,6 +92,8 @@ Says q texts (Refused file offset code) text =
 Says (show q) texts (Shown j) text = OfCase texts (λ d c. IsShown q.whole d c j text)
 Says (shrink names) texts (Shrunk k) text = OfCase texts (λ d c. IsSmaller d c k text)
 Says (shrink names) texts (Unbroken j) text = OfCase texts (λ d c. IsUnbroken d c j text)
+Says (about names) texts (Described found) text =
+    OfDesign texts (λ d. AreFindings d (is_some texts.inv) found)
 Says q texts e text = ⊥
 
 -- ---- what it says of files

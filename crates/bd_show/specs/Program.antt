@@ -1,5 +1,5 @@
 -- What a run of the program does with the words of its command line, its files and its two streams.
-use Rattle.std.specs.Prelude.{◌≡◌, ◌⊎◌, ℕ, List, codes, Option, Some, None}
+use Rattle.std.specs.Prelude.{◌≡◌, ◌⊎◌, ℕ, List, codes, Some, None}
 use Rattle.bd_files.specs.Devices.{Appends, AppendsPrefix, PutsOrFaults, Rose}
 use Rattle.bd_app.specs.Meaning.{FilesSeen}
 use Rattle.bd_app.specs.Program.{SinkSeen}

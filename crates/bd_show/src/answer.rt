@@ -2,6 +2,7 @@
 ghost use Rattle.std.specs.Prelude.{◌≡◌, ◌↔◌, IsTrue};
 ghost use Rattle.bd_show.specs.Answer.{HasReport, status_of};
 
+use bd_about::Findings;
 use bd_model::{Condition, Judged};
 use bd_text::Code;
 use bd_typer::Text;
@@ -15,6 +16,8 @@ pub enum Ended {
     Shrunk(Condition),
     /// The case breaks nothing, so nothing was made small.
     Unbroken(Judged),
+    /// What can be said of a design without a case was printed, and this was found.
+    Described(Findings),
     /// Help or the version was asked for.
     Told,
     /// The words aren't taken.
@@ -50,7 +53,7 @@ impl Ended {
         ensures { result ≡ status_of self }
     {
         match self {
-            Ended::Shown(Judged::Holds) | Ended::Shrunk(_) | Ended::Told => 0,
+            Ended::Shown(Judged::Holds) | Ended::Shrunk(_) | Ended::Described(_) | Ended::Told => 0,
             Ended::Shown(Judged::Broken(_)) => 1,
             Ended::Usage => 2,
             Ended::Refused { .. } | Ended::TooLong(_) => 3,
@@ -65,6 +68,9 @@ impl Ended {
     pub fn has_report(self) -> bool
         ensures { IsTrue result ↔ HasReport self }
     {
-        matches!(self, Ended::Shown(_) | Ended::Shrunk(_) | Ended::Told)
+        matches!(
+            self,
+            Ended::Shown(_) | Ended::Shrunk(_) | Ended::Described(_) | Ended::Told
+        )
     }
 }

@@ -6,7 +6,7 @@ ghost use Rattle.clap.specs.Words.{app_of, found_of, rows_of, shape_of};
 ghost use Rattle.clap.specs.declared.builder.command.Command.TheViews.{out-Command as fields_of};
 ghost use Rattle.bd_app.specs.Words.{texts_of};
 ghost use Rattle.bd_show.specs.Files.{names_of};
-ghost use Rattle.bd_show.specs.Commands.{case_names, command_line, question_of, show_command, show_question, shrink_command, shrink_question, taken};
+ghost use Rattle.bd_show.specs.Commands.{about_command, about_question, case_names, command_line, design_names, question_of, show_command, show_question, shrink_command, shrink_question, taken};
 ghost use Rattle.bd_show.specs.inner.Asked.{IsParsed, IsToldBy, IsWordsFault, asked};
 
 use crate::load::FileNames;
@@ -23,6 +23,8 @@ pub enum Command<'a> {
     Show(ShowOptions<'a>),
     /// What is left of a case.
     Shrink(FileNames<'a>),
+    /// What can be said of a design without a case.
+    About(FileNames<'a>),
 }
 
 /// Why words ask nothing.
@@ -68,16 +70,29 @@ fn shrink_command<'a>(alloc: Global) -> Result<clap::Command<'a>, AllocError>
     with(command, Arg::new(alloc, "INV"))
 }
 
+/// The words of `about`.
+fn about_command<'a>(alloc: Global) -> Result<clap::Command<'a>, AllocError>
+    ensures shape { IfOk result (λ c. shape_of c ≡ about_command) }
+    ensures local { IfOk result (λ c. (fields_of c).has_globals ≡ false) }
+{
+    let command = machines_command(alloc, "about")?;
+    with(command, Arg::new(alloc, "INV"))
+}
+
 /// The whole command line.
 fn command_line<'a>(alloc: Global) -> Result<clap::Command<'a>, AllocError>
     ensures { IfOk result (λ c. app_of c ≡ command_line) }
 {
     let show = show_command(alloc)?.about("Shows what a case shows: both ways round its diagram");
     let shrink = shrink_command(alloc)?.about("Prints a small case that breaks the same condition");
+    let about = about_command(alloc)?.about(
+        "Says what nothing reads and what the verdict rests on",
+    );
     clap::Command::new(alloc, "bd_view")
         .version("1.0")
         .subcommand(show)?
-        .subcommand(shrink)
+        .subcommand(shrink)?
+        .subcommand(about)
 }
 
 /// The names of the files of a case.
@@ -93,8 +108,21 @@ fn case_names<'a>(matches: &ArgMatches<'a>) -> Option<FileNames<'a>>
     })
 }
 
+/// The names of the files of a design.
+#[tactic(auto, unfolding(crate::specs::Commands::design_names))]
+fn design_names<'a>(matches: &ArgMatches<'a>) -> Option<FileNames<'a>>
+    ensures { option_map names_of result ≡ design_names (rows_of (found_of matches.now)) }
+{
+    Some(FileNames {
+        pipe: word_at(matches, "PIPE")?,
+        spec: word_at(matches, "SPEC")?,
+        case: None,
+        inv: word_at(matches, "INV"),
+    })
+}
+
 /// What the command of this name with these arguments asks for.
-#[tactic(auto, unfolding(crate::specs::Commands::question_of, crate::specs::Commands::show_question, crate::specs::Commands::shrink_question))]
+#[tactic(auto, unfolding(crate::specs::Commands::question_of, crate::specs::Commands::show_question, crate::specs::Commands::shrink_question, crate::specs::Commands::about_question))]
 fn question<'a>(name: &str, matches: &ArgMatches<'a>) -> Option<Command<'a>>
     ensures { option_map asked result ≡ question_of name.now (rows_of (found_of matches.now)) }
 {
@@ -106,6 +134,8 @@ fn question<'a>(name: &str, matches: &ArgMatches<'a>) -> Option<Command<'a>>
         }))
     } else if name == "shrink" {
         Some(Command::Shrink(case_names(matches)?))
+    } else if name == "about" {
+        Some(Command::About(design_names(matches)?))
     } else {
         None
     }
@@ -149,4 +179,5 @@ pub fn command_of<'a>(alloc: Global, words: &'a [String]) -> Result<Command<'a>,
     }
 }
 
-const NONE: &[u8] = b"usage: bd_view show|shrink PIPE SPEC CASE [INV]; --help says more\n";
+const NONE: &[u8] =
+    b"usage: bd_view show|shrink PIPE SPEC CASE [INV], or about PIPE SPEC [INV]; --help says more\n";

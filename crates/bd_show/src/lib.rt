@@ -1,6 +1,7 @@
 //! The companion's one call: what a case shows, for people.
 #![tactic(auto)]
 
+mod about;
 mod answer;
 mod command;
 mod fault;

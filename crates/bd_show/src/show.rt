@@ -15,7 +15,7 @@ ghost use Rattle.bd_show.specs.inner.Loaded.{AreFew, texts_view};
 use crate::answer::{Answer, Ended};
 use crate::fault::{joined, refused, unloaded};
 use crate::load::{FileNames, Texts, load_texts};
-use crate::names::let_names;
+use crate::names::machine_lets;
 use crate::read::{case, design};
 use bd_diagram::diagram_of;
 use bd_files::{Files, SaveError};
@@ -23,6 +23,7 @@ use bd_model::{Case, Design, Judged};
 use bd_picture::{Picture, View, page_of, picture_of, text_of};
 use bd_shrink::shrink;
 use bd_sim::judge;
+use bd_syntax::Kind;
 use std::alloc::{AllocError, Global};
 
 /// Its options: the files, whether all of the case is shown, and where a page is saved.
@@ -128,7 +129,7 @@ fn on_design(
     ensures { IfOk result (λ r. Says (Question.show (show_of options.entry)) (texts_view texts.now)
         r.answer.ended r.answer.text.items) }
 {
-    let names = let_names(alloc, texts.pipe.as_slice())?;
+    let names = machine_lets(alloc, texts.pipe.as_slice(), Kind::Pipeline)?;
     match case(alloc, design, texts) {
         Ok(case) => on_case(alloc, design, &case, options.whole, names.as_slice()),
         Err(fault) => unseen(refused(alloc, options.names, texts, fault)),

@@ -2,6 +2,8 @@
 #![tactic(auto)]
 
 #[cfg(test)]
+mod about;
+#[cfg(test)]
 mod lefts;
 #[cfg(test)]
 mod rows;

@@ -38,10 +38,10 @@ fn words_are_taken(rt: HostRuntime) -> Result<(), Fail> {
 
 /// Words that aren't, and what is said of them: none, another command, a file too few and too many, an option of
 /// another command, without its value, and twice.
-static REFUSED: [(&[&str], &str); 7] = [
+static REFUSED: [(&[&str], &str); 9] = [
     (
         &["bd_view"],
-        "usage: bd_view show|shrink PIPE SPEC CASE [INV]; --help says more\n",
+        "usage: bd_view show|shrink PIPE SPEC CASE [INV], or about PIPE SPEC [INV]; --help says more\n",
     ),
     (
         &["bd_view", "draw", "p", "s", "c"],
@@ -66,6 +66,18 @@ For more information, try '--help'.\n",
         "error: unexpected argument '--whole' found\n\n  tip: to pass '--whole' as a value, use \
 '-- --whole'\n\n\
 Usage: bd_view shrink <PIPE> <SPEC> <CASE> [INV]\n\n\
+For more information, try '--help'.\n",
+    ),
+    (
+        &["bd_view", "about", "p"],
+        "error: the following required arguments were not provided:\n  <SPEC>\n\n\
+Usage: bd_view about <PIPE> <SPEC> [INV]\n\n\
+For more information, try '--help'.\n",
+    ),
+    (
+        &["bd_view", "about", "p", "s", "i", "c"],
+        "error: unexpected argument 'c' found\n\n\
+Usage: bd_view about <PIPE> <SPEC> [INV]\n\n\
 For more information, try '--help'.\n",
     ),
     (
@@ -103,6 +115,7 @@ const HELP: &str = "Usage: bd_view [COMMAND]
 Commands:
   show    Shows what a case shows: both ways round its diagram
   shrink  Prints a small case that breaks the same condition
+  about   Says what nothing reads and what the verdict rests on
   help    Print this message or the help of the given subcommand(s)
 
 Options:

@@ -1,8 +1,9 @@
 -- What the parts of a run say.
-use Rattle.std.specs.Prelude.{◌≡◌, ◌⊎◌, ◌≤◌, ◌++◌, ℕ, List, codes, Option, Some, Result, Ok, Err, IfOk}
+use Rattle.std.specs.Prelude.{◌≡◌, ◌⊎◌, ◌≤◌, ◌++◌, ℕ, Bool, List, codes, Option, Some, Result, Ok, Err, IfOk}
 use Rattle.std.specs.declared.alloc.AllocError.{AllocError}
 use Rattle.bd_model.specs.DesignView.{DesignView}
 use Rattle.bd_model.specs.declared.case.Case.{Case}
+use Rattle.bd_about.specs.Findings.{AreFindings}
 use Rattle.bd_files.specs.Devices.{Rose}
 use Rattle.bd_app.specs.Files.{KeepsAllBut}
 use Rattle.bd_app.specs.Meaning.{FilesSeen}
@@ -50,6 +51,11 @@ abbrev pub IsOfCase : DesignView → Case → Ended → List ℕ → Type 0
 IsOfCase d c (ended.Shrunk k) text = IsSmaller d c k text
 IsOfCase d c (ended.Unbroken j) text = IsUnbroken d c j text
 IsOfCase d c e text = ⊥
+
+-- what `about` says of a design, where an invariant is given or none
+abbrev pub IsDescribed : DesignView → Bool → Ended → Type 0
+IsDescribed d given (ended.Described found) = AreFindings d given found
+IsDescribed d given e = ⊥
 
 -- an answer after its page was saved, where one was asked for: it stands, or the save failed
 abbrev pub IsKept : Option Name → Ended → List ℕ → FilesSeen → FilesSeen → Answer → Type 0

@@ -1,5 +1,4 @@
 -- Why texts aren't read.
-use Rattle.std.specs.Prelude.{ℕ}
 use Rattle.bd_typer.specs.declared.fault.TypeFault.{TypeFault}
 use Rattle.bd_typer.specs.declared.fault.TypeFault.TheVariants.{Bad, Memory}
 use Rattle.bd_show.specs.Files.{IsTextFault, Texts}

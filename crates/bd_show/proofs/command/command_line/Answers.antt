@@ -11,4 +11,6 @@ returns c =
     let show = ap shape_of_fields c.about-show.ensures ∙ c.in_ok-show_command.ensures.shape in
     let shrink = ap shape_of_fields c.about-shrink.ensures ∙ c.in_ok-shrink_command.ensures.shape in
     let shows = c.in_ok-subcommand.ensures.shape (ap (λ f. f.has_globals) c.about-show.ensures ∙ c.in_ok-show_command.ensures.local) ∙ ap₂ with_subcommand top show in
-    IfOk-weaker c.subcommand-2.result _ _ (λ r added. added.shape (ap (λ f. f.has_globals) c.about-shrink.ensures ∙ c.in_ok-shrink_command.ensures.local) ∙ ap₂ with_subcommand shows shrink) c.subcommand-2.ensures
+    let shrinks = c.in_ok-subcommand-2.ensures.shape (ap (λ f. f.has_globals) c.about-shrink.ensures ∙ c.in_ok-shrink_command.ensures.local) ∙ ap₂ with_subcommand shows shrink in
+    let about = ap shape_of_fields c.about-about.ensures ∙ c.in_ok-about_command.ensures.shape in
+    IfOk-weaker c.subcommand-3.result _ _ (λ r added. added.shape (ap (λ f. f.has_globals) c.about-about.ensures ∙ c.in_ok-about_command.ensures.local) ∙ ap₂ with_subcommand shrinks about) c.subcommand-3.ensures

@@ -1,6 +1,5 @@
 use Rattle.std.proofs.Common.{◌<◌, ◌≤◌, length, refl, sym, subst}
 use Rattle.bd_files.specs.Devices.{IsLoaded}
-use Rattle.bd_app.specs.Files.{most_bytes}
 use Rattle.bd_app.proofs.Loads.{loaded_short}
 use Rattle.bd_show.proofs.Loads.{long_held}
 use Rattle.bd_show.proofs.load.load.Goals as goal

@@ -1,8 +1,7 @@
-use Rattle.bd_show.specs.Files.{names_of}
 use Rattle.bd_show.specs.Meaning.{show}
 use Rattle.bd_show.specs.inner.Answered.{show_of}
 use Rattle.bd_show.specs.inner.Loaded.{texts_view}
-use Rattle.bd_show.proofs.Answers.{loaded_stands, no_memory, saved_done, unloaded_done}
+use Rattle.bd_show.proofs.Answers.{loaded_stands, saved_done, unloaded_done}
 use Rattle.bd_show.proofs.show.answer.Goals as goal
 
 pub returns-in-Err : goal.returns-in-Err
