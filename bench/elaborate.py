@@ -72,7 +72,7 @@ class Clauses:
         return 0
 
     def hints(self, conflict):
-        """The reasons behind a false clause in the order of the trail, and the clause."""
+        """The reasons of a false clause in the order of the trail, and the clause."""
         needed, found = {abs(literal) for literal in self.clauses[conflict]}, [conflict]
         for literal in reversed(self.trail):
             variable = abs(literal)

@@ -1,7 +1,7 @@
 #!/usr/bin/env python3
 """A superscalar pipeline and its instruction set machine, as texts for `burch_dill check`.
 
-Each cycle may fetch up to WIDTH instructions. An operand is read from the registers, behind the results of all
+Each cycle may fetch up to WIDTH instructions. An operand is read from the registers after the results of all
 instructions in flight: every stage and slot forwards to every operand, the youngest first. An instruction that reads
 what an earlier one of its group writes waits for the next cycle, with all after it. The specification runs one
 instruction a step. With --miss the youngest result of the last stage isn't forwarded, which is wrong. With --shuffle
@@ -41,7 +41,7 @@ def latches(width, depth, operands):
 
 
 def results(width, depth, operands):
-    """The result of each instruction in flight: computed in stage 2, carried behind it."""
+    """The result of each instruction in flight: computed in stage 2, carried through the stages after it."""
     for slot in range(width):
         parts = " ".join(f"a{n}_{slot}" for n in range(operands))
         yield f" (let r2_{slot} word (alu o_{slot} {parts}))"
