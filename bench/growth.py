@@ -12,6 +12,7 @@ usage: growth.py PROGRAM [--seconds N] [--memory MB] [--only WORD] [--points]
 import argparse
 import math
 import os
+import re
 import signal
 import subprocess
 import sys
@@ -29,15 +30,27 @@ ENDINGS = {0: "", 1: "", 3: "a fault", 4: "", 5: "a device", 6: "memory", 7: "",
 
 @dataclass
 class Texts:
-    """The texts of a design, a case of it and a proof for it."""
+    """The texts of a design, a case of it, a proof for it, and the lets of a completion function for it."""
     pipe: str
     spec: str
     case: str
     proof: str = ""
+    lets: tuple[str, ...] = ()
     files: dict[str, str] = field(init=False)
 
     def __post_init__(self) -> None:
-        self.files = {"pipe": self.pipe, "spec": self.spec, "case": self.case, "proof": self.proof}
+        self.files = {"pipe": self.pipe, "spec": self.spec, "case": self.case, "proof": self.proof,
+                      "start": "(start true)\n", "trail": self.trail(), "comp": self.completion()}
+
+    def trail(self) -> str:
+        """The case as a trail of one cycle."""
+        return self.case.replace("(case 1", "(trail 1", 1)
+
+    def completion(self) -> str:
+        """Each visible entry as it stands, or the first one as the last of the lets."""
+        names = re.findall(r"\((?:latch|memory) ([^ )]+)", self.spec)
+        values = [*names] if not self.lets else [self.lets[-1].split()[1], *names[1:]]
+        return machine("completion", *self.lets, *(f"(abstract {name} {value})" for name, value in zip(names, values)))
 
     def fit(self) -> bool:
         """Whether no file is too long."""
@@ -61,7 +74,7 @@ class Shape:
     make: Callable[[int], Texts]
     least: int = 8
     most: int = 2 ** 30
-    commands: tuple[str, ...] = ("check", "check --diverse", "replay", "run", "recheck")
+    commands: tuple[str, ...] = ("check", "check --diverse", "replay", "run", "recheck", "bounded", "retrace", "complete")
     longest: str = "1 MiB"
 
 
@@ -228,6 +241,14 @@ def proof_lines(size: int) -> Texts:
     return Texts(TWO_STAGES.format(flush=1, steps=1), INSTRUCTIONS, ONE_CASE, lines + "x\n")
 
 
+def completion_lets(size: int) -> Texts:
+    """A pipeline that isn't right by a completion function with a chain of lets."""
+    lets = ["(let l0 bool a)", *(f"(let l{i} bool (and l{i - 1} a))" for i in range(1, size))]
+    keeps = ["(latch a bool) (next a a)"]
+    return Texts(machine("pipeline", "(latch a bool) (next a (not a))", "(flush 0) (steps 1)"),
+                 machine("specification", *keeps), "(case 1 (latch a false))\n", lets=tuple(lets))
+
+
 SHAPES = (
     Shape("chain of lets", "lets", chain),
     Shape("deep expressions", "operators", deep),
@@ -248,11 +269,13 @@ SHAPES = (
     Shape("flush cycles", "cycles", flush_cycles, 1, 64),
     Shape("steps", "steps", steps, 1, 8),
     Shape("proof lines", "lines", proof_lines, commands=("recheck",), longest="64 MiB"),
+    Shape("lets of a completion function", "lets", completion_lets, commands=("complete",)),
 )
 
 WORDS = {"check": ["check", "pipe", "spec"], "check --diverse": ["check", "pipe", "spec", "--diverse"],
          "replay": ["replay", "pipe", "spec", "case"], "run": ["run", "pipe", "spec", "case", "8"],
-         "recheck": ["recheck", "pipe", "spec", "proof"]}
+         "recheck": ["recheck", "pipe", "spec", "proof"], "bounded": ["bounded", "pipe", "spec", "start", "1"],
+         "retrace": ["retrace", "pipe", "spec", "trail", "start"], "complete": ["complete", "pipe", "spec", "comp"]}
 
 
 class Place:
