@@ -4,4 +4,5 @@ pub mod Reached
 pub mod Unread
 pub mod Changed
 pub mod Findings
+pub mod Lines
 pub mod inner

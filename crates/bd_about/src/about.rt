@@ -3,10 +3,12 @@ ghost use Rattle.std.specs.Prelude.{IfOk};
 ghost use Rattle.bd_model.specs.DesignView.{design_view};
 ghost use Rattle.bd_model.specs.Lawful.{IsLawful};
 ghost use Rattle.bd_about.specs.Findings.{AreFindings};
+ghost use Rattle.bd_about.specs.Lines.{EndsWithLines};
 ghost use Rattle.bd_about.specs.Unread.{IsUnread};
 
 use crate::asking::{Findings, findings_of};
-use crate::page::{LetNames, parts_of, push_findings};
+use crate::lines::push_findings;
+use crate::page::{LetNames, parts_of};
 use crate::unread::{Unread, unread_of};
 use bd_model::Design;
 use std::alloc::{AllocError, Global};
@@ -29,6 +31,7 @@ pub fn about_design(
     requires { IsLawful (design_view design) }
     ensures unread { IfOk result (λ a. IsUnread (design_view design) a.unread) }
     ensures findings { IfOk result (λ a. AreFindings (design_view design) given a.findings) }
+    ensures lines { IfOk result (λ a. EndsWithLines a.text.items a.findings) }
 {
     let unread = unread_of(alloc, &design)?;
     let mut text = parts_of(alloc, &design, names, &unread)?;

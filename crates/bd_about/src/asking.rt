@@ -39,7 +39,7 @@ pub struct Findings {
 }
 
 /// How many clauses the solver may add for each question.
-pub const BUDGET: u32 = 200_000;
+const BUDGET: u32 = 200_000;
 
 /// The most items of a list.
 const MOST: usize = 2_097_152;

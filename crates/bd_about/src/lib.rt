@@ -3,6 +3,7 @@
 
 mod about;
 mod asking;
+mod lines;
 mod marks;
 mod named;
 mod page;

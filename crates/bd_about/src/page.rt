@@ -1,8 +1,7 @@
-//! What is said of a design, as lines that a designer reads.
+//! What is compared, sizes and what nothing reads, as lines that a designer reads.
 
-use crate::asking::{BUDGET, Finding, Findings};
 use crate::unread::Unread;
-use bd_model::{Condition, Design, Entry, Sort, Symbol};
+use bd_model::{Design, Entry, Sort, Symbol};
 use itoa::Buffer;
 use std::alloc::{AllocError, Global};
 
@@ -156,55 +155,6 @@ fn push_unread(
     let kind = "let of the invariant ";
     push_lets(out, names.inv_lets, unread.inv_lets.as_slice(), kind)?;
     end_names(out)
-}
-
-fn push_finding(out: &mut Vec<u8>, question: &str, found: Finding) -> Result<(), AllocError> {
-    push(out, question)?;
-    match found {
-        Finding::Right => push(out, "right"),
-        Finding::Wrong(Condition::Commute) => push(out, "wrong: commute is broken"),
-        Finding::Wrong(Condition::Invariant) => push(out, "wrong: the invariant is broken"),
-        Finding::Void => push(out, "no state meets the invariant"),
-        Finding::Undecided => {
-            push(out, "undecided: the budget is ")?;
-            push_count(out, u64::from(BUDGET), "")
-        }
-    }
-}
-
-fn push_less_flushed(out: &mut Vec<u8>, findings: &Findings) -> Result<(), AllocError> {
-    if let Some(found) = findings.less_flushed {
-        push_finding(out, "one flush less   ", found)?;
-        if found == findings.own && found != Finding::Undecided {
-            push(out, ", the same verdict")?;
-        }
-        push(out, "\n")?;
-    }
-    Ok(())
-}
-
-fn push_no_invariant(out: &mut Vec<u8>, findings: &Findings) -> Result<(), AllocError> {
-    if let Some(found) = findings.without_invariant {
-        push_finding(out, "no invariant     ", found)?;
-        if found == Finding::Right {
-            push(out, ", so the invariant can be left out")?;
-        }
-        push(out, "\n")?;
-    }
-    Ok(())
-}
-
-/// The lines on what is found.
-pub fn push_findings(out: &mut Vec<u8>, findings: &Findings) -> Result<(), AllocError> {
-    push_finding(out, "as it is         ", findings.own)?;
-    push(out, "\n")?;
-    push_less_flushed(out, findings)?;
-    push_no_invariant(out, findings)?;
-    push_finding(out, "(exact 0 true)   ", findings.without_steps)?;
-    if findings.without_steps == Finding::Right {
-        push(out, ", so this pipeline may never fetch")?;
-    }
-    push(out, "\n")
 }
 
 /// The lines on what is compared, on sizes, and on what nothing reads.

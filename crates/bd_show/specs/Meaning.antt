@@ -8,6 +8,8 @@ use Rattle.bd_model.specs.declared.case.Judged.{Judged}
 use Rattle.bd_model.specs.declared.case.Judged.TheVariants.{Holds, Outside, Broken}
 use Rattle.bd_shrink.specs.Shrunk.{IsShrunk}
 use Rattle.bd_about.specs.Findings.{AreFindings}
+use Rattle.bd_about.specs.Lines.{EndsWithLines}
+use Rattle.bd_about.specs.declared.asking.Findings.{Findings}
 use Rattle.bd_case.specs.Text as case
 use Rattle.bd_files.specs.Devices.{Held, Rose}
 use Rattle.bd_picture.specs.Sentence.{sentence}
@@ -78,6 +80,12 @@ pub record IsUnbroken (d : DesignView) (c : Case) (judged : Judged) (text : List
   pub unbroken : (k : Condition) → ¬ (judged ≡ Broken k)
   pub line : text ≡ unbroken_line judged
 
+-- what was found of the design, where an invariant is given or none, is true, and the text ends with its lines
+pub record IsDescribed (d : DesignView) (given : Bool) (found : Findings) (text : List ℕ) :
+    Type 0 where
+  pub findings : AreFindings d given found
+  pub lines : EndsWithLines text found
+
 abbrev pub OfDesign : Texts → (DesignView → Type 0) → Type 0
 OfDesign texts P = (d : DesignView) × AreDesign texts (Ok d) × P d
 
@@ -93,7 +101,7 @@ Says (show q) texts (Shown j) text = OfCase texts (λ d c. IsShown q.whole d c j
 Says (shrink names) texts (Shrunk k) text = OfCase texts (λ d c. IsSmaller d c k text)
 Says (shrink names) texts (Unbroken j) text = OfCase texts (λ d c. IsUnbroken d c j text)
 Says (about names) texts (Described found) text =
-    OfDesign texts (λ d. AreFindings d (is_some texts.inv) found)
+    OfDesign texts (λ d. IsDescribed d (is_some texts.inv) found text)
 Says q texts e text = ⊥
 
 -- ---- what it says of files

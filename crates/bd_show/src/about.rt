@@ -5,7 +5,7 @@ ghost use Rattle.bd_model.specs.Lawful.{IsLawful};
 ghost use Rattle.bd_app.specs.Meaning.{files_seen};
 ghost use Rattle.bd_show.specs.Files.{names_of};
 ghost use Rattle.bd_show.specs.Meaning.{Question, Says};
-ghost use Rattle.bd_show.specs.inner.Answered.{IsDescribed, IsDoneOn};
+ghost use Rattle.bd_show.specs.inner.Answered.{IsDoneOn, IsOfDesign};
 ghost use Rattle.bd_show.specs.inner.Loaded.{AreFew, texts_view};
 
 use crate::answer::{Answer, Ended};
@@ -30,8 +30,8 @@ fn given_lets(alloc: Global, inv: &Option<Vec<u8>>) -> Result<Vec<Vec<u8>>, Allo
 /// What is said of the design of texts.
 fn described(alloc: Global, texts: &Texts, design: Design) -> Result<Answer, AllocError>
     requires { IsLawful (design_view design) }
-    ensures { IfOk result (λ a. IsDescribed (design_view design)
-        (is_some (texts_view texts.now).inv) a.ended) }
+    ensures { IfOk result (λ a. IsOfDesign (design_view design)
+        (is_some (texts_view texts.now).inv) a.ended a.text.items) }
 {
     let lets = machine_lets(alloc, texts.pipe.as_slice(), Kind::Pipeline)?;
     let spec_lets = machine_lets(alloc, texts.spec.as_slice(), Kind::Specification)?;

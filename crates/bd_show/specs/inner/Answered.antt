@@ -3,13 +3,12 @@ use Rattle.std.specs.Prelude.{◌≡◌, ◌⊎◌, ◌≤◌, ◌++◌, ℕ, Bo
 use Rattle.std.specs.declared.alloc.AllocError.{AllocError}
 use Rattle.bd_model.specs.DesignView.{DesignView}
 use Rattle.bd_model.specs.declared.case.Case.{Case}
-use Rattle.bd_about.specs.Findings.{AreFindings}
 use Rattle.bd_files.specs.Devices.{Rose}
 use Rattle.bd_app.specs.Files.{KeepsAllBut}
 use Rattle.bd_app.specs.Meaning.{FilesSeen}
 use Rattle.bd_app.specs.Words.{Name, given}
 use Rattle.bd_show.specs.Files.{BlamesSave, Names, name_in, names_of, or_none}
-use Rattle.bd_show.specs.Meaning.{IsAnswered, IsSmaller, IsUnbroken, Question, Show}
+use Rattle.bd_show.specs.Meaning.{IsAnswered, IsDescribed, IsSmaller, IsUnbroken, Question, Show}
 use Rattle.bd_show.specs.declared.answer.Answer.{Answer}
 use Rattle.bd_show.specs.declared.answer.Ended.{Ended}
 use Rattle.bd_show.specs.declared.answer.Ended.TheVariants as ended
@@ -53,9 +52,9 @@ IsOfCase d c (ended.Unbroken j) text = IsUnbroken d c j text
 IsOfCase d c e text = ⊥
 
 -- what `about` says of a design, where an invariant is given or none
-abbrev pub IsDescribed : DesignView → Bool → Ended → Type 0
-IsDescribed d given (ended.Described found) = AreFindings d given found
-IsDescribed d given e = ⊥
+abbrev pub IsOfDesign : DesignView → Bool → Ended → List ℕ → Type 0
+IsOfDesign d given (ended.Described found) text = IsDescribed d given found text
+IsOfDesign d given e text = ⊥
 
 -- an answer after its page was saved, where one was asked for: it stands, or the save failed
 abbrev pub IsKept : Option Name → Ended → List ℕ → FilesSeen → FilesSeen → Answer → Type 0

@@ -5,6 +5,8 @@ use Rattle.bd_show.proofs.Answers.{bytes_given}
 use Rattle.bd_show.proofs.about.described.Goals as goal
 
 pub returns : goal.returns
-returns c =
-    subst (λ given. AreFindings (design_view c.args.design) given c.in_ok-about.about.findings)
-    (c.is_some.ensures ∙ sym (bytes_given c.args.texts.now.inv)) c.in_ok-about.ensures.findings
+returns c = record {
+  findings = subst (λ given. AreFindings (design_view c.args.design) given c.in_ok-about.about.findings)
+      (c.is_some.ensures ∙ sym (bytes_given c.args.texts.now.inv)) c.in_ok-about.ensures.findings;
+  lines = c.in_ok-about.ensures.lines;
+}

@@ -1,0 +1,53 @@
+-- What is found, as the lines that are printed.
+use Rattle.std.specs.Prelude.{◌≡◌, ◌++◌, ℕ, Bool, true, false, List, [], codes, Option, None, Some, if◌then◌else◌}
+use Rattle.bd_model.specs.declared.case.Condition.TheVariants.{Commute, Invariant}
+use Rattle.bd_about.specs.declared.asking.Finding.{Finding}
+use Rattle.bd_about.specs.declared.asking.Finding.TheVariants.{Right, Wrong, Void, Undecided}
+use Rattle.bd_about.specs.declared.asking.Findings.{Findings}
+
+abbrev pub finding_words : Finding → List ℕ
+finding_words Right = codes "right"
+finding_words (Wrong Commute) = codes "wrong: commute is broken"
+finding_words (Wrong Invariant) = codes "wrong: the invariant is broken"
+finding_words Void = codes "no state meets the invariant"
+finding_words Undecided = codes "undecided: the budget is 200000"
+
+abbrev pub is_right : Finding → Bool
+is_right Right = true
+is_right _ = false
+
+-- whether two findings are the same verdict; what isn't decided is none
+abbrev pub same_verdict : Finding → Finding → Bool
+same_verdict Right Right = true
+same_verdict Void Void = true
+same_verdict (Wrong Commute) (Wrong Commute) = true
+same_verdict (Wrong Invariant) (Wrong Invariant) = true
+same_verdict _ _ = false
+
+-- the line of a question: what was found, and what that means besides
+abbrev pub finding_line : (question : List ℕ) → Finding → (meaning : List ℕ) → List ℕ
+finding_line question found meaning = question ++ finding_words found ++ meaning ++ codes "\n"
+
+abbrev pub less_flushed_line : Finding → Option Finding → List ℕ
+less_flushed_line own None = []
+less_flushed_line own (Some found) = finding_line (codes "one flush less   ") found
+    (if same_verdict own found then codes ", the same verdict" else [])
+
+abbrev pub no_invariant_line : Option Finding → List ℕ
+no_invariant_line None = []
+no_invariant_line (Some found) = finding_line (codes "no invariant     ") found
+    (if is_right found then codes ", so the invariant can be left out" else [])
+
+abbrev pub without_steps_line : Finding → List ℕ
+without_steps_line found = finding_line (codes "(exact 0 true)   ") found
+    (if is_right found then codes ", so this pipeline may never fetch" else [])
+
+abbrev pub finding_lines : Findings → List ℕ
+finding_lines r =
+    finding_line (codes "as it is         ") r.own [] ++ less_flushed_line r.own r.less_flushed
+    ++ no_invariant_line r.without_invariant ++ without_steps_line r.without_steps
+
+-- the text ends with the lines of what is found
+pub record EndsWithLines (text : List ℕ) (r : Findings) : Type 0 where
+  pub before : List ℕ
+  pub ends : text ≡ before ++ finding_lines r

@@ -1,0 +1,112 @@
+//! What is found, as lines that a designer reads.
+ghost use Rattle.std.specs.Prelude.{◌≡◌, ◌++◌, OnOk};
+ghost use Rattle.bd_about.specs.Lines.{finding_line, finding_lines, finding_words, is_right, less_flushed_line, no_invariant_line, same_verdict, without_steps_line};
+
+use crate::asking::{Finding, Findings};
+use bd_model::Condition;
+use std::alloc::AllocError;
+
+/// A finding in words.
+fn finding_words(found: Finding) -> &'static str
+    ensures { result.now ≡ finding_words found }
+{
+    match found {
+        Finding::Right => "right",
+        Finding::Wrong(Condition::Commute) => "wrong: commute is broken",
+        Finding::Wrong(Condition::Invariant) => "wrong: the invariant is broken",
+        Finding::Void => "no state meets the invariant",
+        Finding::Undecided => "undecided: the budget is 200000",
+    }
+}
+
+/// Whether the pipeline was found to be right.
+fn is_right(found: Finding) -> bool
+    ensures { result ≡ is_right found }
+{
+    matches!(found, Finding::Right)
+}
+
+/// Whether two findings are the same verdict. What isn't decided is none.
+fn same_verdict(one: Finding, other: Finding) -> bool
+    ensures { result ≡ same_verdict one other }
+{
+    match (one, other) {
+        (Finding::Right, Finding::Right) | (Finding::Void, Finding::Void) => true,
+        (Finding::Wrong(Condition::Commute), Finding::Wrong(Condition::Commute)) => true,
+        (Finding::Wrong(Condition::Invariant), Finding::Wrong(Condition::Invariant)) => true,
+        _ => false,
+    }
+}
+
+/// Puts the line of a question after a text: what was found, and what that means besides.
+fn push_line(
+    out: &mut Vec<u8>,
+    question: &str,
+    found: Finding,
+    meaning: &str,
+) -> Result<(), AllocError>
+    ensures { OnOk result (out.new.items
+        ≡ out.old.items ++ finding_line question.now found meaning.now) }
+{
+    out.extend_from_slice(question.as_bytes())?;
+    out.extend_from_slice(finding_words(found).as_bytes())?;
+    out.extend_from_slice(meaning.as_bytes())?;
+    out.extend_from_slice(b"\n")
+}
+
+fn push_less_flushed(
+    out: &mut Vec<u8>,
+    own: Finding,
+    less_flushed: Option<Finding>,
+) -> Result<(), AllocError>
+    ensures { OnOk result (out.new.items ≡ out.old.items ++ less_flushed_line own less_flushed) }
+{
+    let Some(found) = less_flushed else {
+        return Ok(());
+    };
+    let meaning = if same_verdict(own, found) {
+        ", the same verdict"
+    } else {
+        ""
+    };
+    push_line(out, "one flush less   ", found, meaning)
+}
+
+fn push_no_invariant(
+    out: &mut Vec<u8>,
+    without_invariant: Option<Finding>,
+) -> Result<(), AllocError>
+    ensures { OnOk result (out.new.items
+        ≡ out.old.items ++ no_invariant_line without_invariant) }
+{
+    let Some(found) = without_invariant else {
+        return Ok(());
+    };
+    let meaning = if is_right(found) {
+        ", so the invariant can be left out"
+    } else {
+        ""
+    };
+    push_line(out, "no invariant     ", found, meaning)
+}
+
+fn push_without_steps(out: &mut Vec<u8>, found: Finding) -> Result<(), AllocError>
+    ensures { OnOk result (out.new.items ≡ out.old.items ++ without_steps_line found) }
+{
+    let meaning = if is_right(found) {
+        ", so this pipeline may never fetch"
+    } else {
+        ""
+    };
+    push_line(out, "(exact 0 true)   ", found, meaning)
+}
+
+/// Puts the lines of what is found after a text.
+pub fn push_findings(out: &mut Vec<u8>, findings: &Findings) -> Result<(), AllocError>
+    ensures { OnOk result (out.new.items ≡ out.old.items ++ finding_lines findings.now) }
+{
+    push_line(out, "as it is         ", findings.own, "")?;
+    push_less_flushed(out, findings.own, findings.less_flushed)?;
+    push_no_invariant(out, findings.without_invariant)?;
+    push_without_steps(out, findings.without_steps)
+}
