@@ -43,8 +43,8 @@ class Texts:
                       "start": "(start true)\n", "trail": self.trail(), "comp": self.completion()}
 
     def trail(self) -> str:
-        """The case as a trail of one cycle."""
-        return self.case.replace("(case 1", "(trail 1", 1)
+        """The case as a trail of one cycle, in which a function without arguments is a constant."""
+        return self.case.replace("(case 1", "(trail 1", 1).replace("(function ", "(constant ")
 
     def completion(self) -> str:
         """Each visible entry as it stands, or the first one as the last of the lets."""
