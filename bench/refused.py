@@ -12,7 +12,9 @@ saved, or where the fault was in saving it, a prefix of that; and no other file 
 It prints two tables, and ends with status 1 where an end was another one; each such end is printed with the words
 that show it again. It needs glibc, and takes minutes.
 
-usage: refused.py PROGRAM [--only WORD] [--step N] [--jobs N]
+With `--companion BD_VIEW` it does so to the commands of `bd_view` instead, whose lines name the file.
+
+usage: refused.py PROGRAM [--companion BD_VIEW] [--only WORD] [--step N] [--jobs N]
 """
 import argparse
 import errno
@@ -31,7 +33,7 @@ HERE = os.path.dirname(os.path.abspath(__file__))
 DATA = os.path.join(os.path.dirname(HERE), "crates", "burch_dill", "data")
 KINDS = ("memory", "open", "read", "write", "close", "sync")
 PLACES = ("nothing", "memory", "load", "save", "output", "errors")
-SAVED = ("kept.cnf", "kept.lrat")
+SAVED = ("kept.cnf", "kept.lrat", "kept.html")
 OLD = b"what stood here before\n"
 FOREVER = 2 ** 63
 MANY = 1000
@@ -40,10 +42,20 @@ SECONDS = 60
 
 @dataclass(frozen=True)
 class Command:
-    """The words of a command, and which files of `SAVED` it saves, in this order."""
+    """The words of a command, which files of `SAVED` it saves, in this order, and whether it's the companion's."""
     name: str
     words: tuple[str, ...]
     saves: tuple[str, ...] = ()
+    companion: bool = False
+
+    def lines(self, place: str) -> list[bytes]:
+        """The lines that may tell of a fault there."""
+        told = {"load": b"cannot read", "save": b"cannot save"}.get(place)
+        if told is None:
+            return []
+        if not self.companion:
+            return [told + b"\n"]
+        return [told + b" " + word.encode() + b"\n" for word in self.words]
 
 
 @dataclass(frozen=True)
@@ -93,7 +105,7 @@ class Seen:
 
 def check(name: str, *words: str) -> Command:
     """`check` with both saves."""
-    return Command(name, ("check", *words, "--cnf", SAVED[0], "--lrat", SAVED[1]), SAVED)
+    return Command(name, ("check", *words, "--cnf", SAVED[0], "--lrat", SAVED[1]), SAVED[:2])
 
 
 def commands() -> Iterator[Command]:
@@ -137,6 +149,29 @@ def commands() -> Iterator[Command]:
     yield Command("faulty words", ("check",))
 
 
+def companion_commands() -> Iterator[Command]:
+    """The commands of `bd_view`, in the same folder."""
+    def command(name: str, *words: str, saves: tuple[str, ...] = ()) -> Command:
+        return Command(name, words, saves, companion=True)
+
+    stale, right = ("stale_operand.pipe", "two_stage.spec"), ("two_stage.pipe", "two_stage.spec")
+    page = ("--html", SAVED[2])
+    yield command("show, broken", "show", *stale, "pending_write.case")
+    yield command("show, broken, a page", "show", *stale, "pending_write.case", *page, saves=SAVED[2:])
+    yield command("show --whole, a page", "show", *stale, "pending_write.case", "--whole", *page, saves=SAVED[2:])
+    yield command("show, holds", "show", *right, "pending_write.case")
+    yield command("show, outside", "show", *right, "pending_write.case", "nothing_pending.inv")
+    yield command("shrink, broken", "shrink", *stale, "pending_write.case")
+    yield command("shrink, holds", "shrink", *right, "pending_write.case")
+    yield command("about", "about", *right)
+    yield command("about, with an invariant", "about", "twin_valid_bits.pipe", "two_stage.spec", "twin_valid_bits.inv")
+    yield command("a faulty text", "about", "two_stage.spec", "two_stage.spec")
+    yield command("a faulty case", "show", *right, "two_stage.spec", *page, saves=SAVED[2:])
+    yield command("no file", "about", "two_stage.pipe", "nowhere")
+    yield command("faulty words", "about")
+    yield command("help", "--help")
+
+
 def memory_faults(first: int) -> Iterator[Fault]:
     """The allocation of that number refused, once and from then on."""
     yield Fault("once", "memory", first, first, errno.ENOMEM)
@@ -164,8 +199,9 @@ def device_faults(kind: str, first: int) -> Iterator[Fault]:
 class Place:
     """A folder with the texts, in which the program runs over the preloaded object."""
 
-    def __init__(self, program: str, folder: str):
-        self.program, self.folder = os.path.abspath(program), os.path.join(folder, "work")
+    def __init__(self, program: str, companion: str, folder: str):
+        self.program, self.companion = os.path.abspath(program), os.path.abspath(companion)
+        self.folder = os.path.join(folder, "work")
         self.object, self.counts = os.path.join(folder, "refused.so"), os.path.join(folder, "counts")
         self.output, self.errors = os.path.join(folder, "output"), os.path.join(folder, "errors")
         subprocess.run(["cc", "-O2", "-shared", "-fPIC", os.path.join(HERE, "refused.c"), "-o", self.object],
@@ -218,9 +254,10 @@ class Place:
         """The end of a run with that fault, and what it called. Status 124 is that it took longer than `SECONDS`."""
         environment = {"LD_PRELOAD": self.object, "REFUSED_COUNTS": self.counts}
         environment.update(fault.environment() if fault else {})
+        program = self.companion if command.companion else self.program
         with open(self.output, "wb") as output, open(self.errors, "wb") as errors:
             try:
-                status = subprocess.run([self.program, *command.words], cwd=self.folder, env=environment, stdout=output,
+                status = subprocess.run([program, *command.words], cwd=self.folder, env=environment, stdout=output,
                                         stderr=errors, stdin=subprocess.DEVNULL, timeout=SECONDS, check=False,
                                         close_fds=False).returncode
             except subprocess.TimeoutExpired:
@@ -277,12 +314,12 @@ def answer(end: End, whole: End, command: Command, fault: Fault, place: str) -> 
         fits = (end.status == 5 and whole.output.startswith(end.output) and is_line(end, b"cannot write\n", fault)
                 and all(end.files[name] == whole.files[name] for name in command.saves))
         return "cannot write" if fits else None
-    line = {"load": b"cannot read\n", "save": b"cannot save\n"}.get(place)
-    if line is None or end.status != 5 or end.output or not is_line(end, line, fault):
+    told = any(is_line(end, line, fault) for line in command.lines(place))
+    if end.status != 5 or end.output or not told:
         return None
     left = (saved_so_far(end, whole, command, True) if place == "save"
             else all(end.files.get(name) == OLD for name in command.saves))
-    return line.decode().strip() if left else None
+    return {"load": "cannot read", "save": "cannot save"}[place] if left else None
 
 
 class Tried:
@@ -350,10 +387,10 @@ class Trial:
                     self.try_one(fault, kind)
 
 
-def tried_on(program: str, command: Command, step: int) -> Tried:
+def tried_on(program: str, companion: str, command: Command, step: int) -> Tried:
     """All refusals and faults of a command, in a folder of its own."""
     with tempfile.TemporaryDirectory() as folder:
-        trial = Trial(Place(program, folder), command)
+        trial = Trial(Place(program, companion, folder), command)
         trial.refuse_memory(step)
         trial.fail_devices(step)
     print(f"{command.name}: status {trial.whole.status}, calls {trial.seen.calls}", file=sys.stderr, flush=True)
@@ -364,14 +401,16 @@ def main() -> int:
     """Runs it; status 1 where some end mustn't come."""
     parser = argparse.ArgumentParser(description="Refuses allocations, and fails reads and writes.")
     parser.add_argument("program")
+    parser.add_argument("--companion", default="", help="the path of bd_view, whose commands are run instead")
     parser.add_argument("--only", default="", help="commands whose name has this in it")
     parser.add_argument("--step", type=int, default=1, help="refuse each N-th call only")
     parser.add_argument("--jobs", type=int, default=1, help="how many commands run beside each other")
     words = parser.parse_args()
-    chosen = [command for command in commands() if words.only in command.name]
+    asked = companion_commands() if words.companion else commands()
+    chosen = [command for command in asked if words.only in command.name]
     whole = Tried()
     with ProcessPoolExecutor(words.jobs) as pool:
-        for one in pool.map(tried_on, repeat(words.program), chosen, repeat(words.step)):
+        for one in pool.map(tried_on, repeat(words.program), repeat(words.companion), chosen, repeat(words.step)):
             whole.add(one)
     for kinds in (False, True):
         print("\n".join(whole.table(kinds)) + "\n", flush=True)

@@ -4,7 +4,7 @@
 //! and the answer's clauses hold of these very objects. `main` makes the real ones, and calls it once.
 #![tactic(auto)]
 
-ghost use Rattle.std.specs.Prelude.{◌≡◌, IfOk, OnErr};
+ghost use Rattle.std.specs.Prelude.{◌≡◌, codes, IfOk, OnErr};
 ghost use Rattle.std.specs.Process.{exit_status};
 ghost use Rattle.bd_files.specs.Devices.{PutsOrFaults};
 ghost use Rattle.bd_app.specs.Meaning.{files_seen};
@@ -26,6 +26,13 @@ fn exit_code(ended: Ended) -> ExitCode
     ExitCode::from(ended.status())
 }
 
+/// Puts a line, as far as it goes.
+fn put_line<E: Sink>(err: &mut E, line: &[u8])
+    ensures { PutsOrFaults E.written E.faults err.old err.new line.now }
+{
+    let _ = err.put(line);
+}
+
 /// The program on any files and sinks. `words` are the command line, unless memory ran out.
 fn program<F: Files, O: Sink, E: Sink>(
     alloc: Global,
@@ -40,15 +47,19 @@ fn program<F: Files, O: Sink, E: Sink>(
         (sink_seen O.written O.faults out.old) (sink_seen O.written O.faults out.new)
         (sink_seen E.written E.faults err.old) (sink_seen E.written E.faults err.new)) }
 
-    // Where there is no memory for the words, nothing is done.
+    // Where there is no memory for the words, only the line of that is put.
     ensures no_words { OnErr words (exit_status result ≡ status_of Ended.Memory) }
+    ensures no_words_line { OnErr words
+        (PutsOrFaults E.written E.faults err.old err.new (codes "out of memory\n")) }
     ensures no_words_files { OnErr words (files.new ≡ files.old) }
     ensures no_words_out { OnErr words (out.new ≡ out.old) }
-    ensures no_words_err { OnErr words (err.new ≡ err.old) }
 {
     match words {
         Ok(words) => exit_code(run(alloc, words.as_slice(), files, out, err)),
-        Err(_) => exit_code(Ended::Memory),
+        Err(_) => {
+            put_line(err, b"out of memory\n");
+            exit_code(Ended::Memory)
+        }
     }
 }
 
