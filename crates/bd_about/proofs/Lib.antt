@@ -5,3 +5,4 @@ pub mod Earlier
 pub mod Unmarked
 pub mod Changed
 pub mod Steps
+pub mod NextLines

@@ -4,5 +4,6 @@ pub mod Reached
 pub mod Unread
 pub mod Changed
 pub mod Findings
+pub mod UnreadLines
 pub mod Lines
 pub mod inner

@@ -1,9 +1,13 @@
 -- What is found, as the lines that are printed.
 use Rattle.std.specs.Prelude.{◌≡◌, ◌++◌, ℕ, Bool, true, false, List, [], codes, Option, None, Some, if◌then◌else◌}
+use Rattle.bd_model.specs.DesignView.{DesignView}
 use Rattle.bd_model.specs.declared.case.Condition.TheVariants.{Commute, Invariant}
 use Rattle.bd_about.specs.declared.asking.Finding.{Finding}
 use Rattle.bd_about.specs.declared.asking.Finding.TheVariants.{Right, Wrong, Void, Undecided}
 use Rattle.bd_about.specs.declared.asking.Findings.{Findings}
+use Rattle.bd_about.specs.declared.unread.Unread.{Unread}
+use Rattle.bd_about.specs.declared.unread_lines.LetNames.{LetNames}
+use Rattle.bd_about.specs.UnreadLines.{unread_lines}
 
 abbrev pub finding_words : Finding → List ℕ
 finding_words Right = codes "right"
@@ -47,7 +51,8 @@ finding_lines r =
     finding_line (codes "as it is         ") r.own [] ++ less_flushed_line r.own r.less_flushed
     ++ no_invariant_line r.without_invariant ++ without_steps_line r.without_steps
 
--- the text ends with the lines of what is found
-pub record EndsWithLines (text : List ℕ) (r : Findings) : Type 0 where
+-- the text ends with the lines of what nothing reads and of what is found
+pub record EndsWithLines (d : DesignView) (names : LetNames) (u : Unread) (r : Findings)
+    (text : List ℕ) : Type 0 where
   pub before : List ℕ
-  pub ends : text ≡ before ++ finding_lines r
+  pub ends : text ≡ before ++ (unread_lines d names u ++ finding_lines r)

@@ -8,8 +8,9 @@ ghost use Rattle.bd_about.specs.Unread.{IsUnread};
 
 use crate::asking::{Findings, findings_of};
 use crate::lines::push_findings;
-use crate::page::{LetNames, parts_of};
+use crate::page::parts_of;
 use crate::unread::{Unread, unread_of};
+use crate::unread_lines::{LetNames, push_unread};
 use bd_model::Design;
 use std::alloc::{AllocError, Global};
 
@@ -31,10 +32,12 @@ pub fn about_design(
     requires { IsLawful (design_view design) }
     ensures unread { IfOk result (λ a. IsUnread (design_view design) a.unread) }
     ensures findings { IfOk result (λ a. AreFindings (design_view design) given a.findings) }
-    ensures lines { IfOk result (λ a. EndsWithLines a.text.items a.findings) }
+    ensures lines { IfOk result (λ a. EndsWithLines (design_view design) names.entry a.unread
+        a.findings a.text.items) }
 {
     let unread = unread_of(alloc, &design)?;
-    let mut text = parts_of(alloc, &design, names, &unread)?;
+    let mut text = parts_of(alloc, &design)?;
+    push_unread(&mut text, &design, names, &unread)?;
     let findings = findings_of(alloc, design, given)?;
     push_findings(&mut text, &findings)?;
     Ok(About {

@@ -8,8 +8,9 @@ mod marks;
 mod named;
 mod page;
 mod unread;
+mod unread_lines;
 
 pub use about::{About, about_design};
 pub use asking::{Finding, Findings};
-pub use page::LetNames;
 pub use unread::Unread;
+pub use unread_lines::LetNames;

@@ -9,7 +9,10 @@ use Rattle.bd_model.specs.declared.case.Judged.TheVariants.{Holds, Outside, Brok
 use Rattle.bd_shrink.specs.Shrunk.{IsShrunk}
 use Rattle.bd_about.specs.Findings.{AreFindings}
 use Rattle.bd_about.specs.Lines.{EndsWithLines}
+use Rattle.bd_about.specs.Unread.{IsUnread}
 use Rattle.bd_about.specs.declared.asking.Findings.{Findings}
+use Rattle.bd_about.specs.declared.unread.Unread.{Unread as AllUnread}
+use Rattle.bd_about.specs.declared.unread_lines.LetNames.{LetNames}
 use Rattle.bd_case.specs.Text as case
 use Rattle.bd_files.specs.Devices.{Held, Rose}
 use Rattle.bd_picture.specs.Sentence.{sentence}
@@ -80,11 +83,15 @@ pub record IsUnbroken (d : DesignView) (c : Case) (judged : Judged) (text : List
   pub unbroken : (k : Condition) → ¬ (judged ≡ Broken k)
   pub line : text ≡ unbroken_line judged
 
--- what was found of the design, where an invariant is given or none, is true, and the text ends with its lines
+-- what was found of the design, where an invariant is given or none, is true, and the text ends with the lines of
+-- what nothing reads, under some names of its lets, and of what was found
 pub record IsDescribed (d : DesignView) (given : Bool) (found : Findings) (text : List ℕ) :
     Type 0 where
   pub findings : AreFindings d given found
-  pub lines : EndsWithLines text found
+  pub unread : AllUnread
+  pub is_unread : IsUnread d unread
+  pub names : LetNames
+  pub lines : EndsWithLines d names unread found text
 
 abbrev pub OfDesign : Texts → (DesignView → Type 0) → Type 0
 OfDesign texts P = (d : DesignView) × AreDesign texts (Ok d) × P d

@@ -123,7 +123,6 @@ not compared     v, d, o, a
 pipeline         entries 6, inputs 1, lets 1, flush 1, steps 1, exact items 0
 specification    entries 2, lets 0
 both             functions and predicates 5, distinct groups 0
-read by nothing  nothing
 as it is         right
 one flush less   wrong: commute is broken
 (exact 0 true)   wrong: commute is broken
@@ -134,7 +133,6 @@ not compared     v, d, o, a
 pipeline         entries 6, inputs 1, lets 1, flush 1, steps 1, exact items 0
 specification    entries 2, lets 0
 both             functions and predicates 5, distinct groups 0
-read by nothing  nothing
 as it is         wrong: commute is broken
 one flush less   wrong: commute is broken, the same verdict
 (exact 0 true)   wrong: commute is broken
@@ -145,7 +143,6 @@ not compared     v, d, o, a, w
 pipeline         entries 7, inputs 1, lets 1, flush 1, steps 1, exact items 0
 specification    entries 2, lets 0
 both             functions and predicates 5, distinct groups 0
-read by nothing  nothing
 as it is         right
 one flush less   wrong: commute is broken
 no invariant     wrong: commute is broken
@@ -157,7 +154,6 @@ not compared     a
 pipeline         entries 2, inputs 0, lets 0, flush 1, steps 0, exact items 0
 specification    entries 1, lets 0
 both             functions and predicates 0, distinct groups 0
-read by nothing  nothing
 as it is         wrong: the invariant is broken
 one flush less   wrong: the invariant is broken, the same verdict
 no invariant     right, so the invariant can be left out
@@ -169,7 +165,6 @@ not compared     a
 pipeline         entries 2, inputs 0, lets 0, flush 1, steps 0, exact items 0
 specification    entries 1, lets 0
 both             functions and predicates 0, distinct groups 0
-read by nothing  nothing
 as it is         no state meets the invariant
 one flush less   no state meets the invariant, the same verdict
 no invariant     right, so the invariant can be left out
@@ -181,8 +176,16 @@ not compared     x, m, w
 pipeline         entries 4, inputs 1, lets 2, flush 0, steps 0, exact items 0
 specification    entries 1, lets 1
 both             functions and predicates 4, distinct groups 1
-read by nothing  latch x, memory m, input i, function f, function y, predicate q, let a, let b, \
-let of the specification s, let of the invariant u
+read by nothing  latch x
+read by nothing  memory m
+read by nothing  input i
+read by nothing  function f
+read by nothing  function y
+read by nothing  predicate q
+read by nothing  let a
+read by nothing  let b
+read by nothing  let of the specification s
+read by nothing  let of the invariant u
 as it is         right
 no invariant     right, so the invariant can be left out
 (exact 0 true)   right, so this pipeline may never fetch

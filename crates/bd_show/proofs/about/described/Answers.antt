@@ -8,5 +8,8 @@ pub returns : goal.returns
 returns c = record {
   findings = subst (λ given. AreFindings (design_view c.args.design) given c.in_ok-about.about.findings)
       (c.is_some.ensures ∙ sym (bytes_given c.args.texts.now.inv)) c.in_ok-about.ensures.findings;
+  unread = c.in_ok-about.about.unread;
+  is_unread = c.in_ok-about.ensures.unread;
+  names = _;
   lines = c.in_ok-about.ensures.lines;
 }
