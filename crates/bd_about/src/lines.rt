@@ -3,6 +3,7 @@ ghost use Rattle.std.specs.Prelude.{◌≡◌, ◌++◌, OnOk};
 ghost use Rattle.bd_about.specs.Lines.{finding_line, finding_lines, finding_words, is_right, less_flushed_line, no_invariant_line, same_verdict, without_steps_line};
 
 use crate::asking::{Finding, Findings};
+use crate::unread_lines::push_parts;
 use bd_model::Condition;
 use std::alloc::AllocError;
 
@@ -48,10 +49,7 @@ fn push_line(
     ensures { OnOk result (out.new.items
         ≡ out.old.items ++ finding_line question.now found meaning.now) }
 {
-    out.extend_from_slice(question.as_bytes())?;
-    out.extend_from_slice(finding_words(found).as_bytes())?;
-    out.extend_from_slice(meaning.as_bytes())?;
-    out.extend_from_slice(b"\n")
+    push_parts(out, question, finding_words(found), meaning.as_bytes())
 }
 
 fn push_less_flushed(

@@ -32,8 +32,13 @@ fn symbol_kind(predicate: bool) -> &'static str
     if predicate { "predicate " } else { "function " }
 }
 
-/// Puts a line after a text.
-fn push_parts(out: &mut Vec<u8>, head: &str, kind: &str, name: &[u8]) -> Result<(), AllocError>
+/// Puts a line of three parts after a text.
+pub(crate) fn push_parts(
+    out: &mut Vec<u8>,
+    head: &str,
+    kind: &str,
+    name: &[u8],
+) -> Result<(), AllocError>
     ensures { OnOk result (out.new.items
         ≡ out.old.items ++ (head.now ++ kind.now ++ name.now ++ codes "\n")) }
 {

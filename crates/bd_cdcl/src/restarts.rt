@@ -1,15 +1,26 @@
-//! When the trail is taken back to level 0: where the clauses that were learned of late have literals
-//! of more levels than all had on average (Audemard and Simon, 2012; the late average as of Biere and
-//! Fröhlich, 2015).
+//! When the trail is taken back to level 0. Two ways take turns, counted in learned clauses. In the one
+//! a return comes after every few of them: where a short proof stands, it is found then, while slower
+//! returns may miss it by a hundred times its length. In the other it comes where the clauses that were
+//! learned of late have literals of more levels than all had on average (Audemard and Simon, 2012; the
+//! late average as of Biere and Fröhlich, 2015): where no proof is short, it costs less.
+
+/// How long the turn of the first way is.
+const HASTY: u64 = 2000;
+
+/// How long the turn of the second is.
+const MEASURED: u64 = 8000;
+
+/// After how many clauses a hasty return comes.
+const FEW: u64 = 5;
+
+/// How many clauses at least are learned up to a measured one.
+const LEAST: u64 = 3;
 
 /// With each clause the late average forgets one part in so many.
 const LATE: u64 = 32;
 
 /// In how many parts a level is counted.
 const PARTS: u64 = 1 << 10;
-
-/// How many clauses at least are learned between two returns.
-const LEAST: u64 = 2;
 
 /// The levels of the clauses that were learned.
 #[derive(Drop)]
@@ -35,6 +46,22 @@ impl Restarts {
 
     /// Counts a learned clause with literals of so many levels. Answers whether a return is due.
     pub(crate) fn count(&mut self, levels: u64) -> bool {
+        let hasty = self.learned % (HASTY + MEASURED) < HASTY;
+        self.average(levels);
+        self.since = self.since.saturating_add(1);
+        let due = if hasty {
+            self.since >= FEW
+        } else {
+            self.since >= LEAST && self.is_high()
+        };
+        if due {
+            self.since = 0;
+        }
+        due
+    }
+
+    /// Takes a clause with literals of so many levels into the averages.
+    fn average(&mut self, levels: u64) {
         let parts = levels.saturating_mul(PARTS);
         self.late = if self.learned == 0 {
             parts.saturating_mul(LATE)
@@ -43,12 +70,6 @@ impl Restarts {
         };
         self.total = self.total.saturating_add(levels);
         self.learned = self.learned.saturating_add(1);
-        self.since = self.since.saturating_add(1);
-        let due = self.since > LEAST && self.is_high();
-        if due {
-            self.since = 0;
-        }
-        due
     }
 
     /// Whether the late average is above that of all by a tenth.

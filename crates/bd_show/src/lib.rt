@@ -15,4 +15,4 @@ mod show;
 mod shrinking;
 
 pub use answer::Ended;
-pub use program::run;
+pub use program::{put_text, run};

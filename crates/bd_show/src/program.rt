@@ -34,7 +34,7 @@ fn answer_of<F: Files>(alloc: Global, words: &[String], files: &mut F) -> Result
 }
 
 /// Puts a text, as far as it goes.
-fn put_text<E: Sink>(err: &mut E, text: &[u8])
+pub fn put_text<E: Sink>(err: &mut E, text: &[u8])
     ensures { PutsOrFaults E.written E.faults err.old err.new text.now }
 {
     let _ = err.put(text);

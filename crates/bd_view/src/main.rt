@@ -15,7 +15,7 @@ ghost use Rattle.bd_view.specs.Program.{EndsWith};
 
 use bd_files::{Files, Sink};
 use bd_host::{RealFiles, Stream, command_line};
-use bd_show::{Ended, run};
+use bd_show::{Ended, put_text, run};
 use std::alloc::{AllocError, Global};
 use std::process::ExitCode;
 
@@ -24,13 +24,6 @@ fn exit_code(ended: Ended) -> ExitCode
     ensures { exit_status result ≡ status_of ended }
 {
     ExitCode::from(ended.status())
-}
-
-/// Puts a line, as far as it goes.
-fn put_line<E: Sink>(err: &mut E, line: &[u8])
-    ensures { PutsOrFaults E.written E.faults err.old err.new line.now }
-{
-    let _ = err.put(line);
 }
 
 /// The program on any files and sinks. `words` are the command line, unless memory ran out.
@@ -57,7 +50,7 @@ fn program<F: Files, O: Sink, E: Sink>(
     match words {
         Ok(words) => exit_code(run(alloc, words.as_slice(), files, out, err)),
         Err(_) => {
-            put_line(err, b"out of memory\n");
+            put_text(err, b"out of memory\n");
             exit_code(Ended::Memory)
         }
     }
