@@ -149,7 +149,7 @@ def generated():
 
 
 def superscalars(long):
-    sizes = [(2, 3), (2, 5), (4, 3), (4, 4)] + ([(4, 8), (8, 3), (8, 5)] if long else [])
+    sizes = [(2, 3), (2, 5), (4, 3), (4, 4)] + ([(4, 8), (6, 5), (6, 8), (8, 3), (8, 4), (8, 5)] if long else [])
     for width, depth in sizes:
         yield f"{width} x {depth}", ["superscalar.py", str(width), str(depth)]
         yield f"{width} x {depth}, in another order", ["superscalar.py", "--shuffle", "1", str(width), str(depth)]
