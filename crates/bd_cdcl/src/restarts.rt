@@ -1,14 +1,14 @@
 //! When the trail is taken back to level 0. Two ways take turns, counted in learned clauses. In the one
-//! a return comes after every few of them: where a short proof stands, it is found then, while slower
-//! returns may miss it by a hundred times its length. In the other it comes where the clauses that were
-//! learned of late have literals of more levels than all had on average (Audemard and Simon, 2012; the
-//! late average as of Biere and Fröhlich, 2015): where no proof is short, it costs less.
+//! a return comes after every few of them: where there is a short proof, this mostly finds it, while
+//! slower returns may miss it by a hundred times its length. In the other it comes where the clauses
+//! that were learned of late have literals of more levels than all had on average (Audemard and Simon,
+//! 2012; the late average as of Biere and Fröhlich, 2015): where no proof is short, it costs less.
 
 /// How long the turn of the first way is.
 const HASTY: u64 = 2000;
 
 /// How long the turn of the second is.
-const MEASURED: u64 = 8000;
+const MEASURED: u64 = 6000;
 
 /// After how many clauses a hasty return comes.
 const FEW: u64 = 5;
