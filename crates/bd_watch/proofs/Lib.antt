@@ -12,5 +12,6 @@ pub mod WatchedClauses
 pub mod PendingWatchers
 pub mod VisitedClauses
 pub mod Sweeps
+pub mod ThirdLiterals
 pub mod LoadedClauses
 pub mod Units

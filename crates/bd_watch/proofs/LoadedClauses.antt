@@ -1,14 +1,14 @@
 -- Clauses put into a watch, and the literals of clauses that have one alone.
-use Rattle.std.proofs.Common.{◌≡◌, ℕ, zero, suc, ◌+◌, ◌*◌, ◌<◌, ◌≤◌, true, false, List, [], ◌∷◌, ◌++◌, Option, None, Some, length, get_or, set, replicate, refl, sym, ap, ◌∙◌, subst, inl, inr, arith, length-append}
+use Rattle.std.proofs.Common.{◌≡◌, ℕ, zero, suc, ◌+◌, ◌<◌, ◌≤◌, true, false, List, [], ◌∷◌, ◌++◌, Option, None, Some, length, get_or, refl, sym, ap, ◌∙◌, subst, inl, inr, arith, length-append}
 use Rattle.std.specs.List.{All}
 use Rattle.std.proofs.lemmas.Bool.{cases_eq, cases_lt}
-use Rattle.std.proofs.lemmas.List.{get_or_append_left, get_or_push, length_push, get_or-replicate, length-replicate, get_or_past, get_or_at, get_or_read, take_at}
-use Rattle.std.proofs.lemmas.List.Elements.{All-nil, All-push, All-weaker}
+use Rattle.std.proofs.lemmas.List.{get_or_append_left, get_or_push, length_push, get_or_at, take_at}
+use Rattle.std.proofs.lemmas.List.Elements.{All-push, All-weaker}
 use Rattle.bd_cnf.specs.Literal.{Literal, has_literal, has_variable}
 use Rattle.bd_cnf.specs.Clause.{IsRising}
 use Rattle.bd_cnf.specs.Standing.{IsBelow}
 use Rattle.bd_cnf.specs.Trail.{IsClosed}
-use Rattle.bd_cnf.proofs.Literals.{has_at, any_from_has}
+use Rattle.bd_cnf.proofs.Literals.{any_from_has}
 use Rattle.bd_cnf.proofs.Closed.{part_variable}
 use Rattle.bd_lrat.specs.Database.{numbered}
 use Rattle.bd_lrat.proofs.Standings.{numbered-push}
@@ -19,9 +19,9 @@ use Rattle.bd_cnf.specs.Packed.{literal_index}
 use Rattle.bd_watch.specs.Levels.{Assigned, assigned, literals, decisions, IsComplete}
 use Rattle.bd_watch.specs.Trails.{LeveledTrail, extended, IsDecisionAt}
 use Rattle.bd_watch.specs.Watching.{clause_at, list_at, IsOneOf, IsPair, IsListed, IsWatcher, AreWatched, IsGuarded, AreGuarded, front, AreWatching, IsAsserting, pair_of}
-use Rattle.bd_watch.specs.Watch.{IsWatching, IsLoaded, MayLearn, Learns}
+use Rattle.bd_watch.specs.Watch.{IsWatching, MayLearn, Learns}
 use Rattle.bd_watch.specs.inner.Loading.{Lists, Adds, IsStarting}
-use Rattle.bd_watch.proofs.Parts.{has_here, has_pushed, all_has, not_false}
+use Rattle.bd_watch.proofs.Parts.{has_pushed, all_has, not_false}
 use Rattle.bd_watch.proofs.Placed.{literals-append, IsClosedAtDecisions}
 use Rattle.bd_watch.proofs.Numbered.{numbered_past}
 use Rattle.bd_watch.proofs.AssertedLiterals.{asserted_complete, two_free_closed}
@@ -211,47 +211,71 @@ module _ (clauses : List (List Literal)) (pairs : List WatchedPair) (lists new :
         reasoned : Some (length clauses + 1) ≡ None → ⊥
         reasoned e = cc
 
+-- a clause of one literal or none was put in
+pub adds_short : (w b : Watch) (clause : List Literal) (one two : Literal) (third : Option Literal) → AreWatched w.trail.limit w.clauses w.pairs.items w.lists.items → IsRising clause → IsBelow w.trail.limit clause → length clause < 2 → b.clauses ≡ w.clauses ++ clause ∷ [] → b.pairs.items ≡ w.pairs.items ++ pair_of one two third ∷ [] → b.lists.items ≡ w.lists.items → b.trail ≡ w.trail → b.head ≡ w.head → Adds w b clause one two
+adds_short w b clause one two third was rising below short clauses pairs lists trail head = record {
+  third = third;
+  pair = λ long. absurd (omega (arith, short, long));
+  watched =
+      subst (λ (t : LeveledTrail). AreWatched t.limit b.clauses b.pairs.items b.lists.items) (sym trail)
+      (subst (λ cs. AreWatched w.trail.limit cs b.pairs.items b.lists.items) (sym clauses)
+      (subst (λ ps. AreWatched w.trail.limit (w.clauses ++ clause ∷ []) ps b.lists.items) (sym pairs)
+      (subst (AreWatched w.trail.limit (w.clauses ++ clause ∷ []) (w.pairs.items ++ p ∷ [])) (sym lists)
+      (added w.trail.limit w.clauses w.pairs.items w.lists.items clause p was rising below (λ long. absurd (omega (arith, short, long))) w.lists.items refl (λ l k there. there) (λ long. absurd (omega (arith, short, long)))
+      (λ index. All-weaker (IsWatcher w.clauses) (IsWatcher (w.clauses ++ clause ∷ [])) (watcher_still w.trail.limit w.clauses w.pairs.items w.lists.items clause p) (get_or w.lists.items index []) (was.watchers index))))));
+  clauses = clauses;
+  pairs = pairs;
+  trail = trail;
+  head = head;
+}
+  where
+    p : WatchedPair
+    p = pair_of one two third
+
 -- a clause of two literals or more was put in
-pub adds_long : (w base a b : Watch) (clause : List Literal) (p : WatchedPair) (v x : Watcher) → AreWatched w.trail.limit w.clauses w.pairs.items w.lists.items → IsRising clause → IsBelow w.trail.limit clause → 2 ≤ length clause → IsPair clause p → v.clause ≡ length w.clauses → v.blocker ≡ p.second → x.clause ≡ length w.clauses → x.blocker ≡ p.first → base.clauses ≡ w.clauses ++ clause ∷ [] → base.pairs.items ≡ w.pairs.items ++ p ∷ [] → base.lists.items ≡ w.lists.items → base.trail ≡ w.trail → base.head ≡ w.head → Lists base a p.first v → Lists a b p.second x → Adds w b clause p
-adds_long w base a b clause p v x was rising below long pair for blocker also other clauses pairs same_lists trail head first second =
-    let all_clauses = second.clauses ∙ first.clauses ∙ clauses in
-    let all_pairs = second.pairs ∙ first.pairs ∙ pairs in
-    let all_trail = second.trail ∙ first.trail ∙ trail in
-    let all_lists = second.lists ∙ ap (λ ls. listed_more ls p.second x) (first.lists ∙ ap (λ ls. listed_more ls p.first v) same_lists) in
-    record {
-      watched =
-          subst (λ (t : LeveledTrail). AreWatched t.limit b.clauses b.pairs.items b.lists.items) (sym all_trail)
-          (subst (λ cs. AreWatched w.trail.limit cs b.pairs.items b.lists.items) (sym all_clauses)
-          (subst (λ ps. AreWatched w.trail.limit (w.clauses ++ clause ∷ []) ps b.lists.items) (sym all_pairs)
-          (subst (AreWatched w.trail.limit (w.clauses ++ clause ∷ []) (w.pairs.items ++ p ∷ [])) (sym all_lists)
-          (added_long w.trail.limit w.clauses w.pairs.items w.lists.items clause p v x was rising below long pair for blocker also other))));
-      clauses = all_clauses;
-      pairs = all_pairs;
-      trail = all_trail;
-      head = second.head ∙ first.head ∙ head;
-    }
+module _ (w base a b : Watch) (clause : List Literal) (one two : Literal) (third : Option Literal) (v x : Watcher) where
+  pub adds_long : AreWatched w.trail.limit w.clauses w.pairs.items w.lists.items → IsRising clause → IsBelow w.trail.limit clause → 2 ≤ length clause → IsPair clause (pair_of one two third) → v.clause ≡ length w.clauses → v.blocker ≡ two → x.clause ≡ length w.clauses → x.blocker ≡ one → base.clauses ≡ w.clauses ++ clause ∷ [] → base.pairs.items ≡ w.pairs.items ++ pair_of one two third ∷ [] → base.lists.items ≡ w.lists.items → base.trail ≡ w.trail → base.head ≡ w.head → Lists base a one v → Lists a b two x → Adds w b clause one two
+  adds_long was rising below long pair for blocker also other clauses pairs same_lists trail head first second =
+      let all_clauses = second.clauses ∙ first.clauses ∙ clauses in
+      let all_pairs = second.pairs ∙ first.pairs ∙ pairs in
+      let all_trail = second.trail ∙ first.trail ∙ trail in
+      let all_lists = second.lists ∙ ap (λ ls. listed_more ls two x) (first.lists ∙ ap (λ ls. listed_more ls one v) same_lists) in
+      record {
+        third = third;
+        pair = λ _. pair;
+        watched =
+            subst (λ (t : LeveledTrail). AreWatched t.limit b.clauses b.pairs.items b.lists.items) (sym all_trail)
+            (subst (λ cs. AreWatched w.trail.limit cs b.pairs.items b.lists.items) (sym all_clauses)
+            (subst (λ ps. AreWatched w.trail.limit (w.clauses ++ clause ∷ []) ps b.lists.items) (sym all_pairs)
+            (subst (AreWatched w.trail.limit (w.clauses ++ clause ∷ []) (w.pairs.items ++ pair_of one two third ∷ [])) (sym all_lists)
+            (added_long w.trail.limit w.clauses w.pairs.items w.lists.items clause (pair_of one two third) v x was rising below long pair for blocker also other))));
+        clauses = all_clauses;
+        pairs = all_pairs;
+        trail = all_trail;
+        head = second.head ∙ first.head ∙ head;
+      }
 
 -- a learned clause was put in, and its first literal implied
-pub learns : (w a : Watch) (t : LeveledTrail) (id : ℕ) (clause : List Literal) (first second : Literal) → IsWatching w → MayLearn w clause first second → Adds w a clause (pair_of first second) → id ≡ length w.clauses + 1 → t ≡ extended a.trail (assigned first (Some id)) → length t.entries ≤ t.limit → Learns w (with_trail a t) clause first
+pub learns : (w a : Watch) (t : LeveledTrail) (id : ℕ) (clause : List Literal) (first second : Literal) → IsWatching w → MayLearn w clause first second → Adds w a clause first second → id ≡ length w.clauses + 1 → t ≡ extended a.trail (assigned first (Some id)) → length t.entries ≤ t.limit → Learns w (with_trail a t) clause first
 learns w a t id clause first second is may adds same new room = record {
   watching =
       subst (λ cs. AreWatching cs a.pairs.items a.lists.items t a.head) (sym adds.clauses)
       (subst (λ ps. AreWatching (w.clauses ++ clause ∷ []) ps a.lists.items t a.head) (sym adds.pairs)
-      (subst (λ n. AreWatching (w.clauses ++ clause ∷ []) (w.pairs.items ++ pair_of first second ∷ []) a.lists.items t n) (sym adds.head)
-      (subst (λ u. AreWatching (w.clauses ++ clause ∷ []) (w.pairs.items ++ pair_of first second ∷ []) a.lists.items u w.head) (sym now)
-      (learned w.clauses w.pairs.items w.lists.items a.lists.items w.trail w.head clause (pair_of first second) is may.asserting pair may.levels watched may.rising may.below (subst (λ (u : LeveledTrail). length u.entries ≤ u.limit) now room)))));
+      (subst (λ n. AreWatching (w.clauses ++ clause ∷ []) (w.pairs.items ++ p ∷ []) a.lists.items t n) (sym adds.head)
+      (subst (λ u. AreWatching (w.clauses ++ clause ∷ []) (w.pairs.items ++ p ∷ []) a.lists.items u w.head) (sym now)
+      (learned w.clauses w.pairs.items w.lists.items a.lists.items w.trail w.head clause p is may.asserting adds.pair may.levels watched may.rising may.below (subst (λ (u : LeveledTrail). length u.entries ≤ u.limit) now room)))));
   clauses = adds.clauses;
   trail = now;
 }
   where
+    p : WatchedPair
+    p = pair_of first second adds.third
+
     now : t ≡ extended w.trail (assigned first (Some (length w.clauses + 1)))
     now = new ∙ ap (λ (u : LeveledTrail). extended u (assigned first (Some id))) adds.trail ∙ ap (λ n. extended w.trail (assigned first (Some n))) same
 
-    pair : 2 ≤ length clause → IsPair clause (pair_of first second)
-    pair long = let both = may.pair long in record { first = may.asserting.here; second = both.0; apart = both.1 }
-
-    watched : AreWatched w.trail.limit (w.clauses ++ clause ∷ []) (w.pairs.items ++ pair_of first second ∷ []) a.lists.items
+    watched : AreWatched w.trail.limit (w.clauses ++ clause ∷ []) (w.pairs.items ++ p ∷ []) a.lists.items
     watched =
-        subst (λ (u : LeveledTrail). AreWatched u.limit (w.clauses ++ clause ∷ []) (w.pairs.items ++ pair_of first second ∷ []) a.lists.items) adds.trail
-        (subst (λ cs. AreWatched a.trail.limit cs (w.pairs.items ++ pair_of first second ∷ []) a.lists.items) adds.clauses
+        subst (λ (u : LeveledTrail). AreWatched u.limit (w.clauses ++ clause ∷ []) (w.pairs.items ++ p ∷ []) a.lists.items) adds.trail
+        (subst (λ cs. AreWatched a.trail.limit cs (w.pairs.items ++ p ∷ []) a.lists.items) adds.clauses
         (subst (λ ps. AreWatched a.trail.limit a.clauses ps a.lists.items) adds.pairs adds.watched))

@@ -4,6 +4,7 @@ use Rattle.std.specs.Prelude.{◌⊎◌}
 use Rattle.std.specs.List.{All, list_any}
 use Rattle.std.proofs.lemmas.Bool.{cases_eq, cases_lt}
 use Rattle.std.proofs.lemmas.List.{get_or_past}
+use Rattle.std.proofs.lemmas.List.Elements.{All-set}
 use Rattle.bd_cnf.specs.Literal.{Literal, has_literal}
 use Rattle.bd_watch.specs.declared.watcher.WatchedPair.{WatchedPair}
 use Rattle.bd_watch.specs.declared.watcher.Watcher.{Watcher}
@@ -11,8 +12,8 @@ use Rattle.bd_cnf.specs.Packed.{literal_index}
 use Rattle.bd_watch.specs.Levels.{Assigned, literals}
 use Rattle.bd_watch.specs.Trails.{LeveledTrail}
 use Rattle.bd_watch.specs.Watching.{clause_at, list_at, IsOneOf, IsListed, IsWatcher, AreWatched, AreWatching}
-use Rattle.bd_watch.specs.inner.Watchers.{Removes}
-use Rattle.bd_watch.specs.inner.Visits.{ArePending, AreSettled}
+use Rattle.bd_watch.specs.inner.Watchers.{HasBlocker, Removes}
+use Rattle.bd_watch.specs.inner.Visits.{ArePending}
 use Rattle.bd_watch.proofs.Placed.{literals-append}
 use Rattle.bd_watch.proofs.Guards.{true_grown}
 use Rattle.bd_watch.proofs.Values.{same_index}
@@ -51,6 +52,18 @@ listed_removed ws new place from k d gone low bound apart is =
     other : is.place ≢ place
     other e = apart (sym (is.is d) ∙ ap (λ n. (get_or ws n d).clause) e)
 
+-- and where one was given another blocker
+pub listed_reblocked : (ws new : List Watcher) (place from k : ℕ) (blocker : Literal) → HasBlocker ws place blocker new → place < length ws → IsListed ws from k → IsListed new from k
+listed_reblocked ws new place from k blocker has low is = subst (λ xs. IsListed xs from k) (sym has.set) (record {
+  place = is.place;
+  after = is.after;
+  within = omega (arith, is.within, length-set ws place has.watcher);
+  is = λ d. elim (cases_eq is.place place) [
+    | inl e ↦ ap (λ n. (get_or (set ws place has.watcher) n d).clause) e ∙ ap (λ (x : Watcher). x.clause) (get_or-set_same ws place has.watcher d low) ∙ sym (has.was d) ∙ ap (λ n. (get_or ws n d).clause) (sym e) ∙ is.is d
+    | inr apart ↦ ap (λ (x : Watcher). x.clause) (get_or-set_other ws place is.place has.watcher d apart) ∙ is.is d
+  ];
+})
+
 all_removed : (P : Watcher → Type 0) (ws new : List Watcher) (place : ℕ) → Removes ws place new → place < length ws → All P ws → All P new
 all_removed P ws new place gone low all k d h =
     elim (cases_eq k place) [
@@ -60,58 +73,86 @@ all_removed P ws new place gone low all k d h =
       | inr apart ↦ let inside : k + 1 < length ws = omega (arith, gone.shorter) in subst P (sym (gone.kept k d apart inside)) (all k d (omega arith))
     ]
 
--- a watcher is taken out whose clause doesn't watch the literal
-pub unlisted : (clauses : List (List Literal)) (pairs : List WatchedPair) (lists : List (List Watcher)) (trail : LeveledTrail) (head place : ℕ) (l : Literal) (new : List Watcher) (d : Watcher) → AreWatching clauses pairs lists trail head → Removes (list_at lists l) place new → place < length (list_at lists l) → ((p : WatchedPair) → IsOneOf (get_or pairs (get_or (list_at lists l) place d).clause p) l → ⊥) → AreWatching clauses pairs (set lists (literal_index l) new) trail head
-unlisted clauses pairs lists trail head place l new d is gone low none = record {
-  watched = record {
-    packable = was.packable;
-    paired = was.paired;
-    sized = length-set lists (literal_index l) new ∙ was.sized;
-    rising = was.rising;
-    below = was.below;
-    two = was.two;
-    listed = listed;
-    watchers = watchers;
-  };
-  complete = is.complete;
-  room = is.room;
-  below = is.below;
-  done = is.done;
-  guarded = is.guarded;
-  levels = is.levels;
-}
-  where
-    was : AreWatched trail.limit clauses pairs lists
-    was = is.watched
+-- with another list of a literal, where each clause that watches it is listed, the clauses watch on
+module _ (clauses : List (List Literal)) (pairs : List WatchedPair) (lists : List (List Watcher)) (trail : LeveledTrail) (head : ℕ) (l : Literal) (new : List Watcher) where
+  relisted : AreWatching clauses pairs lists trail head → literal_index l < length lists → ((i : ℕ) (p : WatchedPair) → i < length clauses → 2 ≤ length (clause_at clauses i) → IsOneOf (get_or pairs i p) l → IsListed (list_at lists l) 0 i → IsListed new 0 i) → All (IsWatcher clauses) new → AreWatching clauses pairs (set lists (literal_index l) new) trail head
+  relisted is at_index still all = record {
+    watched = record {
+      packable = was.packable;
+      paired = was.paired;
+      sized = length-set lists (literal_index l) new ∙ was.sized;
+      rising = was.rising;
+      below = was.below;
+      two = was.two;
+      listed = listed;
+      watchers = watchers;
+    };
+    complete = is.complete;
+    room = is.room;
+    below = is.below;
+    done = is.done;
+    guarded = is.guarded;
+    levels = is.levels;
+  }
+    where
+      was : AreWatched trail.limit clauses pairs lists
+      was = is.watched
 
-    at_index : literal_index l < length lists
-    at_index = elim (cases_lt (literal_index l) (length lists)) [
-      | inl h ↦ h
-      | inr past ↦
-          let empty : list_at lists l ≡ [] = get_or_past lists (literal_index l) [] past in
-          absurd (omega (arith, ap length empty))
-    ]
+      now : list_at (set lists (literal_index l) new) l ≡ new
+      now = get_or-set_same lists (literal_index l) new [] at_index
 
-    now : list_at (set lists (literal_index l) new) l ≡ new
-    now = get_or-set_same lists (literal_index l) new [] at_index
+      listed : (i : ℕ) (p : WatchedPair) (m : Literal) → i < length clauses → 2 ≤ length (clause_at clauses i) → IsOneOf (get_or pairs i p) m → IsListed (list_at (set lists (literal_index l) new) m) 0 i
+      listed i p m h long one =
+          elim (cases_eq (literal_index m) (literal_index l)) [
+            | inl e ↦
+                let same : m ≡ l = same_index m l e in
+                let there : IsListed (list_at lists l) 0 i = subst (λ (x : Literal). IsListed (list_at lists x) 0 i) same (was.listed i p m h long one) in
+                subst (λ (x : Literal). IsListed (list_at (set lists (literal_index l) new) x) 0 i) (sym same) (subst (λ ws. IsListed ws 0 i) (sym now) (still i p h long (subst (IsOneOf (get_or pairs i p)) same one) there))
+            | inr apart ↦ subst (λ ws. IsListed ws 0 i) (sym (get_or-set_other lists (literal_index l) (literal_index m) new [] apart)) (was.listed i p m h long one)
+          ]
 
-    listed : (i : ℕ) (p : WatchedPair) (m : Literal) → i < length clauses → 2 ≤ length (clause_at clauses i) → IsOneOf (get_or pairs i p) m → IsListed (list_at (set lists (literal_index l) new) m) 0 i
-    listed i p m h long one =
-        elim (cases_eq (literal_index m) (literal_index l)) [
-          | inl e ↦
-              let same : m ≡ l = same_index m l e in
-              let apart : i ≢ (get_or (list_at lists l) place d).clause = λ f. none p (subst (λ n. IsOneOf (get_or pairs n p) l) f (subst (IsOneOf (get_or pairs i p)) same one)) in
-              let there : IsListed (list_at lists l) 0 i = subst (λ (x : Literal). IsListed (list_at lists x) 0 i) same (was.listed i p m h long one) in
-              subst (λ (x : Literal). IsListed (list_at (set lists (literal_index l) new) x) 0 i) (sym same) (subst (λ ws. IsListed ws 0 i) (sym now) (listed_removed (list_at lists l) new place 0 i d gone low (omega arith) apart there))
-          | inr apart ↦ subst (λ ws. IsListed ws 0 i) (sym (get_or-set_other lists (literal_index l) (literal_index m) new [] apart)) (was.listed i p m h long one)
-        ]
+      watchers : (index : ℕ) → All (IsWatcher clauses) (get_or (set lists (literal_index l) new) index [])
+      watchers index =
+          elim (cases_eq index (literal_index l)) [
+            | inl e ↦ subst (All (IsWatcher clauses)) (sym (ap (λ n. get_or (set lists (literal_index l) new) n []) e ∙ now)) all
+            | inr apart ↦ subst (All (IsWatcher clauses)) (sym (get_or-set_other lists (literal_index l) index new [] apart)) (was.watchers index)
+          ]
 
-    watchers : (index : ℕ) → All (IsWatcher clauses) (get_or (set lists (literal_index l) new) index [])
-    watchers index =
-        elim (cases_eq index (literal_index l)) [
-          | inl e ↦ subst (All (IsWatcher clauses)) (sym (ap (λ n. get_or (set lists (literal_index l) new) n []) e ∙ now)) (all_removed (IsWatcher clauses) (list_at lists l) new place gone low (was.watchers (literal_index l)))
-          | inr apart ↦ subst (All (IsWatcher clauses)) (sym (get_or-set_other lists (literal_index l) index new [] apart)) (was.watchers index)
-        ]
+module _ (clauses : List (List Literal)) (pairs : List WatchedPair) (lists : List (List Watcher)) (trail : LeveledTrail) (head place : ℕ) (l : Literal) where
+  -- a list with a watcher is one of those that there are
+  has_list : place < length (list_at lists l) → literal_index l < length lists
+  has_list low = elim (cases_lt (literal_index l) (length lists)) [
+    | inl h ↦ h
+    | inr past ↦
+        let empty : list_at lists l ≡ [] = get_or_past lists (literal_index l) [] past in
+        absurd (omega (arith, ap length empty))
+  ]
+
+  -- a watcher is taken out whose clause doesn't watch the literal
+  pub unlisted : (new : List Watcher) (d : Watcher) → AreWatching clauses pairs lists trail head → Removes (list_at lists l) place new → place < length (list_at lists l) → ((p : WatchedPair) → IsOneOf (get_or pairs (get_or (list_at lists l) place d).clause p) l → ⊥) → AreWatching clauses pairs (set lists (literal_index l) new) trail head
+  unlisted new d is gone low none =
+      relisted clauses pairs lists trail head l new is (has_list low)
+      (λ i p h long one there.
+      let apart : i ≢ (get_or (list_at lists l) place d).clause = λ f. none p (subst (λ n. IsOneOf (get_or pairs n p) l) f one) in
+      listed_removed (list_at lists l) new place 0 i d gone low (omega arith) apart there)
+      (all_removed (IsWatcher clauses) (list_at lists l) new place gone low (is.watched.watchers (literal_index l)))
+
+  -- a watcher is given another blocker of its clause
+  pub reblocked : (new : List Watcher) (blocker : Literal) → AreWatching clauses pairs lists trail head → HasBlocker (list_at lists l) place blocker new → place < length (list_at lists l) → ((d : Watcher) → has_literal (clause_at clauses (get_or (list_at lists l) place d).clause) blocker ≡ true) → AreWatching clauses pairs (set lists (literal_index l) new) trail head
+  reblocked new blocker is has low here =
+      relisted clauses pairs lists trail head l new is (has_list low)
+      (λ i p h long one there. listed_reblocked (list_at lists l) new place 0 i blocker has low there)
+      (subst (All (IsWatcher clauses)) (sym has.set) (All-set (IsWatcher clauses) (list_at lists l) place has.watcher entry (is.watched.watchers (literal_index l))))
+    where
+      was : IsWatcher clauses (get_or (list_at lists l) place has.watcher)
+      was = is.watched.watchers (literal_index l) place has.watcher low
+
+      entry : IsWatcher clauses has.watcher
+      entry = record {
+        within = subst (λ n. n < length clauses) (has.was has.watcher) was.within;
+        long = subst (λ n. 2 ≤ length (clause_at clauses n)) (has.was has.watcher) was.long;
+        blocker = subst (λ (m : Literal). has_literal (clause_at clauses has.watcher.clause) m ≡ true) (sym has.blocker_is) (subst (λ n. has_literal (clause_at clauses n) blocker ≡ true) (has.was has.watcher) (here has.watcher));
+      }
 
 module _ (clauses : List (List Literal)) (pairs new_pairs : List WatchedPair) (ws : List Watcher) (trail more : List Assigned) (l : Literal) (place : ℕ) (d : Watcher) where
   -- a clause other than the one that was looked at
@@ -137,3 +178,8 @@ module _ (clauses : List (List Literal)) (pairs new_pairs : List WatchedPair) (w
         | inl e ↦ absurd (none p (subst (λ n. IsOneOf (get_or new_pairs n p) l) e one))
         | inr apart ↦ elim (pending_other is kept i p h long one apart) [ inl holds ↦ inl holds | inr there ↦ inr (listed_removed ws new place place i d gone low (omega arith) apart there) ]
       ]
+
+-- a watcher was given another blocker
+pub pending_reblocked : (clauses : List (List Literal)) (pairs : List WatchedPair) (ws new : List Watcher) (trail : List Assigned) (l blocker : Literal) (place from : ℕ) → HasBlocker ws place blocker new → place < length ws → ArePending clauses pairs ws trail l from → ArePending clauses pairs new trail l from
+pending_reblocked clauses pairs ws new trail l blocker place from has low is i p h long one =
+    elim (is i p h long one) [ inl holds ↦ inl holds | inr there ↦ inr (listed_reblocked ws new place from i blocker has low there) ]

@@ -1,5 +1,5 @@
 -- Going along the watchers of a literal, one after another, and along the literals of a trail.
-use Rattle.std.proofs.Common.{◌≡◌, ℕ, ◌+◌, ◌<◌, ◌≤◌, true, [], ◌++◌, Option, None, Some, length, get_or, take, sym, ap, ◌∙◌, subst, inr, arith, length-append, append_assoc}
+use Rattle.std.proofs.Common.{◌≡◌, ℕ, ◌+◌, ◌<◌, ◌≤◌, true, [], ◌++◌, Option, None, Some, length, get_or, take, sym, ap, ◌∙◌, subst, arith, length-append, append_assoc}
 use Rattle.std.specs.Prelude.{IsSomeAnd}
 use Rattle.std.specs.List.{list_any}
 use Rattle.std.proofs.lemmas.List.{get_or_append_left, length-map, take-append-le}
@@ -8,19 +8,20 @@ use Rattle.bd_cnf.specs.Trail.{is_false, open_literals}
 use Rattle.bd_lrat.specs.Database.{numbered}
 use Rattle.bd_watch.specs.declared.watcher.Watcher.{Watcher}
 use Rattle.bd_watch.specs.declared.watch.Watch.{Watch}
-use Rattle.bd_watch.specs.declared.watch.Visited.TheVariants.{Moved, Kept, Conflict}
+use Rattle.bd_watch.specs.declared.watch.Visited.TheVariants.{Moved, Blocked, Conflict}
+use Rattle.bd_watch.specs.declared.watch.Visited.{Visited}
 use Rattle.bd_watch.specs.Levels.{Assigned, assigned, literals}
 use Rattle.bd_watch.specs.Trails.{LeveledTrail}
 use Rattle.bd_watch.specs.inner.Watchers.{Removes}
 use Rattle.bd_watch.specs.Watching.{clause_at, list_at, IsOneOf, IsConflict}
 use Rattle.bd_watch.specs.Watch.{IsWatching, IsPropagated, Extends, Propagates}
-use Rattle.bd_watch.specs.inner.Visits.{ArePending, IsAt, IsStale, IsNext, Visits, Unwatches, Sweeps}
+use Rattle.bd_watch.specs.inner.Visits.{ArePending, IsAt, IsNext, Visits, MayBlock, Renews, Unwatches, Sweeps}
 use Rattle.bd_watch.proofs.Parts.{has_left, negate_twice}
 use Rattle.bd_watch.proofs.Placed.{literals-append}
 use Rattle.bd_watch.proofs.Numbered.{numbered_at}
-use Rattle.bd_watch.proofs.PendingWatchers.{pending_kept, pending_moved}
+use Rattle.bd_watch.proofs.PendingWatchers.{pending_kept, pending_reblocked, pending_moved}
 use Rattle.bd_watch.proofs.Values.{literal_at}
-use Rattle.bd_cnf.proofs.Literals.{has_at}
+use Rattle.bd_cnf.proofs.Literals.{has_at, any_from_has}
 use Rattle.bd_watch.proofs.WatchedClauses.{swept, all_closed}
 
 pub extends_more : (a b c : Watch) → Extends a b → Extends b c → Extends a c
@@ -38,8 +39,8 @@ falsified_still a b l more bad =
     subst (λ ls. has_literal ls (negate l) ≡ true) (sym (ap literals more.grown ∙ literals-append a.trail.entries more.more)) (has_left (literals a.trail.entries) (literals more.more) (negate l) bad)
 
 -- one was looked at, whose clause is true
-pub sweep_kept : (w new : Watch) (l : Literal) (place : ℕ) (entry : Watcher) → ArePending w.clauses w.pairs.items (list_at w.lists.items l) w.trail.entries l place → IsAt (list_at w.lists.items l) place entry → Visits w new l entry.clause Kept → ArePending new.clauses new.pairs.items (list_at new.lists.items l) new.trail.entries l (place + 1)
-sweep_kept w new l place entry is at visits =
+pub sweep_true : (w new : Watch) (l : Literal) (place : ℕ) (entry : Watcher) (visited : Visited) → ArePending w.clauses w.pairs.items (list_at w.lists.items l) w.trail.entries l place → IsAt (list_at w.lists.items l) place entry → Visits w new l entry.clause visited → list_any (has_literal (literals new.trail.entries)) (clause_at new.clauses entry.clause) ≡ true → ArePending new.clauses new.pairs.items (list_at new.lists.items l) new.trail.entries l (place + 1)
+sweep_true w new l place entry visited is at visits holds =
     let ws = list_at w.lists.items l in
     subst (λ cs. ArePending cs new.pairs.items (list_at new.lists.items l) new.trail.entries l (place + 1)) (sym visits.extends.clauses)
     (subst (λ xs. ArePending w.clauses new.pairs.items xs new.trail.entries l (place + 1)) (sym visits.list)
@@ -48,7 +49,23 @@ sweep_kept w new l place entry is at visits =
     (λ k p apart. visits.pairs k p (λ e. apart (e ∙ ap (λ (x : Watcher). x.clause) (sym (at.is entry)))))
     (subst (λ (x : Watcher). list_any (has_literal (literals (w.trail.entries ++ visits.extends.more))) (clause_at w.clauses x.clause) ≡ true) (sym (at.is entry))
     (subst (λ es. list_any (has_literal (literals es)) (clause_at w.clauses entry.clause) ≡ true) visits.extends.grown
-    (subst (λ cs. list_any (has_literal (literals new.trail.entries)) (clause_at cs entry.clause) ≡ true) visits.extends.clauses visits.outcome))))))
+    (subst (λ cs. list_any (has_literal (literals new.trail.entries)) (clause_at cs entry.clause) ≡ true) visits.extends.clauses holds))))))
+
+-- and its watcher was given another blocker
+pub sweep_renewed : (w new newer : Watch) (l blocker : Literal) (place : ℕ) (entry : Watcher) → ArePending w.clauses w.pairs.items (list_at w.lists.items l) w.trail.entries l place → IsAt (list_at w.lists.items l) place entry → Visits w new l entry.clause (Blocked blocker) → Renews new newer l place blocker → ArePending newer.clauses newer.pairs.items (list_at newer.lists.items l) newer.trail.entries l (place + 1)
+sweep_renewed w new newer l blocker place entry is at visits put =
+    subst (λ cs. ArePending cs newer.pairs.items (list_at newer.lists.items l) newer.trail.entries l (place + 1)) (sym put.clauses)
+    (subst (λ ps. ArePending new.clauses ps (list_at newer.lists.items l) newer.trail.entries l (place + 1)) (sym put.pairs)
+    (subst (λ (t : LeveledTrail). ArePending new.clauses new.pairs.items (list_at newer.lists.items l) t.entries l (place + 1)) (sym put.trail)
+    (pending_reblocked new.clauses new.pairs.items (list_at new.lists.items l) (list_at newer.lists.items l) new.trail.entries l blocker place (place + 1) put.list (subst (λ ws. place < length ws) (sym visits.list) at.within)
+    (sweep_true w new l place entry (Blocked blocker) is at visits (any_from_has (has_literal (literals new.trail.entries)) (clause_at new.clauses entry.clause) blocker visits.outcome.0 visits.outcome.1)))))
+
+-- the literal by which it is true may be that
+pub may_block : (w new : Watch) (l blocker : Literal) (place : ℕ) (entry : Watcher) → IsAt (list_at w.lists.items l) place entry → Visits w new l entry.clause (Blocked blocker) → MayBlock new l place blocker
+may_block w new l blocker place entry at visits = record {
+  within = subst (λ ws. place < length ws) (sym visits.list) at.within;
+  here = λ d. subst (λ (x : Watcher). has_literal (clause_at new.clauses x.clause) blocker ≡ true) (sym (ap (λ ws. get_or ws place d) visits.list ∙ at.is d)) visits.outcome.0;
+}
 
 -- one was looked at, and taken out
 pub sweep_moved : (w new newer : Watch) (l : Literal) (place : ℕ) (entry : Watcher) → ArePending w.clauses w.pairs.items (list_at w.lists.items l) w.trail.entries l place → IsAt (list_at w.lists.items l) place entry → Visits w new l entry.clause Moved → Unwatches new newer l place → ArePending newer.clauses newer.pairs.items (list_at newer.lists.items l) newer.trail.entries l place
@@ -62,6 +79,15 @@ sweep_moved w new newer l place entry is at visits gone =
     (λ p. subst (λ (x : Watcher). IsOneOf (get_or new.pairs.items x.clause p) l → ⊥) (sym (at.is entry)) (visits.outcome p))
     (subst (λ xs. Removes xs place (list_at newer.lists.items l)) visits.list gone.removes)
     at.within)))
+
+pub extends_renewed : (a b c : Watch) (l blocker : Literal) (place : ℕ) → Extends a b → Renews b c l place blocker → Extends a c
+extends_renewed a b c l blocker place first put = record {
+  clauses = put.clauses ∙ first.clauses;
+  limit = ap (λ (t : LeveledTrail). t.limit) put.trail ∙ first.limit;
+  head = put.head ∙ first.head;
+  more = first.more;
+  grown = ap (λ (t : LeveledTrail). t.entries) put.trail ∙ first.grown;
+}
 
 pub extends_unwatched : (a b c : Watch) (l : Literal) (place : ℕ) → Extends a b → Unwatches b c l place → Extends a c
 extends_unwatched a b c l place first gone = record {

@@ -3,7 +3,7 @@ use Rattle.std.proofs.Common.{◌≡◌, ℕ, ◌+◌, ◌<◌, ◌≤◌, true,
 use Rattle.std.specs.Prelude.{IsSomeAnd, slice_get}
 use Rattle.std.specs.List.{list_any}
 use Rattle.std.proofs.lemmas.Bool.{cases_eq}
-use Rattle.std.proofs.lemmas.List.Elements.{All-nil, All-push, All-head}
+use Rattle.std.proofs.lemmas.List.Elements.{All-push, All-head}
 use Rattle.bd_cnf.specs.Literal.{Literal, has_literal}
 use Rattle.bd_cnf.specs.Standing.{IsBelow}
 use Rattle.bd_cnf.specs.Trail.{is_false, open_literals}
@@ -12,8 +12,7 @@ use Rattle.bd_lrat.specs.Database.{numbered}
 use Rattle.bd_watch.specs.declared.watch.Watch.{Watch}
 use Rattle.bd_watch.specs.Levels.{Assigned, assigned, literals, decisions, IsComplete}
 use Rattle.bd_watch.specs.Trails.{LeveledTrail, extended}
-use Rattle.bd_watch.specs.Watching.{clause_at, AreWatched}
-use Rattle.bd_watch.specs.Watch.{IsLoaded}
+use Rattle.bd_watch.specs.Watching.{clause_at}
 use Rattle.bd_watch.specs.inner.Loading.{IsStarting, StartsUnit}
 use Rattle.bd_watch.proofs.Parts.{has_here, has_pushed, unassigned_from}
 use Rattle.bd_watch.proofs.Placed.{literals-append, decisions-append, complete_push}

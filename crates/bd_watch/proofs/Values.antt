@@ -1,13 +1,12 @@
 -- The tables beside a trail, as literals are assigned and taken back.
 use Rattle.std.proofs.Common.{◌≡◌, ◌≢◌, ℕ, ◌+◌, ◌*◌, ◌<◌, ◌≤◌, Bool, true, false, not, cond, List, [], ◌∷◌, ◌++◌, ◌||◌, ◌-◌, Option, None, Some, is_some, length, get_or, take, append-nil, refl, sym, ap, ◌∙◌, subst, inl, inr, arith, length-append, get_or-set_other, get_or-set_same}
-use Rattle.std.specs.Prelude.{IfNone}
 use Rattle.std.specs.List.{enumerate_from, filter_map, cons_option}
 use Rattle.std.proofs.lemmas.List.FromFn.{length-enumerate_from}
 use Rattle.std.specs.Option.{option_to_list}
-use Rattle.std.proofs.Math.ListN.{set, length-set, replicate}
+use Rattle.std.proofs.Math.ListN.{set, length-set}
 use Rattle.std.proofs.lemmas.Bool.{false≢true, true≢false, cases_eq, false_from_ne_true}
-use Rattle.std.proofs.lemmas.List.{get_or_append_left, length-replicate, get_or-replicate, length-map, get_or_push, length_push, get_or-map, take_at}
-use Rattle.std.proofs.lemmas.List.Elements.{All-push, All-nil, filter_map-append}
+use Rattle.std.proofs.lemmas.List.{get_or_append_left, length-map, get_or_push, length_push, get_or-map, take_at}
+use Rattle.std.proofs.lemmas.List.Elements.{All-push, filter_map-append}
 use Rattle.std.proofs.Math.Bool.{or-false}
 use Rattle.bd_cnf.specs.Literal.{Literal, literal, literal_eq, negate, has_literal, has_variable}
 use Rattle.bd_cnf.specs.Standing.{IsBelow}

@@ -1,28 +1,27 @@
 -- One clause is looked at whose watched literal has become false.
 use Rattle.std.proofs.Common.{◌≡◌, ◌≢◌, ℕ, ◌+◌, ◌<◌, ◌≤◌, true, false, List, [], ◌∷◌, ◌++◌, Vec, Global, Some, length, get_or, set, refl, sym, ap, ◌∙◌, subst, inl, inr, arith, append-nil, get_or-set_same, get_or-set_other}
 use Rattle.std.specs.List.{list_any}
-use Rattle.std.proofs.lemmas.Bool.{true≢false}
-use Rattle.std.proofs.lemmas.List.{get_or_default, get_or_read}
+use Rattle.std.proofs.lemmas.List.{get_or_read}
 use Rattle.bd_cnf.specs.Literal.{Literal, has_literal}
 use Rattle.bd_cnf.specs.Trail.{is_false}
 use Rattle.bd_cnf.proofs.Literals.{any_from_has}
 use Rattle.bd_watch.specs.declared.watcher.WatchedPair.{WatchedPair}
 use Rattle.bd_watch.specs.declared.watcher.Watcher.{Watcher}
 use Rattle.bd_watch.specs.declared.watch.Watch.{Watch}
-use Rattle.bd_watch.specs.declared.watch.Visited.TheVariants.{Moved, Kept, Conflict}
+use Rattle.bd_watch.specs.declared.watch.Visited.TheVariants.{Moved, Kept, Blocked, Conflict}
 use Rattle.bd_cnf.specs.Packed.{literal_index}
 use Rattle.bd_watch.specs.Levels.{assigned, literals}
 use Rattle.bd_watch.specs.Trails.{LeveledTrail, extended}
 use Rattle.bd_watch.specs.Watching.{clause_at, list_at, IsOneOf, IsPair, IsWatcher, AreWatching}
 use Rattle.bd_watch.specs.Watch.{IsWatching, Extends}
-use Rattle.bd_watch.specs.inner.Watchers.{AreTwo, Removes}
-use Rattle.bd_watch.specs.inner.Visits.{IsReplacement, AreFalseBesides, Visits, MayWatch, IsLeft, IsLong, Unwatches}
+use Rattle.bd_watch.specs.inner.Watchers.{AreTwo, HasBlocker, Removes}
+use Rattle.bd_watch.specs.inner.Visits.{Visits, MayWatch, IsLeft, IsLong, MayBlock, Renews, Unwatches}
 use Rattle.bd_watch.proofs.Parts.{has_pushed, not_true}
 use Rattle.bd_watch.proofs.Placed.{literals-append}
-use Rattle.bd_watch.proofs.Guards.{false_besides, apart_from}
+use Rattle.bd_watch.proofs.Guards.{false_besides}
 use Rattle.bd_watch.proofs.Values.{same_index, index_below}
 use Rattle.bd_watch.proofs.WatchedClauses.{literal_below, replaced, implied}
-use Rattle.bd_watch.proofs.PendingWatchers.{unlisted}
+use Rattle.bd_watch.proofs.PendingWatchers.{unlisted, reblocked}
 
 pub extends_itself : (w : Watch) → Extends w w
 extends_itself w = record { clauses = refl; limit = refl; head = refl; more = []; grown = sym (append-nil w.trail.entries) }
@@ -70,15 +69,19 @@ visits_true w i l m is here on = record {
   outcome = any_from_has (has_literal (literals w.trail.entries)) (clause_at w.clauses i) l here on;
 }
 
+pub visits_blocked : (w : Watch) (i : ℕ) (l m : Literal) → IsWatching w → has_literal (clause_at w.clauses i) l ≡ true → has_literal (literals w.trail.entries) l ≡ true → Visits w w m i (Blocked l)
+visits_blocked w i l m is here on = record {
+  watching = is;
+  extends = extends_itself w;
+  list = refl;
+  pairs = λ k d apart. refl;
+  outcome = (here, on);
+}
+
 -- of two watched literals the other is one of the clause's, and differs
 pub other_here : (clause : List Literal) (p : WatchedPair) (l other : Literal) → IsPair clause p → AreTwo p l other → (has_literal clause other ≡ true) × ((other ≢ l) × IsOneOf p other)
 other_here clause p l other is (inl (first, second)) = (subst (λ (m : Literal). has_literal clause m ≡ true) (sym second) is.second, ((λ e. is.apart (sym first ∙ sym e ∙ second)), inr second))
 other_here clause p l other is (inr (second, first)) = (subst (λ (m : Literal). has_literal clause m ≡ true) (sym first) is.first, ((λ e. is.apart (sym first ∙ e ∙ second)), inl first))
-
--- neither of the two that are watched then is the literal that became false
-pub not_watched : (trail clause : List Literal) (p : WatchedPair) (l other m : Literal) → IsPair clause p → AreTwo p l other → IsReplacement trail clause other m → is_false trail l ≡ true → IsOneOf (record { first = m; second = other }) l → ⊥
-not_watched trail clause p l other m is two new bad (inl e) = true≢false (sym bad ∙ subst (λ (k : Literal). is_false trail k ≡ false) (sym e) new.not_false)
-not_watched trail clause p l other m is two new bad (inr e) = (other_here clause p l other is two).1.0 (sym e)
 
 -- a literal below the limit has a list
 pub index_listed : (w : Watch) (l : Literal) → IsWatching w → l.var < w.trail.limit → literal_index l < length w.lists.items
@@ -130,6 +133,26 @@ unwatched w ls l index place old ws is below low none at read removes new_lists 
 
     gone : Removes (list_at w.lists.items l) place ws
     gone = subst (λ xs. Removes xs place ws) was removes
+
+    lists : ls.items ≡ set w.lists.items (literal_index l) ws
+    lists = new_lists ∙ ap (λ n. set w.lists.items n ws) at
+
+-- the list of a literal with another blocker for one of its watchers
+pub renewed : (w : Watch) (ls : Vec (List Watcher) Global) (l blocker : Literal) (index place : ℕ) (old ws : List Watcher) → IsWatching w → l.var < w.trail.limit → MayBlock w l place blocker → index ≡ literal_index l → old ≡ get_or w.lists.items index old → HasBlocker old place blocker ws → ls.items ≡ set w.lists.items index ws → Renews w (record { clauses = w.clauses; pairs = w.pairs; lists = ls; trail = w.trail; head = w.head }) l place blocker
+renewed w ls l blocker index place old ws is below may at read has new_lists = record {
+  watching = subst (λ xs. AreWatching w.clauses w.pairs.items xs w.trail w.head) (sym lists) (reblocked w.clauses w.pairs.items w.lists.items w.trail w.head place l ws blocker is new may.within may.here);
+  clauses = refl;
+  pairs = refl;
+  trail = refl;
+  head = refl;
+  list = subst (HasBlocker (list_at w.lists.items l) place blocker) (sym (ap (λ xs. get_or xs (literal_index l) []) lists ∙ get_or-set_same w.lists.items (literal_index l) ws [] (index_listed w l is below))) new;
+}
+  where
+    was : old ≡ list_at w.lists.items l
+    was = get_or_read w.lists.items index old (subst (λ n. n < length w.lists.items) (sym at) (index_listed w l is below)) read [] ∙ ap (λ n. get_or w.lists.items n []) at
+
+    new : HasBlocker (list_at w.lists.items l) place blocker ws
+    new = subst (λ xs. HasBlocker xs place blocker ws) was has
 
     lists : ls.items ≡ set w.lists.items (literal_index l) ws
     lists = new_lists ∙ ap (λ n. set w.lists.items n ws) at

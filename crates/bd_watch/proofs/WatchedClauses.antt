@@ -14,7 +14,7 @@ use Rattle.bd_watch.specs.declared.watcher.Watcher.{Watcher}
 use Rattle.bd_cnf.specs.Packed.{literal_index}
 use Rattle.bd_watch.specs.Levels.{Assigned, assigned, literals, IsPlaced, IsComplete}
 use Rattle.bd_watch.specs.Trails.{LeveledTrail, leveled, extended, IsDecisionAt}
-use Rattle.bd_watch.specs.Watching.{clause_at, list_at, IsOneOf, IsPair, IsListed, IsWatcher, AreWatched, IsGuarded, AreGuarded, front, AreWatching}
+use Rattle.bd_watch.specs.Watching.{clause_at, list_at, pair_of, IsOneOf, IsPair, IsListed, IsWatcher, AreWatched, IsGuarded, AreGuarded, front, AreWatching}
 use Rattle.bd_watch.proofs.Parts.{all_has, all_part, unassigned_from}
 use Rattle.bd_watch.proofs.Placed.{literals-append, complete_push, complete_front}
 use Rattle.bd_watch.proofs.Numbered.{numbered_at, closed_standing}
@@ -152,7 +152,8 @@ module _ (clauses : List (List Literal)) (pairs : List WatchedPair) (lists : Lis
   all_closed trail head is end =
       closed_standing clauses (literals trail.entries) (λ i d h.
       let whole : front trail.entries head ≡ literals trail.entries = front_all trail.entries head (omega arith) in
-      let default : WatchedPair = record { first = record { var = 0; positive = true }; second = record { var = 0; positive = true } } in
+      let zero : Literal = record { var = 0; positive = true } in
+      let default : WatchedPair = pair_of zero zero None in
       let at : clause_at clauses i ≡ get_or clauses i d = same_default clauses i d h in
       subst (IsClosed (literals trail.entries)) at
       (guarded_closed (literals trail.entries) (clause_at clauses i) (get_or pairs i default) (is.watched.two i default h) (subst (λ ls. IsGuarded ls (literals trail.entries) (clause_at clauses i) (get_or pairs i default)) whole (is.guarded i default h))))

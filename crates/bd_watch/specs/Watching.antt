@@ -1,5 +1,5 @@
 -- Two watched literals for each clause of two or more (Moskewicz, Madigan, Zhao, Zhang and Malik, DAC 2001), and what they say of a trail.
-use Rattle.std.specs.Prelude.{◌≡◌, ◌≢◌, ◌<◌, ◌≤◌, ◌*◌, ◌^◌, ℕ, true, false, List, [], ◌⊎◌, length, take, slice_index_or, IsSomeAnd}
+use Rattle.std.specs.Prelude.{◌≡◌, ◌≢◌, ◌<◌, ◌≤◌, ◌*◌, ◌^◌, ℕ, true, false, List, [], ◌⊎◌, length, take, slice_index_or, Option, IfSome, IsSomeAnd}
 use Rattle.std.specs.List.{All, list_any}
 use Rattle.std.specs.FinMap.{get}
 use Rattle.bd_cnf.specs.Literal.{Literal, has_literal, has_variable}
@@ -20,19 +20,27 @@ clause_at clauses place = slice_index_or clauses place []
 abbrev pub list_at : List (List Watcher) → Literal → List Watcher
 list_at lists l = slice_index_or lists (literal_index l) []
 
--- a pair of watched literals
-abbrev pub pair_of : Literal → Literal → WatchedPair
-pair_of first second = record { first = first; second = second }
+-- a pair of watched literals, with the third literal that it names
+abbrev pub pair_of : Literal → Literal → Option Literal → WatchedPair
+pair_of first second third = record { first = first; second = second; third = third }
 
 -- the literal is one of the two
 abbrev pub IsOneOf : WatchedPair → Literal → Type 0
 IsOneOf p l = (l ≡ p.first) ⊎ (l ≡ p.second)
 
--- two literals of the clause
+-- besides those two literals, a clause has this one and no other
+pub record IsThird (clause : List Literal) (first second l : Literal) : Type 0 where
+  pub here : has_literal clause l ≡ true
+  pub not_first : l ≢ first
+  pub not_second : l ≢ second
+  pub all : (m : Literal) → has_literal clause m ≡ true → (m ≡ l) ⊎ ((m ≡ first) ⊎ (m ≡ second))
+
+-- two literals of the clause, and its third where the pair names one
 pub record IsPair (clause : List Literal) (p : WatchedPair) : Type 0 where
   pub first : has_literal clause p.first ≡ true
   pub second : has_literal clause p.second ≡ true
   pub apart : p.first ≢ p.second
+  pub third : IfSome p.third (IsThird clause p.first p.second)
 
 -- from that place on, some watcher of the list is for the clause
 pub record IsListed (watchers : List Watcher) (from clause : ℕ) : Type 0 where

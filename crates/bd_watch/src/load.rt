@@ -1,9 +1,9 @@
 //! Clauses put into a watch: a formula's before anything is assigned, and learned ones.
-ghost use Rattle.std.specs.Prelude.{◌≡◌, ◌≤◌, ◌<◌, ◌+◌, ◌^◌, [], length, replicate, IfOk, OnOk};
+ghost use Rattle.std.specs.Prelude.{◌≡◌, ◌≤◌, ◌<◌, ◌+◌, ◌^◌, [], length, replicate, None, IfSome, IfOk, OnOk};
 ghost use Rattle.bd_cnf.specs.Clause.{IsRising};
 ghost use Rattle.bd_cnf.specs.Standing.{IsBelow};
 ghost use Rattle.bd_cnf.specs.Packed.{literal_index};
-ghost use Rattle.bd_watch.specs.Watching.{IsPair, AreWatched, pair_of};
+ghost use Rattle.bd_watch.specs.Watching.{IsPair, IsThird, AreWatched, pair_of};
 ghost use Rattle.bd_watch.specs.Watch.{IsLoaded, Starts};
 ghost use Rattle.bd_watch.specs.inner.Loading.{Lists, Adds, IsStarting, StartsUnit};
 
@@ -14,22 +14,35 @@ use bd_cnf::{Cnf, Lit, PackedClauses, PackedLit};
 use std::alloc::{AllocError, Global};
 
 /// The first two literals, if there are two.
-fn first_pair(lits: &[Lit]) -> WatchedPair
+fn first_two(lits: &[Lit]) -> (PackedLit, PackedLit)
     requires rising { IsRising lits.now }
     requires packable { IsBelow (2 ^ 31) lits.now }
-    ensures { 2 ≤ length lits.now → IsPair lits.now result }
+    ensures { 2 ≤ length lits.now → IsPair lits.now (pair_of result.0 result.1 None) }
 {
     if lits.len() < 2 {
         let unused = PackedLit::of(Lit::new(1, true));
-        return WatchedPair {
-            first: unused,
-            second: unused,
-        };
+        return (unused, unused);
     }
-    WatchedPair {
-        first: PackedLit::of(lits[0]),
-        second: PackedLit::of(lits[1]),
+    (PackedLit::of(lits[0]), PackedLit::of(lits[1]))
+}
+
+/// The only literal besides those two, if there is one.
+fn third(lits: &[Lit], first: PackedLit, second: PackedLit) -> Option<PackedLit>
+    requires { IsBelow (2 ^ 31) lits.now }
+    ensures { IfSome result (IsThird lits.now first second) }
+{
+    let mut third = None;
+    for &lit in lits {
+        let packed = PackedLit::of(lit);
+        if packed.is(first) || packed.is(second) {
+            continue;
+        }
+        match third {
+            Some(_) => return None,
+            None => third = Some(packed),
+        }
     }
+    third
 }
 
 fn empty_lists(alloc: Global, count: usize) -> Result<Vec<WatchList>, AllocError>
@@ -77,8 +90,8 @@ impl Watch {
             self.old.pairs.items self.old.lists.items }
         requires rising { IsRising lits.now }
         requires below { IsBelow self.old.trail.limit lits.now }
-        requires pair { 2 ≤ length lits.now → IsPair lits.now (pair_of first second) }
-        ensures { OnOk result (Adds self.old self.new lits.now (pair_of first second)) }
+        requires pair { 2 ≤ length lits.now → IsPair lits.now (pair_of first second None) }
+        ensures { OnOk result (Adds self.old self.new lits.now first second) }
     {
         let place = self.clauses.len();
         if place >= 1 << 32 {
@@ -86,7 +99,12 @@ impl Watch {
         }
         let clause = place as u32;
         self.clauses.push(lits)?;
-        self.pairs.push(WatchedPair { first, second })?;
+        let third = third(lits, first, second);
+        self.pairs.push(WatchedPair {
+            first,
+            second,
+            third,
+        })?;
         if lits.len() < 2 {
             return Ok(());
         }
@@ -103,7 +121,7 @@ impl Watch {
     {
         for clause in cnf.clauses() {
             let lits = clause.lits();
-            let WatchedPair { first, second } = first_pair(lits);
+            let (first, second) = first_two(lits);
             self.add(lits, first, second)?;
         }
         Ok(())

@@ -8,9 +8,10 @@ ghost use Rattle.bd_cnf.specs.Standing.{IsBelow};
 ghost use Rattle.bd_cnf.specs.Trail.{is_false};
 ghost use Rattle.bd_watch.specs.declared.watch.Visited.TheVariants.{Moved};
 ghost use Rattle.bd_watch.specs.Levels.{literals};
-ghost use Rattle.bd_watch.specs.Watching.{list_at, IsOneOf, IsWatcher};
+ghost use Rattle.bd_watch.specs.Watching.{clause_at, list_at, IsOneOf, IsWatcher};
 ghost use Rattle.bd_watch.specs.Watch.{IsWatching, IsPropagated, Propagates};
-ghost use Rattle.bd_watch.specs.inner.Visits.{IsReplacement, AreFalseBesides, IsLong, MayWatch, IsLeft, IsAt, IsStale, IsNext, Visits, Unwatches, Sweeps};
+ghost use Rattle.bd_watch.specs.inner.Watchers.{AreTwo};
+ghost use Rattle.bd_watch.specs.inner.Visits.{IsReplacement, AreFalseBesides, IsLong, AreWatchedAt, MayWatch, IsLeft, IsAt, MayBlock, IsStale, IsNext, Visits, Renews, Unwatches, Sweeps};
 
 use crate::trail::AssignmentTrail;
 use crate::watcher::{WatchList, WatchedPair, Watcher};
@@ -36,6 +37,8 @@ enum Visited {
     Moved,
     /// It is true.
     Kept,
+    /// It is true by the other that it watches.
+    Blocked(PackedLit),
     /// It is false.
     Conflict,
 }
@@ -85,6 +88,36 @@ impl Watch {
         Visited::Kept
     }
 
+    /// The two that a clause watches from then on, whose watched literal has become false and the
+    /// other isn't true, if one besides the other isn't false.
+    fn rewatched(&self, place: usize, lit: PackedLit, other: PackedLit) -> Option<WatchedPair>
+        requires watching { IsWatching self.now }
+        requires long { IsLong self.now place }
+        requires two { AreWatchedAt self.now place lit other }
+        requires falsified { is_false (literals self.now.trail.entries) lit ≡ true }
+        ensures may { IfSome result (MayWatch self.now place) }
+        ensures apart { IfSome result (λ p. IsOneOf p lit → ⊥) }
+        ensures none { IfNone result (AreFalseBesides (literals self.now.trail.entries)
+            (clause_at self.now.clauses place) other) }
+    {
+        if let Some(third) = self.pairs[place].third {
+            if self.trail.has(third.negated()) {
+                return None;
+            }
+            return Some(WatchedPair {
+                first: third,
+                second: other,
+                third: Some(lit),
+            });
+        }
+        let first = replacement(&self.trail, self.clauses.get(place), other)?;
+        Some(WatchedPair {
+            first,
+            second: other,
+            third: None,
+        })
+    }
+
     /// Looks at the clause of a watcher of a literal that has become false.
     fn visit(&mut self, watcher: Watcher, lit: PackedLit) -> Result<Visited, AllocError>
         requires watching { IsWatching self.old }
@@ -100,12 +133,11 @@ impl Watch {
             return Ok(Visited::Moved);
         };
         if self.trail.has(other) {
-            return Ok(Visited::Kept);
+            return Ok(Visited::Blocked(other));
         }
-        match replacement(&self.trail, self.clauses.get(place), other) {
-            Some(first) => {
-                let second = other;
-                self.replace(watcher.clause, WatchedPair { first, second })?;
+        match self.rewatched(place, lit, other) {
+            Some(pair) => {
+                self.replace(watcher.clause, pair)?;
                 Ok(Visited::Moved)
             }
             None => Ok(self.conclude(watcher.clause, other)),
@@ -121,6 +153,16 @@ impl Watch {
         ensures none { IfNone result (length (list_at self.now.lists.items lit) ≤ place) }
     {
         self.lists[lit.index()].get(place)
+    }
+
+    /// Gives the watcher at that place of the literal's list another blocker.
+    fn renew(&mut self, lit: PackedLit, place: usize, blocker: PackedLit)
+        requires watching { IsWatching self.old }
+        requires below { lit.var < self.old.trail.limit }
+        requires may { MayBlock self.old lit place blocker }
+        ensures { Renews self.old self.new lit place blocker }
+    {
+        self.lists[lit.index()].renew(place, blocker);
     }
 
     /// Takes out the watcher at that place of the literal's list, whose clause doesn't watch it.
@@ -144,8 +186,13 @@ impl Watch {
         let mut place = 0;
         while let Some(watcher) = self.watcher(lit, place) {
             let id = u64::from(watcher.clause) + 1;
-            match self.visit(watcher, lit)? {
+            let visited = self.visit(watcher, lit)?;
+            match visited {
                 Visited::Kept => place += 1,
+                Visited::Blocked(blocker) => {
+                    self.renew(lit, place, blocker);
+                    place += 1;
+                }
                 Visited::Moved => self.unwatch(lit, place),
                 Visited::Conflict => return Ok(Some(id)),
             }

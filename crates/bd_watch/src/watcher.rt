@@ -2,7 +2,7 @@
 //! blocker: while that is true, the clause need not be read.
 ghost use Rattle.std.specs.Prelude.{◌≡◌, ◌<◌, ◌≤◌, ◌+◌, ◌^◌, ◌++◌, ◌∷◌, [], Some, length, slice_get, OnOk, OnErr, IfSome, IfNone};
 ghost use Rattle.bd_watch.specs.Watching.{IsOneOf};
-ghost use Rattle.bd_watch.specs.inner.Watchers.{Removes, AreTwo};
+ghost use Rattle.bd_watch.specs.inner.Watchers.{HasBlocker, Removes, AreTwo};
 
 use bd_cnf::PackedLit;
 use std::alloc::{AllocError, Global};
@@ -15,11 +15,13 @@ pub(crate) struct Watcher {
     pub(crate) blocker: PackedLit,
 }
 
-/// The two literals that a clause watches.
+/// The two literals that a clause watches, and its third if it has no more than three: such a clause
+/// need not be read where it is looked at.
 #[derive(Clone, Copy, Debug)]
 pub(crate) struct WatchedPair {
     pub(crate) first: PackedLit,
     pub(crate) second: PackedLit,
+    pub(crate) third: Option<PackedLit>,
 }
 
 impl WatchedPair {
@@ -70,6 +72,15 @@ impl WatchList {
         ensures none { IfNone result (length self.now ≤ place) }
     {
         self.watchers.get(place).copied()
+    }
+
+    /// Gives the watcher at that place another blocker.
+    pub(crate) fn renew(&mut self, place: usize, blocker: PackedLit)
+        requires { place < length self.old }
+        ensures { HasBlocker self.old place blocker self.new }
+    {
+        let clause = self.watchers[place].clause;
+        self.watchers[place] = Watcher { clause, blocker };
     }
 
     pub(crate) fn push(&mut self, watcher: Watcher) -> Result<(), AllocError>

@@ -1,15 +1,14 @@
 -- A formula's clauses put into a watch, before anything is assigned.
-use Rattle.std.specs.Prelude.{◌≡◌, ◌<◌, ◌≤◌, ◌+◌, ℕ, Bool, true, false, List, [], ◌∷◌, ◌++◌, length}
+use Rattle.std.specs.Prelude.{◌≡◌, ◌<◌, ◌≤◌, ◌+◌, ℕ, Bool, true, false, List, [], ◌∷◌, ◌++◌, Option, length}
 use Rattle.std.specs.List.{list_any}
 use Rattle.bd_cnf.specs.Literal.{Literal, has_literal}
 use Rattle.bd_cnf.specs.Standing.{IsBelow}
 use Rattle.bd_lrat.specs.Database.{numbered}
-use Rattle.bd_watch.specs.declared.watcher.WatchedPair.{WatchedPair}
 use Rattle.bd_watch.specs.declared.watcher.Watcher.{Watcher}
 use Rattle.bd_watch.specs.declared.watch.Watch.{Watch}
 use Rattle.bd_watch.specs.inner.Watchers.{listed_more}
 use Rattle.bd_watch.specs.Levels.{literals, decisions, IsComplete}
-use Rattle.bd_watch.specs.Watching.{AreWatched, clause_at, IsConflict}
+use Rattle.bd_watch.specs.Watching.{IsPair, pair_of, AreWatched, clause_at, IsConflict}
 
 -- the literal has one watcher more
 pub record Lists (old new : Watch) (l : Literal) (watcher : Watcher) : Type 0 where
@@ -19,11 +18,13 @@ pub record Lists (old new : Watch) (l : Literal) (watcher : Watcher) : Type 0 wh
   pub trail : new.trail ≡ old.trail
   pub head : new.head ≡ old.head
 
--- one clause more, which watches those two
-pub record Adds (old new : Watch) (clause : List Literal) (p : WatchedPair) : Type 0 where
+-- one clause more, which watches those two if it has two or more
+pub record Adds (old new : Watch) (clause : List Literal) (first second : Literal) : Type 0 where
+  pub third : Option Literal
+  pub pair : 2 ≤ length clause → IsPair clause (pair_of first second third)
   pub watched : AreWatched new.trail.limit new.clauses new.pairs.items new.lists.items
   pub clauses : new.clauses ≡ old.clauses ++ clause ∷ []
-  pub pairs : new.pairs.items ≡ old.pairs.items ++ p ∷ []
+  pub pairs : new.pairs.items ≡ old.pairs.items ++ pair_of first second third ∷ []
   pub trail : new.trail ≡ old.trail
   pub head : new.head ≡ old.head
 

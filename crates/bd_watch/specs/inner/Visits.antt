@@ -8,11 +8,11 @@ use Rattle.bd_watch.specs.declared.watcher.WatchedPair.{WatchedPair}
 use Rattle.bd_watch.specs.declared.watcher.Watcher.{Watcher}
 use Rattle.bd_watch.specs.declared.watch.Watch.{Watch}
 use Rattle.bd_watch.specs.declared.watch.Visited.{Visited}
-use Rattle.bd_watch.specs.declared.watch.Visited.TheVariants.{Moved, Kept, Conflict}
+use Rattle.bd_watch.specs.declared.watch.Visited.TheVariants.{Moved, Kept, Blocked, Conflict}
 use Rattle.bd_watch.specs.Levels.{Assigned, literals}
 use Rattle.bd_watch.specs.Watching.{clause_at, list_at, IsOneOf, IsPair, IsListed, IsConflict}
 use Rattle.bd_watch.specs.Watch.{IsWatching, Extends}
-use Rattle.bd_watch.specs.inner.Watchers.{Removes}
+use Rattle.bd_watch.specs.inner.Watchers.{AreTwo, HasBlocker, Removes}
 
 -- a literal of the clause besides the other that isn't false
 pub record IsReplacement (trail clause : List Literal) (other l : Literal) : Type 0 where
@@ -28,6 +28,7 @@ AreFalseBesides trail clause other = (l : Literal) → has_literal clause l ≡ 
 abbrev pub IsVisited : List (List Literal) → List WatchedPair → List Assigned → Literal → ℕ → Visited → Type 0
 IsVisited clauses pairs trail l i Moved = (d : WatchedPair) → IsOneOf (slice_index_or pairs i d) l → ⊥
 IsVisited clauses pairs trail l i Kept = list_any (has_literal (literals trail)) (clause_at clauses i) ≡ true
+IsVisited clauses pairs trail l i (Blocked blocker) = (has_literal (clause_at clauses i) blocker ≡ true) × (has_literal (literals trail) blocker ≡ true)
 IsVisited clauses pairs trail l i Conflict = open_literals (literals trail) (clause_at clauses i) ≡ []
 
 -- one clause was looked at
@@ -58,6 +59,10 @@ pub record MayWatch (w : Watch) (i : ℕ) (p : WatchedPair) : Type 0 where
   pub second : (d : WatchedPair) → IsOneOf (slice_index_or w.pairs.items i d) p.second
   pub first : is_false (literals w.trail.entries) p.first ≡ false
 
+-- the clause at a place watches these two
+abbrev pub AreWatchedAt : Watch → ℕ → Literal → Literal → Type 0
+AreWatchedAt w i l other = (d : WatchedPair) → AreTwo (slice_index_or w.pairs.items i d) l other
+
 -- the other literals of a clause are false, and this one isn't true
 pub record IsLeft (w : Watch) (i : ℕ) (l : Literal) : Type 0 where
   pub here : has_literal (clause_at w.clauses i) l ≡ true
@@ -81,6 +86,20 @@ pub record Unwatches (old new : Watch) (l : Literal) (place : ℕ) : Type 0 wher
   pub trail : new.trail ≡ old.trail
   pub head : new.head ≡ old.head
   pub removes : Removes (list_at old.lists.items l) place (list_at new.lists.items l)
+
+-- a literal is one of the clause whose watcher stands at a place of the list of another
+pub record MayBlock (w : Watch) (l : Literal) (place : ℕ) (blocker : Literal) : Type 0 where
+  pub within : place < length (list_at w.lists.items l)
+  pub here : (d : Watcher) → has_literal (clause_at w.clauses (slice_index_or (list_at w.lists.items l) place d).clause) blocker ≡ true
+
+-- it is that watcher's blocker now
+pub record Renews (old new : Watch) (l : Literal) (place : ℕ) (blocker : Literal) : Type 0 where
+  pub watching : IsWatching new
+  pub clauses : new.clauses ≡ old.clauses
+  pub pairs : new.pairs.items ≡ old.pairs.items
+  pub trail : new.trail ≡ old.trail
+  pub head : new.head ≡ old.head
+  pub list : HasBlocker (list_at old.lists.items l) place blocker (list_at new.lists.items l)
 
 -- the watcher at that place of the list is this
 pub record IsAt (watchers : List Watcher) (place : ℕ) (w : Watcher) : Type 0 where

@@ -15,6 +15,13 @@ pub record Removes (old : List Watcher) (place : ℕ) (new : List Watcher) : Typ
   pub moved : (d : Watcher) → place + 1 < length old → slice_index_or new place d ≡ slice_index_or old (length old - 1) d
   pub kept : (k : ℕ) (d : Watcher) → k ≢ place → k + 1 < length old → slice_index_or new k d ≡ slice_index_or old k d
 
+-- one was given another blocker
+pub record HasBlocker (old : List Watcher) (place : ℕ) (blocker : Literal) (new : List Watcher) : Type 0 where
+  pub watcher : Watcher
+  pub was : (d : Watcher) → (slice_index_or old place d).clause ≡ watcher.clause
+  pub blocker_is : watcher.blocker ≡ blocker
+  pub set : new ≡ slice_set old place watcher
+
 -- the literal has one watcher more
 abbrev pub listed_more : List (List Watcher) → Literal → Watcher → List (List Watcher)
 listed_more lists l w = slice_set lists (literal_index l) (slice_index_or lists (literal_index l) [] ++ w ∷ [])

@@ -1,8 +1,6 @@
-use Rattle.std.proofs.Common.{◌∙◌, refl, sym, subst}
-use Rattle.bd_watch.specs.Levels.{literals}
+use Rattle.std.proofs.Common.{◌∙◌, refl, sym}
 use Rattle.bd_watch.specs.Watching.{clause_at}
-use Rattle.bd_watch.specs.inner.Visits.{IsReplacement}
-use Rattle.bd_watch.proofs.VisitedClauses.{left_below, watcher_long, visits_true, pair_is, other_here, not_watched}
+use Rattle.bd_watch.proofs.VisitedClauses.{left_below, watcher_long, visits_true, visits_blocked, pair_is, other_here}
 use Rattle.bd_watch.proofs.watch.Watch.visit.Goals as goal
 
 pub has-requires : goal.has-requires
@@ -24,11 +22,4 @@ pub returns-then-has-2 : goal.returns-then-has-2
 returns-then-has-2 c =
     let w = c.args.self.now in
     let pair = pair_is w c.args.watcher.clause c.index.result.now c.requires.watching (watcher_long w c.args.watcher c.requires.watcher) c.index.ensures in
-    visits_true w c.args.watcher.clause c.in-Some.other c.args.lit c.requires.watching (other_here (clause_at w.clauses c.args.watcher.clause) c.index.result.now c.args.lit c.in-Some.other pair c.in-Some.ensures.some).0 (sym c.has-2.ensures ∙ c.if-has-2.true)
-
-pub returns-in_ok-replace-in-Some-replacement : goal.returns-in_ok-replace-in-Some-replacement
-returns-in_ok-replace-in-Some-replacement c =
-    let w = c.args.self.now in
-    let pair = pair_is w c.args.watcher.clause c.index.result.now c.requires.watching (watcher_long w c.args.watcher c.requires.watcher) c.index.ensures in
-    let new = subst (λ ls. IsReplacement (literals w.trail.entries) ls c.in-Some.other c.in-Some-replacement.first) c.get.ensures c.in-Some-replacement.ensures.some in
-    c.in_ok-replace-in-Some-replacement.ensures c.args.lit (not_watched (literals w.trail.entries) (clause_at w.clauses c.args.watcher.clause) c.index.result.now c.args.lit c.in-Some.other c.in-Some-replacement.first pair c.in-Some.ensures.some new c.requires.falsified)
+    visits_blocked w c.args.watcher.clause c.in-Some.other c.args.lit c.requires.watching (other_here (clause_at w.clauses c.args.watcher.clause) c.index.result.now c.args.lit c.in-Some.other pair c.in-Some.ensures.some).0 (sym c.has-2.ensures ∙ c.if-has-2.true)
