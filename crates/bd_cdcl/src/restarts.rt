@@ -5,10 +5,10 @@
 //! 2012; the late average as of Biere and Fröhlich, 2015): where no proof is short, it costs less.
 
 /// How long the turn of the first way is.
-const HASTY: u64 = 2000;
+const HASTY: u64 = 2_000;
 
 /// How long the turn of the second is.
-const MEASURED: u64 = 6000;
+const MEASURED: u64 = 11_000;
 
 /// After how many clauses a hasty return comes.
 const FEW: u64 = 5;

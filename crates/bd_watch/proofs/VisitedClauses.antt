@@ -16,7 +16,7 @@ use Rattle.bd_watch.specs.Watching.{clause_at, list_at, IsOneOf, IsPair, IsWatch
 use Rattle.bd_watch.specs.Watch.{IsWatching, Extends}
 use Rattle.bd_watch.specs.inner.Watchers.{AreTwo, HasBlocker, Removes}
 use Rattle.bd_watch.specs.inner.Visits.{Visits, MayWatch, IsLeft, IsLong, MayBlock, Renews, Unwatches}
-use Rattle.bd_watch.proofs.Parts.{has_pushed, not_true}
+use Rattle.bd_watch.proofs.Parts.{has_pushed}
 use Rattle.bd_watch.proofs.Placed.{literals-append}
 use Rattle.bd_watch.proofs.Guards.{false_besides}
 use Rattle.bd_watch.proofs.Values.{same_index, index_below}
