@@ -4,10 +4,11 @@
 Each cycle may fetch up to WIDTH instructions. An operand is read from the registers after the results of all
 instructions in flight: every stage and slot forwards to every operand, the youngest first. An instruction that reads
 what an earlier one of its group writes waits for the next cycle, with all after it. The specification runs one
-instruction a step. With --miss the youngest result of the last stage isn't forwarded, which is wrong. With --shuffle
-the pipeline's declarations, lets and next values come in another order each, lets after those that they use.
+instruction a step. With --miss the youngest result of the last stage isn't forwarded, which is wrong. With --turned the
+two sides stand the other way round where an operand's register is compared with one that its group writes. With
+--shuffle the pipeline's declarations, lets and next values come in another order each, lets after those that they use.
 
-usage: superscalar.py WIDTH DEPTH [--operands N] [--miss] [--shuffle SEED] PIPE SPEC
+usage: superscalar.py WIDTH DEPTH [--operands N] [--miss] [--turned] [--shuffle SEED] PIPE SPEC
 """
 import argparse
 import random
@@ -48,7 +49,7 @@ def results(width, depth, operands):
         yield from (f" (let r{stage}_{slot} word x{stage}_{slot})" for stage in range(3, depth + 1))
 
 
-def fetched(width, operands):
+def fetched(width, operands, turned):
     """Where the instructions of the group stand, what they read and write, and which of them go."""
     yield " (let pc_0 word pc)"
     yield from (f" (let pc_{slot + 1} word (inc pc_{slot}))" for slot in range(width))
@@ -57,7 +58,8 @@ def fetched(width, operands):
         yield from (f" (let s{n}_{slot} word (src{n} pc_{slot}))" for n in range(operands))
     yield " (let go_0 bool (not stall))"
     for slot in range(1, width):
-        clashes = " ".join(f"(= t_{old} s{n}_{slot})" for old in range(slot) for n in range(operands))
+        pairs = ((f"t_{old}", f"s{n}_{slot}") for old in range(slot) for n in range(operands))
+        clashes = " ".join(f"(= {read} {written})" if turned else f"(= {written} {read})" for written, read in pairs)
         any_clash = f"(or {clashes})" if slot * operands > 1 else clashes
         yield f" (let go_{slot} bool (and go_{slot - 1} (not {any_clash})))"
 
@@ -98,12 +100,12 @@ def nexts(width, depth, operands):
             yield f" (next x{stage}_{slot} r{before}_{slot})"
 
 
-def pipeline(width, depth, operands, miss):
+def pipeline(width, depth, operands, miss, turned):
     lines = ["(pipeline", functions(operands), " (latch pc word) (memory rf)"]
     lines += latches(width, depth, operands)
     lines += [" (input stall bool true)"]
     lines += results(width, depth, operands)
-    lines += fetched(width, operands)
+    lines += fetched(width, operands, turned)
     for slot in range(width):
         for n in range(operands):
             lines += operand(slot, n, width, depth, miss)
@@ -155,11 +157,12 @@ def main():
     parser.add_argument("depth", type=int)
     parser.add_argument("--operands", type=int, default=1)
     parser.add_argument("--miss", action="store_true")
+    parser.add_argument("--turned", action="store_true")
     parser.add_argument("--shuffle", type=int)
     parser.add_argument("pipe")
     parser.add_argument("spec")
     words = parser.parse_args()
-    text = pipeline(words.width, words.depth, words.operands, words.miss)
+    text = pipeline(words.width, words.depth, words.operands, words.miss, words.turned)
     if words.shuffle is not None:
         text = shuffled(text, words.shuffle)
     with open(words.pipe, "w") as file:
