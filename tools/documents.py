@@ -32,7 +32,8 @@ CORRECT = [
     ("bd_app", "Sources", "IsDesign"),
     ("bd_app", "Program", "ForDesign"),
 ]
-LEFT_OUT = {("bd_app", name) for name in ("Replay", "Recheck", "Run", "Generate", "Cases", "Verdicts")}
+COMMANDS = ("Bounded", "Cases", "Complete", "Completions", "Generate", "Recheck", "Replay", "Retrace", "Run", "Verdicts")
+LEFT_OUT = {("bd_app", name) for name in COMMANDS}
 LIST = ("<!-- correct: made by tools/documents.py -->", "<!-- correct: to here -->")
 CALLS = ("<!-- calls: made by tools/documents.py -->", "<!-- calls: to here -->")
 USE = re.compile(r"(?:pub )?use Rattle\.(bd_\w+)\.specs\.([\w.]+?)(?:\.\{(.*)\})?(?: as (\w+))?$")
