@@ -100,7 +100,7 @@ def nexts(width, depth, operands):
             yield f" (next x{stage}_{slot} r{before}_{slot})"
 
 
-def pipeline(width, depth, operands, miss, turned):
+def pipeline(width, depth, operands, miss, turned=False):
     lines = ["(pipeline", functions(operands), " (latch pc word) (memory rf)"]
     lines += latches(width, depth, operands)
     lines += [" (input stall bool true)"]
