@@ -1,13 +1,13 @@
 #!/usr/bin/env python3
-"""How many clauses the solver learns on wide designs, in both modes, beside `minisat` and `cadical`.
+"""How many clauses the solver learns on wide designs, in both modes, beside `minisat`.
 
 The designs are superscalars (`superscalar.py`), some with two shuffles of their text or with equations turned round,
 the five stages of DLX, and scoreboards (`scoreboard.py`). Each row has what `check` learned within its default budget,
 its processor seconds and peak memory with `--cnf` and `--lrat`, and the processor seconds and conflicts of `minisat`
-and of `cadical --plain --reduce=0` on the saved formula; `-` is a program that isn't installed, and `>N` one that
-didn't end within the limit. It stops where a shuffle's formula isn't that of its text, byte for byte.
+on the saved formula, with --cadical those of `cadical --plain --reduce=0` too; `-` is a program that isn't installed,
+and `>N` one that didn't end within the limit. It stops where a shuffle's formula isn't that of its text, byte for byte.
 
-usage: learned.py PROGRAM [--limit SECONDS] [--only WORD]
+usage: learned.py PROGRAM [--limit SECONDS] [--only WORD] [--cadical]
 """
 import argparse
 import hashlib
@@ -19,8 +19,9 @@ import tempfile
 
 from bench import HERE, MODES, added_clauses, conflicts, run
 
-HEAD = ("design", "mode", "answer", "learned", "seconds", "MB", "minisat", "its conflicts", "cadical", "its conflicts")
-SOLVERS = (["minisat"], ["cadical", "--plain", "--reduce=0"])
+HEAD = ("design", "mode", "answer", "learned", "seconds", "MB")
+MINISAT = ["minisat"]
+CADICAL = ["cadical", "--plain", "--reduce=0"]
 BOTH = tuple(MODES)
 DATA = os.path.join(HERE, os.pardir, "crates", "burch_dill", "data")
 
@@ -75,9 +76,12 @@ def main():
     parser.add_argument("program")
     parser.add_argument("--limit", type=int, default=1200, help="processor seconds for each run")
     parser.add_argument("--only", default="", help="rows whose name has this in it")
+    parser.add_argument("--cadical", action="store_true", help="also `cadical`")
     words = parser.parse_args()
-    print("| " + " | ".join(HEAD) + " |")
-    print("|" + "---|" * len(HEAD))
+    solvers = [MINISAT, CADICAL] if words.cadical else [MINISAT]
+    head = [*HEAD, *(cell for solver in solvers for cell in (solver[0], "its conflicts"))]
+    print("| " + " | ".join(head) + " |")
+    print("|" + "---|" * len(head))
     formulas = {}
     with tempfile.TemporaryDirectory() as folder:
         cnf, proof = os.path.join(folder, "kept.cnf"), os.path.join(folder, "proof.lrat")
@@ -88,7 +92,7 @@ def main():
                 formulas[name, mode] = digest(cnf)
                 if formulas.get((text, mode), formulas[name, mode]) != formulas[name, mode]:
                     raise SystemExit(f"{name}, {mode}: its formula isn't that of its text")
-                others = [cell for solver in SOLVERS for cell in solver_cells(solver, cnf, words.limit)]
+                others = [cell for solver in solvers for cell in solver_cells(solver, cnf, words.limit)]
                 print("| " + " | ".join([*cells, *others]) + " |", flush=True)
 
 
