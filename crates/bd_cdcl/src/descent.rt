@@ -108,7 +108,7 @@ impl Descent {
         self.watch.learn(clause.lits(), first, second)?;
         log.push(Line::Add { id, clause, hints })?;
         self.learned += 1;
-        let due = self.guide.restarts.count(levels);
+        let due = self.guide.count(levels);
         self.restarts = self.restarts || due;
         Ok(())
     }

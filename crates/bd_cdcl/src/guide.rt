@@ -24,4 +24,14 @@ impl Guide {
             restarts,
         })
     }
+
+    /// Counts a learned clause with literals of so many levels. Answers whether a return is due.
+    /// With each turn of hasty returns the variables stand in their first order again.
+    pub(crate) fn count(&mut self, levels: u64) -> bool {
+        let due = self.restarts.count(levels);
+        if self.restarts.begins_turn() {
+            self.order.start_over();
+        }
+        due
+    }
 }

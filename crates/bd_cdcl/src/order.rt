@@ -57,11 +57,17 @@ impl VariableQueue {
             moves: 0,
             seen: Vec::new(alloc),
         };
-        for var in 1..count {
-            order.append(var);
-        }
-        order.next = order.last;
+        order.start_over();
         Ok(order)
+    }
+
+    /// Puts all variables into their first order.
+    pub(crate) fn start_over(&mut self) {
+        self.last = 0;
+        for var in 1..self.candidates.len() {
+            self.append(var);
+        }
+        self.next = self.last;
     }
 
     fn candidate(&self, var: usize) -> Option<Candidate> {

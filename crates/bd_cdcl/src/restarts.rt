@@ -2,7 +2,8 @@
 //! a return comes after every few of them: where there is a short proof, this mostly finds it, while
 //! slower returns may miss it by a hundred times its length. In the other it comes where the clauses
 //! that were learned of late have literals of more levels than all had on average (Audemard and Simon,
-//! 2012; the late average as of Biere and Fröhlich, 2015): where no proof is short, it costs less.
+//! 2012; the late average as of Biere and Fröhlich, 2015): where no proof is short, it costs less. Each
+//! turn of the first way is a new try: it begins with the variables in their first order.
 
 /// How long the turn of the first way is.
 const HASTY: u64 = 2_000;
@@ -58,6 +59,11 @@ impl Restarts {
             self.since = 0;
         }
         due
+    }
+
+    /// Whether a turn of the first way begins with the next clause.
+    pub(crate) fn begins_turn(&self) -> bool {
+        self.learned % (HASTY + MEASURED) == 0
     }
 
     /// Takes a clause with literals of so many levels into the averages.
