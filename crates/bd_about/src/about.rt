@@ -22,7 +22,7 @@ pub struct About {
     pub text: Vec<u8>,
 }
 
-/// What is said of a lawful design, where an invariant is given or none.
+/// What is said of a lawful design, with an invariant or without one.
 pub fn about_design(
     alloc: Global,
     design: Design,

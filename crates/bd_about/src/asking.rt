@@ -169,7 +169,7 @@ fn on_no_steps(alloc: Global, design: Design, given: bool) -> Result<Finding, Al
     found(alloc, &changed, given)
 }
 
-/// What is found of a lawful design, where an invariant is given or none.
+/// What is found of a lawful design, with an invariant or without one.
 pub fn findings_of(alloc: Global, design: Design, given: bool) -> Result<Findings, AllocError>
     requires { IsLawful (design_view design) }
     ensures { IfOk result (AreFindings (design_view design) given) }

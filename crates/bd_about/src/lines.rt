@@ -27,7 +27,7 @@ fn is_right(found: Finding) -> bool
     matches!(found, Finding::Right)
 }
 
-/// Whether two findings are the same verdict. What isn't decided is none.
+/// Whether two findings are the same verdict. An undecided one is no verdict.
 fn same_verdict(one: Finding, other: Finding) -> bool
     ensures { result ≡ same_verdict one other }
 {

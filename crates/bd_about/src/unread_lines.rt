@@ -7,7 +7,7 @@ use crate::unread::Unread;
 use bd_model::{Design, Entry, Port, Sort, Symbol};
 use std::alloc::AllocError;
 
-/// The names of a design's lets, which the design doesn't have.
+/// The names of a design's lets, which the design doesn't keep.
 #[derive(Clone, Copy, Debug)]
 pub struct LetNames<'a> {
     pub lets: &'a [Vec<u8>],

@@ -19,7 +19,7 @@ use std::alloc::{AllocError, Global};
 /// What was deleted so far.
 #[derive(Drop)]
 pub(crate) struct Deletion {
-    /// By id up to the last that was deleted, whether the clause was.
+    /// By id, as far as there were clauses at the last deletion, whether the clause was deleted.
     gone: Vec<bool>,
     /// How many literals level 0 had when the clauses were last looked at.
     fixed: usize,

@@ -169,7 +169,7 @@ impl Descent {
         }
     }
 
-    /// Goes on where all is propagated: by a return, and then clauses are deleted, or by a decision.
+    /// Goes on where all is propagated: by a return, after which clauses are deleted, or by a decision.
     /// Answers whether it could.
     fn advance(&mut self, alloc: Global, log: &mut Log) -> Result<bool, AllocError>
         requires watching { IsWatching self.old.watch }

@@ -1,4 +1,4 @@
-//! What a search is guided by, and no proof rests on: which variable is decided next, when a return
+//! What guides a search, and what no proof rests on: which variable is decided next, when a return
 //! is due, and which literals of a learned clause the others imply.
 use crate::order::VariableQueue;
 use crate::reach::Reach;

@@ -89,7 +89,7 @@ impl VariableQueue {
         self.last = var;
     }
 
-    /// Takes a variable out of the queue that isn't at its end.
+    /// Takes a variable that isn't the last out of the queue.
     fn unlink(&mut self, candidate: Candidate) {
         let Candidate { before, after, .. } = candidate;
         if let Some(neighbour) = self.candidates.get_mut(before) {
@@ -155,8 +155,8 @@ impl VariableQueue {
         }
     }
 
-    /// From which place on the trail is taken back for a return: the decisions before it would be made
-    /// again at once (van der Tak, Ramos and Heule, 2011).
+    /// Up to where a return takes the trail back: the decisions before that place would be made again
+    /// at once (van der Tak, Ramos and Heule, 2011).
     pub(crate) fn return_place(&mut self, trail: &AssignmentTrail) -> usize {
         let next = match self.propose(trail) {
             Some((var, _)) => self.candidate(var as usize).map_or(0, |c| c.moved),

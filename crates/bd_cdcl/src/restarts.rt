@@ -11,10 +11,10 @@ const HASTY: u64 = 2_000;
 /// How long the turn of the second is.
 const MEASURED: u64 = 11_000;
 
-/// After how many clauses a hasty return comes.
+/// How many clauses are learned before a hasty return.
 const FEW: u64 = 5;
 
-/// How many clauses at least are learned up to a measured one.
+/// The fewest clauses that are learned before a measured return.
 const LEAST: u64 = 3;
 
 /// With each clause the late average forgets one part in so many.

@@ -1,5 +1,5 @@
 //! What a solver is: it answers a formula and logs the clauses that it adds. Whoever calls it need
-//! not believe it, since the log can be checked line by line. An honest solver has a law beside:
+//! not believe it, since the log can be checked line by line. An honest solver has a law as well:
 //! its answer and log mean what they say, so that no caller has to provide for a wrong answer.
 ghost use Rattle.std.specs.Prelude.{◌≡◌, ℕ, Bool, List, [], IfOk, OnErr, IsTrue};
 ghost use Rattle.bd_cnf.specs.Problem.{Problem};

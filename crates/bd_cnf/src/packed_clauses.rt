@@ -1,4 +1,4 @@
-//! Clauses in one flat list of literals, so that they lie close together and none is moved.
+//! Clauses in one flat list of literals, so that they lie close together and stay in their order.
 ghost use Rattle.std.specs.Prelude.{◌≡◌, ◌<◌, ◌++◌, ◌∷◌, [], ◌^◌, length, slice_index_or, OnOk, OnErr};
 ghost use Rattle.bd_cnf.specs.Standing.{IsBelow};
 

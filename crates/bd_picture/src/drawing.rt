@@ -87,7 +87,7 @@ fn is_named(look: Look, first: bool) -> bool {
     }
 }
 
-/// Puts the first of the entries that a column of a grid shows, and how many more there are.
+/// Puts the first of the entries that a column of a grid shows, and `..` where there are more.
 fn put_entries(
     out: &mut Vec<u8>,
     grid: &Grid,

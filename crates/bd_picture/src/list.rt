@@ -42,7 +42,7 @@ fn push_value(out: &mut Vec<u8>, value: &Value) -> Result<(), AllocError> {
     }
 }
 
-/// Whether a value is 0, false, or the memory without rows of zeros.
+/// Whether a value is 0, false, or the memory of zeros that has no rows.
 fn is_nothing(value: &Value) -> bool {
     match value {
         Value::Scalar(scalar) => is_zero(*scalar),
@@ -50,7 +50,7 @@ fn is_nothing(value: &Value) -> bool {
     }
 }
 
-/// The lets that aren't 0.
+/// The lets that have another value than 0, false, or the memory of zeros.
 pub fn lets(alloc: Global, view: &View<'_>) -> Result<Items, AllocError> {
     let mut items = Vec::new(alloc);
     for (name, value) in view.names.iter().zip(view.diagram.lets.as_slice()) {

@@ -6,7 +6,7 @@ use crate::list::Items;
 use crate::picture::Picture;
 use std::alloc::{AllocError, Global};
 
-/// How many bytes a line has, unless a single cell is longer.
+/// The most bytes that a line has, unless a single cell is longer.
 const WIDTH: usize = 100;
 
 /// A text to which spaces are put only before something else, so that no line ends in one.
@@ -33,7 +33,7 @@ impl Pen {
         Ok(())
     }
 
-    /// Goes to a column, or one space further where the text is past it.
+    /// Goes to a column. Where the text is past it, it stays.
     fn go_to(&mut self, column: usize) {
         self.spaces = column.saturating_sub(self.column);
     }

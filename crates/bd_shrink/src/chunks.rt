@@ -1,4 +1,5 @@
-//! Proposals that leave out many rows at once, halves first. Each is tested, so nothing is promised of what they are.
+//! Proposals that leave out many rows at once: the whole first, then halves, and so on. Each is tested, so nothing is
+//! promised of what they are.
 ghost use Rattle.std.specs.Prelude.{◌<◌, IfOk};
 ghost use Rattle.bd_shrink.specs.inner.Asked.{ShowsBy};
 
@@ -63,7 +64,7 @@ fn without_chunk(
     }
 }
 
-/// The fates by which the chunk goes; nothing where it is gone.
+/// The fates by which the chunk goes; `None` where it is gone already.
 fn proposal(
     question: &Question,
     fates: &[Fate],

@@ -4,8 +4,8 @@ ghost use Rattle.bd_shrink.specs.Remnant.{first_fate, zero_of, scalar_left, word
 
 use bd_model::Scalar;
 
-/// What becomes of a row or of another value: it stays, its value becomes 0 or false, or it goes. Where it is no row,
-/// it becomes 0 or false too.
+/// What becomes of a row or of another value: it stays, its value becomes 0 or false, or it goes. A value that
+/// isn't a row's can't go: it becomes 0 or false.
 #[derive(Clone, Copy, Debug, PartialEq, Eq)]
 pub enum Fate {
     Stays,

@@ -1,8 +1,8 @@
 //! How a case is made small.
 //!
-//! Halves of the case go first, then smaller and smaller chunks, down to single rows and values. These are proposals.
-//! The end is made sure of by a scan: as long as there is a place with less at which the case still breaks the
-//! condition, that is taken.
+//! The whole case goes first, then halves, then smaller and smaller chunks, down to single rows and values. These are
+//! proposals. The end is made sure of by a scan: as long as there is a place with less at which the case still breaks
+//! the condition, that is taken.
 ghost use Rattle.std.specs.Prelude.{IfOk};
 ghost use Rattle.bd_model.specs.DesignView.{design_view};
 ghost use Rattle.bd_model.specs.Fits.{Fits};

@@ -127,8 +127,8 @@ impl Watch {
         Ok(())
     }
 
-    /// The clauses of a formula, with the ids from 1, and no literal yet. More variables or clauses
-    /// than numbers of 32 bits hold end as want of memory.
+    /// The clauses of a formula, with the ids from 1, and no literal yet. More than 2^31 - 1
+    /// variables or 2^32 clauses end as want of memory.
     pub fn load(alloc: Global, cnf: &Cnf) -> Result<Watch, AllocError>
         ensures { IfOk result (IsLoaded (cnf.now.vars + 1) cnf.now.clauses) }
     {

@@ -58,8 +58,8 @@ impl Watch {
         self.head = place;
     }
 
-    /// Puts a clause after the others, whose first literal it implies. After an error nothing is
-    /// said of the clauses.
+    /// Puts a clause after the others, and takes its first literal as implied by it. After an error
+    /// nothing is said of the clauses.
     pub fn learn(
         &mut self,
         clause: &[Lit],

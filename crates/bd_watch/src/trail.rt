@@ -156,7 +156,7 @@ impl AssignmentTrail {
         self.starts.last().copied()
     }
 
-    /// Where the first level begins from that place on, if one does.
+    /// Where the first level begins that begins at that place or later, if there is one.
     pub fn start_from(&self, place: usize) -> Option<usize>
         ensures some { IfSome result (IsStartFrom self.now.entries place) }
         ensures none { IfNone result ((start : ℕ) → IsDecisionAt self.now.entries start →

@@ -43,7 +43,7 @@ enum Visited {
     Conflict,
 }
 
-/// Some literal of the clause besides the other that isn't false.
+/// A literal of the clause, besides the other, that isn't false.
 fn replacement(trail: &AssignmentTrail, clause: &[PackedLit], other: PackedLit) -> Option<PackedLit>
     requires { IsBelow trail.now.limit clause.now }
     ensures some { IfSome result
@@ -74,7 +74,7 @@ impl Watch {
         Ok(())
     }
 
-    /// Takes the one literal of a clause that is left as implied, if it isn't false.
+    /// Takes the one literal that is left of a clause as implied, if it isn't false.
     fn conclude(&mut self, clause: u32, left: PackedLit) -> Visited
         requires watching { IsWatching self.old }
         requires long { IsLong self.old clause }
@@ -88,8 +88,8 @@ impl Watch {
         Visited::Kept
     }
 
-    /// The two that a clause watches from then on, whose watched literal has become false and the
-    /// other isn't true, if one besides the other isn't false.
+    /// The pair that a clause watches once the literal has become false, if one of its literals
+    /// besides the other isn't false.
     fn rewatched(&self, place: usize, lit: PackedLit, other: PackedLit) -> Option<WatchedPair>
         requires watching { IsWatching self.now }
         requires long { IsLong self.now place }

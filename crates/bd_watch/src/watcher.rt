@@ -15,8 +15,8 @@ pub(crate) struct Watcher {
     pub(crate) blocker: PackedLit,
 }
 
-/// The two literals that a clause watches, and its third if it has no more than three: such a clause
-/// need not be read where it is looked at.
+/// The two literals that a clause watches, and its third if it has just three: such a clause need
+/// not be read where it is looked at.
 #[derive(Clone, Copy, Debug)]
 pub(crate) struct WatchedPair {
     pub(crate) first: PackedLit,

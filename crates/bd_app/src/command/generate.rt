@@ -69,7 +69,7 @@ fn sources(alloc: Global, options: GenOptions) -> Result<Sources, AllocError>
     ensures few { IfOk result (λ s. AreFew (sources_view s)) }
 {
     let (pipe, spec) = design_text(alloc, options.depth, options.drop)?;
-    // Neither is ever so long: the longest pipeline has some 2,500 bytes.
+    // Neither is ever so long: the longest pipeline has some 2,100 bytes.
     if pipe.as_slice().len() > MAX_FILE || spec.as_slice().len() > MAX_FILE {
         return Err(AllocError);
     }

@@ -48,7 +48,7 @@ pub record IsChoice (w : Watch) (l : Literal) : Type 0 where
 abbrev pub distance : Descent → ℕ
 distance d = (if d.restarts then d.watch.trail.limit + 1 else 0) + (d.watch.trail.limit - length d.watch.trail.entries)
 
--- the trail was taken back to level 0, after a clause was learned, or a literal was decided, and it is complete
+-- the trail was taken back towards level 0, after a clause was learned, or a literal was decided, and it is complete
 pub record Advances (old new : Descent) : Type 0 where
   pub watching : IsWatching new.watch
   pub clauses : new.watch.clauses ≡ old.watch.clauses
