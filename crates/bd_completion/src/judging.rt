@@ -2,18 +2,17 @@
 //!
 //! Flushing is the simulator's own. A given abstraction is valued in the state before the cycle and in the state after
 //! it, and the simulator joins what they stand for by steps of the specification.
-ghost use Rattle.std.specs.Prelude.{◌≡◌, ◌↔◌, [], IfOk, IsTrue, map};
+ghost use Rattle.std.specs.Prelude.{◌≡◌, ◌↔◌, IfOk, IsTrue, map};
 ghost use Rattle.bd_abstraction.specs.Abstraction.{abstraction_of, values_by};
 ghost use Rattle.bd_model.specs.Conditions.{CommutesBy, JudgedBy};
 ghost use Rattle.bd_model.specs.Cycle.{step};
 ghost use Rattle.bd_model.specs.DesignView.{design_view, local_view};
 ghost use Rattle.bd_model.specs.ExprView.{expr_views, list_of_views};
-ghost use Rattle.bd_model.specs.Value.{let_values};
 
 use bd_abstraction::Abstraction;
 use bd_list::Sequence;
-use bd_model::{Case, Condition, Design, Exprs, Inputs, Interp, Judged, LetValues, Locals, State};
-use bd_sim::{eval, judge, meets_invariant, step, steps_join};
+use bd_model::{Case, Condition, Design, Exprs, Interp, Judged, Locals, State};
+use bd_sim::{judge, meets_invariant, step, steps_join, values_after};
 use std::alloc::{AllocError, Global};
 
 /// What the case shows of the design by the abstraction, in place of flushing; where both conditions are false, the
@@ -75,8 +74,8 @@ fn commutes(
         (values_by (map local_view lets.now) (list_of_views (expr_views parts.now)))
         case.now.interp case.now.state case.now.inputs) }
 {
-    let before = given(alloc, design, lets, parts, &case.interp, &case.state)?;
-    let after = given(alloc, design, lets, parts, &case.interp, next)?;
+    let before = given(alloc, lets, parts, &case.interp, &case.state)?;
+    let after = given(alloc, lets, parts, &case.interp, next)?;
     let (interp, state, inputs) = (&case.interp, &case.state, &case.inputs);
     steps_join(alloc, design, interp, state, inputs, before, &after)
 }
@@ -84,7 +83,6 @@ fn commutes(
 // The values of given expressions after their lets, with no input.
 fn given(
     alloc: Global,
-    design: &Design,
     lets: &Locals,
     parts: &Exprs,
     interp: &Interp,
@@ -94,30 +92,5 @@ fn given(
         (map local_view lets.now) (list_of_views (expr_views parts.now)) interp.now state.now) }
 {
     let inputs = Sequence::new(alloc);
-    let locals = values_of_lets(alloc, design, lets, interp, state, &inputs)?;
-    let mut visible = Vec::new(alloc);
-    for part in &parts.items {
-        visible.push(eval(alloc, design, part, interp, state, &inputs, &locals)?)?;
-    }
-    Ok(Sequence::from_vec(visible))
-}
-
-// The values of lets, each after the earlier ones.
-fn values_of_lets(
-    alloc: Global,
-    design: &Design,
-    lets: &Locals,
-    interp: &Interp,
-    state: &State,
-    inputs: &Inputs,
-) -> Result<LetValues, AllocError>
-    ensures { IfOk result (λ values. values
-        ≡ let_values interp.now state.now inputs.now (map local_view lets.now)) }
-{
-    let mut values = Sequence::new(alloc);
-    for local in lets.as_slice() {
-        let value = eval(alloc, design, &local.value, interp, state, inputs, &values)?;
-        values.push(value)?;
-    }
-    Ok(values)
+    values_after(alloc, lets, parts, interp, state, &inputs)
 }

@@ -101,7 +101,7 @@ fn ports(alloc: Global, drafts: &[(&str, Sort, Draft)]) -> Result<Ports, AllocEr
     Ok(ports)
 }
 
-fn locals(alloc: Global, drafts: &[(Sort, Draft)]) -> Result<Locals, AllocError> {
+pub fn locals(alloc: Global, drafts: &[(Sort, Draft)]) -> Result<Locals, AllocError> {
     let mut locals = Locals::new(alloc);
     for (sort, value) in drafts {
         locals.push(Local {

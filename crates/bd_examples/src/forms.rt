@@ -20,7 +20,9 @@ const GO: Draft = Input(0);
 
 const W: Draft = Input(1);
 
-const NINE: Draft = Local(0);
+const FIVE: Draft = Local(0);
+
+const WRITTEN: Draft = Local(1);
 
 /// A bit that turns where all is as the inputs say, with the claim, by a let, that the predicate holds of the latch.
 /// A turn is exactly one step.
@@ -72,16 +74,19 @@ pub static HOLDS_OF_NOTHING: CaseDraft = CaseDraft {
     ..SEVEN
 };
 
-/// The one let is 9.
-pub static LETS: [Held; 1] = [Word(9)];
+/// Two lets: what the function has at the latch, which is 5, and the memory with the latch there.
+pub static LETS: [(Sort, Draft); 2] = [
+    (Sort::Word, Apply(0, &[X])),
+    (Sort::Memory, Write(&M, &FIVE, &X)),
+];
 
 /// Expressions, and their values in the first case.
-pub static FORMS: [(Draft, Held); 26] = [
+pub static FORMS: [(Draft, Held); 28] = [
     (Truth(true), Bit(true)),
     (B, Bit(false)),
     (GO, Bit(true)),
     (W, Word(7)),
-    (NINE, Word(9)),
+    (FIVE, Word(5)),
     (Not(&B), Bit(true)),
     (And(&[GO, Truth(true)]), Bit(true)),
     (And(&[GO, B]), Bit(false)),
@@ -92,15 +97,17 @@ pub static FORMS: [(Draft, Held); 26] = [
     (Iff(&GO, &GO), Bit(true)),
     (Iff(&GO, &B), Bit(false)),
     (Equal(&X, &W), Bit(true)),
-    (Equal(&X, &NINE), Bit(false)),
-    (Ite(&GO, &X, &NINE), Word(7)),
-    (Ite(&B, &X, &NINE), Word(9)),
+    (Equal(&X, &FIVE), Bit(false)),
+    (Ite(&GO, &X, &FIVE), Word(7)),
+    (Ite(&B, &X, &FIVE), Word(5)),
     (Read(&M, &X), Word(3)),
-    (Read(&M, &NINE), Word(0)),
-    (Read(&Write(&M, &NINE, &X), &NINE), Word(7)),
-    (Write(&M, &NINE, &X), Memory(0, &[(9, 7), (7, 3)])),
+    (Read(&M, &FIVE), Word(0)),
+    (Read(&Write(&M, &FIVE, &X), &FIVE), Word(7)),
+    (Write(&M, &FIVE, &X), Memory(0, &[(5, 7), (7, 3)])),
     (Ite(&GO, &M, &Write(&M, &X, &X)), Memory(0, &[(7, 3)])),
+    (WRITTEN, Memory(0, &[(5, 7), (7, 3)])),
+    (Read(&WRITTEN, &FIVE), Word(7)),
     (Apply(0, &[W]), Word(5)),
     (Apply(1, &[W]), Bit(true)),
-    (Apply(1, &[NINE]), Bit(false)),
+    (Apply(1, &[FIVE]), Bit(false)),
 ];

@@ -1,39 +1,30 @@
 //! Values of expressions, cycles, flushes, steps and runs.
 use Held::{Bit, Memory, Word};
-use bd_examples::build::{case, design, expr, is_state, state, value};
+use bd_examples::build::{case, design, expr, is_state, locals, state, value};
 use bd_examples::cases::{GOING, PENDING, SEVEN_AT_FIVE};
 use bd_examples::designs::{STALLING_BIT, TWO_STAGE, WRITE_BACK};
 use bd_examples::draft::{CaseDraft, DesignDraft, Held};
-use bd_examples::forms::{EACH_FORM, FORMS, LETS, SEVENS};
-use bd_model::{Case, Design, State, States};
-use bd_sim::{eval, flush, look, spec_step, step, trace};
+use bd_examples::forms::{FORMS, LETS, SEVENS};
+use bd_model::{Case, Design, Exprs, State, States};
+use bd_sim::{flush, look, spec_step, step, trace, values_after};
 use std::alloc::{AllocError, Global};
 use std::process::Abort;
 use std::test::Fail;
 
-/// That each form has the value that is wanted.
-fn each_form(
-    rt: &impl Abort,
-    alloc: Global,
-    design: &Design,
-    at: &Case,
-    lets: &State,
-) -> Result<(), AllocError> {
-    for (form, (draft, held)) in FORMS.iter().enumerate() {
-        let expr = expr(alloc, draft)?;
-        let found = eval(
-            alloc, design, &expr, &at.interp, &at.state, &at.inputs, lets,
-        )?;
-        assert!(rt; found == value(alloc, held)?, "form {form}");
+fn on_sevens(rt: &impl Abort, alloc: Global) -> Result<(), AllocError> {
+    let at = case(alloc, &SEVENS)?;
+    let lets = locals(alloc, &LETS)?;
+    let mut items = Vec::new(alloc);
+    for (draft, _) in &FORMS {
+        items.push(expr(alloc, draft)?)?;
+    }
+    let exprs = Exprs { items };
+    let found = values_after(alloc, &lets, &exprs, &at.interp, &at.state, &at.inputs)?;
+    assert_eq!(rt; found.len(), FORMS.len());
+    for ((form, (_, held)), found) in FORMS.iter().enumerate().zip(found.as_slice()) {
+        assert!(rt; *found == value(alloc, held)?, "form {form}");
     }
     Ok(())
-}
-
-fn on_sevens(rt: &impl Abort, alloc: Global) -> Result<(), AllocError> {
-    let design = design(alloc, &EACH_FORM)?;
-    let at = case(alloc, &SEVENS)?;
-    let lets = state(alloc, &LETS)?;
-    each_form(rt, alloc, &design, &at, &lets)
 }
 
 #[test]

@@ -1,11 +1,10 @@
 -- Trails, judged one cycle after another.
-use Rattle.std.proofs.Common.{◌≡◌, ◌↔◌, ℕ, zero, suc, ◌+◌, ◌<◌, ◌≤◌, Bool, List, [], ◌∷◌, length, get_or, take, IsTrue, Option, Some, refl, sym, ap, subst, ◌∙◌, arith, add-one, below_more}
+use Rattle.std.proofs.Common.{◌≡◌, ◌↔◌, ℕ, zero, suc, ◌+◌, ◌<◌, Bool, List, [], ◌∷◌, length, get_or, take, IsTrue, Option, Some, refl, sym, ap, subst, ◌∙◌, arith, add-one, below_more}
 use Rattle.std.specs.Prelude.{slice_index_or, SomeIff}
 use Rattle.std.proofs.lemmas.List.{get_or_read}
 use Rattle.bd_model.specs.DesignView.{DesignView}
 use Rattle.bd_model.specs.Cycle.{step, after, flushed, state_after, inputs_at}
-use Rattle.bd_model.specs.Conditions.{MeetsInvariant}
-use Rattle.bd_model.specs.TrailJudged.{CycleCommutes, BreaksFirst, IsTrailJudged}
+use Rattle.bd_model.specs.TrailJudged.{CycleCommutes, BreaksFirst}
 use Rattle.bd_model.specs.declared.table.Scalar.{Scalar}
 use Rattle.bd_model.specs.declared.table.Table.{Table}
 use Rattle.bd_model.specs.declared.table.Value.{Value}

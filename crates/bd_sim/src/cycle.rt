@@ -3,13 +3,17 @@
 //! A cycle values the lets once and then each next expression in the old state, so all entries change at once. A flush
 //! cycle is a cycle whose inputs are valued first, in the state before it, and anew for each. The specification has no
 //! inputs, so its step is a cycle with none.
-ghost use Rattle.std.specs.Prelude.{◌≡◌, [], IfOk};
-ghost use Rattle.bd_model.specs.DesignView.{design_view, machine_view};
+ghost use Rattle.std.specs.Prelude.{◌≡◌, [], IfOk, map};
+ghost use Rattle.bd_model.specs.DesignView.{design_view, local_view, machine_view};
+ghost use Rattle.bd_model.specs.ExprView.{expr_views, list_of_views};
 ghost use Rattle.bd_model.specs.Cycle.{step, idle_inputs, flush, look, flushed};
-ghost use Rattle.bd_model.specs.Value.{let_values};
+ghost use Rattle.bd_model.specs.Value.{env_of, let_values, value_of};
 
 use crate::value::{Env, scalar, value, value_at, values};
-use bd_model::{Design, Inputs, Interp, LetValues, Machine, Scalar, Sequence, State, Table, Value};
+use bd_model::{
+    Design, Exprs, Inputs, Interp, LetValues, Locals, Machine, Scalar, Sequence, State, Table,
+    Value,
+};
 use std::alloc::{AllocError, Global};
 
 /// One cycle of the pipeline: each entry takes the value of its next expression in this state, with these
@@ -101,6 +105,25 @@ pub fn let_values(
     let (interp, state, inputs) = (interp.as_slice(), state.as_slice(), inputs.as_slice());
     let env = Env::new(alloc, design.pipe.locals.as_slice(), interp, state, inputs)?;
     Ok(Sequence::from_vec(env.let_values()?))
+}
+
+/// The values of expressions after lets, each of which is valued once, in order. What isn't there or has another sort
+/// is false, 0 or the memory of zeros.
+pub fn values_after(
+    alloc: Global,
+    lets: &Locals,
+    exprs: &Exprs,
+    interp: &Interp,
+    state: &State,
+    inputs: &Inputs,
+) -> Result<State, AllocError>
+    ensures { IfOk result (λ vs. vs ≡ map
+        (value_of (env_of (map local_view lets.now) interp.now state.now inputs.now))
+        (list_of_views (expr_views exprs.now))) }
+{
+    let (interp, state, inputs) = (interp.as_slice(), state.as_slice(), inputs.as_slice());
+    let env = Env::new(alloc, lets.as_slice(), interp, state, inputs)?;
+    Ok(Sequence::from_vec(values(&env, exprs)?))
 }
 
 /// The visible entries, in the specification's order.

@@ -5,22 +5,17 @@
 //! valued once, in order, and kept where later expressions name them; a memory is kept as the writes that made it. What
 //! no lawful design has is false, 0 or the memory of zeros, so no call has a condition on sorts. Recursion goes down the
 //! expression alone.
-ghost use Rattle.std.specs.Prelude.{◌≡◌, ◌<◌, IfOk, length, map, slice_index_or};
+ghost use Rattle.std.specs.Prelude.{◌≡◌, IfOk, false, map, slice_index_or};
 ghost use Rattle.std.specs.List.{list_all, list_any};
 ghost use Rattle.bd_model.specs.Table.{at, read, write};
 ghost use Rattle.bd_model.specs.ExprView.{expr_view, expr_views, list_of_views};
 ghost use Rattle.bd_model.specs.Value.{value_of, values_of, scalar_of, memory_of, is_true, word_of, table_of, env_of, truth as truth_value};
 ghost use Rattle.bd_model.specs.DesignView.{local_view};
-ghost use Rattle.std.specs.Prelude.{false};
 ghost use Rattle.bd_sim.specs.inner.Env.{env_view, IsMadeWhole};
 ghost use Rattle.bd_sim.specs.inner.Writes.{kept_value, IsMade};
-ghost use Rattle.bd_sim.specs.declared.writes.Memories.{Memories};
 
 use crate::writes::{Chain, Kept, Memories};
-use bd_model::{
-    Design, Expr, Exprs, Inputs, Interp, LetValues, Local, Memory, Scalar, Sequence, Slot, State,
-    Table, Value,
-};
+use bd_model::{Expr, Exprs, Local, Memory, Scalar, Sequence, Slot, Table, Value};
 use std::alloc::{AllocError, Global};
 
 /// What names stand for where an expression is valued.
@@ -52,7 +47,6 @@ impl<'a> Env<'a> {
             lets: Vec::new(alloc),
             memories: Memories {
                 state,
-                given: &[],
                 writes: Vec::new(alloc),
             },
         };
@@ -61,35 +55,6 @@ impl<'a> Env<'a> {
             env.lets.push(next)?;
         }
         Ok(env)
-    }
-
-    /// What names stand for where the lets have these values.
-    fn given(
-        alloc: Global,
-        interp: &'a [Table],
-        state: &'a [Value],
-        inputs: &'a [Scalar],
-        lets: &'a [Value],
-    ) -> Result<Env<'a>, AllocError>
-        ensures { IfOk result (λ env. env_view env ≡ record {
-          interp = interp.now;
-          state = state.now;
-          inputs = inputs.now;
-          locals = lets.now;
-        }) }
-    {
-        let kept = kept(alloc, lets)?;
-        Ok(Env {
-            alloc,
-            interp,
-            inputs,
-            lets: kept,
-            memories: Memories {
-                state,
-                given: lets,
-                writes: Vec::new(alloc),
-            },
-        })
     }
 
     /// What the let at this place is kept as, where there is one.
@@ -148,54 +113,6 @@ fn keep(env: &mut Env, expr: &Expr) -> Result<Kept, AllocError>
             Ok(Kept::Memory(env.memories.write(below, slot)?))
         }
         _ => Ok(Kept::Scalar(scalar(env, expr)?)),
-    }
-}
-
-/// The value of an expression of the design, where the lets that it names have these values. A place past the
-/// end or a part of another sort has the value false, 0 or the memory of zeros.
-pub fn eval(
-    alloc: Global,
-    _design: &Design,
-    expr: &Expr,
-    interp: &Interp,
-    state: &State,
-    inputs: &Inputs,
-    lets: &LetValues,
-) -> Result<Value, AllocError>
-    ensures { IfOk result (λ v. v ≡ value_of
-        (record { interp = interp.now; state = state.now; inputs = inputs.now; locals = lets.now })
-        (expr_view expr.now)) }
-{
-    let env = Env::given(
-        alloc,
-        interp.as_slice(),
-        state.as_slice(),
-        inputs.as_slice(),
-        lets.as_slice(),
-    )?;
-    value(&env, expr)
-}
-
-/// Lets that were handed in, each kept by its place.
-fn kept(alloc: Global, lets: &[Value]) -> Result<Vec<Kept>, AllocError>
-    ensures { IfOk result (λ v. (m : Memories) → m.given.now ≡ lets.now →
-        map (kept_value m) v.items ≡ lets.now) }
-{
-    let mut kept = Vec::new(alloc);
-    for place in 0..lets.len() {
-        kept.push(kept_at(lets, place))?;
-    }
-    Ok(kept)
-}
-
-fn kept_at(lets: &[Value], place: usize) -> Kept
-    requires { place < length lets.now }
-    ensures { (m : Memories) → m.given.now ≡ lets.now →
-        kept_value m result ≡ slice_index_or lets.now place (truth_value false) }
-{
-    match &lets[place] {
-        Value::Scalar(scalar) => Kept::Scalar(*scalar),
-        Value::Memory(_) => Kept::Memory(Chain::Given(place)),
     }
 }
 

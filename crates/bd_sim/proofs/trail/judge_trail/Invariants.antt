@@ -1,4 +1,3 @@
-use Rattle.std.proofs.Common.{◌≡◌}
 use Rattle.bd_model.specs.DesignView.{design_view}
 use Rattle.bd_sim.proofs.Trails.{IsFollowed}
 use Rattle.bd_sim.proofs.trail.judge_trail.Given as goal
