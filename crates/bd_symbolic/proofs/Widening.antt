@@ -1,11 +1,11 @@
--- The symbols of a widened design are lawful if its own are; a trail that fits is a case that fits the widened design;
--- and once is as the design is.
+-- A lawful design's symbols are lawful, and so are those of a widened one; a trail that fits is a case that fits the
+-- widened design; and once is as the design is.
 use Rattle.std.proofs.Common.{◌≡◌, ◌≢◌, ℕ, zero, suc, ◌+◌, ◌*◌, ◌<◌, ◌≤◌, inl, inr, Option, None, Some, List, [], ◌∷◌, ◌++◌, length, refl, ap, sym, ◌∙◌, subst, append-nil, arith}
 use Rattle.std.specs.Prelude.{flat_map, slice_get}
 use Rattle.std.specs.List.{AllByRecursion, AllZip}
 use Rattle.bd_model.specs.DesignView.{DesignView, PortView}
 use Rattle.bd_model.specs.Fits.{Fits, InterpFits, ScalarsFit, TrailFits, scalar_sort}
-use Rattle.bd_model.specs.Lawful.{IsLawfulGroup}
+use Rattle.bd_model.specs.Lawful.{IsLawful, IsLawfulGroup, IsLawfulPort}
 use Rattle.bd_model.specs.declared.case.Trail.{Trail}
 use Rattle.bd_model.specs.declared.design.Sort.TheVariants as sort
 use Rattle.bd_model.specs.declared.table.Scalar.{Scalar}
@@ -35,6 +35,12 @@ AllZip-joined R (x ∷ xs) zs (y ∷ ys) ws h k = (h.0, AllZip-joined R xs zs ys
 repeated-each : {X : Type 0} → (P : X → Type 0) (n : ℕ) (xs : List X) → AllByRecursion P xs → AllByRecursion P (repeated n xs)
 repeated-each P zero xs h = tt
 repeated-each P (suc n) xs h = AllByRecursion-append P xs (repeated n xs) h (repeated-each P n xs h)
+
+pub lawful-symbols : (d : DesignView) → IsLawful d → HasLawfulSymbols d
+lawful-symbols d lawful = record {
+  inputs = AllByRecursion-weaker (IsLawfulPort d) (λ (p : PortView). p.sort ≢ sort.Memory) (λ p h. h.sort) d.pipe.ports lawful.ports;
+  distinct = lawful.distinct;
+}
 
 pub widened-symbols : (d : DesignView) (cycles : ℕ) → HasLawfulSymbols d → HasLawfulSymbols (widened d cycles)
 widened-symbols d cycles h = record {
