@@ -6,3 +6,5 @@ pub mod Unmarked
 pub mod Changed
 pub mod Steps
 pub mod NextLines
+pub mod Appending
+pub mod Naming

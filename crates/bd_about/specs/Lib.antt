@@ -4,6 +4,7 @@ pub mod Reached
 pub mod Unread
 pub mod Changed
 pub mod Findings
+pub mod PartLines
 pub mod UnreadLines
 pub mod Lines
 pub mod inner

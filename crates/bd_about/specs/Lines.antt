@@ -1,5 +1,5 @@
--- What is found, as the lines that are printed.
-use Rattle.std.specs.Prelude.{◌≡◌, ◌++◌, ℕ, Bool, true, false, List, [], codes, Option, None, Some, if◌then◌else◌}
+-- What is found, as the lines that are printed, and all lines.
+use Rattle.std.specs.Prelude.{◌++◌, ℕ, Bool, true, false, List, [], codes, Option, None, Some, if◌then◌else◌}
 use Rattle.bd_model.specs.DesignView.{DesignView}
 use Rattle.bd_model.specs.declared.case.Condition.TheVariants.{Commute, Invariant}
 use Rattle.bd_about.specs.declared.asking.Finding.{Finding}
@@ -7,6 +7,7 @@ use Rattle.bd_about.specs.declared.asking.Finding.TheVariants.{Right, Wrong, Voi
 use Rattle.bd_about.specs.declared.asking.Findings.{Findings}
 use Rattle.bd_about.specs.declared.unread.Unread.{Unread}
 use Rattle.bd_about.specs.declared.unread_lines.LetNames.{LetNames}
+use Rattle.bd_about.specs.PartLines.{part_lines}
 use Rattle.bd_about.specs.UnreadLines.{unread_lines}
 
 abbrev pub finding_words : Finding → List ℕ
@@ -51,8 +52,6 @@ finding_lines r =
     finding_line (codes "as it is         ") r.own [] ++ less_flushed_line r.own r.less_flushed
     ++ no_invariant_line r.without_invariant ++ without_steps_line r.without_steps
 
--- the text ends with the lines of what nothing reads and of what is found
-pub record EndsWithLines (d : DesignView) (names : LetNames) (u : Unread) (r : Findings)
-    (text : List ℕ) : Type 0 where
-  pub before : List ℕ
-  pub ends : text ≡ before ++ (unread_lines d names u ++ finding_lines r)
+-- all lines
+abbrev pub about_lines : DesignView → LetNames → Unread → Findings → List ℕ
+about_lines d names u r = part_lines d ++ unread_lines d names u ++ finding_lines r

@@ -6,7 +6,7 @@ mod asking;
 mod lines;
 mod marks;
 mod named;
-mod page;
+mod part_lines;
 mod unread;
 mod unread_lines;
 

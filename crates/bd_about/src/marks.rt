@@ -18,7 +18,7 @@ pub struct Marks {
 }
 
 /// Sets one flag.
-fn set(flags: &mut Vec<bool>, i: u32) -> Result<(), AllocError>
+pub fn set(flags: &mut Vec<bool>, i: u32) -> Result<(), AllocError>
     ensures { OnOk result ((k : ℕ) → slice_index_or flags.new.items k false
         ≡ (slice_index_or flags.old.items k false || (i == k))) }
 {

@@ -8,7 +8,7 @@ use Rattle.bd_model.specs.declared.case.Judged.{Judged}
 use Rattle.bd_model.specs.declared.case.Judged.TheVariants.{Holds, Outside, Broken}
 use Rattle.bd_shrink.specs.Shrunk.{IsShrunk}
 use Rattle.bd_about.specs.Findings.{AreFindings}
-use Rattle.bd_about.specs.Lines.{EndsWithLines}
+use Rattle.bd_about.specs.Lines.{about_lines}
 use Rattle.bd_about.specs.Unread.{IsUnread}
 use Rattle.bd_about.specs.declared.asking.Findings.{Findings}
 use Rattle.bd_about.specs.declared.unread.Unread.{Unread as AllUnread}
@@ -21,6 +21,7 @@ use Rattle.bd_app.specs.Meaning.{FilesSeen}
 use Rattle.bd_app.specs.Words.{Name}
 use Rattle.bd_show.specs.Place.{fault_text}
 use Rattle.bd_show.specs.Files.{AreCase, AreDesign, BlamesLoad, BlamesSave, HoldTexts, IsTextFault, Names, Texts, bytes_in, files_of, name_in, or_none}
+use Rattle.bd_show.specs.LetNames.{AreLetNames}
 use Rattle.bd_show.specs.declared.answer.Ended.{Ended}
 use Rattle.bd_show.specs.declared.answer.Ended.TheVariants.{Shown, Shrunk, Unbroken, Described, Refused, TooLong, Unread, Unsaved, Memory}
 
@@ -83,15 +84,17 @@ pub record IsUnbroken (d : DesignView) (c : Case) (judged : Judged) (text : List
   pub unbroken : (k : Condition) → ¬ (judged ≡ Broken k)
   pub line : text ≡ unbroken_line judged
 
--- what was found of the design, where an invariant is given or none, is true, and the text ends with the lines of
--- what nothing reads, under some names of its lets, and of what was found
-pub record IsDescribed (d : DesignView) (given : Bool) (found : Findings) (text : List ℕ) :
+-- what was found of the design, with an invariant exactly where a text is one, is true, and the text is the lines of
+-- what is compared, of sizes, of what nothing reads, where lets have the names that the texts give them, and of what
+-- was found
+pub record IsDescribed (texts : Texts) (d : DesignView) (found : Findings) (text : List ℕ) :
     Type 0 where
-  pub findings : AreFindings d given found
+  pub findings : AreFindings d (is_some texts.inv) found
   pub unread : AllUnread
   pub is_unread : IsUnread d unread
   pub names : LetNames
-  pub lines : EndsWithLines d names unread found text
+  pub named : AreLetNames texts names
+  pub lines : text ≡ about_lines d names unread found
 
 abbrev pub OfDesign : Texts → (DesignView → Type 0) → Type 0
 OfDesign texts P = (d : DesignView) × AreDesign texts (Ok d) × P d
@@ -108,7 +111,7 @@ Says (show q) texts (Shown j) text = OfCase texts (λ d c. IsShown q.whole d c j
 Says (shrink names) texts (Shrunk k) text = OfCase texts (λ d c. IsSmaller d c k text)
 Says (shrink names) texts (Unbroken j) text = OfCase texts (λ d c. IsUnbroken d c j text)
 Says (about names) texts (Described found) text =
-    OfDesign texts (λ d. IsDescribed d (is_some texts.inv) found text)
+    OfDesign texts (λ d. IsDescribed texts d found text)
 Says q texts e text = ⊥
 
 -- ---- what it says of files

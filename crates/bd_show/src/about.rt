@@ -1,12 +1,13 @@
 //! `about`: what can be said of a design without a case.
-ghost use Rattle.std.specs.Prelude.{IfOk, is_some};
+ghost use Rattle.std.specs.Prelude.{IfOk};
 ghost use Rattle.bd_model.specs.DesignView.{design_view};
 ghost use Rattle.bd_model.specs.Lawful.{IsLawful};
 ghost use Rattle.bd_app.specs.Meaning.{files_seen};
 ghost use Rattle.bd_show.specs.Files.{names_of};
+ghost use Rattle.bd_show.specs.LetNames.{AreGivenLets};
 ghost use Rattle.bd_show.specs.Meaning.{Question, Says};
 ghost use Rattle.bd_show.specs.inner.Answered.{IsDoneOn, IsOfDesign};
-ghost use Rattle.bd_show.specs.inner.Loaded.{AreFew, texts_view};
+ghost use Rattle.bd_show.specs.inner.Loaded.{AreFew, bytes_of, texts_view};
 
 use crate::answer::{Answer, Ended};
 use crate::fault::{refused, unloaded};
@@ -20,7 +21,9 @@ use bd_syntax::Kind;
 use std::alloc::{AllocError, Global};
 
 /// The names of the lets of an invariant, where there is one.
-fn given_lets(alloc: Global, inv: &Option<Vec<u8>>) -> Result<Vec<Vec<u8>>, AllocError> {
+fn given_lets(alloc: Global, inv: &Option<Vec<u8>>) -> Result<Vec<Vec<u8>>, AllocError>
+    ensures { IfOk result (λ names. AreGivenLets (bytes_of inv.now) names.items) }
+{
     match inv {
         Some(inv) => invariant_lets(alloc, inv.as_slice()),
         None => Ok(Vec::new(alloc)),
@@ -30,8 +33,8 @@ fn given_lets(alloc: Global, inv: &Option<Vec<u8>>) -> Result<Vec<Vec<u8>>, Allo
 /// What is said of the design of texts.
 fn described(alloc: Global, texts: &Texts, design: Design) -> Result<Answer, AllocError>
     requires { IsLawful (design_view design) }
-    ensures { IfOk result (λ a. IsOfDesign (design_view design)
-        (is_some (texts_view texts.now).inv) a.ended a.text.items) }
+    ensures { IfOk result (λ a.
+        IsOfDesign (texts_view texts.now) (design_view design) a.ended a.text.items) }
 {
     let lets = machine_lets(alloc, texts.pipe.as_slice(), Kind::Pipeline)?;
     let spec_lets = machine_lets(alloc, texts.spec.as_slice(), Kind::Specification)?;

@@ -1,5 +1,5 @@
 -- What the parts of a run say.
-use Rattle.std.specs.Prelude.{◌≡◌, ◌⊎◌, ◌≤◌, ◌++◌, ℕ, Bool, List, codes, Option, Some, Result, Ok, Err, IfOk}
+use Rattle.std.specs.Prelude.{◌≡◌, ◌⊎◌, ◌≤◌, ◌++◌, ℕ, List, codes, Option, Some, Result, Ok, Err, IfOk}
 use Rattle.std.specs.declared.alloc.AllocError.{AllocError}
 use Rattle.bd_model.specs.DesignView.{DesignView}
 use Rattle.bd_model.specs.declared.case.Case.{Case}
@@ -7,7 +7,7 @@ use Rattle.bd_files.specs.Devices.{Rose}
 use Rattle.bd_app.specs.Files.{KeepsAllBut}
 use Rattle.bd_app.specs.Meaning.{FilesSeen}
 use Rattle.bd_app.specs.Words.{Name, given}
-use Rattle.bd_show.specs.Files.{BlamesSave, Names, name_in, names_of, or_none}
+use Rattle.bd_show.specs.Files.{BlamesSave, Names, Texts, name_in, names_of, or_none}
 use Rattle.bd_show.specs.Meaning.{IsAnswered, IsDescribed, IsSmaller, IsUnbroken, Question, Show}
 use Rattle.bd_show.specs.declared.answer.Answer.{Answer}
 use Rattle.bd_show.specs.declared.answer.Ended.{Ended}
@@ -51,10 +51,10 @@ IsOfCase d c (ended.Shrunk k) text = IsSmaller d c k text
 IsOfCase d c (ended.Unbroken j) text = IsUnbroken d c j text
 IsOfCase d c e text = ⊥
 
--- what `about` says of a design, where an invariant is given or none
-abbrev pub IsOfDesign : DesignView → Bool → Ended → List ℕ → Type 0
-IsOfDesign d given (ended.Described found) text = IsDescribed d given found text
-IsOfDesign d given e text = ⊥
+-- what `about` says of a design that texts are
+abbrev pub IsOfDesign : Texts → DesignView → Ended → List ℕ → Type 0
+IsOfDesign texts d (ended.Described found) text = IsDescribed texts d found text
+IsOfDesign texts d e text = ⊥
 
 -- an answer after its page was saved, where one was asked for: it stands, or the save failed
 abbrev pub IsKept : Option Name → Ended → List ℕ → FilesSeen → FilesSeen → Answer → Type 0

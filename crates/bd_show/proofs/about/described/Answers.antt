@@ -11,5 +11,10 @@ returns c = record {
   unread = c.in_ok-about.about.unread;
   is_unread = c.in_ok-about.ensures.unread;
   names = _;
+  named = record {
+    lets = c.in_ok-lets.ensures;
+    spec_lets = c.in_ok-spec_lets.ensures;
+    inv_lets = c.in_ok-inv_lets.ensures;
+  };
   lines = c.in_ok-about.ensures.lines;
 }
