@@ -1,5 +1,5 @@
 #!/usr/bin/env python3
-"""Which forwarding paths does a pipeline need? An example of what `burch_dill.py` is for.
+"""Which forwarding paths does a pipeline need? An example of what the package `burch_dill` is for.
 
 It writes a pipeline of DEPTH stages (3 to 12, 4 where none is given), once with all its paths and once without each,
 and asks the program about all of them. Of the first that is wrong it shows what its case says, and asks about a case
@@ -12,55 +12,40 @@ import sys
 from dataclasses import replace
 from typing import Iterator, List, Optional, Tuple
 
-from burch_dill import TRUE, Bool, Case, Declarations, Pipeline, Specification, Table, Verdict, Word
-from burch_dill import check, ite, replay, run
-
-
-def forwarded(valid: Bool, target: Word, result: Word, source: Word, older: Word) -> Word:
-    """The result of a stage where it goes to the source, else an older value: a Python function as a macro."""
-    return ite(valid & target.equals(source), result, older)
+from burch_dill import TRUE, Bool, Case, Declarations, Group, Pipeline, Specification, Table, Verdict, Word
+from burch_dill import check, first_of, ite, replay, run
 
 
 def machines(depth: int, left_out: Optional[int] = None) -> Tuple[Pipeline, Specification]:
     """A pipeline without the path from one stage, and its specification."""
     both = Declarations()
-    inc, src, dst, op = (both.function(name, 1) for name in ("inc", "src", "dst", "op"))
-    alu = both.function("alu", 2)
+    inc, src, dst, op, alu = both.functions(inc=1, src=1, dst=1, op=1, alu=2)
     pc, rf = both.latch("pc", Word), both.memory("rf")
 
     spec = Specification(both)
     spec.next(pc, inc(pc))
     spec.next(rf, rf.write(dst(pc), alu(op(pc), rf.read(src(pc)))))
 
-    stages = range(2, depth + 1)
     pipe = Pipeline(both, flush=depth - 1, steps=1)
-    pipe.comment("in each stage whether there is an instruction, and the register that it writes")
-    valid, target = pipe.latches("v", stages, Bool), pipe.latches("d", stages, Word)
-    pipe.comment("in stage 2 its operation and its operand, and in the others its result")
-    operation, operand = pipe.latch("o", Word), pipe.latch("a", Word)
-    kept = pipe.latches("x", stages[1:], Word)
+    pipe.comment("in stage 2 whether there is an instruction, its register, its operation and its operand")
+    second = pipe.group(2, v=Bool, d=Word, o=Word, a=Word)
+    pipe.comment("in the others its result, in the place of the last two")
+    later = pipe.groups(range(3, depth + 1), v=Bool, d=Word, x=Word)
     stall = pipe.input("stall", TRUE)
-    result = {2: pipe.let("x2", alu(operation, operand)), **kept}
+    stages = {2: second.having(x=pipe.let("x2", alu(second.o, second.a))), **later}
 
     pipe.comment("the last stage writes, and the register is read after it; a younger result goes first")
-    after = pipe.let("rf2", ite(valid[depth], rf.write(target[depth], result[depth]), rf))
+    last = stages[depth]
+    after = pipe.let("rf2", ite(last.v, rf.write(last.d, last.x), rf))
     wanted = pipe.let("s", src(pc))
-    value = pipe.let("q", after.read(wanted))
-    for stage in reversed(stages):
-        if stage != left_out:
-            taken = forwarded(valid[stage], target[stage], result[stage], wanted, value)
-            value = pipe.let(f"q{stage}", taken)
+    value = first_of([(group.v & group.d.equals(wanted), group.x)
+                      for stage, group in stages.items() if stage != left_out], after.read(wanted))
 
     pipe.next(pc, ite(stall, pc, inc(pc)))
     pipe.next(rf, after)
-    pipe.next(operation, op(pc))
-    pipe.next(operand, value)
-    pipe.next(valid[2], ~stall)
-    pipe.next(target[2], dst(pc))
-    for stage in stages[1:]:
-        pipe.next(valid[stage], valid[stage - 1])
-        pipe.next(target[stage], target[stage - 1])
-        pipe.next(kept[stage], result[stage - 1])
+    pipe.advance(second, Group(v=TRUE, d=dst(pc), o=op(pc), a=pipe.let("q", value)), squash=stall)
+    for stage, group in later.items():
+        pipe.advance(group, stages[stage - 1])
     return pipe, spec
 
 
@@ -89,7 +74,7 @@ def shown(depth: int, left_out: int, case: Case) -> List[str]:
     before, after = run(pipe, spec, case, 1)
     _, pc, register = source(case)
     return [
-        f"the instruction at {pc} reads register {register}, and gets {after['a']}",
+        f"the instruction at {pc} reads register {register}, and gets {after['a2']}",
         f"stage {left_out} is about to write register {before[f'd{left_out}']}",
         f"this case: {replay(pipe, spec, case).value}",
         f"if it reads the next register: {replay(pipe, spec, moved(case)).value}",

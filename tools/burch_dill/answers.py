@@ -1,0 +1,109 @@
+"""What the programs answer, as data."""
+from __future__ import annotations
+
+from dataclasses import dataclass
+from enum import Enum
+from typing import Mapping, NamedTuple, Optional, Tuple
+
+from .cases import Case, Trail
+
+
+class Outcome(Enum):
+    """What `check`, `recheck`, `bounded`, `complete` and `gen` say of a pipeline, by the words that are printed."""
+
+    CORRECT = "correct"
+    WRONG_COMMUTE = "wrong commute"
+    WRONG_INVARIANT = "wrong invariant"
+    VOID = "void"
+    UNDECIDED = "undecided"
+    PROVED = "correct by proof"
+    AGREES = "agree"
+    DIFFERS = "differ"
+
+
+@dataclass(frozen=True)
+class Verdict:
+    """A verdict.
+
+    `case` breaks the condition that a wrong outcome names; with `CORRECT` and an invariant `check` gives one that meets
+    the invariant; with `DIFFERS` it tells a completion function from flushing. `gen` gives none.
+    Of `UNDECIDED`, `learned` is the number of clauses that the budget allowed, and `seeks_state` is true where no state
+    that meets the invariant was found yet.
+    """
+
+    outcome: Outcome
+    case: Optional[Case] = None
+    learned: Optional[int] = None
+    seeks_state: bool = False
+
+    @property
+    def is_right(self) -> bool:
+        """Whether the pipeline is right over every run."""
+        return self.outcome in (Outcome.CORRECT, Outcome.PROVED)
+
+
+class Judgement(Enum):
+    """What `replay` says of a case, by the words that are printed; `OUTSIDE` where it doesn't meet the invariant."""
+
+    HOLDS = "holds"
+    BROKEN_COMMUTE = "broken commute"
+    BROKEN_INVARIANT = "broken invariant"
+    OUTSIDE = "outside"
+
+
+@dataclass(frozen=True)
+class Bounded:
+    """What a pipeline is found to be for so many cycles from a start: `CORRECT`, `WRONG_COMMUTE` or `UNDECIDED`.
+
+    Of a wrong one, `trail` is a run whose cycle number `broken`, from 1, is the first that is wrong. Of `UNDECIDED`,
+    `learned` is the number of clauses that the budget allowed.
+    """
+
+    outcome: Outcome
+    trail: Optional[Trail] = None
+    broken: Optional[int] = None
+    learned: Optional[int] = None
+
+
+class Retraced(NamedTuple):
+    """What `retrace` says of a trail, and the number of the first broken cycle, from 1, where there is one."""
+
+    judgement: Judgement
+    broken: Optional[int] = None
+
+
+class Generated(NamedTuple):
+    """How many latches a generated pipeline has, and its verdict."""
+
+    latches: int
+    verdict: Verdict
+
+
+@dataclass(frozen=True)
+class Shown:
+    """What `show` prints of a case: the judgement, and the tables as text, which printing gives."""
+
+    judgement: Judgement
+    text: str
+
+    def __str__(self) -> str:
+        return self.text
+
+
+@dataclass(frozen=True)
+class About:
+    """What `about` prints of a design.
+
+    `compared` are the visible latches and memories, `not_compared` the pipeline's others, and `unread` what nothing
+    reads, as it is printed (`latch v2`). `findings` has a verdict in words for the design as it is, and for it with one
+    thing changed. `text` is all of it, which printing gives.
+    """
+
+    compared: Tuple[str, ...]
+    not_compared: Tuple[str, ...]
+    unread: Tuple[str, ...]
+    findings: Mapping[str, str]
+    text: str
+
+    def __str__(self) -> str:
+        return self.text
