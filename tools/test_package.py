@@ -45,6 +45,8 @@ class Package(unittest.TestCase):
     def test_one_version(self) -> None:
         self.assertRegex(build_backend.VERSION, r"^\d+\.\d+\.\d+$")
         self.assertIn(f"\nVersion: {build_backend.VERSION}\n", build_backend.metadata())
+        for document, words in (("README.md", "Version {} "), ("CHANGELOG.md", "## {}")):
+            self.assertIn(words.format(build_backend.VERSION).strip(), (ROOT / document).read_text(encoding="utf-8"))
 
     def test_what_is_public_has_docstrings(self) -> None:
         for path in (ROOT / "tools" / "burch_dill").glob("*.py"):
