@@ -5,7 +5,7 @@
     tools/doc_examples.py PROGRAM .. --write [FILE.md ..]    puts into the documents what comes out
 
 PROGRAM is a path of `burch_dill` or of `bd_view`, by its name; any other name is taken for `burch_dill`. Without files
-it takes README.md, docs/TUTORIAL.md and docs/COUNTEREXAMPLES.md, those of them that are there.
+it takes README.md and the pages of docs/ and docs/commands/ that have examples.
 
 An example is a block, fenced or indented by four spaces, whose first line begins with `$ `:
 
@@ -39,7 +39,7 @@ from pathlib import Path
 from typing import Iterator, NamedTuple
 
 ROOT = Path(__file__).resolve().parent.parent
-DOCUMENTS = ("README.md", "docs/TUTORIAL.md", "docs/COUNTEREXAMPLES.md")
+DOCUMENTS = ("README.md", "docs/*.md", "docs/commands/*.md")
 OTHERS = ("cadical",)
 PROGRAMS = ("burch_dill", "bd_view")
 PROMPT = "$ "
@@ -201,7 +201,7 @@ def main(words: list[str]) -> int:
             print(f"{program} can't be run")
             return 2
     named = [Path(word) for word in words if word.endswith(".md")]
-    paths = named or [ROOT / name for name in DOCUMENTS if (ROOT / name).exists()]
+    paths = named or [path for pattern in DOCUMENTS for path in sorted(ROOT.glob(pattern))]
     count = left_out = faults = 0
     for path in paths:
         document = list(blocks(path.read_text(encoding="utf-8").splitlines()))
