@@ -69,7 +69,6 @@ python3 tools/manual.py "$top/share/man/man1"
 mkdir "$top/share/man/man7"
 mv "$top"/share/man/man1/*.7 "$top/share/man/man7"
 completions "$top/share" site-functions
-python3 tools/build_backend.py "$top" > /dev/null
 settled "$top"
 packed "$work/tarball" "$name" > "$folder/$name-$machine-linux.tar.gz"
 
@@ -85,7 +84,7 @@ if command -v dpkg-deb > /dev/null; then
     cp -R "$top/share/man" "$root/usr/share/man"
     find "$root/usr/share/man" -type f -exec gzip -9n {} +
     completions "$root/usr/share" vendor-completions
-    (cd "$root/usr/lib/python3/dist-packages" && python3 -m zipfile -e "$top"/*.whl .)
+    cp -R "$top/tools/burch_dill" "$root/usr/lib/python3/dist-packages"
     gzip -9nc CHANGELOG.md > "$root/usr/share/doc/burch-dill/changelog.gz"
     {
         echo "burch_dill $version, by the burch_dill authors. MIT or Apache-2.0, as you like."

@@ -3,50 +3,51 @@
     cd tools && python3 -m unittest test_package
 """
 import ast
+import importlib.util
+import shutil
 import subprocess
 import sys
-import tarfile
 import tempfile
 import unittest
 import zipfile
 from pathlib import Path
 
-import build_backend
-
 ROOT = Path(__file__).resolve().parent.parent
+VERSION = (ROOT / "VERSION").read_text(encoding="ascii").strip()
 
 
-class Package(unittest.TestCase):
-    def test_wheel(self) -> None:
+HAS_SETUPTOOLS = all(importlib.util.find_spec(name) for name in ("pip", "setuptools", "wheel"))
+
+
+@unittest.skipUnless(HAS_SETUPTOOLS, "pip, setuptools and wheel aren't all installed")
+class Wheel(unittest.TestCase):
+    def test_installs(self) -> None:
+        """A wheel is built of a copy, so that nothing is left in the repository, and the package is read from it."""
         with tempfile.TemporaryDirectory() as folder:
-            name = build_backend.build_wheel(folder)
-            first = Path(folder, name).read_bytes()
-            build_backend.build_wheel(folder)
-            self.assertEqual(Path(folder, name).read_bytes(), first)
-            with zipfile.ZipFile(Path(folder, name)) as wheel:
-                names = wheel.namelist()
-                listed = wheel.read(f"{build_backend.NAME}.dist-info/RECORD").decode().split()
-            self.assertEqual([line.split(",")[0] for line in listed], names)
-            self.assertIn("burch_dill/py.typed", names)
+            sources = Path(folder, "sources")
+            sources.mkdir()
+            for name in ("pyproject.toml", "VERSION", "README.md", "LICENSE-MIT", "LICENSE-APACHE"):
+                shutil.copy(ROOT / name, sources)
+            shutil.copytree(ROOT / "tools" / "burch_dill", sources / "tools" / "burch_dill",
+                            ignore=shutil.ignore_patterns("__pycache__"))
+            words = [sys.executable, "-m", "pip", "wheel", "-q", "--no-build-isolation", "--no-deps", "--no-index",
+                     "-w", folder]
+            subprocess.run([*words, str(sources)], check=True, capture_output=True)
+            wheel = next(Path(folder).glob(f"burch_dill-{VERSION}-*.whl"))
+            with zipfile.ZipFile(wheel) as archive:
+                self.assertIn("burch_dill/py.typed", archive.namelist())
             script = "import burch_dill; print(burch_dill.conj(burch_dill.TRUE, burch_dill.FALSE))"
-            path = f"import sys; sys.path.insert(0, {str(Path(folder, name))!r})\n"
+            path = f"import sys; sys.path.insert(0, {str(wheel)!r})\n"
             done = subprocess.run([sys.executable, "-I", "-c", path + script],
                                   capture_output=True, text=True, check=True, cwd=folder)
         self.assertEqual(done.stdout, "(and true false)\n")
 
-    def test_sources(self) -> None:
-        with tempfile.TemporaryDirectory() as folder:
-            name = build_backend.build_sdist(folder)
-            with tarfile.open(Path(folder, name)) as archive:
-                names = archive.getnames()
-        for file in ("pyproject.toml", "VERSION", "tools/build_backend.py", "tools/burch_dill/__init__.py", "PKG-INFO"):
-            self.assertIn(f"{build_backend.NAME}/{file}", names)
 
+class Package(unittest.TestCase):
     def test_one_version(self) -> None:
-        self.assertRegex(build_backend.VERSION, r"^\d+\.\d+\.\d+$")
-        self.assertIn(f"\nVersion: {build_backend.VERSION}\n", build_backend.metadata())
+        self.assertRegex(VERSION, r"^\d+\.\d+\.\d+$")
         for document, words in (("README.md", "Version {} "), ("CHANGELOG.md", "## {}")):
-            self.assertIn(words.format(build_backend.VERSION).strip(), (ROOT / document).read_text(encoding="utf-8"))
+            self.assertIn(words.format(VERSION).strip(), (ROOT / document).read_text(encoding="utf-8"))
 
     def test_what_is_public_has_docstrings(self) -> None:
         for path in (ROOT / "tools" / "burch_dill").glob("*.py"):
