@@ -1,0 +1,2 @@
+; The bit stands for its opposite.
+(completion (abstract a (not a)))
