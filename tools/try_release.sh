@@ -8,7 +8,7 @@
 set -eu
 package=$(realpath "$1")
 root=${2:-$(mktemp -d)}
-[ -d "$root/usr" ] || debootstrap --variant=minbase --include=python3-minimal bookworm "$root" \
+[ -d "$root/usr" ] || debootstrap --variant=minbase --include=python3 bookworm "$root" \
     "${MIRROR:-http://deb.debian.org/debian}"
 cp "$package" "$root/tmp/burch-dill.deb"
 inside() {
