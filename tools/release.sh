@@ -116,6 +116,8 @@ Description: verifier of pipelined processors, proved to mean what it says
  burch_dill, the documents and a gallery of machines, in /usr/share/burch-dill.
 END
     chmod 644 "$root/DEBIAN/control"
+    printf '#!/bin/sh\nrm -rf /usr/lib/python3/dist-packages/burch_dill/__pycache__\n' > "$root/DEBIAN/prerm"
+    chmod 755 "$root/DEBIAN/prerm"
     settled "$root"
     SOURCE_DATE_EPOCH=$epoch dpkg-deb --root-owner-group -Zxz --build "$root" \
         "$folder/burch-dill_${version}_$architecture.deb" > /dev/null
