@@ -39,7 +39,7 @@ from pathlib import Path
 from typing import Iterator, NamedTuple
 
 ROOT = Path(__file__).resolve().parent.parent
-DOCUMENTS = ("README.md", "docs/*.md", "docs/commands/*.md")
+DOCUMENTS = ("README.md", "docs/*.md", "docs/commands/*.md", "gallery/riddles/ANSWERS.md")
 OTHERS = ("cadical",)
 PROGRAMS = ("burch_dill", "bd_view")
 PROMPT = "$ "
