@@ -1,11 +1,13 @@
 -- Logs taken apart at their end: the definitions go down a log from its front, and a solver adds lines after it.
-use Rattle.std.proofs.Common.{◌≡◌, ◌≢◌, ℕ, ◌+◌, cond, List, [], ◌∷◌, ◌++◌, refl}
+use Rattle.std.proofs.Common.{◌≡◌, ◌≢◌, ℕ, ◌+◌, cond, List, [], ◌∷◌, ◌++◌, Option, Some, refl}
 use Rattle.std.proofs.lemmas.List.Sums.{sum_by-append, sum_by_push}
 use Rattle.bd_cnf.specs.Literal.{Literal}
 use Rattle.bd_lrat.specs.declared.line.Hint.{Hint}
 use Rattle.bd_lrat.specs.declared.line.Line.{Line}
 use Rattle.bd_lrat.specs.declared.line.Line.TheVariants.{Add, Delete}
 use Rattle.bd_lrat.specs.Database.{Database, IsAccepted, after}
+use Rattle.bd_lrat.specs.Deletions.{IsCoveredDeletion, DeletesCovered}
+use Rattle.bd_lrat.specs.inner.Deletions.{last_added}
 use Rattle.bd_lrat.specs.Log.{IsAcceptedLog, after_all, adds_literals, additions, IsFreshClause, with_added, AddsFresh}
 
 -- what stands after two logs
@@ -51,3 +53,26 @@ additions-append xs ys = sum_by-append (λ line. cond (adds_literals line) 1 0) 
 -- a line after a log counts where it adds a clause of one literal or more
 pub additions-push : (xs : List Line) (line : Line) → additions (xs ++ line ∷ []) ≡ additions xs + cond (adds_literals line) 1 0
 additions-push xs line = sum_by_push (λ line. cond (adds_literals line) 1 0) xs line
+
+-- the last addition of a log with a line more
+pub last_added-push_addition : (added : Option ℕ) (xs : List Line) (id : ℕ) (clause : List Literal) (hints : List Hint) → last_added added (xs ++ Add id clause hints ∷ []) ≡ Some id
+last_added-push_addition added [] id clause hints = refl
+last_added-push_addition added ((Add i c hs) ∷ xs) id clause hints = last_added-push_addition (Some i) xs id clause hints
+last_added-push_addition added ((Delete i is) ∷ xs) id clause hints = last_added-push_addition added xs id clause hints
+
+pub last_added-push_deletion : (added : Option ℕ) (xs : List Line) (id : ℕ) (ids : List ℕ) → last_added added (xs ++ Delete id ids ∷ []) ≡ last_added added xs
+last_added-push_deletion added [] id ids = refl
+last_added-push_deletion added ((Add i c hs) ∷ xs) id ids = last_added-push_deletion (Some i) xs id ids
+last_added-push_deletion added ((Delete i is) ∷ xs) id ids = last_added-push_deletion added xs id ids
+
+-- an addition after covered deletions
+pub covered-push_addition : (db : Database) (added : Option ℕ) (xs : List Line) (id : ℕ) (clause : List Literal) (hints : List Hint) → DeletesCovered db added xs → DeletesCovered db added (xs ++ Add id clause hints ∷ [])
+covered-push_addition db added [] id clause hints front = tt
+covered-push_addition db added ((Add i c hs) ∷ xs) id clause hints front = covered-push_addition (after db (Add i c hs)) (Some i) xs id clause hints front
+covered-push_addition db added ((Delete i is) ∷ xs) id clause hints front = (front.0, covered-push_addition (after db (Delete i is)) added xs id clause hints front.1)
+
+-- a covered deletion after others
+pub covered-push_deletion : (db : Database) (added : Option ℕ) (xs : List Line) (id : ℕ) (ids : List ℕ) → DeletesCovered db added xs → IsCoveredDeletion (after_all db xs) (last_added added xs) id ids → DeletesCovered db added (xs ++ Delete id ids ∷ [])
+covered-push_deletion db added [] id ids front last = (last, tt)
+covered-push_deletion db added ((Add i c hs) ∷ xs) id ids front last = covered-push_deletion (after db (Add i c hs)) (Some i) xs id ids front last
+covered-push_deletion db added ((Delete i is) ∷ xs) id ids front last = (front.0, covered-push_deletion (after db (Delete i is)) added xs id ids front.1 last)

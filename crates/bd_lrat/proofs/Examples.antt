@@ -1,5 +1,5 @@
 -- What the laws say of the small examples.
-use Rattle.std.proofs.Common.{◌≡◌, ◌≢◌, ℕ, Bool, true, false, not, cond, ◌||◌, eqb, List, [], ◌∷◌, ◌++◌, Option, Some, refl, sym, ap, ◌∙◌, inl, inr, arith}
+use Rattle.std.proofs.Common.{◌≡◌, ◌≢◌, ℕ, Bool, true, false, not, cond, ◌||◌, eqb, List, [], ◌∷◌, ◌++◌, Option, None, Some, refl, subst, sym, ap, ◌∙◌, inl, inr, arith}
 use Rattle.std.proofs.lemmas.Bool.{false≢true, true≢false, cases_Bool, or_cases, or_left, or_right}
 use Rattle.std.proofs.lemmas.List.Elements.{All-from_recursion}
 use Rattle.std.specs.FinMap.{get}
@@ -12,11 +12,13 @@ use Rattle.bd_cnf.proofs.Closed.{has_variable_of, consistent_from, consistent_pu
 use Rattle.bd_lrat.specs.declared.line.Hint.{Hint}
 use Rattle.bd_lrat.specs.declared.line.Hint.TheVariants as hint
 use Rattle.bd_lrat.specs.Propagation.{Outcome, Conflict, Reached, and_then, assign, unit_outcome, clause_outcome, propagate, reaches}
-use Rattle.bd_lrat.specs.Database.{numbered}
+use Rattle.bd_lrat.specs.declared.line.Line.TheVariants.{Delete}
+use Rattle.bd_lrat.specs.Database.{numbered, database_of}
 use Rattle.bd_lrat.specs.Log.{includes, IsFreshClause, IsFresh, HaveDifferentVariables, IsUnsettled}
-use Rattle.bd_lrat.specs.Examples.{yes, no, square, square_line, weakened_line, forced_apart, not_both}
+use Rattle.bd_lrat.specs.Deletions.{IsCovered, DeletesCovered}
+use Rattle.bd_lrat.specs.Examples.{yes, no, square, square_line, weakened_line, forced_apart, not_both, square_and_unit}
 use Rattle.bd_lrat.proofs.Standings.{each_numbered, get-numbered}
-use Rattle.bd_lrat.proofs.Closed.{closed_no_conflict, closed_never_reaches}
+use Rattle.bd_lrat.proofs.Closed.{StaysWithin, closed_stays, closed_no_conflict, closed_never_reaches}
 
 -- two hints, by the clauses that stand under their ids
 two_hints : (standing : Standing) (trail : List Literal) (a b : ℕ) (x y : Option (List Literal)) → get standing a ≡ x → get standing b ≡ y → propagate standing trail (hint.Unit a ∷ hint.Unit b ∷ []) ≡ and_then (clause_outcome a trail x) (λ more. and_then (clause_outcome b more y) (λ last. Reached last))
@@ -158,3 +160,29 @@ not_both_settled u =
       ]
       | inr e ↦ lacks_one (u.decisions ++ u.last ∷ []) (yes 1) refl consistent e u.hints u.conflict
     ]
+
+-- the unit that decides the square isn't covered by the rest
+pub needed_unit_uncovered : IsCovered (numbered square) (yes 1 ∷ []) → ⊥
+needed_unit_uncovered (inl (hints, conflict)) = closed_no_conflict (numbered square) [] nothing_consistent square_closed hints [] (λ l h. h) conflict
+needed_unit_uncovered (inr so) = false≢true (subst (StaysWithin []) so.reached (closed_stays (numbered square) [] nothing_consistent square_closed so.hints [] (λ l h. h)) so.literal so.is_true)
+
+-- three hints, by the clauses that stand under their ids
+three_hints : (standing : Standing) (trail : List Literal) (a b c : ℕ) (x y z : Option (List Literal)) → get standing a ≡ x → get standing b ≡ y → get standing c ≡ z → propagate standing trail (hint.Unit a ∷ hint.Unit b ∷ hint.Unit c ∷ []) ≡ and_then (clause_outcome a trail x) (λ more. and_then (clause_outcome b more y) (λ most. and_then (clause_outcome c most z) (λ last. Reached last)))
+three_hints standing trail a b c x y z e f g i = and_then (clause_outcome a trail (e i)) (λ more. and_then (clause_outcome b more (f i)) (λ most. and_then (clause_outcome c most (g i)) (λ last. Reached last)))
+
+-- nor may it be deleted, whatever was added last: propagation from nothing ends in a conflict already
+pub needed_deletion_refused : (added : Option ℕ) (id : ℕ) → DeletesCovered (database_of (problem 2 square_and_unit)) added (Delete id (5 ∷ []) ∷ []) → ⊥
+needed_deletion_refused added id so =
+    so.0.no_conflict (hint.Unit 5 ∷ hint.Unit 3 ∷ hint.Unit 4 ∷ [])
+    (three_hints (numbered square_and_unit) [] 5 3 4 (Some (yes 1 ∷ [])) (Some (no 1 ∷ yes 2 ∷ [])) (Some (no 1 ∷ no 2 ∷ [])) (get-numbered square_and_unit 5) (get-numbered square_and_unit 3) (get-numbered square_and_unit 4))
+
+-- a unit covers a wider clause
+pub wider_covered : IsCovered (numbered ((yes 1 ∷ []) ∷ [])) (yes 1 ∷ yes 2 ∷ [])
+wider_covered = inr (record {
+  hints = hint.Unit 1 ∷ [];
+  trail = yes 1 ∷ [];
+  reached = ap (λ o. and_then (clause_outcome 1 [] o) (λ more. Reached more)) (get-numbered ((yes 1 ∷ []) ∷ []) 1);
+  literal = yes 1;
+  here = refl;
+  is_true = refl;
+})

@@ -1,5 +1,5 @@
 -- Small formulas and lines, at which laws show what fresh and unsettled mean.
-use Rattle.std.specs.Prelude.{ℕ, true, false, List, [], ◌∷◌}
+use Rattle.std.specs.Prelude.{ℕ, true, false, List, [], ◌∷◌, ◌++◌}
 use Rattle.bd_cnf.specs.Literal.{Literal, literal}
 use Rattle.bd_lrat.specs.declared.line.Hint.TheVariants.{Unit as UnitHint}
 use Rattle.bd_lrat.specs.declared.line.Line.{Line}
@@ -30,3 +30,7 @@ forced_apart = (no 1 ∷ no 2 ∷ yes 3 ∷ []) ∷ (no 1 ∷ no 2 ∷ no 3 ∷ 
 -- one clause by which two variables aren't both true
 abbrev pub not_both : List (List Literal)
 not_both = (no 1 ∷ no 2 ∷ []) ∷ []
+
+-- the square and a clause of one literal, by which propagation alone refutes it
+abbrev pub square_and_unit : List (List Literal)
+square_and_unit = square ++ (yes 1 ∷ []) ∷ []

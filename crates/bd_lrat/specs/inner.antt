@@ -3,3 +3,4 @@ pub mod Ready
 pub mod Rising
 pub mod Hints
 pub mod Store
+pub mod Deletions

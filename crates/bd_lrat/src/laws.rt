@@ -1,11 +1,13 @@
 //! Laws of logs, each the contract of a function that does nothing: what a refutation means, and at
-//! small examples what *fresh* and *unsettled* take and what they don't.
-ghost use Rattle.std.specs.Prelude.{List, [], ◌∷◌};
+//! small examples what *fresh*, *unsettled* and *covered* take and what they don't.
+ghost use Rattle.std.specs.Prelude.{ℕ, List, [], ◌∷◌, Option};
 ghost use Rattle.bd_cnf.specs.Problem.{Problem, problem};
 ghost use Rattle.bd_lrat.specs.declared.line.Line.{Line};
-ghost use Rattle.bd_lrat.specs.Database.{numbered};
+ghost use Rattle.bd_lrat.specs.declared.line.Line.TheVariants.{Delete};
+ghost use Rattle.bd_lrat.specs.Database.{database_of, numbered};
+ghost use Rattle.bd_lrat.specs.Deletions.{IsCovered, DeletesCovered};
 ghost use Rattle.bd_lrat.specs.Log.{IsRefutation, IsUnsatisfiable, IsFresh, IsUnsettled, FreshLogsAreShort};
-ghost use Rattle.bd_lrat.specs.Examples.{square, square_line, weakened_line, forced_apart, not_both};
+ghost use Rattle.bd_lrat.specs.Examples.{yes, square, square_line, square_and_unit, weakened_line, forced_apart, not_both};
 
 /// Over a formula with an accepted log that adds the empty clause, no assignment makes every clause
 /// true.
@@ -42,4 +44,21 @@ pub fn two_decisions_unsettle()
 /// Where the first decision gives the second variable the other value, nothing is unsettled.
 pub fn reached_decision_settles()
     ensures { ¬ IsUnsettled (numbered not_both) }
+{}
+
+/// A clause of one literal covers any that has its literal.
+pub fn true_clause_is_covered()
+    ensures { IsCovered (numbered ((yes 1 ∷ []) ∷ [])) (yes 1 ∷ yes 2 ∷ []) }
+{}
+
+/// The square doesn't cover the clause of one literal by which propagation alone refutes it.
+pub fn needed_clause_is_not_covered()
+    ensures { ¬ IsCovered (numbered square) (yes 1 ∷ []) }
+{}
+
+/// So a log that begins with its deletion isn't a solver's, under whichever id.
+pub fn needed_clause_is_not_deleted()
+    ensures { (added : Option ℕ) (id : ℕ) →
+        ¬ DeletesCovered (database_of (problem 2 square_and_unit)) added
+            (Delete id (5 ∷ []) ∷ []) }
 {}
