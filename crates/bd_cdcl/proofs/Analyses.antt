@@ -22,7 +22,7 @@ use Rattle.bd_watch.proofs.Parts.{open_from, has_single}
 use Rattle.bd_watch.proofs.Fronts.{in_front}
 use Rattle.bd_watch.proofs.Guards.{front_part}
 use Rattle.bd_watch.proofs.Numbered.{id_within, clause_of_id}
-use Rattle.bd_cdcl.specs.declared.analysis.Analysis.{Analysis}
+use Rattle.bd_cdcl.specs.declared.cdcl.analyze.Analysis.{Analysis}
 use Rattle.bd_cdcl.specs.inner.Analysis.{marked, AreUnmarked, IsMarkedIn, IsAnalyzing, Marks, AreAssigned}
 use Rattle.bd_cdcl.specs.inner.Analyses.{IsClear, Analyzes, Keeps, Resolves}
 use Rattle.bd_cdcl.proofs.AnalysisSteps.{placed_at, analysis_passes, analysis_keeps, analysis_resolves, analysis_begins}

@@ -13,7 +13,7 @@ use Rattle.bd_watch.specs.Trails.{IsDecisionAt, IsLastStart, IsStartFrom, IsPlac
 use Rattle.bd_watch.specs.Watching.{front, IsAsserting}
 use Rattle.bd_watch.proofs.Parts.{has_here, has_later, has_left, has_right, has_single, has_either, two_of, literal_of, rising_single}
 use Rattle.bd_watch.proofs.Fronts.{in_front, place_in_front, place_of, front_within}
-use Rattle.bd_cdcl.specs.declared.lesson.Second.{Second}
+use Rattle.bd_cdcl.specs.declared.cdcl.learn.Second.{Second}
 use Rattle.bd_cdcl.specs.inner.Analysis.{IsUnique}
 use Rattle.bd_cdcl.specs.inner.Analyses.{IsSecond}
 

@@ -16,9 +16,9 @@ use Rattle.bd_watch.specs.Trails.{IsDecisionAt, IsLastStart, IsStartFrom}
 use Rattle.bd_watch.specs.Watching.{front, IsAsserting, IsConflict}
 use Rattle.bd_watch.specs.Watch.{IsWatching}
 use Rattle.bd_watch.proofs.Parts.{all_has, has_negated, negated_has}
-use Rattle.bd_cdcl.specs.declared.analysis.Analysis.{Analysis}
-use Rattle.bd_cdcl.specs.declared.lesson.Lesson.{Lesson}
-use Rattle.bd_cdcl.specs.declared.lesson.Second.{Second}
+use Rattle.bd_cdcl.specs.declared.cdcl.analyze.Analysis.{Analysis}
+use Rattle.bd_cdcl.specs.declared.cdcl.learn.Lesson.{Lesson}
+use Rattle.bd_cdcl.specs.declared.cdcl.learn.Second.{Second}
 use Rattle.bd_cdcl.specs.inner.Analysis.{IsUnique}
 use Rattle.bd_cdcl.specs.inner.Deletions.{IsReduced}
 use Rattle.bd_cdcl.specs.inner.Analyses.{Analyzed, IsSecond, IsLesson}
@@ -31,7 +31,7 @@ module _ (watch : Watch) (start id : ℕ) (a : Analysis) (is : Analyzed watch st
   pub kept_no_tautology : IsWatching watch → IsTautology a.kept.items → ⊥
   kept_no_tautology watching (l, here, there) = analysis_no_tautology (numbered watch.clauses) watch.trail.entries start is.conflict a.marks.items 0 a.kept.items is.analyzes.resolved watching.complete is.analyzes.analyzing l here there
 
-  pub lesson_is : (lesson : Lesson) (s : Second) (rest : List Literal) (o : Option ℕ) → IsWatching watch → IsLastStart watch.trail.entries start → IsConflict (numbered watch.clauses) watch.trail.entries id → rest ≡ drop 1 a.kept.items → lesson.first ≡ get_or a.kept.items 0 lesson.first → lesson.second ≡ s.literal → lesson.cut ≡ unwrap_or o start → SameLiterals lesson.clause a.kept.items → IsRising lesson.clause → IsSecond watch.trail.entries rest s → IfSome o (IsStartFrom watch.trail.entries s.floor) → IfNone o ((p : ℕ) → IsDecisionAt watch.trail.entries p → p < s.floor) → lesson.hints ≡ map hint.Unit (reverse a.ids.items ++ id ∷ []) → IsLesson watch start lesson
+  pub lesson_is : (lesson : Lesson) (s : Second) (rest : List Literal) (o : Option ℕ) → IsWatching watch → IsLastStart watch.trail.entries start → IsConflict (numbered watch.clauses) watch.trail.entries id → rest ≡ drop 1 a.kept.items → lesson.first ≡ get_or a.kept.items 0 lesson.first → lesson.second ≡ s.literal → lesson.backjump ≡ unwrap_or o start → SameLiterals lesson.clause a.kept.items → IsRising lesson.clause → IsSecond watch.trail.entries rest s → IfSome o (IsStartFrom watch.trail.entries s.floor) → IfNone o ((p : ℕ) → IsDecisionAt watch.trail.entries p → p < s.floor) → lesson.hints ≡ map hint.Unit (reverse a.ids.items ++ id ∷ []) → IsLesson watch start lesson
   lesson_is lesson s rest o watching last at_end rest_is first_is second_is cut_is same rising second found none hints =
       let (u, ks, e, unique) = analysis_asserts (numbered watch.clauses) watch.trail.entries start is.conflict a.marks.items a.kept.items is.analyzes.resolved is.analyzes.analyzing in
       build u ks e unique
@@ -53,7 +53,7 @@ module _ (watch : Watch) (start id : ℕ) (a : Analysis) (is : Analyzed watch st
           let rest_ks : rest ≡ ks = rest_is ∙ ap (drop 1) e in
           let so : SameLiterals lesson.clause (u ∷ ks) = subst (SameLiterals lesson.clause) e same in
           let by : IsSecond watch.trail.entries ks s = subst (λ ls. IsSecond watch.trail.entries ls s) rest_ks second in
-          let cut : IsCut watch.trail.entries start s.floor lesson.cut = subst (IsCut watch.trail.entries start s.floor) (sym cut_is) (is_cut watch.trail.entries start s.floor o last (floor_low watch.trail.entries start a.marks.items u ks lesson.clause s unique by so last) found none) in
+          let cut : IsCut watch.trail.entries start s.floor lesson.backjump = subst (IsCut watch.trail.entries start s.floor) (sym cut_is) (is_cut watch.trail.entries start s.floor o last (floor_low watch.trail.entries start a.marks.items u ks lesson.clause s unique by so last) found none) in
           let at : (place : ℕ) → s.floor ≤ place → place ≤ start → IsAsserting (front watch.trail.entries place) lesson.clause lesson.first = λ place l h. subst (IsAsserting (front watch.trail.entries place) lesson.clause) (sym first_u) (asserting_at watch.trail.entries start a.marks.items u ks lesson.clause s unique by so last place l h) in
           record {
             rising = rising;
@@ -61,7 +61,7 @@ module _ (watch : Watch) (start id : ℕ) (a : Analysis) (is : Analyzed watch st
             follows = follows;
             fresh = at start (omega (arith, cut.low, cut.high)) (omega arith);
             decision = cut.decision;
-            asserting = at lesson.cut cut.low cut.high;
+            asserting = at lesson.backjump cut.low cut.high;
             pair = λ long.
                 let both = pair_there watch.trail.entries start a.marks.items u ks lesson.clause s unique by so last (rest_some watch.trail.entries start a.marks.items u ks lesson.clause s unique by so last long rising) in
                 (subst (λ (l : Literal). has_literal lesson.clause l ≡ true) (sym second_is) both.0, λ f. both.1 (sym first_u ∙ f ∙ second_is));

@@ -6,6 +6,7 @@ pub mod MarksSet
 pub mod LessonLevels
 pub mod Analyses
 pub mod DeletedClauses
+pub mod CoveredDeletions
 pub mod LessonMade
 pub mod Passes
 pub mod SearchSteps

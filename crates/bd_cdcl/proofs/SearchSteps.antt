@@ -1,5 +1,5 @@
 -- A search goes on: it starts, propagates, decides and learns; and what its ends mean.
-use Rattle.std.proofs.Common.{◌≡◌, ℕ, ◌+◌, ◌<◌, ◌≤◌, Bool, true, cond, List, [], ◌∷◌, ◌++◌, Option, None, Some, length, get_or, map, refl, sym, ap, ◌∙◌, subst, inl, inr, arith, length-append}
+use Rattle.std.proofs.Common.{◌≡◌, ℕ, ◌+◌, ◌<◌, ◌≤◌, Bool, true, cond, List, [], ◌∷◌, ◌++◌, Option, None, Some, IfSome, length, get_or, map, refl, sym, ap, ◌∙◌, subst, inl, inr, arith, length-append}
 use Rattle.std.specs.Prelude.{IsSomeAnd}
 use Rattle.std.specs.List.{All, Contains}
 use Rattle.std.specs.FinMap.{get, insert}
@@ -20,9 +20,12 @@ use Rattle.bd_lrat.specs.declared.line.Line.{Line}
 use Rattle.bd_lrat.specs.declared.line.Line.TheVariants.{Add, Delete}
 use Rattle.bd_lrat.specs.Propagation.{Conflict, propagate}
 use Rattle.bd_lrat.specs.Database.{Database, database, database_of, numbered, remove_all, IsAccepted, after}
+use Rattle.bd_lrat.specs.Deletions.{IsCovered, IsCoveredDeletion, HasCoveredDeletions}
+use Rattle.bd_lrat.specs.inner.Deletions.{last_added}
 use Rattle.bd_lrat.specs.Log.{IsAcceptedLog, IsFresh, IsFreshClause, IsUnsettled, AddsRising, after_all, additions, with_added, adds_empty, adds_literals}
 use Rattle.bd_lrat.proofs.Standings.{numbered-push}
-use Rattle.bd_lrat.proofs.Ends.{after_all-push, accepted-push, with_added-append, fresh-push_addition, fresh-push_deletion, additions-push}
+use Rattle.bd_lrat.proofs.Ends.{after_all-push, accepted-push, with_added-append, fresh-push_addition, fresh-push_deletion, additions-push, last_added-push_addition, last_added-push_deletion, covered-push_addition, covered-push_deletion}
+use Rattle.bd_lrat.proofs.Closed.{closed_no_conflict}
 use Rattle.bd_cdcl.specs.declared.solver.Found.{Found}
 use Rattle.bd_cdcl.specs.declared.solver.Found.TheVariants.{Model, Refuted, Spent}
 use Rattle.bd_cdcl.specs.Law.{IsLaw, ends_empty}
@@ -30,7 +33,7 @@ use Rattle.bd_watch.specs.Levels.{Assigned, assigned, literals, decisions, IsCom
 use Rattle.bd_watch.specs.Trails.{LeveledTrail, leveled, IsLastDecision, Decides, AllAssigned, MakesTrue}
 use Rattle.bd_cdcl.specs.inner.Passes.{AllClosed}
 use Rattle.bd_cdcl.specs.inner.Search.{conflict_hints, addition, IsLearned, IsResolved, IsSearching, IsSearchingIn}
-use Rattle.bd_watch.proofs.Parts.{all_has, has_negated}
+use Rattle.bd_watch.proofs.Parts.{all_has, has_negated, part_nil}
 use Rattle.bd_watch.proofs.Placed.{complete_push, complete_consistent}
 use Rattle.bd_watch.proofs.Numbered.{numbered_past, all_from_numbered, closed_standing}
 use Rattle.bd_watch.proofs.AssertedLiterals.{asserted_complete}
@@ -51,6 +54,8 @@ search_moves_in standing p clauses trail after count log is same complete = reco
   added_rising = is.added_rising;
   stands = is.stands;
   counted = is.counted;
+  covered = is.covered;
+  last = is.last;
 }
 
 pub search_moves : (p : Problem) (clauses : List (List Literal)) (trail after : LeveledTrail) (count : ℕ) (log : List Line) → IsSearching p clauses trail count log → after.limit ≡ trail.limit → IsComplete (numbered clauses) after.entries → IsSearching p clauses after count log
@@ -123,6 +128,8 @@ search_adds standing p clauses trail after_trail count log clause hints front u 
   added_rising = rising-push_addition log id clause hints is.added_rising rising;
   stands = after_all-push (database_of p) log line ∙ ap (λ d. after d line) is.stands ∙ stand;
   counted = additions-push log line ∙ ap (λ b. additions log + cond b 1 0) (counts id clause hints u asserting.here) ∙ ap (λ n. n + 1) is.counted;
+  covered = covered-push_addition (database_of p) None log id clause hints is.covered;
+  last = λ low. last_added-push_addition None log id clause hints ∙ ap (λ n. Some n) (sym (length-append clauses (clause ∷ [])));
 }
   where
     id : ℕ
@@ -148,23 +155,32 @@ search_adds standing p clauses trail after_trail count log clause hints front u 
         let size : length (clauses ++ clause ∷ []) ≡ length clauses + 1 = length-append clauses (clause ∷ []) in
         ap (λ n. database p.vars n (insert standing (length clauses + 1) clause)) (sym size)
 
--- a line that deletes clauses
-pub search_deletes : (standing : Standing) (p : Problem) (clauses : List (List Literal)) (trail : LeveledTrail) (count : ℕ) (log : List Line) (id : ℕ) (ids : List ℕ) → IsSearchingIn standing p clauses trail count log → IsComplete (remove_all standing ids) trail.entries → IsSearchingIn (remove_all standing ids) p clauses trail count (log ++ Delete id ids ∷ [])
-search_deletes standing p clauses trail count log id ids is complete = record {
+-- a line that deletes clauses that the rest covers, where propagation has ended without a conflict
+pub search_deletes : (standing : Standing) (p : Problem) (clauses : List (List Literal)) (trail : LeveledTrail) (count : ℕ) (log : List Line) (ids : List ℕ) → IsSearchingIn standing p clauses trail count log → 0 < count → AreClosed standing (literals trail.entries) → All (λ gone. IfSome (get standing gone) (IsCovered (remove_all standing ids))) ids → IsComplete (remove_all standing ids) trail.entries → IsSearchingIn (remove_all standing ids) p clauses trail count (log ++ Delete (length clauses) ids ∷ [])
+search_deletes standing p clauses trail count log ids is some closed covers complete = record {
   limit = is.limit;
   complete = complete;
   rising = is.rising;
   within = is.within;
   known = λ c h. is.known c (subst (λ cs. Contains cs c) (with_added-append p.clauses log (line ∷ [])) h);
   accepted = accepted-push (database_of p) log line is.accepted tt;
-  fresh = fresh-push_deletion (database_of p) p.clauses log id ids is.fresh;
-  added_rising = rising-push_deletion log id ids is.added_rising;
+  fresh = fresh-push_deletion (database_of p) p.clauses log (length clauses) ids is.fresh;
+  added_rising = rising-push_deletion log (length clauses) ids is.added_rising;
   stands = after_all-push (database_of p) log line ∙ ap (λ d. after d line) is.stands;
   counted = additions-push log line ∙ (omega (arith, is.counted));
+  covered = covered-push_deletion (database_of p) None log (length clauses) ids is.covered (subst (λ (db : Database). IsCoveredDeletion db (last_added None log) (length clauses) ids) (sym is.stands) deletion);
+  last = λ low. last_added-push_deletion None log (length clauses) ids ∙ is.last low;
 }
   where
     line : Line
-    line = Delete id ids
+    line = Delete (length clauses) ids
+
+    deletion : IsCoveredDeletion (database p.vars (length clauses) standing) (last_added None log) (length clauses) ids
+    deletion = record {
+      last = is.last some;
+      no_conflict = λ hints. closed_no_conflict standing (literals trail.entries) (complete_consistent standing trail.entries is.complete) closed hints [] (part_nil (literals trail.entries));
+      covered = covers;
+    }
 
 -- a search learns from a conflict above level 0
 pub search_learns : (p : Problem) (clauses new : List (List Literal)) (trail after : LeveledTrail) (count more : ℕ) (log lines : List Line) (conflict : ℕ) → IsSearching p clauses trail count log → IsConflict (numbered clauses) trail.entries conflict → IsLearned clauses new trail after log lines conflict → more ≡ count + 1 → IsSearching p new after more lines
@@ -207,6 +223,7 @@ search_refutes standing p clauses trail count budget log lines conflict is low a
       answer = ap ends_empty logged ∙ ends-push log line;
       accepted = subst (IsAcceptedLog (database_of p)) (sym logged) (accepted-push (database_of p) log line is.accepted accepted);
       fresh = subst (IsFresh p) (sym logged) (fresh-push_addition (database_of p) p.clauses log (length clauses + 1) [] hints is.fresh (λ apart. absurd (apart refl)));
+      covered = subst (HasCoveredDeletions p) (sym logged) (covered-push_addition (database_of p) None log (length clauses + 1) [] hints is.covered);
       rising = subst AddsRising (sym logged) (rising-push_addition log (length clauses + 1) [] hints is.added_rising tt);
       within = subst (λ ls. additions ls ≤ budget) (sym logged) (let same : additions (log ++ line ∷ []) ≡ additions log + 0 = additions-push log line in omega (arith, same, is.counted));
     }
@@ -220,6 +237,7 @@ search_spends standing p clauses trail count budget log lines conflict front d r
       answer = (is.counted ∙ spent, subst (λ (db : Database). IsUnsettled db.clauses) (sym is.stands) unsettled);
       accepted = is.accepted;
       fresh = is.fresh;
+      covered = is.covered;
       rising = is.added_rising;
       within = omega (arith, is.counted, spent);
     })
@@ -235,6 +253,7 @@ search_satisfies standing p clauses trail count budget log a is low closed all h
   answer = satisfies_all (value_of a) p.clauses (λ k d h. holds_clause (get_or p.clauses k d) (is.known (get_or p.clauses k d) (earlier_known p.clauses log (get_or p.clauses k d) (Contains-get_or p.clauses k d h))));
   accepted = is.accepted;
   fresh = is.fresh;
+  covered = is.covered;
   rising = is.added_rising;
   within = omega (arith, is.counted);
 }

@@ -5,6 +5,7 @@ use Rattle.bd_cnf.specs.Clause.{Satisfies}
 use Rattle.bd_cnf.specs.Problem.{Problem}
 use Rattle.bd_lrat.specs.declared.line.Line.{Line}
 use Rattle.bd_lrat.specs.Database.{database_of}
+use Rattle.bd_lrat.specs.Deletions.{HasCoveredDeletions}
 use Rattle.bd_lrat.specs.Log.{IsAcceptedLog, IsFresh, IsUnsettled, AddsRising, after_all, adds_empty, additions}
 use Rattle.bd_cdcl.specs.declared.solver.Found.{Found}
 use Rattle.bd_cdcl.specs.declared.solver.Found.TheVariants.{Model, Refuted, Spent}
@@ -21,11 +22,12 @@ IsAnswer problem budget log (Model assignment) = Satisfies (value_of assignment)
 IsAnswer problem budget log Refuted = IsTrue (ends_empty log)
 IsAnswer problem budget log Spent = (additions log ≡ budget) × IsUnsettled (after_all (database_of problem) log).clauses
 
--- the law of an honest solver: its answer is right, each line of its log is accepted on what stands before it, the log is fresh, each clause that it adds is by rising variable, and no more clauses of one literal or more are added than the budget allows
+-- the law of an honest solver: its answer is right, each line of its log is accepted on what stands before it, the log is fresh, its deletions are covered, each clause that it adds is by rising variable, and no more clauses of one literal or more are added than the budget allows
 pub record IsLaw (problem : Problem) (budget : ℕ) (found : Found) (log : List Line) : Type 0 where
   pub answer : IsAnswer problem budget log found
   pub accepted : IsAcceptedLog (database_of problem) log
   pub fresh : IsFresh problem log
+  pub covered : HasCoveredDeletions problem log
   pub rising : AddsRising log
   pub within : additions log ≤ budget
 

@@ -1,11 +1,32 @@
-//! A solver by watched literals and clauses of first unique implication points. It goes back to the
-//! second highest level of each, and now and then further, where it deletes the clauses that are true
-//! for good. It ends, since each conflict above level 0 adds a clause of the budget, such a return
-//! comes only after one, and between two of these the variables without a value become
-//! fewer.
+//! A conflict-driven solver by watched literals and clauses of first unique implication points.
+//!
+//! | File | What it does |
+//! |---|---|
+//! | `search` | decides, propagates, learns, restarts, to an end |
+//! | `analyze` | takes a conflict apart, to the first unique implication point |
+//! | `learn` | the learned clause, its LBD, and where the backjump goes |
+//! | `minimize` | which literals a learned clause may do without |
+//! | `reduce` | which clauses are deleted, and why the law holds |
+//! | `restart` | when a restart is due |
+//! | `vmtf` | which variable is decided next |
+//! | `phase` | with which sign |
+//! | `guide` | the last three together |
+//!
+//! It ends, since each conflict above level 0 adds a clause of the budget, a restart comes only after
+//! one, and between two of these the variables without a value become fewer.
 ghost use Rattle.std.specs.Prelude.{true};
 
-use crate::descent::Descent;
+mod analyze;
+mod guide;
+mod learn;
+mod minimize;
+mod phase;
+mod reduce;
+mod restart;
+mod search;
+mod vmtf;
+
+use self::search::CompleteSearch;
 use crate::solver::{Found, HonestSolver, Solver};
 use bd_cnf::Cnf;
 use bd_lrat::Log;
@@ -15,12 +36,17 @@ use std::alloc::{AllocError, Global};
 #[derive(Drop)]
 pub struct Cdcl {
     alloc: Global,
+    /// The search of the last formula as it ended: its trail is complete, and its deletions covered.
+    search: Option<CompleteSearch>,
 }
 
 impl Cdcl {
     /// Takes no memory.
     pub fn new(alloc: Global) -> Cdcl {
-        Cdcl { alloc }
+        Cdcl {
+            alloc,
+            search: None,
+        }
     }
 }
 
@@ -31,9 +57,13 @@ impl Solver for Cdcl {
 
     ghost says = { λ _ problem budget found log. IsLaw problem budget found log };
 
+    /// Searches anew, and keeps the search as it ends.
     fn solve(&mut self, cnf: &Cnf, budget: u32, log: &mut Log) -> Result<Found, AllocError> {
-        let mut descent = Descent::new(self.alloc, cnf)?;
-        descent.finish(self.alloc, cnf, budget, log)
+        self.search = None;
+        let search = CompleteSearch::new(self.alloc, cnf)?;
+        let (found, ended) = search.finish(self.alloc, cnf, budget, log)?;
+        self.search = Some(ended);
+        Ok(found)
     }
 }
 

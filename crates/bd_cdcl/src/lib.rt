@@ -1,24 +1,17 @@
-//! Solvers that settle a formula in conjunctive normal form and log what they add.
+//! Solvers that settle a formula in conjunctive normal form and log what they add: `Plain`, which is
+//! small, and `Cdcl`, which is fast. `solver.rt` says what a solver is, `plain.rt` and `cdcl.rt` how
+//! each of them searches.
 #![tactic(auto)]
 
-mod analysis;
 mod cdcl;
-mod deletion;
-mod descent;
-mod guide;
+mod conflict;
 mod laws;
-mod lesson;
-mod order;
 mod plain;
-mod propagation;
-mod reach;
-mod restarts;
 mod scripted;
-mod search;
 mod solver;
 
 pub use cdcl::Cdcl;
-pub use laws::spent_budgets_are_short;
+pub use laws::{needed_clauses_stay, spent_budgets_are_short};
 pub use plain::Plain;
 pub use scripted::Scripted;
 pub use solver::{Found, HonestSolver, Solver};

@@ -4,8 +4,11 @@
 //! two conflicts the variables without a value become fewer.
 ghost use Rattle.std.specs.Prelude.{true};
 
-use crate::propagation::propagate;
-use crate::search::{Search, copied};
+mod propagation;
+mod search;
+
+use self::propagation::propagate;
+use self::search::{PlainSearch, copied};
 use crate::solver::{Found, HonestSolver, Solver};
 use bd_cnf::Cnf;
 use bd_lrat::Log;
@@ -34,7 +37,7 @@ impl Solver for Plain {
 
     fn solve(&mut self, cnf: &Cnf, budget: u32, log: &mut Log) -> Result<Found, AllocError> {
         let alloc = self.alloc;
-        let mut search = Search {
+        let mut search = PlainSearch {
             clauses: copied(alloc, cnf)?,
             learned: 0,
             trail: AssignmentTrail::new(alloc, cnf.vars())?,

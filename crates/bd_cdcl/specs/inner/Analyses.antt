@@ -13,9 +13,9 @@ use Rattle.bd_watch.specs.declared.watch.Watch.{Watch}
 use Rattle.bd_watch.specs.Levels.{Assigned, reasons}
 use Rattle.bd_watch.specs.Trails.{IsDecisionAt}
 use Rattle.bd_watch.specs.Watching.{front, IsAsserting}
-use Rattle.bd_cdcl.specs.declared.lesson.Lesson.{Lesson}
-use Rattle.bd_cdcl.specs.declared.lesson.Second.{Second}
-use Rattle.bd_cdcl.specs.declared.analysis.Analysis.{Analysis}
+use Rattle.bd_cdcl.specs.declared.cdcl.learn.Lesson.{Lesson}
+use Rattle.bd_cdcl.specs.declared.cdcl.learn.Second.{Second}
+use Rattle.bd_cdcl.specs.declared.cdcl.analyze.Analysis.{Analysis}
 use Rattle.bd_cdcl.specs.inner.Analysis.{marked, IsAnalyzing, Marks}
 use Rattle.bd_cdcl.specs.inner.Deletions.{IsReduced}
 
@@ -67,7 +67,7 @@ pub record IsLesson (watch : Watch) (start : ℕ) (lesson : Lesson) : Type 0 whe
   pub below : IsBelow watch.trail.limit lesson.clause
   pub follows : (standing : Standing) → IsReduced watch.clauses watch.trail.entries standing → propagate standing (map negate lesson.clause) lesson.hints ≡ Conflict
   pub fresh : IsAsserting (front watch.trail.entries start) lesson.clause lesson.first
-  pub decision : IsDecisionAt watch.trail.entries lesson.cut
-  pub asserting : IsAsserting (front watch.trail.entries lesson.cut) lesson.clause lesson.first
+  pub decision : IsDecisionAt watch.trail.entries lesson.backjump
+  pub asserting : IsAsserting (front watch.trail.entries lesson.backjump) lesson.clause lesson.first
   pub pair : 2 ≤ length lesson.clause → (has_literal lesson.clause lesson.second ≡ true) × (lesson.first ≢ lesson.second)
-  pub levels : (place : ℕ) → place < lesson.cut → IsDecisionAt watch.trail.entries place → (2 ≤ length lesson.clause) × (has_variable (front watch.trail.entries place) lesson.second.var ≡ false)
+  pub levels : (place : ℕ) → place < lesson.backjump → IsDecisionAt watch.trail.entries place → (2 ≤ length lesson.clause) × (has_variable (front watch.trail.entries place) lesson.second.var ≡ false)

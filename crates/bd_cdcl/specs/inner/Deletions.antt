@@ -4,12 +4,15 @@ use Rattle.std.specs.List.{All}
 use Rattle.std.specs.FinMap.{get}
 use Rattle.bd_cnf.specs.Literal.{Literal, has_literal}
 use Rattle.bd_cnf.specs.Standing.{Standing}
+use Rattle.bd_cnf.specs.Trail.{AreClosed}
 use Rattle.bd_lrat.specs.declared.line.Line.{Line}
 use Rattle.bd_lrat.specs.declared.line.Line.TheVariants.{Delete}
-use Rattle.bd_lrat.specs.Database.{numbered}
+use Rattle.bd_lrat.specs.Database.{numbered, remove_all}
+use Rattle.bd_lrat.specs.Deletions.{IsCovered}
 use Rattle.bd_watch.specs.declared.watch.Watch.{Watch}
-use Rattle.bd_watch.specs.Levels.{Assigned}
+use Rattle.bd_watch.specs.Levels.{Assigned, literals}
 use Rattle.bd_watch.specs.Trails.{IsDecisionAt}
+use Rattle.bd_cdcl.specs.declared.cdcl.reduce.Deletion.{Deletion}
 
 -- a literal of level 0: it stands in front of all decisions
 pub record IsFixed (trail : List Assigned) (a : Assigned) : Type 0 where
@@ -38,13 +41,22 @@ pub record IsReduced (clauses : List (List Literal)) (trail : List Assigned) (st
   pub kept : (id : ℕ) → IfSome (get standing id) (λ clause. get (numbered clauses) id ≡ Some clause)
   pub gone : (id : ℕ) → get standing id ≡ None → IfSome (get (numbered clauses) id) (IsSatisfied trail id)
 
--- a line was logged that deletes clauses
-pub record IsDeleting (clauses : List (List Literal)) (trail : List Assigned) (log lines : List Line) : Type 0 where
-  pub id : ℕ
+-- what stands of the clauses, after those with these ids were deleted
+abbrev pub standing_of : List (List Literal) → List ℕ → Standing
+standing_of clauses deleted = remove_all (numbered clauses) deleted
+
+-- what stands covers each clause that was deleted
+abbrev pub AreCovered : List (List Literal) → Standing → Type 0
+AreCovered clauses standing = (id : ℕ) → get standing id ≡ None → IfSome (get (numbered clauses) id) (IsCovered standing)
+
+-- a line was logged that deletes clauses, with the id of the last clause, where no clause is false or unit
+pub record IsDeleting (clauses : List (List Literal)) (trail : List Assigned) (deleted all : List ℕ) (log lines : List Line) : Type 0 where
   pub ids : List ℕ
   pub satisfied : All (MayDelete clauses trail) ids
-  pub logged : lines ≡ log ++ Delete id ids ∷ []
+  pub closed : AreClosed (numbered clauses) (literals trail)
+  pub noted : all ≡ deleted ++ ids
+  pub logged : lines ≡ log ++ Delete (length clauses) ids ∷ []
 
 -- or none was
-abbrev pub Deletes : Watch → List Line → List Line → Type 0
-Deletes watch log lines = (lines ≡ log) ⊎ IsDeleting watch.clauses watch.trail.entries log lines
+abbrev pub Deletes : Watch → Deletion → Deletion → List Line → List Line → Type 0
+Deletes watch old new log lines = ((new.deleted.items ≡ old.deleted.items) × (lines ≡ log)) ⊎ IsDeleting watch.clauses watch.trail.entries old.deleted.items new.deleted.items log lines

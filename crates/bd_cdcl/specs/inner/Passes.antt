@@ -4,8 +4,8 @@ use Rattle.std.specs.List.{All}
 use Rattle.bd_cnf.specs.Literal.{Literal}
 use Rattle.bd_lrat.specs.Database.{numbered}
 use Rattle.bd_cnf.specs.Trail.{IsClosed}
-use Rattle.bd_cdcl.specs.declared.propagation.Passed.{Passed}
-use Rattle.bd_cdcl.specs.declared.propagation.Passed.TheVariants.{Conflict, Extended, Closed}
+use Rattle.bd_cdcl.specs.declared.plain.propagation.Passed.{Passed}
+use Rattle.bd_cdcl.specs.declared.plain.propagation.Passed.TheVariants.{Conflict, Extended, Closed}
 use Rattle.bd_watch.specs.Levels.{Assigned, literals}
 use Rattle.bd_watch.specs.Trails.{LeveledTrail}
 use Rattle.bd_watch.specs.Watching.{IsConflict}

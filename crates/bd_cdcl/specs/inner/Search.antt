@@ -1,5 +1,5 @@
 -- A search for an assignment by decisions, and what a conflict leads to.
-use Rattle.std.specs.Prelude.{◌≡◌, ℕ, ◌+◌, ◌≤◌, List, [], ◌++◌, ◌∷◌, Option, None, Some, length, map}
+use Rattle.std.specs.Prelude.{◌≡◌, ℕ, ◌+◌, ◌<◌, ◌≤◌, List, [], ◌++◌, ◌∷◌, Option, None, Some, length, map}
 use Rattle.std.specs.List.{All, Contains}
 use Rattle.bd_cnf.specs.Literal.{Literal, negate}
 use Rattle.bd_cnf.specs.Clause.{IsRising, SameLiterals}
@@ -10,8 +10,10 @@ use Rattle.bd_lrat.specs.declared.line.Hint.TheVariants as hint
 use Rattle.bd_lrat.specs.declared.line.Line.{Line}
 use Rattle.bd_lrat.specs.declared.line.Line.TheVariants.{Add}
 use Rattle.bd_lrat.specs.Database.{database, database_of, numbered}
+use Rattle.bd_lrat.specs.Deletions.{HasCoveredDeletions}
+use Rattle.bd_lrat.specs.inner.Deletions.{last_added}
 use Rattle.bd_lrat.specs.Log.{IsAcceptedLog, IsFresh, AddsRising, after_all, additions, with_added}
-use Rattle.bd_cdcl.specs.declared.search.Search.{Search}
+use Rattle.bd_cdcl.specs.declared.plain.search.PlainSearch.{PlainSearch}
 use Rattle.bd_cdcl.specs.declared.solver.Found.{Found}
 use Rattle.bd_cdcl.specs.declared.solver.Found.TheVariants.{Model, Refuted, Spent}
 use Rattle.bd_watch.specs.Levels.{Assigned, assigned, decisions, reasons, IsComplete}
@@ -47,7 +49,7 @@ IsResolved clauses new trail after log lines conflict added count budget (Some R
 IsResolved clauses new trail after log lines conflict added count budget (Some Spent) = (lines ≡ log) × (added ≡ budget) × ((front : List Assigned) × (last : Literal) × (rest : List Assigned) × IsLastDecision trail.entries front last rest)
 
 -- the same of two states of a search
-abbrev pub Resolves : Search → Search → List Line → List Line → ℕ → ℕ → Option Found → Type 0
+abbrev pub Resolves : PlainSearch → PlainSearch → List Line → List Line → ℕ → ℕ → Option Found → Type 0
 Resolves old new log lines conflict budget found = IsResolved old.clauses.items new.clauses.items old.trail new.trail log lines conflict old.learned new.learned budget found
 
 -- a search over a formula, as far as it has come: of its clauses those stand that weren't deleted
@@ -62,6 +64,8 @@ pub record IsSearchingIn (standing : Standing) (problem : Problem) (clauses : Li
   pub added_rising : AddsRising log
   pub stands : after_all (database_of problem) log ≡ database problem.vars (length clauses) standing
   pub counted : additions log ≡ count
+  pub covered : HasCoveredDeletions problem log
+  pub last : 0 < count → last_added None log ≡ Some (length clauses)
 
 -- a search that deletes none
 abbrev pub IsSearching : Problem → List (List Literal) → LeveledTrail → ℕ → List Line → Type 0

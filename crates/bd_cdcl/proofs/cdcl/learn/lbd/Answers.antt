@@ -1,0 +1,13 @@
+use Rattle.std.proofs.Common.{◌≡◌, true, sym, subst}
+use Rattle.bd_cnf.specs.Literal.{negate, has_variable}
+use Rattle.bd_cnf.proofs.Literals.{has_at}
+use Rattle.bd_cnf.proofs.Closed.{has_variable_of}
+use Rattle.bd_watch.specs.Levels.{literals}
+use Rattle.bd_watch.specs.Trails.{LeveledTrail}
+use Rattle.bd_cdcl.proofs.cdcl.learn.lbd.Goals as goal
+
+pub place-requires : goal.place-requires
+place-requires c =
+    let l = c.packed-item.result in
+    let bad = c.requires.falsified l (has_at c.loop-packed.packed-index c.args.lits.now l l c.loop-packed-test.true c.packed-item.is) in
+    subst (λ (t : LeveledTrail). has_variable (literals t.entries) l.var ≡ true) (sym c.trail-trail.ensures) (has_variable_of (literals c.args.watch.now.trail.entries) (negate l) bad)

@@ -1,6 +1,0 @@
-use Rattle.std.specs.List.{All}
-use Rattle.bd_cdcl.specs.inner.Deletions.{MayDelete}
-use Rattle.bd_cdcl.proofs.deletion.Deletion.found.Given as goal
-
-abbrev pub invariant-loop-place : goal.invariant-loop-place
-invariant-loop-place l = All (MayDelete l.watch.clauses l.watch.trail.entries) l.ids.items

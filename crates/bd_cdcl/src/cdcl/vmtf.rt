@@ -1,0 +1,185 @@
+//! Variable move to front (VMTF: Ryan, 2004; Biere and Fröhlich, 2015): of the variables without a
+//! value the one is decided next that was seen in a conflict last. They stand in a queue, and those
+//! that a conflict goes through move to its end. The queue only proposes: whether what it says is a
+//! variable, and has no value, is tested by whoever asks.
+use bd_cnf::PackedLit;
+use bd_watch::{Assigned, AssignmentTrail};
+use std::alloc::{AllocError, Global};
+
+/// What is known of a variable. The variables stand in a queue; 0 is none.
+#[derive(Clone, Copy)]
+struct Candidate {
+    /// The one in front of it.
+    before: usize,
+    /// The one after it.
+    after: usize,
+    /// When it was put at the end of the queue.
+    moved: u64,
+}
+
+/// A variable that was seen in the conflict at hand.
+#[derive(Clone, Copy)]
+struct Seen {
+    var: usize,
+    moved: u64,
+}
+
+/// All variables, in a queue by when they were seen last.
+#[derive(Drop)]
+pub(crate) struct VariableQueue {
+    candidates: Vec<Candidate>,
+    /// The one at the end of the queue.
+    last: usize,
+    /// Those after it have values.
+    next: usize,
+    /// How often a variable was put at the end.
+    moves: u64,
+    /// Those of the conflict at hand.
+    seen: Vec<Seen>,
+}
+
+impl VariableQueue {
+    /// All variables up to `vars`, the greatest at the end.
+    pub(crate) fn new(alloc: Global, vars: u64) -> Result<VariableQueue, AllocError> {
+        let count = vars.checked_add(1).ok_or(AllocError)? as usize;
+        let alone = Candidate {
+            before: 0,
+            after: 0,
+            moved: 0,
+        };
+        let mut order = VariableQueue {
+            candidates: vec![in alloc; alone; count]?,
+            last: 0,
+            next: 0,
+            moves: 0,
+            seen: Vec::new(alloc),
+        };
+        order.start_over();
+        Ok(order)
+    }
+
+    /// Puts all variables into their first order.
+    pub(crate) fn start_over(&mut self) {
+        self.last = 0;
+        for var in 1..self.candidates.len() {
+            self.append(var);
+        }
+        self.next = self.last;
+    }
+
+    fn candidate(&self, var: usize) -> Option<Candidate> {
+        self.candidates.get(var).copied()
+    }
+
+    /// Puts a variable that isn't in the queue at its end.
+    fn append(&mut self, var: usize) {
+        let last = self.last;
+        if let Some(candidate) = self.candidates.get_mut(last) {
+            candidate.after = var;
+        }
+        self.moves = self.moves.wrapping_add(1);
+        if let Some(candidate) = self.candidates.get_mut(var) {
+            candidate.before = last;
+            candidate.after = 0;
+            candidate.moved = self.moves;
+        }
+        self.last = var;
+    }
+
+    /// Takes a variable that isn't the last out of the queue.
+    fn unlink(&mut self, candidate: Candidate) {
+        let Candidate { before, after, .. } = candidate;
+        if let Some(neighbour) = self.candidates.get_mut(before) {
+            neighbour.after = after;
+        }
+        if let Some(neighbour) = self.candidates.get_mut(after) {
+            neighbour.before = before;
+        }
+    }
+
+    /// Moves a variable with a value to the end of the queue.
+    fn move_to_end(&mut self, var: usize) {
+        if var == self.last {
+            return;
+        }
+        let Some(candidate) = self.candidate(var) else {
+            return;
+        };
+        if self.next == var {
+            self.next = if candidate.before > 0 {
+                candidate.before
+            } else {
+                candidate.after
+            };
+        }
+        self.unlink(candidate);
+        self.append(var);
+    }
+
+    /// Takes note that a variable was seen in a conflict.
+    pub(crate) fn see(&mut self, packed: PackedLit) -> Result<(), AllocError> {
+        let var = packed.variable();
+        if let Some(candidate) = self.candidate(var) {
+            let moved = candidate.moved;
+            self.seen.push(Seen { var, moved })?;
+        }
+        Ok(())
+    }
+
+    /// Moves the variables that were seen to the end of the queue, in the order in which they stand.
+    pub(crate) fn requeue(&mut self) {
+        self.seen.sort_unstable_by_key(|seen| seen.moved);
+        for index in 0..self.seen.len() {
+            if let Some(&Seen { var, .. }) = self.seen.get(index) {
+                self.move_to_end(var);
+            }
+        }
+        self.seen.clear();
+    }
+
+    /// Takes note of literals that are taken off the trail, whose variables have no value again.
+    pub(crate) fn release(&mut self, entries: &[Assigned]) {
+        for entry in entries {
+            let var = entry.literal().variable();
+            let latest = self.candidate(self.next).map_or(0, |c| c.moved);
+            let moved = self.candidate(var).map_or(0, |c| c.moved);
+            if moved > latest {
+                self.next = var;
+            }
+        }
+    }
+
+    /// Up to where a restart takes the trail back: the decisions before that place would be made again
+    /// at once (van der Tak, Ramos and Heule, 2011).
+    pub(crate) fn restart_place(&mut self, trail: &AssignmentTrail) -> usize {
+        let next = match self.propose(trail) {
+            Some(var) => self.candidate(var as usize).map_or(0, |c| c.moved),
+            None => 0,
+        };
+        let entries = trail.as_slice();
+        for (place, entry) in entries.iter().enumerate() {
+            let var = entry.literal().variable();
+            let moved = self.candidate(var).map_or(0, |c| c.moved);
+            if entry.reason().is_none() && moved <= next {
+                return place;
+            }
+        }
+        entries.len()
+    }
+
+    /// A variable that may have no value.
+    pub(crate) fn propose(&mut self, trail: &AssignmentTrail) -> Option<u64> {
+        for _ in 0..self.candidates.len() {
+            let candidate = self.candidate(self.next)?;
+            let var = self.next as u64;
+            if var > 0 && var < trail.limit() && trail.is_free(var) {
+                return Some(var);
+            }
+            if candidate.before == 0 {
+                return None;
+            }
+            self.next = candidate.before;
+        }
+        None
+    }
+}
