@@ -60,5 +60,5 @@ pub fn needed_clause_is_not_covered()
 pub fn needed_clause_is_not_deleted()
     ensures { (added : Option ℕ) (id : ℕ) →
         ¬ DeletesCovered (database_of (problem 2 square_and_unit)) added
-            (Delete id (5 ∷ []) ∷ []) }
+        (Delete id (5 ∷ []) ∷ []) }
 {}

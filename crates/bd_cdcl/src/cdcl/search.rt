@@ -160,8 +160,7 @@ impl Search {
         self.restarts = false;
         let place = self.guide.queue.restart_place(self.watch.trail());
         if let Some(start) = self.watch.trail().start_from(place) {
-            self.guide
-                .release(&self.watch.trail().as_slice()[start..]);
+            self.guide.release(&self.watch.trail().as_slice()[start..]);
             self.watch.go_back_to(start);
         }
     }
