@@ -80,6 +80,9 @@ pub static LETS: [(Sort, Draft); 2] = [
     (Sort::Memory, Write(&M, &FIVE, &X)),
 ];
 
+/// The values of the two lets in the first case.
+pub static LET_VALUES: [Held; 2] = [Word(5), Memory(0, &[(5, 7), (7, 3)])];
+
 /// Expressions, and their values in the first case.
 pub static FORMS: [(Draft, Held); 28] = [
     (Truth(true), Bit(true)),

@@ -15,7 +15,10 @@ ghost use Rattle.bd_sim.specs.inner.Env.{env_view, IsMadeWhole};
 ghost use Rattle.bd_sim.specs.inner.Writes.{kept_value, IsMade};
 
 use crate::writes::{Chain, Kept, Memories};
-use bd_model::{Expr, Exprs, Local, Memory, Scalar, Sequence, Slot, Table, Value};
+use bd_model::{
+    Design, Expr, Exprs, Inputs, Interp, LetValues, Local, Memory, Scalar, Sequence, Slot, State,
+    Table, Value,
+};
 use std::alloc::{AllocError, Global};
 
 /// What names stand for where an expression is valued.
@@ -40,16 +43,7 @@ impl<'a> Env<'a> {
         ensures { IfOk result (λ env. env_view env
             ≡ env_of (map local_view locals.now) interp.now state.now inputs.now) }
     {
-        let mut env = Env {
-            alloc,
-            interp,
-            inputs,
-            lets: Vec::new(alloc),
-            memories: Memories {
-                state,
-                writes: Vec::new(alloc),
-            },
-        };
+        let mut env = Env::given(alloc, interp, state, inputs, &[]);
         for local in locals {
             let next = keep(&mut env, &local.value)?;
             env.lets.push(next)?;
@@ -57,13 +51,56 @@ impl<'a> Env<'a> {
         Ok(env)
     }
 
-    /// What the let at this place is kept as, where there is one.
+    /// What names stand for where the first lets have these values.
+    fn given(
+        alloc: Global,
+        interp: &'a [Table],
+        state: &'a [Value],
+        inputs: &'a [Scalar],
+        lets: &'a [Value],
+    ) -> Env<'a>
+        ensures view { env_view result ≡ record {
+          interp = interp.now;
+          state = state.now;
+          inputs = inputs.now;
+          locals = lets.now;
+        } }
+        ensures made { IsMadeWhole result }
+    {
+        Env {
+            alloc,
+            interp,
+            inputs,
+            lets: Vec::new(alloc),
+            memories: Memories {
+                state,
+                given: lets,
+                writes: Vec::new(alloc),
+            },
+        }
+    }
+
+    /// What the let at this place is, where there is one.
     fn local(&self, i: u32) -> Kept
         ensures value { kept_value self.now.memories result
             ≡ slice_index_or (env_view self.now).locals i (truth_value false) }
         ensures made { IsMadeWhole self.now → IsMade self.now.memories result }
     {
-        match self.lets.get(i as usize) {
+        match self.memories.given.get(i as usize) {
+            Some(Value::Scalar(scalar)) => Kept::Scalar(*scalar),
+            Some(Value::Memory(_)) => Kept::Memory(Chain::Given(i)),
+            None => self.kept(i as usize - self.memories.given.len()),
+        }
+    }
+
+    /// What the let at this place after those that were handed in is kept as, where there is one.
+    fn kept(&self, place: usize) -> Kept
+        ensures value { kept_value self.now.memories result
+            ≡ slice_index_or (map (kept_value self.now.memories) self.now.lets.items) place
+            (truth_value false) }
+        ensures made { IsMadeWhole self.now → IsMade self.now.memories result }
+    {
+        match self.lets.get(place) {
             Some(kept) => *kept,
             None => Kept::Scalar(Scalar::Bool(false)),
         }
@@ -73,7 +110,7 @@ impl<'a> Env<'a> {
     pub fn let_values(&self) -> Result<Vec<Value>, AllocError>
         ensures { IfOk result (λ v. v.items ≡ (env_view self.now).locals) }
     {
-        let mut values = Vec::new(self.alloc);
+        let mut values = self.memories.given.to_vec(self.alloc)?;
         for kept in &self.lets {
             values.push(self.memories.value(self.alloc, *kept)?)?;
         }
@@ -114,6 +151,31 @@ fn keep(env: &mut Env, expr: &Expr) -> Result<Kept, AllocError>
         }
         _ => Ok(Kept::Scalar(scalar(env, expr)?)),
     }
+}
+
+/// The value of an expression of the design, where the lets that it names have these values. A place past the
+/// end or a part of another sort has the value false, 0 or the memory of zeros.
+pub fn eval(
+    alloc: Global,
+    _design: &Design,
+    expr: &Expr,
+    interp: &Interp,
+    state: &State,
+    inputs: &Inputs,
+    lets: &LetValues,
+) -> Result<Value, AllocError>
+    ensures { IfOk result (λ v. v ≡ value_of
+        (record { interp = interp.now; state = state.now; inputs = inputs.now; locals = lets.now })
+        (expr_view expr.now)) }
+{
+    let env = Env::given(
+        alloc,
+        interp.as_slice(),
+        state.as_slice(),
+        inputs.as_slice(),
+        lets.as_slice(),
+    );
+    value(&env, expr)
 }
 
 /// The values of expressions, in order.

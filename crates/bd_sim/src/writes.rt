@@ -13,11 +13,12 @@ ghost use Rattle.bd_sim.specs.inner.Writes.{memory_after, memory_at, kept_value,
 use bd_model::{Memory, Scalar, Sequence, Slot, Value};
 use std::alloc::{AllocError, Global};
 
-/// A memory: that of zeros, one of a state's entries, or one that a write made.
+/// A memory: that of zeros, one of a state's entries, one of the lets that were handed in, or one that a write made.
 #[derive(Clone, Copy)]
 pub enum Chain {
     Zeros,
     Entry(u32),
+    Given(u32),
     Written(usize),
 }
 
@@ -58,10 +59,11 @@ impl Kept {
     }
 }
 
-/// The values of a state, and the writes over its memories.
+/// The values that were handed in, and the writes over their memories.
 #[derive(Drop)]
 pub struct Memories<'a> {
     pub state: &'a [Value],
+    pub given: &'a [Value],
     pub writes: Vec<Write>,
 }
 
@@ -154,6 +156,7 @@ impl<'a> Memories<'a> {
     {
         match chain {
             Chain::Entry(i) => memory_of(self.state, i as usize),
+            Chain::Given(i) => memory_of(self.given, i as usize),
             _ => None,
         }
     }

@@ -10,7 +10,7 @@ returns-then-place-count-clause-none c none =
     let front = take c.args.count m.writes.items in
     let size = length-take-le c.args.count m.writes.items (omega (arith, c.requires)) in
     ap (memory_after m c.args.count) c.in-Written.is
-    ∙ chain-past m.state.now front c.in-Written.place (omega (arith, size, c.if-place-count.true))
+    ∙ chain-past m.state.now m.given.now front c.in-Written.place (omega (arith, size, c.if-place-count.true))
     ∙ sym (ap (memory_after m 0) c.in-Written.is)
 
 pub returns-else-place-count-clause-made : goal.returns-else-place-count-clause-made
@@ -20,5 +20,5 @@ returns-else-place-count-clause-made c =
     let w = c.index.result.now in
     let size = length-take-le c.args.count m.writes.items (omega (arith, c.requires)) in
     ap (memory_after m c.args.count) c.in-Written.is
-    ∙ chain-written m.state.now front c.in-Written.place w (omega (arith, size, c.if-place-count.false)) (get_or-take c.args.count m.writes.items c.in-Written.place w (omega (arith, c.if-place-count.false)) ∙ sym c.index.ensures)
-    ∙ ap (λ ws. written m.state.now (made_by m.state.now ws) w) (take-take c.in-Written.place c.args.count m.writes.items (omega (arith, c.if-place-count.false)))
+    ∙ chain-written m.state.now m.given.now front c.in-Written.place w (omega (arith, size, c.if-place-count.false)) (get_or-take c.args.count m.writes.items c.in-Written.place w (omega (arith, c.if-place-count.false)) ∙ sym c.index.ensures)
+    ∙ ap (λ ws. written m.state.now m.given.now (made_by m.state.now m.given.now ws) w) (take-take c.in-Written.place c.args.count m.writes.items (omega (arith, c.if-place-count.false)))
