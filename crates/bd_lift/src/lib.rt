@@ -9,4 +9,4 @@ mod laws;
 mod lifting;
 
 pub use laws::{decoded_edges_tell, decoded_have_sorts, decoded_others_differ, lifted_denotes};
-pub use lifting::lift_trail;
+pub use lifting::{lift, lift_trail};

@@ -1,7 +1,8 @@
-//! The trail that values of atoms stand for.
+//! The case, or the trail, that values of atoms stand for.
 ghost use Rattle.std.specs.Prelude.{◌≡◌, ◌*◌, IfOk, length};
 ghost use Rattle.bd_model.specs.DesignView.{design_view};
 ghost use Rattle.bd_model.specs.Fits.{Fits, TrailFits};
+ghost use Rattle.bd_model.specs.Lawful.{IsLawful};
 ghost use Rattle.bd_symbolic.specs.Widened.{HasLawfulSymbols, case_of_trail, cut, trail_of, widened};
 ghost use Rattle.bd_transitive.specs.Orders.{IsOrder};
 ghost use Rattle.bd_transitive.specs.Triangle.{MeetsTriangles, value_at};
@@ -17,6 +18,31 @@ use bd_model::{Case, Design, InputLists, Inputs, Scalar, Trail};
 use bd_prop::AtomValues;
 use bd_transitive::{Order, classes};
 use std::alloc::{AllocError, Global};
+
+/// A case in whose world each symbol has the table of the values that the atoms stand for: a word variable has the
+/// class of its vertex, one in no edge a number of its own, and a truth variable its atom's value. Of rows with the same
+/// arguments the first one stays. A number past 64 bits ends as want of memory.
+pub fn lift(
+    alloc: Global,
+    design: &Design,
+    flat: &Flat,
+    order: &Order,
+    values: &AtomValues,
+) -> Result<Case, AllocError>
+    requires lawful { IsLawful (design_view design.now) }
+    requires known { AreKnown (design_view design.now) flat.now.graph flat.now.syms }
+    requires order { IsOrder order.now }
+    requires triangles { MeetsTriangles order.now
+        (value_at (edge_truths values.now order.now.edges)) }
+    requires constants { TellsApart (design_view design.now) flat.now.syms order.now
+        (value_at (edge_truths values.now order.now.edges)) }
+    ensures fits { IfOk result (λ c. Fits (design_view design.now) c) }
+    ensures lifted { IfOk result (λ c.
+        IsLifted flat.now.graph flat.now.syms order.now values.now c) }
+    ensures counts { IfOk result EachRowCounts }
+{
+    lifted(alloc, design, flat, order, values, 1)
+}
 
 /// A trail with inputs for so many cycles, in whose world each symbol has the table of the values that the atoms stand
 /// for: a word variable has the class of its vertex, one in no edge a number of its own, and a truth variable its atom's
