@@ -1,15 +1,18 @@
 -- What an answer on a bounded run means, and its work: the kept formula of the question, and the log of an honest
 -- solver's answer over it (Burch and Dill 1994; DIMACS CNF; textual LRAT).
-use Rattle.std.specs.Prelude.{ℕ}
+use Rattle.std.specs.Prelude.{ℕ, List}
 use Rattle.bd_model.specs.DesignView.{DesignView}
 use Rattle.bd_model.specs.Right.{BoundedRight}
 use Rattle.bd_model.specs.TrailJudged.{IsTrailJudged}
 use Rattle.bd_model.specs.declared.case.TrailJudged.TheVariants as judged
 use Rattle.bd_goal.specs.Bounded.{IsTrailOver}
+use Rattle.bd_cnf.specs.Problem.{Problem}
+use Rattle.bd_lrat.specs.declared.line.Line.{Line}
 use Rattle.bd_cdcl.specs.Law.{IsLaw}
 use Rattle.bd_cdcl.specs.declared.solver.Found.{Found}
 use Rattle.bd_cdcl.specs.declared.solver.Found.TheVariants as found
 use Rattle.bd_verify.specs.declared.verdict.Work.{Work}
+use Rattle.bd_verify.specs.Asked.{IsModelSaid, IsSaid}
 use Rattle.bd_bounded.specs.declared.answer.Bounded.{Bounded}
 use Rattle.bd_bounded.specs.declared.answer.Bounded.TheVariants.{Kept, Broken, Undecided}
 use Rattle.bd_bounded.specs.Kept.{IsRunKept, KeepsRuns}
@@ -36,3 +39,9 @@ HasWork d cycles budget (Kept work) = IsRunWork d cycles budget found.Refuted wo
 HasWork d cycles budget (Broken cycle t work) =
     (model : _) × IsRunWork d cycles budget (found.Model model) work
 HasWork d cycles budget (Undecided work) = IsRunWork d cycles budget found.Spent work
+
+-- the solver's answer that gives it is said of the formula within the budget
+abbrev pub IsAnswerSaid : (Problem → ℕ → Found → List Line → Type 0) → ℕ → Bounded → Type 0
+IsAnswerSaid says budget (Kept work) = IsSaid says budget found.Refuted work
+IsAnswerSaid says budget (Broken cycle t work) = IsModelSaid says budget work
+IsAnswerSaid says budget (Undecided work) = IsSaid says budget found.Spent work

@@ -4,7 +4,7 @@ ghost use Rattle.bd_model.specs.DesignView.{design_view};
 ghost use Rattle.bd_model.specs.Lawful.{IsLawful};
 ghost use Rattle.bd_model.specs.TrailJudged.{IsTrailJudged};
 ghost use Rattle.bd_goal.specs.Bounded.{IsBroken};
-ghost use Rattle.bd_bounded.specs.Answer.{HasWork, Says};
+ghost use Rattle.bd_bounded.specs.Answer.{HasWork, IsAnswerSaid, Says};
 ghost use Rattle.bd_bounded.specs.Kept.{IsRunRoot};
 
 use crate::answer::Bounded;
@@ -29,6 +29,7 @@ pub fn bounded<S: HonestSolver>(
     requires few { cycles ≤ 16 }
     ensures says { IfOk result (Says (design_view design.now) cycles) }
     ensures work { IfOk result (HasWork (design_view design.now) cycles budget) }
+    ensures asked { IfOk result (IsAnswerSaid (S.says solver.old) budget) }
 {
     trails_decide();
     let mut graph = Graph::new(alloc);

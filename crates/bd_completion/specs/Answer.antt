@@ -1,17 +1,20 @@
 -- What an answer on an abstraction means (completion functions: Hosabettu, Srivas and Gopalakrishnan 1998), and its
 -- work: the kept formula of the question, and the log of an honest solver's answer over it (Burch and Dill 1994; DIMACS
 -- CNF; textual LRAT).
-use Rattle.std.specs.Prelude.{◌≡◌, ℕ, Bool, true, false}
+use Rattle.std.specs.Prelude.{◌≡◌, ℕ, Bool, true, false, List}
 use Rattle.bd_model.specs.DesignView.{DesignView}
 use Rattle.bd_model.specs.Fits.{Fits}
 use Rattle.bd_model.specs.Conditions.{Abstraction, JudgedBy}
 use Rattle.bd_model.specs.Right.{Agrees, RightBy}
 use Rattle.bd_model.specs.declared.case.Judged.TheVariants as judged
 use Rattle.bd_goal.specs.Laws.{Differs}
+use Rattle.bd_cnf.specs.Problem.{Problem}
+use Rattle.bd_lrat.specs.declared.line.Line.{Line}
 use Rattle.bd_cdcl.specs.Law.{IsLaw}
 use Rattle.bd_cdcl.specs.declared.solver.Found.{Found}
 use Rattle.bd_cdcl.specs.declared.solver.Found.TheVariants as found
 use Rattle.bd_verify.specs.declared.verdict.Work.{Work}
+use Rattle.bd_verify.specs.Asked.{IsModelSaid, IsSaid}
 use Rattle.bd_verify.specs.Verdict.{Keeps}
 use Rattle.bd_completion.specs.declared.answer.Complete.{Complete}
 use Rattle.bd_completion.specs.declared.answer.Complete.TheVariants.{Right, Wrong, Agree, Differ, Undecided}
@@ -45,3 +48,11 @@ HasWork d abs agree budget (Agree work) = IsWorkBy d abs agree budget found.Refu
 HasWork d abs agree budget (Differ c work) =
     (model : _) × IsWorkBy d abs agree budget (found.Model model) work
 HasWork d abs agree budget (Undecided work) = IsWorkBy d abs agree budget found.Spent work
+
+-- the solver's answer that gives it is said of the formula within the budget
+abbrev pub IsAnswerSaid : (Problem → ℕ → Found → List Line → Type 0) → ℕ → Complete → Type 0
+IsAnswerSaid says budget (Right work) = IsSaid says budget found.Refuted work
+IsAnswerSaid says budget (Wrong which c work) = IsModelSaid says budget work
+IsAnswerSaid says budget (Agree work) = IsSaid says budget found.Refuted work
+IsAnswerSaid says budget (Differ c work) = IsModelSaid says budget work
+IsAnswerSaid says budget (Undecided work) = IsSaid says budget found.Spent work

@@ -3,7 +3,7 @@ ghost use Rattle.std.specs.Prelude.{◌≡◌, [], IfOk};
 ghost use Rattle.bd_abstraction.specs.Abstraction.{IsLawfulAbstraction, abstraction_of};
 ghost use Rattle.bd_model.specs.DesignView.{design_view};
 ghost use Rattle.bd_model.specs.Lawful.{IsLawful};
-ghost use Rattle.bd_completion.specs.Answer.{HasWork, Says};
+ghost use Rattle.bd_completion.specs.Answer.{HasWork, IsAnswerSaid, Says};
 ghost use Rattle.bd_completion.specs.Kept.{IsRootBy};
 
 use crate::answer::Complete;
@@ -32,6 +32,7 @@ pub fn complete<S: HonestSolver>(
         (abstraction_of (design_view design.now) abs.now) agree) }
     ensures work { IfOk result (HasWork (design_view design.now)
         (abstraction_of (design_view design.now) abs.now) agree budget) }
+    ensures asked { IfOk result (IsAnswerSaid (S.says solver.old) budget) }
 {
     let mut graph = Graph::new(alloc);
     let root = root_by(alloc, &mut graph, design, abs, agree)?;

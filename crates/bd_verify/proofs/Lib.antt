@@ -11,6 +11,7 @@ pub mod FlatDecides
 pub mod FormulaDecides
 pub mod KeptDecides
 pub mod RootAnswers
+pub mod Said
 pub mod Judgements
 pub mod WordsAgree
 pub mod Results

@@ -4,7 +4,7 @@ ghost use Rattle.bd_model.specs.DesignView.{design_view};
 ghost use Rattle.bd_model.specs.Lawful.{IsLawful};
 ghost use Rattle.bd_symbolic.specs.Widened.{case_of_trail};
 ghost use Rattle.bd_verify.specs.Kept.{IsRootOf};
-ghost use Rattle.bd_verify.specs.inner.Answered.{IsAnswered};
+ghost use Rattle.bd_verify.specs.inner.Answered.{IsAnswerSaid, IsAnswered};
 
 use crate::deciding::{Decided, decide_by};
 use crate::verdict::{Mode, Question, Work};
@@ -35,7 +35,8 @@ pub(crate) fn ask<S: HonestSolver>(
     mode: Mode,
 ) -> Result<Decision, AllocError>
     requires { IsLawful (design_view design.now) }
-    ensures { IfOk result (IsAnswered (design_view design.now) asked mode budget) }
+    ensures answered { IfOk result (IsAnswered (design_view design.now) asked mode budget) }
+    ensures said { IfOk result (IsAnswerSaid (S.says solver.old) budget) }
 {
     let mut graph = Graph::new(alloc);
     let root = root_of(alloc, &mut graph, design, asked)?;

@@ -6,6 +6,7 @@ ghost use Rattle.bd_lift.specs.Lifted.{AreKnown};
 ghost use Rattle.bd_model.specs.DesignView.{design_view};
 ghost use Rattle.bd_symbolic.specs.Widened.{HasLawfulSymbols, widened};
 ghost use Rattle.bd_terms.specs.declared.node.Node.{Node as TheNode};
+ghost use Rattle.bd_verify.specs.Asked.{IsDecisionSaid};
 ghost use Rattle.bd_verify.specs.Decided.{Falsifies, IsDecided, IsKnownRoot};
 ghost use Rattle.bd_verify.specs.declared.verdict.Mode.{Mode as AnyMode};
 ghost use Rattle.bd_verify.specs.inner.Reduced.{HasFlatOf, HasFormulaOf};
@@ -45,8 +46,9 @@ pub fn decide<S: HonestSolver>(
 ) -> Result<Decided, AllocError>
     requires lawful { HasLawfulSymbols (design_view design.now) }
     requires known { IsKnownRoot (widened (design_view design.now) cycles) graph.now root }
-    ensures { IfOk result
+    ensures decided { IfOk result
         (IsDecided (design_view design.now) cycles graph.now root Mode.Plain budget) }
+    ensures asked { IfOk result (IsDecisionSaid (S.says solver.old) budget) }
 {
     decide_by(
         alloc,
@@ -73,8 +75,9 @@ pub(crate) fn decide_by<S: HonestSolver>(
 ) -> Result<Decided, AllocError>
     requires lawful { HasLawfulSymbols (design_view design.now) }
     requires known { IsKnownRoot (widened (design_view design.now) cycles) graph.now root }
-    ensures { IfOk result
+    ensures decided { IfOk result
         (IsDecided (design_view design.now) cycles graph.now root mode budget) }
+    ensures asked { IfOk result (IsDecisionSaid (S.says solver.old) budget) }
 {
     let reduction = reduced(alloc, design, graph, root, mode)?;
     let mut log = Log::new(alloc);

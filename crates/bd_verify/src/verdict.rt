@@ -1,10 +1,11 @@
 //! The verdict on a design.
-ghost use Rattle.std.specs.Prelude.{◌≡◌, true, is_some, Option, Ok, Some, IfOk, IfSome};
+ghost use Rattle.std.specs.Prelude.{◌≡◌, true, false, is_some, Option, Ok, Some, IfOk, IfSome};
 ghost use Rattle.bd_model.specs.DesignView.{design_view};
 ghost use Rattle.bd_model.specs.Fits.{Fits};
 ghost use Rattle.bd_model.specs.Conditions.{IsJudged, MeetsInvariant, SomeCaseMeetsInvariant};
 ghost use Rattle.bd_model.specs.Lawful.{IsLawful};
 ghost use Rattle.bd_model.specs.Right.{IsRight};
+ghost use Rattle.bd_verify.specs.Asked.{IsAskedInTurn, IsVerdictSaid};
 ghost use Rattle.bd_verify.specs.Verdict.{HasWork, Says};
 ghost use Rattle.bd_verify.specs.inner.Answered.{IsFound};
 
@@ -85,6 +86,9 @@ pub fn verify<S: HonestSolver>(
         given ≡ true → SomeCaseMeetsInvariant (design_view design.now) }
     ensures work { IfOk result (HasWork (design_view design.now) mode budget) }
     ensures says { IfOk result (Says (design_view design.now) given) }
+    ensures asked { given ≡ false → IfOk result (IsVerdictSaid (S.says solver.old) budget) }
+    ensures asked_in_turn { given ≡ true → IfOk result
+        (IsAskedInTurn S.says solver.old (design_view design.now) mode budget) }
 {
     if !given {
         return breaks(alloc, solver, design, budget, None, mode);
@@ -108,7 +112,8 @@ fn breaks<S: HonestSolver>(
     requires lawful { IsLawful (design_view design.now) }
     requires met { IfSome met (λ c. Fits (design_view design.now) c
         × MeetsInvariant (design_view design.now) c.interp c.state) }
-    ensures { IfOk result (IsFound (design_view design.now) mode budget met) }
+    ensures found { IfOk result (IsFound (design_view design.now) mode budget met) }
+    ensures said { IfOk result (IsVerdictSaid (S.says solver.old) budget) }
 {
     match ask(alloc, solver, design, budget, Question::Breaks, mode)? {
         Decision::None(work) => Ok(Verdict::Correct(met, work)),

@@ -1,10 +1,13 @@
 -- What a solver's answer to a question comes to.
-use Rattle.std.specs.Prelude.{◌≡◌, ℕ, Option}
+use Rattle.std.specs.Prelude.{◌≡◌, ℕ, List, Option}
 use Rattle.bd_model.specs.DesignView.{DesignView}
 use Rattle.bd_model.specs.Fits.{Fits}
 use Rattle.bd_model.specs.Conditions.{IsJudged}
 use Rattle.bd_model.specs.declared.case.Case.{Case}
 use Rattle.bd_model.specs.declared.case.Judged.TheVariants as judged
+use Rattle.bd_cnf.specs.Problem.{Problem}
+use Rattle.bd_lrat.specs.declared.line.Line.{Line}
+use Rattle.bd_cdcl.specs.declared.solver.Found.{Found}
 use Rattle.bd_cdcl.specs.declared.solver.Found.TheVariants as found
 use Rattle.bd_verify.specs.declared.verdict.Mode.{Mode}
 use Rattle.bd_verify.specs.declared.verdict.Question.{Question}
@@ -13,6 +16,7 @@ use Rattle.bd_verify.specs.declared.asking.Decision.TheVariants as decision
 use Rattle.bd_verify.specs.declared.verdict.Question.TheVariants as question
 use Rattle.bd_verify.specs.declared.verdict.Verdict.{Verdict}
 use Rattle.bd_verify.specs.declared.verdict.Verdict.TheVariants.{Correct, Wrong, Void, Undecided}
+use Rattle.bd_verify.specs.Asked.{IsModelSaid, IsSaid}
 use Rattle.bd_verify.specs.Verdict.{IsAsked, IsWorkOf}
 
 -- no case is such; this one is; or the budget is spent
@@ -22,6 +26,12 @@ IsAnswered d asked mode budget (decision.None work) =
 IsAnswered d asked mode budget (decision.Some c work) =
     Fits d c × IsAsked asked d c × ((model : _) × IsWorkOf d asked mode budget (found.Model model) work)
 IsAnswered d asked mode budget (decision.Spent work) = IsWorkOf d asked mode budget found.Spent work
+
+-- the answer that it rests on is said of its formula
+abbrev pub IsAnswerSaid : (Problem → ℕ → Found → List Line → Type 0) → ℕ → Decision → Type 0
+IsAnswerSaid says budget (decision.None work) = IsSaid says budget found.Refuted work
+IsAnswerSaid says budget (decision.Some c work) = IsModelSaid says budget work
+IsAnswerSaid says budget (decision.Spent work) = IsSaid says budget found.Spent work
 
 -- the verdict where it is asked whether a case breaks a condition: the case that is carried is this one, and none is such;
 -- or the case is judged to break the condition

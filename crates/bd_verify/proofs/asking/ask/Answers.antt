@@ -15,18 +15,18 @@ decide_by-requires-clause-lawful g c = lawful-symbols (design_view c.args.design
 pub decide_by-requires-clause-known : goal.decide_by-requires-clause-known
 decide_by-requires-clause-known g c = asked-known (design_view c.args.design.now) c.requires c.args.asked c.root_of.new.graph c.in_ok-root.root c.in_ok-root.ensures
 
-pub returns-in-Valid : goal.returns-in-Valid
-returns-in-Valid g c =
+pub returns-in-Valid-clause-answered : goal.returns-in-Valid-clause-answered
+returns-in-Valid-clause-answered g c =
     let d = design_view c.args.design.now in
-    let h = subst (IsDecided d 1 c.root_of.new.graph c.in_ok-root.root c.args.mode c.args.budget) c.in-Valid.is c.in_ok-work.ensures in (
+    let h = subst (IsDecided d 1 c.root_of.new.graph c.in_ok-root.root c.args.mode c.args.budget) c.in-Valid.is c.in_ok-work.ensures.decided in (
       asked-none d c.requires c.args.asked c.root_of.new.graph c.in_ok-root.root c.in_ok-root.ensures (subst IsGraph c.graph.view_is c.graph.invariant.graph) h.0,
       asked-work d c.requires c.args.asked c.root_of.new.graph c.in_ok-root.root c.in_ok-root.ensures c.args.mode c.args.budget Refuted c.in-Valid.work h.1,
     )
 
-pub returns-in-False : goal.returns-in-False
-returns-in-False g c =
+pub returns-in-False-clause-answered : goal.returns-in-False-clause-answered
+returns-in-False-clause-answered g c =
     let d = design_view c.args.design.now in
-    let h = subst (IsDecided d 1 c.root_of.new.graph c.in_ok-root.root c.args.mode c.args.budget) c.in-False.is c.in_ok-work.ensures in
+    let h = subst (IsDecided d 1 c.root_of.new.graph c.in_ok-root.root c.args.mode c.args.budget) c.in-False.is c.in_ok-work.ensures.decided in
     let such = subst (λ k. Fits d k × IsAsked c.args.asked d k) (sym c.one_cycle.ensures)
     (asked-some d c.requires c.args.asked c.root_of.new.graph c.in_ok-root.root c.in_ok-root.ensures (subst IsGraph c.graph.view_is c.graph.invariant.graph) c.in-False.trail h.0) in (
       such.0,
@@ -34,8 +34,8 @@ returns-in-False g c =
       (h.1.0, asked-work d c.requires c.args.asked c.root_of.new.graph c.in_ok-root.root c.in_ok-root.ensures c.args.mode c.args.budget (Model h.1.0) c.in-False.work h.1.1),
     )
 
-pub returns : goal.returns
-returns g c =
+pub returns-clause-answered : goal.returns-clause-answered
+returns-clause-answered g c =
     let d = design_view c.args.design.now in
-    let h = subst (IsDecided d 1 c.root_of.new.graph c.in_ok-root.root c.args.mode c.args.budget) c.in-Spent.is c.in_ok-work.ensures in
+    let h = subst (IsDecided d 1 c.root_of.new.graph c.in_ok-root.root c.args.mode c.args.budget) c.in-Spent.is c.in_ok-work.ensures.decided in
     asked-work d c.requires c.args.asked c.root_of.new.graph c.in_ok-root.root c.in_ok-root.ensures c.args.mode c.args.budget Spent c.in-Spent.work h

@@ -3,6 +3,7 @@ use Rattle.bd_model.specs.DesignView.{design_view}
 use Rattle.bd_symbolic.specs.Widened.{widened}
 use Rattle.bd_cdcl.specs.Law.{IsLaw}
 use Rattle.bd_cdcl.specs.declared.solver.Found.TheVariants.{Model, Refuted, Spent}
+use Rattle.bd_verify.proofs.Said.{said}
 use Rattle.bd_verify.proofs.RootAnswers.{kept-of, known-of, refuted-valid, root-work}
 use Rattle.bd_verify.proofs.deciding.decide_by.Goals as goal
 
@@ -16,8 +17,8 @@ lifted-requires-clause-known g c =
 pub lifted-requires-clause-formula : goal.lifted-requires-clause-formula
 lifted-requires-clause-formula g c = c.in_ok-reduction.ensures.formula c.args.cycles
 
-pub returns-in_ok-trail-in-Model : goal.returns-in_ok-trail-in-Model
-returns-in_ok-trail-in-Model g c =
+pub returns-in_ok-trail-in-Model-clause-decided : goal.returns-in_ok-trail-in-Model-clause-decided
+returns-in_ok-trail-in-Model-clause-decided g c =
     let d = design_view c.args.design.now in
     let r = c.in_ok-reduction.reduction in
     let h = c.in_ok-reduction.ensures in
@@ -31,8 +32,8 @@ returns-in_ok-trail-in-Model g c =
       ),
     )
 
-pub returns-in-Refuted : goal.returns-in-Refuted
-returns-in-Refuted g c =
+pub returns-in-Refuted-clause-decided : goal.returns-in-Refuted-clause-decided
+returns-in-Refuted-clause-decided g c =
     let d = design_view c.args.design.now in
     let r = c.in_ok-reduction.reduction in
     let h = c.in_ok-reduction.ensures in
@@ -44,8 +45,8 @@ returns-in-Refuted g c =
           Refuted c.work-in-Refuted.result c.work-in-Refuted.ensures.cnf c.work-in-Refuted.ensures.log law,
     )
 
-pub returns-in-Spent : goal.returns-in-Spent
-returns-in-Spent g c =
+pub returns-in-Spent-clause-decided : goal.returns-in-Spent-clause-decided
+returns-in-Spent-clause-decided g c =
     let d = design_view c.args.design.now in
     let r = c.in_ok-reduction.reduction in
     let h = c.in_ok-reduction.ensures in
@@ -54,3 +55,17 @@ returns-in-Spent g c =
     root-work d c.args.cycles c.args.graph.now c.args.root c.args.mode c.requires.lawful c.requires.known r.formula.cnf
     (kept-of (widened d c.args.cycles) c.args.graph.now c.args.root c.args.mode r h.flat (h.formula c.args.cycles)) c.args.budget c.solve.new.log
     Spent c.work-in-Spent.result c.work-in-Spent.ensures.cnf c.work-in-Spent.ensures.log law
+
+pub returns-in_ok-trail-in-Model-clause-asked : goal.returns-in_ok-trail-in-Model-clause-asked
+returns-in_ok-trail-in-Model-clause-asked g c = (
+  c.in-Model.assignment,
+  said (g.S.Solver.says c.args.solver.now) c.args.budget (Model c.in-Model.assignment) c.work.result c.in_ok-reduction.reduction.formula.cnf c.solve.new.log c.in_ok-assignment.field-0 c.work.ensures.cnf c.work.ensures.log c.in-Model.is c.in_ok-assignment.ensures.says,
+)
+
+pub returns-in-Refuted-clause-asked : goal.returns-in-Refuted-clause-asked
+returns-in-Refuted-clause-asked g c =
+    said (g.S.Solver.says c.args.solver.now) c.args.budget Refuted c.work-in-Refuted.result c.in_ok-reduction.reduction.formula.cnf c.solve.new.log c.in_ok-assignment.field-0 c.work-in-Refuted.ensures.cnf c.work-in-Refuted.ensures.log c.in-Refuted.is c.in_ok-assignment.ensures.says
+
+pub returns-in-Spent-clause-asked : goal.returns-in-Spent-clause-asked
+returns-in-Spent-clause-asked g c =
+    said (g.S.Solver.says c.args.solver.now) c.args.budget Spent c.work-in-Spent.result c.in_ok-reduction.reduction.formula.cnf c.solve.new.log c.in_ok-assignment.field-0 c.work-in-Spent.ensures.cnf c.work-in-Spent.ensures.log c.in-Spent.is c.in_ok-assignment.ensures.says

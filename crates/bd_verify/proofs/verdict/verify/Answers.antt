@@ -1,31 +1,42 @@
 use Rattle.std.proofs.Common.{◌∙◌, Some, IfOk, None, subst, sym, true≢false}
 use Rattle.bd_model.specs.DesignView.{design_view}
-use Rattle.bd_verify.specs.inner.Answered.{IsAnswered, IsFound}
+use Rattle.bd_verify.specs.inner.Answered.{IsAnswerSaid, IsAnswered, IsFound}
 use Rattle.bd_verify.specs.declared.verdict.Question.TheVariants as question
 use Rattle.bd_verify.proofs.Judgements.{holds-found, right-found, says-result}
+use Rattle.bd_verify.proofs.Said.{in-turn, meets-first}
 use Rattle.bd_verify.proofs.verdict.verify.Goals as goal
 
 pub returns-then-not-given-clause-correct : goal.returns-then-not-given-clause-correct
 returns-then-not-given-clause-correct g c = λ k work e.
-    right-found (design_view c.args.design.now) c.args.mode c.args.budget None k work c.requires.lawful (subst (λ r. IfOk r (IsFound (design_view c.args.design.now) c.args.mode c.args.budget None)) e c.breaks.ensures)
+    right-found (design_view c.args.design.now) c.args.mode c.args.budget None k work c.requires.lawful (subst (λ r. IfOk r (IsFound (design_view c.args.design.now) c.args.mode c.args.budget None)) e c.breaks.ensures.found)
 
 pub returns-in-Some-clause-correct : goal.returns-in-Some-clause-correct
 returns-in-Some-clause-correct g c = λ k work e.
     right-found (design_view c.args.design.now) c.args.mode c.args.budget (Some c.in-Some.case) k work c.requires.lawful
-    (subst (λ r. IfOk r (IsFound (design_view c.args.design.now) c.args.mode c.args.budget (Some c.in-Some.case))) e c.breaks-in-Some.ensures)
+    (subst (λ r. IfOk r (IsFound (design_view c.args.design.now) c.args.mode c.args.budget (Some c.in-Some.case))) e c.breaks-in-Some.ensures.found)
 
 pub returns-in-Some-clause-holds : goal.returns-in-Some-clause-holds
 returns-in-Some-clause-holds g c = λ k work e.
     let d = design_view c.args.design.now in
-    let found = subst (IsAnswered d question.Meets c.args.mode c.args.budget) c.in-Some.is c.in_ok-work.ensures in
-    holds-found d c.args.mode c.args.budget c.in-Some.case k work found.0 found.1 (subst (λ r. IfOk r (IsFound d c.args.mode c.args.budget (Some c.in-Some.case))) e c.breaks-in-Some.ensures)
+    let found = subst (IsAnswered d question.Meets c.args.mode c.args.budget) c.in-Some.is c.in_ok-work.ensures.answered in
+    holds-found d c.args.mode c.args.budget c.in-Some.case k work found.0 found.1 (subst (λ r. IfOk r (IsFound d c.args.mode c.args.budget (Some c.in-Some.case))) e c.breaks-in-Some.ensures.found)
 
 pub returns-then-not-given-clause-says : goal.returns-then-not-given-clause-says
 returns-then-not-given-clause-says g c =
-    says-result (design_view c.args.design.now) c.args.mode c.args.budget c.args.given None c.breaks.result c.requires.lawful (λ yes. absurd (true≢false (sym yes ∙ c.if-not-given.true))) c.breaks.ensures
+    says-result (design_view c.args.design.now) c.args.mode c.args.budget c.args.given None c.breaks.result c.requires.lawful (λ yes. absurd (true≢false (sym yes ∙ c.if-not-given.true))) c.breaks.ensures.found
 
 pub returns-in-Some-clause-says : goal.returns-in-Some-clause-says
 returns-in-Some-clause-says g c =
     let d = design_view c.args.design.now in
-    let found = subst (IsAnswered d question.Meets c.args.mode c.args.budget) c.in-Some.is c.in_ok-work.ensures in
-    says-result d c.args.mode c.args.budget c.args.given (Some c.in-Some.case) c.breaks-in-Some.result c.requires.lawful (λ yes. (c.in-Some.case, found.0, found.1)) c.breaks-in-Some.ensures
+    let found = subst (IsAnswered d question.Meets c.args.mode c.args.budget) c.in-Some.is c.in_ok-work.ensures.answered in
+    says-result d c.args.mode c.args.budget c.args.given (Some c.in-Some.case) c.breaks-in-Some.result c.requires.lawful (λ yes. (c.in-Some.case, found.0, found.1)) c.breaks-in-Some.ensures.found
+
+pub returns-in-Some-clause-asked_in_turn : goal.returns-in-Some-clause-asked_in_turn
+returns-in-Some-clause-asked_in_turn g c = λ given.
+    let d = design_view c.args.design.now in
+    let says = g.S.Solver.says c.args.solver.now in
+    let first = meets-first g.S.Solver.says c.args.solver.now d c.args.mode c.args.budget c.in-Some.case _
+    (λ answer h. g.met.S.HonestSolver.law c.args.solver.now _ c.args.budget answer _ h)
+    (subst (IsAnswered d question.Meets c.args.mode c.args.budget) c.in-Some.is c.in_ok-work.ensures.answered)
+    (subst (IsAnswerSaid says c.args.budget) c.in-Some.is c.in_ok-work.ensures.said) in
+    in-turn g.S.Solver.says c.args.solver.now c.ask.new.solver d c.args.mode c.args.budget (Some c.in-Some.case) c.breaks-in-Some.result first c.breaks-in-Some.ensures.found c.breaks-in-Some.ensures.said
