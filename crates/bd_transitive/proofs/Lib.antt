@@ -11,6 +11,8 @@ pub mod Meeting
 pub mod ClassesAgree
 pub mod Fans
 pub mod Counting
+pub mod Queues
+pub mod Eliminating
 pub mod Numbered
 pub mod Implications
 pub mod TriangleClauses

@@ -50,6 +50,14 @@ value_at values e = slice_index_or values e false
 abbrev pub class_of : List ℕ → List ℕ → ℕ → ℕ
 class_of vertices classes v = slice_index_or classes (place vertices v) 0
 
+-- no true edge leads from the vertex to one that is eliminated after it
+abbrev pub HasNoTrueLater : Order → (ℕ → Bool) → ℕ → Type 0
+HasNoTrueLater order value v = (e a : ℕ) → JoinsAt order.edges e v a → place order.vertices v < place order.vertices a → value e ≡ false
+
+-- such a vertex begins a class, whose number is its place
+abbrev pub BeginClasses : Order → (ℕ → Bool) → List ℕ → Type 0
+BeginClasses order value classes = (v : ℕ) → Contains order.vertices v → HasNoTrueLater order value v → class_of order.vertices classes v ≡ place order.vertices v
+
 -- the place of the end of an edge that is eliminated first
 abbrev pub earlier_place : List ℕ → Edge → ℕ
 earlier_place vertices edge = min (place vertices edge.from) (place vertices edge.to)

@@ -2,6 +2,7 @@
 ghost use Rattle.std.specs.Prelude.{◌≡◌, ◌↔◌, ◌<◌, ◌≤◌, ◌++◌, ℕ, List, All, Contains, IfOk, length, take, drop, map, nat_eq};
 ghost use Rattle.std.specs.List.{IsDistinct};
 ghost use Rattle.bd_transitive.specs.Edges.{AreEdges, IsEnd};
+ghost use Rattle.bd_transitive.specs.Elimination.{IsByLeastDegree, joined_by};
 ghost use Rattle.bd_transitive.specs.Orders.{IsOrder, IsFillIn};
 ghost use Rattle.bd_transitive.specs.inner.Spans.{IsSpan, filled_order};
 
@@ -18,39 +19,28 @@ use std::alloc::{AllocError, Global};
 pub fn order(alloc: Global, edges: &Edges) -> Result<Order, AllocError>
     requires { AreEdges edges.now }
     ensures order { IfOk result IsOrder }
+    ensures fewest { IfOk result (λ o. IsByLeastDegree (joined_by edges.now) o.vertices) }
     ensures vertices { IfOk result (λ o. (v : ℕ) → Contains o.vertices v ↔ IsEnd edges.now v) }
     ensures given { IfOk result (λ o. take (length edges.now) o.edges ≡ edges.now) }
     ensures further { IfOk result (λ o. (e : ℕ) →
         length edges.now ≤ e → e < length o.edges → IsFillIn o e) }
 {
-    let best = fewest_first(alloc, edges.as_slice())?;
-    let vertices = ends(alloc, edges.as_slice(), &best)?;
+    let vertices = ends(alloc, edges.as_slice())?;
     let given = spans(alloc, &vertices, edges.as_slice())?;
     let mut all = indexed(alloc, &given)?;
     fill(alloc, vertices.len(), &mut all)?;
     filled(alloc, vertices.as_slice(), edges.as_slice(), all.as_slice())
 }
 
-/// The ends of the edges, each once: first those of the list, in its order.
-fn ends(alloc: Global, edges: &[Edge], first: &[u64]) -> Result<IndexSet<u64>, AllocError>
+/// The ends of the edges, each once, in the order in which they are eliminated.
+fn ends(alloc: Global, edges: &[Edge]) -> Result<IndexSet<u64>, AllocError>
+    requires { AreEdges edges.now }
+    ensures fewest { IfOk result (λ s. IsByLeastDegree (joined_by edges.now) s.keys) }
     ensures distinct { IfOk result (λ s. IsDistinct nat_eq s.keys) }
     ensures ends { IfOk result (λ s. (v : ℕ) → Contains s.keys v ↔ IsEnd edges.now v) }
 {
-    let mut all: IndexSet<u64> = IndexSet::new(alloc);
-    for edge in edges {
-        all.insert(edge.from)?;
-        all.insert(edge.to)?;
-    }
-    let mut vertices: IndexSet<u64> = IndexSet::new(alloc);
-    for &vertex in first {
-        if all.contains(&vertex) {
-            vertices.insert(vertex)?;
-        }
-    }
-    for &vertex in all.as_slice() {
-        vertices.insert(vertex)?;
-    }
-    Ok(vertices)
+    let vertices = fewest_first(alloc, edges)?;
+    indexed(alloc, vertices.as_slice())
 }
 
 /// The order of the vertices with the given edges, and after them the edges of the further spans.

@@ -1,7 +1,7 @@
 //! Classes of vertices.
 ghost use Rattle.std.specs.Prelude.{◌≡◌, ◌<◌, ◌≤◌, ℕ, All, IfOk, length, slice_index};
 ghost use Rattle.bd_transitive.specs.Orders.{IsOrder};
-ghost use Rattle.bd_transitive.specs.Triangle.{AgreesWithClasses, MeetsTriangles, class_of, value_at};
+ghost use Rattle.bd_transitive.specs.Triangle.{AgreesWithClasses, BeginClasses, MeetsTriangles, class_of, value_at};
 ghost use Rattle.bd_transitive.specs.inner.Spans.{IsSpan};
 ghost use Rattle.bd_transitive.specs.inner.Links.{AreFollowed, AreLinks};
 
@@ -17,6 +17,7 @@ pub fn classes(alloc: Global, order: &Order, values: &EdgeValues) -> Result<Clas
     requires meets { MeetsTriangles order.now (value_at values.now) }
     ensures agrees { IfOk result (λ c.
         AgreesWithClasses order.now.edges (value_at values.now) (class_of order.now.vertices c)) }
+    ensures new { IfOk result (BeginClasses order.now (value_at values.now)) }
     ensures all { IfOk result (λ c. length c ≡ length order.now.vertices) }
     ensures below { IfOk result (λ c. All (λ class. class < length order.now.vertices) c) }
 {

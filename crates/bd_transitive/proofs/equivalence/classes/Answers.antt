@@ -5,11 +5,11 @@ use Rattle.std.proofs.lemmas.Bool.Decides.{Decides-eqb}
 use Rattle.std.proofs.lemmas.List.{length-map}
 use Rattle.std.proofs.lemmas.Map.Made.{IsDistinct-from_AllPairs}
 use Rattle.bd_transitive.specs.declared.span.Span.{Span}
-use Rattle.bd_transitive.specs.Triangle.{AgreesWithClasses, class_of, value_at}
+use Rattle.bd_transitive.specs.Triangle.{AgreesWithClasses, BeginClasses, class_of, value_at}
 use Rattle.bd_transitive.specs.inner.Spans.{span_of, IsSpan}
 use Rattle.bd_transitive.specs.inner.Links.{AreLinks, AreFollowed}
 use Rattle.bd_transitive.proofs.OrderSpans.{complete_from_order}
-use Rattle.bd_transitive.proofs.ClassesAgree.{classes_agree, classes_below}
+use Rattle.bd_transitive.proofs.ClassesAgree.{classes_agree, classes_begin, classes_below}
 use Rattle.bd_transitive.proofs.equivalence.classes.Goals as goal
 
 pub indexed-requires : goal.indexed-requires
@@ -51,6 +51,7 @@ returns c =
     let followed : AreFollowed links ends 0 = subst (λ l. AreFollowed l ends 0) c.deref-2.ensures.value c.in_ok-followed.ensures in
     record {
       agrees = subst (λ (l : List ℕ). AgreesWithClasses es (value_at values) (class_of vs l)) (sym c.from_vec.ensures) (classes_agree order c.requires.order (value_at values) c.requires.meets links ends linked followed);
+      new = subst (BeginClasses order (value_at values)) (sym c.from_vec.ensures) (classes_begin order c.requires.order (value_at values) links ends linked followed);
       all = ap length c.from_vec.ensures ∙ followed.size ∙ linked.size;
       below = subst (λ (l : List ℕ). All (λ class. class < length vs) l) (sym c.from_vec.ensures) (classes_below links ends (length vs) linked.size followed);
     }
