@@ -9,5 +9,7 @@ mod judging;
 pub use answer::Complete;
 pub use bd_goal::Abstraction;
 pub use bd_model::agreement_keeps_right;
+pub use bd_syntax::{CompAst, read_completion};
+pub use bd_typer::{Joined, join_completion};
 pub use completing::complete;
 pub use judging::judge_by;
