@@ -12,7 +12,8 @@
   head of the module's file says, its source among that; modules of specs/inner, which no public contract cites, are
   left out.
 
-A file that a document names by a path from a crate's folder on has to be there.
+A file that a document names by a path from a crate's folder on has to be there. So has each call of tools/surface.txt,
+the calls that other programs rely on, with the signature that stands there: a line is a crate and a signature.
 """
 
 import re
@@ -472,6 +473,31 @@ def named(clauses):
 # ---- all documents
 
 
+def shape(text):
+    """A signature in one line: its name, what it takes and what it gives."""
+    head = re.sub(r"\s+", " ", head_and_result(text)[0])
+    head = re.sub(r"^(?:pub )?fn ", "", head).replace("( ", "(").replace(", )", ")")
+    return re.sub(r"\b_(\w+):", r"\1:", head)
+
+
+def missing_calls():
+    """The calls of the surface that aren't there, or stand with another signature."""
+    found = {(crate, name): shape(text) for crate in crates()[0] for name, text in signatures(crate)}
+    faults = []
+    for line in (ROOT / "tools/surface.txt").read_text().splitlines():
+        if not line or line.startswith("#"):
+            continue
+        crate, name, wanted = line.split(" ", 2)
+        kind, _, call = name.partition("::")
+        of_lists = ("bd_list", f"Sequence::{call}") if kind in sequences(crate) else None
+        there = found.get((crate, name)) or found.get(of_lists)
+        if there is None:
+            faults.append(f"{crate} has no public call {name}")
+        elif there != wanted:
+            faults.append(f"{name} of {crate} stands as {there}, not as {wanted}")
+    return faults
+
+
 def missing_files():
     """The files of crates and folders that a document names and that aren't there."""
     faults = []
@@ -489,7 +515,7 @@ def main(words):
     proved, proved_faults = proved_text()
     mapped, mapped_faults = map_text()
     made = {"docs/MAP.md": mapped, "docs/PROVED.md": proved, "docs/DEFINITIONS.md": definitions_text()}
-    faults = mapped_faults + proved_faults + missing_files()
+    faults = mapped_faults + proved_faults + missing_files() + missing_calls()
     for path, text in made.items():
         file = ROOT / path
         old = file.read_text() if file.exists() else ""
