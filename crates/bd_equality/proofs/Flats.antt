@@ -1,7 +1,7 @@
 -- Formulas without functions: no term is a memory, and each word is an ite or a variable.
-use Rattle.std.proofs.Common.{◌≡◌, ℕ, zero, suc, ◌<◌, if◌then◌else◌, Bool, true, false, List, [], ◌∷◌, length, slice_get, slice_index_or, Some, Contains, refl, ap, sym, ◌∙◌, subst, arith}
+use Rattle.std.proofs.Common.{◌≡◌, ℕ, zero, suc, ◌<◌, if◌then◌else◌, Bool, true, false, List, [], ◌∷◌, length, slice_get, slice_index_or, None, Some, Contains, refl, ap, sym, ◌∙◌, subst, arith}
 use Rattle.std.proofs.lemmas.Bool.{false≢true}
-use Rattle.std.proofs.lemmas.Option.{slice_get-get_or}
+use Rattle.std.proofs.lemmas.Option.{none-some, slice_get-get_or}
 use Rattle.bd_model.specs.declared.design.Sort.TheVariants as sort
 use Rattle.bd_model.specs.declared.table.Scalar.{Scalar}
 use Rattle.bd_model.specs.Value.{scalar_truth, scalar_word}
@@ -18,8 +18,8 @@ use Rattle.bd_terms.proofs.Symbols.{uses-get}
 use Rattle.bd_function.specs.declared.flat.FlatSym.{FlatSym}
 use Rattle.bd_function.specs.Flat.{IsFlat, is_variable, under}
 use Rattle.bd_equality.specs.Encoding.{IsVariable}
-use Rattle.bd_equality.specs.inner.Split.{node_is_ite}
-use Rattle.bd_equality.specs.inner.Means.{node_variable, symbol_variable}
+use Rattle.bd_equality.specs.Made.{node_head, symbol_variable}
+use Rattle.bd_equality.specs.inner.Means.{node_variable}
 
 pub first : {X : Type 0} (x : X) (xs : List X) → Contains (x ∷ xs) x
 first x xs = (0, omega arith, refl)
@@ -85,8 +85,8 @@ module _ (nodes : List Node) (g : IsGraph nodes) (root : ℕ) (syms : List FlatS
   symbol_is (Address f) h = absurd (false≢true h)
 
   -- a word that is no ite is a variable
-  pub word_is : (i : ℕ) (node : Node) → slice_get nodes i ≡ Some node → sort_at nodes i ≡ sort.Word → node_is_ite (Some node) ≡ false
-      → IsVariable nodes sort.Word (node_variable node) × ((v : ℕ → Scalar) → word (under v) nodes i ≡ scalar_word (v (node_variable node)))
+  pub word_is : (i : ℕ) (node : Node) → slice_get nodes i ≡ Some node → sort_at nodes i ≡ sort.Word → node_head (Some node) ≡ None
+      → IsVariable nodes sort.Word (node_variable node) × ((v : ℕ → Scalar) → word (under v) nodes i ≡ scalar_word (v (node_variable node))) × ((s : Sym) × (args : List ℕ) × (node ≡ App s args))
   word_is i (App s args) there e none =
       let used = uses-get nodes i (App s args) there _ (first _ []) in
       let is : s ≡ Var (symbol_variable s) = symbol_is s (flat.variables _ used) in
@@ -95,9 +95,10 @@ module _ (nodes : List Node) (g : IsGraph nodes) (root : ℕ) (syms : List FlatS
             (subst (λ n. Contains (uses nodes) (record { symbol = s; arity = n; sort = sort.Word })) plain used),
         λ v. ap word_of (denoted-get (under v) nodes g i (App s args) there)
             ∙ ap (λ t. word_of (node_value (under v) (values (under v) nodes) (App t args))) is,
+        (s, args, refl),
       )
   word_is i (Read m a) there e none = absurd (no_read i m a there)
-  word_is i (Ite c a b) there e none = absurd (false≢true (sym none))
+  word_is i (Ite c a b) there e none = absurd (none-some c (sym none))
   word_is i True there e none = absurd (sort_clash (sym (sort_at-get nodes g i True there) ∙ e))
   word_is i (Not a) there e none = absurd (sort_clash (sym (sort_at-get nodes g i (Not a) there) ∙ e))
   word_is i (And a b) there e none = absurd (sort_clash (sym (sort_at-get nodes g i (And a b) there) ∙ e))

@@ -1,6 +1,6 @@
 -- Steps of the truth graph: each keeps its atoms, and gives a node that has the value of its connective.
-use Rattle.std.proofs.Common.{◌≡◌, ℕ, ◌<◌, inl, inr, ◌==◌, ◌||◌, Bool, true, false, List, [], ◌∷◌, ◌++◌, Option, length, refl, ap, sym, ◌∙◌, subst, arith, append_assoc, length-append}
-use Rattle.std.proofs.lemmas.List.{append-nil}
+use Rattle.std.proofs.Common.{◌≡◌, ℕ, ◌<◌, inl, inr, ◌==◌, ◌||◌, Bool, true, false, List, [], ◌∷◌, ◌++◌, Option, length, refl, ap, sym, ◌∙◌, subst, arith, length-append, eq-eqb, eqb-true}
+use Rattle.std.proofs.lemmas.Bool.{true≢false}
 use Rattle.bd_model.specs.declared.design.Sort.TheVariants as sort
 use Rattle.bd_model.specs.declared.table.Scalar.{Scalar}
 use Rattle.bd_terms.specs.declared.node.Node.{Node}
@@ -14,14 +14,9 @@ use Rattle.bd_prop.specs.Truth.{truth_at}
 use Rattle.bd_prop.proofs.Truths.{truth-extends}
 use Rattle.bd_equality.specs.Encoding.{IsVariable, KeepsMarkedApart, atom_value}
 use Rattle.bd_equality.specs.Edges.{IsEdge}
-use Rattle.bd_equality.specs.inner.Means.{Gives, HasAtoms, Means, edge}
-
--- graphs that grow
-pub Extends-self : (p : List PropNode) → Extends p p
-Extends-self p = ([], sym (append-nil p))
-
-pub Extends-trans : (a b c : List PropNode) → Extends a b → Extends b c → Extends a c
-Extends-trans a b c p q = (p.0 ++ q.0, q.1 ∙ ap (λ l. l ++ q.0) p.1 ∙ append_assoc a p.0 q.0)
+use Rattle.bd_equality.specs.Made.{Made, Subject, Words, Turned}
+use Rattle.bd_equality.specs.inner.Means.{Gives, HasAtoms, Means, edge, value_of}
+use Rattle.bd_equality.proofs.Making.{Made-Extends}
 
 pub within-Extends : (a b : List PropNode) (id : ℕ) → Extends a b → id < length a → id < length b
 within-Extends a b id e h = omega (arith, ap length e.1, length-append a e.0)
@@ -71,15 +66,28 @@ module _ (p p' : List PropNode) (id : ℕ) where
 
 module _ (nodes : List Node) (marked : Option (List ℕ)) where
   -- a node keeps what it means when the graph grows
-  pub Means-Extends : (p p' : List PropNode) (id : ℕ) (value : (ℕ → Scalar) → Bool) → Extends p p' → Means nodes marked p id value → Means nodes marked p' id value
-  Means-Extends p p' id value e m = record {
+  pub Means-Extends : (p p' : List PropNode) (id : ℕ) (subject : Subject) → Extends p p' → Means nodes marked p id subject → Means nodes marked p' id subject
+  Means-Extends p p' id subject e m = record {
     inside = within-Extends p p' id e m.inside;
     is = λ v k. truth-extends (atom_value v) p p' id e m.inside ∙ m.is v k;
+    made = Made-Extends nodes marked p p' e subject id m.made;
   }
 
-  -- and means what has the same value
-  pub Means-same : (p : List PropNode) (id : ℕ) (value other : (ℕ → Scalar) → Bool) → ((v : ℕ → Scalar) → KeepsMarkedApart nodes marked v → value v ≡ other v) → Means nodes marked p id value → Means nodes marked p id other
-  Means-same p id value other same m = record { inside = m.inside; is = λ v k. m.is v k ∙ same v k }
+  eqb_comm : (m n : ℕ) → (m == n) ≡ (n == m)
+  eqb_comm m n = by (m == n) (n == m) refl refl
+    where
+      by : (b c : Bool) → (m == n) ≡ b → (n == m) ≡ c → (m == n) ≡ (n == m)
+      by true c p q = p ∙ sym (eq-eqb n m (sym (eqb-true m n p)))
+      by false true p q = absurd (true≢false (sym (eq-eqb m n (sym (eqb-true n m q))) ∙ p))
+      by false false p q = p ∙ sym q
+
+  -- and stands for the equation of the same words the other way round
+  pub Means-turned : (p : List PropNode) (a b id : ℕ) → Means nodes marked p id (Words b a) → Means nodes marked p id (Words a b)
+  Means-turned p a b id m = record {
+    inside = m.inside;
+    is = λ v k. m.is v k ∙ eqb_comm _ _;
+    made = Turned a b id m.made;
+  }
 
   atoms-fresh : (p : List PropNode) (node : PropNode) → FitsNode nodes marked node → HasAtoms nodes marked p → HasAtoms nodes marked (p ++ node ∷ [])
   atoms-fresh p node fits h = record {
@@ -99,10 +107,11 @@ module _ (nodes : List Node) (marked : Option (List ℕ)) where
   atoms-adds p p' node fits (inr added) h = subst (HasAtoms nodes marked) (sym added) (atoms-fresh p node fits h)
 
   -- a step by a node that fits
-  pub Gives-adds : (p p' : List PropNode) (node : PropNode) (id : ℕ) (value : (ℕ → Scalar) → Bool) → FitsNode nodes marked node
-      → Extends p p' → id < length p' → Adds p node p' → ((v : ℕ → Scalar) → KeepsMarkedApart nodes marked v → truth_at (atom_value v) p' id ≡ value v) → Gives nodes marked p p' id value
-  Gives-adds p p' node id value fits e inside adds is = record {
+  pub Gives-adds : (p p' : List PropNode) (node : PropNode) (id : ℕ) (subject : Subject) → FitsNode nodes marked node
+      → Extends p p' → id < length p' → Adds p node p' → ((v : ℕ → Scalar) → KeepsMarkedApart nodes marked v → truth_at (atom_value v) p' id ≡ value_of nodes subject v)
+      → Made nodes marked p' subject id → Gives nodes marked p p' id subject
+  Gives-adds p p' node id subject fits e inside adds is made = record {
     extends = e;
     atoms = atoms-adds p p' node fits adds;
-    means = record { inside = inside; is = is };
+    means = record { inside = inside; is = is; made = made };
   }

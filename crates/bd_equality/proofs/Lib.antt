@@ -1,7 +1,8 @@
 pub mod Flats
 pub mod Splits
 pub mod Giving
-pub mod Asking
+pub mod Making
+pub mod Settling
 pub mod Leaves
 pub mod Stepping
 pub mod Truths

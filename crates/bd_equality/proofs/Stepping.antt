@@ -1,153 +1,189 @@
 -- What is encoded stays when the truth graph grows, and each step adds to it.
-use Rattle.std.proofs.Common.{◌≡◌, ℕ, ◌+◌, ◌<◌, ◌⊎◌, inl, inr, ◌==◌, ◌&&◌, if◌then◌else◌, Bool, true, false, List, [], ◌∷◌, ◌++◌, Option, Some, Result, Ok, Err, IfOk, length, slice_get, unwrap_or, Contains, refl, ap, sym, ◌∙◌, subst, arith, eq-eqb, eqb-true, length-append}
-use Rattle.std.proofs.lemmas.Bool.{true≢false, and_parts, cases_lt}
+use Rattle.std.proofs.Common.{◌≡◌, ℕ, ◌+◌, ◌<◌, ◌⊎◌, inl, inr, ◌==◌, ◌&&◌, if◌then◌else◌, Bool, true, false, List, [], ◌∷◌, ◌++◌, Option, None, Some, Result, Ok, Err, IfOk, length, slice_get, refl, ap, sym, ◌∙◌, subst, arith, eq-eqb, eqb-true, length-append}
+use Rattle.std.proofs.lemmas.Bool.{and_parts, cases_lt}
 use Rattle.std.proofs.lemmas.List.{get_or_append_left}
 use Rattle.std.proofs.lemmas.Option.{none-some, same_Some}
 use Rattle.std.proofs.Math.Seq.{get_or-append_seam}
-use Rattle.bd_model.specs.declared.table.Scalar.{Scalar}
 use Rattle.bd_terms.specs.declared.node.Node.{Node}
-use Rattle.bd_terms.specs.declared.node.Node.TheVariants.{Ite}
+use Rattle.bd_terms.specs.declared.node.Node.TheVariants.{Eq}
 use Rattle.bd_terms.specs.Graph.{IsGraph, sort_at}
-use Rattle.bd_terms.specs.Reaches.{Reaches, Child}
-use Rattle.bd_terms.specs.Denotation.{truth, word}
-use Rattle.bd_terms.proofs.Graphs.{FitsSorts-get}
-use Rattle.bd_terms.proofs.Reaching.{children-below}
-use Rattle.bd_function.specs.Flat.{under}
+use Rattle.bd_terms.specs.Reaches.{Reaches}
+use Rattle.bd_prop.specs.declared.atom.Atom.{Atom}
 use Rattle.bd_prop.specs.declared.node.PropNode.{PropNode}
+use Rattle.bd_prop.specs.declared.node.PropNode.TheVariants as prop
+use Rattle.bd_prop.specs.Form.{HasForm, ite_form}
 use Rattle.bd_prop.specs.Graph.{Extends}
 use Rattle.bd_prop.specs.Truth.{truth_at}
 use Rattle.bd_equality.specs.declared.encoding.Encoding.{Encoding}
 use Rattle.bd_equality.specs.declared.split.Equation.{Equation}
 use Rattle.bd_equality.specs.Encoding.{atom_value}
-use Rattle.bd_equality.specs.inner.Split.{IsAsked, IsBefore, equation, partners_of, split}
+use Rattle.bd_equality.specs.Made.{Subject, Term, Words, OfEq, Chosen, branch, selected}
+use Rattle.bd_equality.specs.inner.Split.{IsControl, IsWhole, between, part}
 use Rattle.bd_equality.specs.inner.Means.{Gives, HasAtoms, Means}
 use Rattle.bd_equality.specs.inner.Sets.{is_equation, known}
-use Rattle.bd_equality.specs.inner.Steps.{Adds, Follows, IsEncoding, IsKnown, Settles, equal, holds, truth_id}
-use Rattle.bd_equality.proofs.Flats.{word_ite}
-use Rattle.bd_equality.proofs.Giving.{Extends-self, Extends-trans, Means-Extends, Means-same}
-use Rattle.bd_equality.proofs.Splits.{split_some}
+use Rattle.bd_equality.specs.inner.Steps.{Adds, Follows, IsEncoding, IsKnown, IsSettled, Passes, Settles, truth_id}
+use Rattle.bd_equality.proofs.Flats.{truth_is}
+use Rattle.bd_equality.proofs.Giving.{Gives-adds, Means-Extends, Means-turned, adds_ite}
+use Rattle.bd_equality.proofs.Making.{Extends-self, Extends-trans, Made-Extends, comes}
+use Rattle.bd_equality.proofs.Splits.{between_either, words_branch}
 
-eqb_comm : (m n : ℕ) → (m == n) ≡ (n == m)
-eqb_comm m n = by (m == n) (n == m) refl refl
-  where
-    by : (b c : Bool) → (m == n) ≡ b → (n == m) ≡ c → (m == n) ≡ (n == m)
-    by true c p q = p ∙ sym (eq-eqb n m (sym (eqb-true m n p)))
-    by false true p q = absurd (true≢false (sym (eq-eqb m n (sym (eqb-true n m q))) ∙ p))
-    by false false p q = p ∙ sym q
-
--- a choice of words is equal to another where the chosen one is
-equal_choice : (b : Bool) (x y o : ℕ) → ((if b then x else y) == o) ≡ (if b then (x == o) else (y == o))
-equal_choice true x y o = refl
-equal_choice false x y o = refl
-
-module _ (nodes : List Node) (root : ℕ) (marked : Option (List ℕ)) (partners : List (List ℕ)) where
+module _ (nodes : List Node) (root : ℕ) (marked : Option (List ℕ)) where
   -- the truth graph alone grew
-  pub IsEncoding-Extends : (e : Encoding) (p : List PropNode) → IsEncoding nodes root marked partners e → Extends e.prop p → HasAtoms nodes marked p
-      → IsEncoding nodes root marked partners (record { prop = p; truths = e.truths; equations = e.equations })
-  IsEncoding-Extends e p h x a = record {
+  pub IsEncoding-Extends : (e e' : Encoding) → IsEncoding nodes root marked e → Extends e.prop e'.prop → HasAtoms nodes marked e'.prop → e'.truths.items ≡ e.truths.items → e'.equations ≡ e.equations
+      → IsEncoding nodes root marked e'
+  IsEncoding-Extends e e' h x a t q = record {
     atoms = a;
-    truths = λ i lt r s. Means-Extends nodes marked e.prop p (truth_id e.truths.items i) (holds nodes i) x (h.truths i lt r s);
-    equations = λ i o id k. Means-Extends nodes marked e.prop p id (equal nodes i o) x (h.equations i o id k);
-    settled = λ i o lt c. let k = h.settled i o lt c in record { id = k.id; known = k.known };
+    truths = λ i lt r s. subst (λ l. Means nodes marked e'.prop (truth_id l i) (Term i)) (sym t)
+        (Means-Extends nodes marked e.prop e'.prop (truth_id e.truths.items i) (Term i) x (h.truths i (omega (arith, lt, ap length t)) r s));
+    equations = λ i o id k. Means-Extends nodes marked e.prop e'.prop id (Words i o) x (h.equations i o id (ap (λ l. known l i o) (sym q) ∙ k));
   }
 
   -- a step of the truth graph adds its node
-  pub Adds-Gives : (e : Encoding) (p : List PropNode) (id : ℕ) (value : (ℕ → Scalar) → Bool) → IsEncoding nodes root marked partners e → Gives nodes marked e.prop p id value
-      → Adds nodes root marked partners e (record { prop = p; truths = e.truths; equations = e.equations }) id value
-  Adds-Gives e p id value h s = record {
-    encoding = IsEncoding-Extends e p h s.extends (s.atoms h.atoms);
-    truths = refl;
-    equations = refl;
+  pub Adds-Gives : (e e' : Encoding) (id : ℕ) (subject : Subject) → IsEncoding nodes root marked e → Gives nodes marked e.prop e'.prop id subject → e'.truths.items ≡ e.truths.items → e'.equations ≡ e.equations
+      → Adds nodes root marked e e' id subject
+  Adds-Gives e e' id subject h s t q = record {
+    encoding = IsEncoding-Extends e e' h s.extends (s.atoms h.atoms) t q;
+    truths = t;
+    equations = q;
     extends = s.extends;
     means = s.means;
   }
 
-  -- an equation that is settled has its node
-  pub Adds-settled : (e : Encoding) (a b : ℕ) (q : Equation) → IsEncoding nodes root marked partners e → split nodes a b ≡ Some q → IsAsked nodes partners a b → IsBefore nodes a b (length e.truths.items)
-      → Adds nodes root marked partners e e (unwrap_or (known e.equations q.ite q.other) 0) (equal nodes a b)
-  Adds-settled e a b q h is asked before =
-      let k = h.settled q.ite q.other (before.before q is) (asked.asked q is) in
-      let m = h.equations q.ite q.other k.id k.known in
+  -- the result of a step that adds its node
+  pub Adds-result : {E : Type 0} (e e' : Encoding) (subject : Subject) (r : Result ℕ E) → IsEncoding nodes root marked e → IfOk r (λ id. Gives nodes marked e.prop e'.prop id subject)
+      → e'.truths.items ≡ e.truths.items → e'.equations ≡ e.equations → IfOk r (λ id. Adds nodes root marked e e' id subject)
+  Adds-result e e' subject (Ok id) h s t q = Adds-Gives e e' id subject h s t q
+  Adds-result e e' subject (Err x) h s t q = tt
+
+  pub Passes-result : {E : Type 0} (e e' : Encoding) (subject : Subject) (r : Result ℕ E) → IsEncoding nodes root marked e → IfOk r (λ id. Gives nodes marked e.prop e'.prop id subject)
+      → e'.truths.items ≡ e.truths.items → e'.equations ≡ e.equations → IfOk r (λ id. Passes nodes root marked e e' id subject)
+  Passes-result e e' subject (Ok id) h s t q = let a = Adds-Gives e e' id subject h s t q in record { encoding = a.encoding; truths = a.truths; means = a.means }
+  Passes-result e e' subject (Err x) h s t q = tt
+
+  -- equations are settled first
+  pub Passes-after : {E : Type 0} (e e' e'' : Encoding) (q : Equation) (subject : Subject) (r : Result ℕ E) → Settles nodes root marked e e' q → IfOk r (λ id. Adds nodes root marked e' e'' id subject)
+      → IfOk r (λ id. Passes nodes root marked e e'' id subject)
+  Passes-after e e' e'' q subject (Ok id) s a = record { encoding = a.encoding; truths = a.truths ∙ s.truths; means = a.means }
+  Passes-after e e' e'' q subject (Err x) s a = tt
+
+  -- what stands for the equation of two words, whichever stands first, stands for theirs
+  pub Means-between : (p : List PropNode) (a b id : ℕ) → Means nodes marked p id (Words (between a b).left (between a b).right) → Means nodes marked p id (Words a b)
+  Means-between p a b id m = elim (between_either a b) [
+    | inl q ↦ subst (λ (x : Equation). Means nodes marked p id (Words x.left x.right)) q m
+    | inr q ↦ Means-turned nodes marked p a b id (subst (λ (x : Equation). Means nodes marked p id (Words x.left x.right)) q m)
+  ]
+
+  -- the node of a term that is an equation is that of the equation
+  pub Passes-equation : {E : Type 0} → IsGraph nodes → (e e' : Encoding) (i a b : ℕ) (r : Result ℕ E) → slice_get nodes i ≡ Some (Eq a b)
+      → IfOk r (λ id. Passes nodes root marked e e' id (Words (between a b).left (between a b).right)) → IfOk r (λ id. Passes nodes root marked e e' id (Term i))
+  Passes-equation g e e' i a b (Ok id) there s =
+      let m = Means-between e'.prop a b id s.means in
       record {
-        encoding = h;
-        truths = refl;
-        equations = refl;
-        extends = Extends-self e.prop;
-        means = subst (λ o. Means nodes marked e.prop (unwrap_or o 0) (equal nodes a b)) (sym k.known) (elim (split_some nodes a b q is).sides [
-          | inl same ↦ subst (λ x. Means nodes marked e.prop k.id (equal nodes x.ite x.other)) same m
-          | inr same ↦
-              Means-same nodes marked e.prop k.id (equal nodes b a) (equal nodes a b) (λ v _. eqb_comm (word (under v) nodes b) (word (under v) nodes a))
-              (subst (λ x. Means nodes marked e.prop k.id (equal nodes x.ite x.other)) same m)
-        ]);
+        encoding = s.encoding;
+        truths = s.truths;
+        means = record {
+          inside = m.inside;
+          is = λ v k. m.is v k ∙ sym (truth_is nodes g i (Eq a b) there v);
+          made = OfEq i a b id there m.made;
+        };
       }
+  Passes-equation g e e' i a b (Err x) there s = tt
+
+  -- an equation whose node is kept has it
+  pub Adds-kept : (e : Encoding) (q : Equation) (id : ℕ) → IsEncoding nodes root marked e → known e.equations q.left q.right ≡ Some id → Adds nodes root marked e e id (Words q.left q.right)
+  Adds-kept e q id h k = record {
+    encoding = h;
+    truths = refl;
+    equations = refl;
+    extends = Extends-self e.prop;
+    means = h.equations q.left q.right id k;
+  }
+
+  -- and one that is settled without is not taken apart
+  pub whole_of : (e : Encoding) (q : Equation) → IsSettled nodes e q → known e.equations q.left q.right ≡ None → IsWhole nodes q.left q.right
+  whole_of e q (inl w) none = w
+  whole_of e q (inr k) none = absurd (none-some k.id (sym none ∙ k.known))
+
+  -- an equation that is settled stays so where no node is kept
+  pub settled_same : (e e' : Encoding) (q : Equation) → e'.equations ≡ e.equations → IsSettled nodes e q → IsSettled nodes e' q
+  settled_same e e' q same (inl w) = inl w
+  settled_same e e' q same (inr k) = inr (record { id = k.id; known = ap (λ l. known l q.left q.right) same ∙ k.known })
 
   -- a node is kept for an equation
-  module _ (e : Encoding) (kept : List (Equation × ℕ)) (ite other id : ℕ)
-      (keeps : (i o : ℕ) → known kept i o ≡ (if is_equation ite other i o then Some id else known e.equations i o)) where
-    known-here : known kept ite other ≡ Some id
-    known-here = keeps ite other ∙ ap (λ b. if b then Some id else known e.equations ite other) here
+  module _ (e e' : Encoding) (left right id : ℕ) (keeps : (a b : ℕ) → known e'.equations a b ≡ (if is_equation left right a b then Some id else known e.equations a b)) where
+    known-here : known e'.equations left right ≡ Some id
+    known-here = keeps left right ∙ ap (λ b. if b then Some id else known e.equations left right) here
       where
-        here : is_equation ite other ite other ≡ true
-        here = (λ j. eq-eqb ite ite refl j && eq-eqb other other refl j)
+        here : is_equation left right left right ≡ true
+        here = (λ j. eq-eqb left left refl j && eq-eqb right right refl j)
 
-    known-stays_by : (i o : ℕ) (b : Bool) → is_equation ite other i o ≡ b → IsKnown e i o → IsKnown (record { prop = e.prop; truths = e.truths; equations = kept }) i o
+    known-stays_by : (i o : ℕ) (b : Bool) → is_equation left right i o ≡ b → IsKnown e i o → IsKnown e' i o
     known-stays_by i o true q k = record { id = id; known = keeps i o ∙ ap (λ b. if b then Some id else known e.equations i o) q }
     known-stays_by i o false q k = record { id = k.id; known = keeps i o ∙ ap (λ b. if b then Some id else known e.equations i o) q ∙ k.known }
 
-    known-stays : (i o : ℕ) → IsKnown e i o → IsKnown (record { prop = e.prop; truths = e.truths; equations = kept }) i o
-    known-stays i o k = known-stays_by i o (is_equation ite other i o) refl k
+    known-stays : (i o : ℕ) → IsKnown e i o → IsKnown e' i o
+    known-stays i o k = known-stays_by i o (is_equation left right i o) refl k
 
-    equations_by : IsEncoding nodes root marked partners e → Means nodes marked e.prop id (equal nodes ite other) → (i o n : ℕ) (b : Bool) → is_equation ite other i o ≡ b
-        → known kept i o ≡ Some n → Means nodes marked e.prop n (equal nodes i o)
-    equations_by h m i o n true q k =
-        let parts = and_parts (ite == i) (other == o) q in
+    equations_by : IsEncoding nodes root marked e → e'.prop ≡ e.prop → Means nodes marked e.prop id (Words left right) → (i o n : ℕ) (b : Bool) → is_equation left right i o ≡ b
+        → known e'.equations i o ≡ Some n → Means nodes marked e.prop n (Words i o)
+    equations_by h same m i o n true q k =
+        let parts = and_parts (left == i) (right == o) q in
         let is : id ≡ n = same_Some id n (sym (keeps i o ∙ ap (λ b. if b then Some id else known e.equations i o) q) ∙ k) in
-        subst (λ j. Means nodes marked e.prop j (equal nodes i o)) is
-        (subst (λ x. Means nodes marked e.prop id (equal nodes x o)) (eqb-true ite i parts.0) (subst (λ x. Means nodes marked e.prop id (equal nodes ite x)) (eqb-true other o parts.1) m))
-    equations_by h m i o n false q k =
+        subst (λ j. Means nodes marked e.prop j (Words i o)) is
+        (subst (λ x. Means nodes marked e.prop id (Words x o)) (eqb-true left i parts.0) (subst (λ x. Means nodes marked e.prop id (Words left x)) (eqb-true right o parts.1) m))
+    equations_by h same m i o n false q k =
         h.equations i o n (sym (keeps i o ∙ ap (λ b. if b then Some id else known e.equations i o) q) ∙ k)
 
-    pub Settles-keep : IsEncoding nodes root marked partners e → Means nodes marked e.prop id (equal nodes ite other)
-        → Settles nodes root marked partners e (record { prop = e.prop; truths = e.truths; equations = kept }) (equation ite other)
-    Settles-keep h m = record {
+    pub Settles-keep : IsEncoding nodes root marked e → e'.prop ≡ e.prop → e'.truths.items ≡ e.truths.items → Means nodes marked e.prop id (Words left right)
+        → Settles nodes root marked e e' (record { left = left; right = right })
+    Settles-keep h same t m = record {
       encoding = record {
-        atoms = h.atoms;
-        truths = h.truths;
-        equations = λ i o n k. equations_by h m i o n (is_equation ite other i o) refl k;
-        settled = λ i o lt c. known-stays i o (h.settled i o lt c);
+        atoms = subst (HasAtoms nodes marked) (sym same) h.atoms;
+        truths = λ i lt r s. subst (λ p. Means nodes marked p (truth_id e'.truths.items i) (Term i)) (sym same)
+            (subst (λ l. Means nodes marked e.prop (truth_id l i) (Term i)) (sym t) (h.truths i (omega (arith, lt, ap length t)) r s));
+        equations = λ i o n k. subst (λ p. Means nodes marked p n (Words i o)) (sym same) (equations_by h same m i o n (is_equation left right i o) refl k);
       };
-      truths = refl;
+      truths = t;
       stays = known-stays;
-      settled = record { id = id; known = known-here };
+      settled = inr (record { id = id; known = known-here });
     }
 
-  -- the control of an ite that is next has its node
-  pub control_means : IsGraph nodes → (e : Encoding) (i c a b : ℕ) → IsEncoding nodes root marked partners e → i ≡ length e.truths.items → Reaches nodes root i → slice_get nodes i ≡ Some (Ite c a b)
-      → Means nodes marked e.prop (truth_id e.truths.items c) (holds nodes c)
-  control_means g e i c a b h next r there =
-      let lt = children-below nodes g i (Ite c a b) there c (0, omega arith, refl) in
-      h.truths c (omega (arith, lt)) (Child i (Ite c a b) c r there (0, omega arith, refl)) (FitsSorts-get nodes g i (Ite c a b) there).0.sorted
+  -- an equation is chosen by a control from those on which it rests
+  pub Gives-chosen : IsGraph nodes → (p p' : List PropNode) (q : Equation) (c w x y id : ℕ) → IsControl nodes q.left q.right c
+      → Means nodes marked p w (Term c)
+      → Means nodes marked p x (Words (part nodes true c q).left (part nodes true c q).right)
+      → Means nodes marked p y (Words (part nodes false c q).left (part nodes false c q).right)
+      → Extends p p' → id < length p' → HasForm p (ite_form p w x y) p' id
+      → ((v : Atom → Bool) → truth_at v p' id ≡ (if truth_at v p w then truth_at v p x else truth_at v p y)) → Gives nodes marked p p' id (Words q.left q.right)
+  Gives-chosen g p p' q c w x y id is mc my mn grows inside form truth =
+      let l = Means-between p (branch nodes true c q.left) (branch nodes true c q.right) x my in
+      let r = Means-between p (branch nodes false c q.left) (branch nodes false c q.right) y mn in
+      Gives-adds nodes marked p p' (prop.Ite w x y) id (Words q.left q.right) tt grows inside (adds_ite p p' id w x y form)
+      (λ v k. truth (atom_value v) ∙ (λ j. if mc.is v k j then l.is v k j else r.is v k j) ∙ sym (words_branch nodes g q.left q.right c v))
+      (Chosen q.left q.right c w x y id is (Made-Extends nodes marked p p' grows _ w mc.made) (Made-Extends nodes marked p p' grows _ x l.made) (Made-Extends nodes marked p p' grows _ y r.made)
+      (comes p p' (w ∷ x ∷ y ∷ []) (selected w x y) id (mc.inside, (my.inside, (mn.inside, tt))) form))
 
-  -- the equation of an ite is chosen by its control
-  pub Settles-ite : IsGraph nodes → (e e' e'' : Encoding) (p : List PropNode) (kept : List (Equation × ℕ)) (i o c a b control left right id : ℕ)
-      → IsEncoding nodes root marked partners e → slice_get nodes i ≡ Some (Ite c a b) → Means nodes marked e.prop control (holds nodes c)
-      → Adds nodes root marked partners e e' left (equal nodes a o) → Adds nodes root marked partners e' e'' right (equal nodes b o)
-      → Gives nodes marked e''.prop p id (λ v. if truth_at (atom_value v) e''.prop control then truth_at (atom_value v) e''.prop left else truth_at (atom_value v) e''.prop right)
-      → ((j m : ℕ) → known kept j m ≡ (if is_equation i o j m then Some id else known e''.equations j m))
-      → Settles nodes root marked partners e (record { prop = p; truths = e''.truths; equations = kept }) (equation i o)
-  Settles-ite g e e' e'' p kept i o c a b control left right id h there mc s t w keeps =
-      let mc' = Means-Extends nodes marked e.prop e''.prop control (holds nodes c) (Extends-trans e.prop e'.prop e''.prop s.extends t.extends) mc in
-      let my = Means-Extends nodes marked e'.prop e''.prop left (equal nodes a o) t.extends s.means in
-      let grown : Encoding = record { prop = p; truths = e''.truths; equations = e''.equations } in
-      let hg : IsEncoding nodes root marked partners grown = IsEncoding-Extends e'' p t.encoding w.extends (w.atoms t.encoding.atoms) in
-      let m : Means nodes marked p id (equal nodes i o) = Means-same nodes marked p id _ (equal nodes i o) (λ v k.
-      (λ j. if mc'.is v k j then my.is v k j else t.means.is v k j)
-      ∙ sym (ap (λ n. n == word (under v) nodes o) (word_ite nodes g i c a b there v) ∙ equal_choice (truth (under v) nodes c) (word (under v) nodes a) (word (under v) nodes b) (word (under v) nodes o))) w.means in
-      let k = Settles-keep grown kept i o id keeps hg m in
+  -- so it is settled
+  pub Settles-chosen : IsGraph nodes → (e e' e'' e''' : Encoding) (q : Equation) (c w x y id : ℕ) → IsControl nodes q.left q.right c
+      → Means nodes marked e.prop w (Term c)
+      → Adds nodes root marked e e' x (Words (part nodes true c q).left (part nodes true c q).right)
+      → Adds nodes root marked e' e'' y (Words (part nodes false c q).left (part nodes false c q).right)
+      → Extends e''.prop e'''.prop → id < length e'''.prop → HasForm e''.prop (ite_form e''.prop w x y) e'''.prop id
+      → ((v : Atom → Bool) → truth_at v e'''.prop id ≡ (if truth_at v e''.prop w then truth_at v e''.prop x else truth_at v e''.prop y))
+      → e'''.truths.items ≡ e''.truths.items
+      → ((a b : ℕ) → known e'''.equations a b ≡ (if is_equation q.left q.right a b then Some id else known e''.equations a b))
+      → Settles nodes root marked e e''' q
+  Settles-chosen g e e' e'' e''' q c w x y id is mc s t grows inside form truth same keeps =
+      let mc' = Means-Extends nodes marked e.prop e''.prop w (Term c) (Extends-trans e.prop e'.prop e''.prop s.extends t.extends) mc in
+      let my = Means-Extends nodes marked e'.prop e''.prop x _ t.extends s.means in
+      let gives = Gives-chosen g e''.prop e'''.prop q c w x y id is mc' my t.means grows inside form truth in
+      let grown : Encoding = record { alloc = e''.alloc; prop = e'''.prop; truths = e''.truths; equations = e''.equations } in
+      let hg = IsEncoding-Extends e'' grown t.encoding grows (gives.atoms t.encoding.atoms) refl refl in
+      let k = Settles-keep grown e''' q.left q.right id keeps hg refl same gives.means in
       record {
         encoding = k.encoding;
-        truths = t.truths ∙ s.truths;
-        stays = λ j n q. k.stays j n (record { id = q.id; known = ap (λ l. known l j n) (t.equations ∙ s.equations) ∙ q.known });
+        truths = same ∙ t.truths ∙ s.truths;
+        stays = λ j n z. k.stays j n (record { id = z.id; known = ap (λ l. known l j n) (t.equations ∙ s.equations) ∙ z.known });
         settled = k.settled;
       }
 
@@ -155,36 +191,28 @@ module _ (nodes : List Node) (root : ℕ) (marked : Option (List ℕ)) (partners
   push-cases n i lt = elim (cases_lt i n) [ inl q ↦ inl q | inr q ↦ inr (omega arith) ]
 
   -- the next term is passed
-  pub IsEncoding-push : (e e' : Encoding) (id : ℕ) (e'' : Encoding) → Follows nodes root marked partners e e' id → e''.prop ≡ e'.prop → e''.equations ≡ e'.equations
-      → e''.truths.items ≡ e'.truths.items ++ id ∷ [] → IsEncoding nodes root marked partners e''
+  pub IsEncoding-push : (e e' : Encoding) (id : ℕ) (e'' : Encoding) → Follows nodes root marked e e' id → e''.prop ≡ e'.prop → e''.equations ≡ e'.equations
+      → e''.truths.items ≡ e'.truths.items ++ id ∷ [] → IsEncoding nodes root marked e''
   IsEncoding-push e e' id e'' f same_prop same_equations pushed =
       let old = e'.truths.items in
       let size : length e''.truths.items ≡ length old + 1 = ap length pushed ∙ length-append old (id ∷ []) in
       let count : length old ≡ length e.truths.items = ap length f.truths in
       record {
         atoms = subst (HasAtoms nodes marked) (sym same_prop) f.encoding.atoms;
-        truths = λ i lt r s. subst (λ l. Means nodes marked e''.prop (truth_id l i) (holds nodes i)) (sym pushed)
-            (subst (λ q. Means nodes marked q (truth_id (old ++ id ∷ []) i) (holds nodes i)) (sym same_prop)
+        truths = λ i lt r s. subst (λ l. Means nodes marked e''.prop (truth_id l i) (Term i)) (sym pushed)
+            (subst (λ q. Means nodes marked q (truth_id (old ++ id ∷ []) i) (Term i)) (sym same_prop)
             (elim (push-cases (length old) i (omega arith)) [
-              | inl q ↦ subst (λ j. Means nodes marked e'.prop j (holds nodes i)) (sym (get_or_append_left old (id ∷ []) 0 i q)) (f.encoding.truths i q r s)
+              | inl q ↦ subst (λ j. Means nodes marked e'.prop j (Term i)) (sym (get_or_append_left old (id ∷ []) 0 i q)) (f.encoding.truths i q r s)
               | inr q ↦
                   let here : i ≡ length e.truths.items = q ∙ count in
-                  subst (λ j. Means nodes marked e'.prop j (holds nodes i)) (sym (ap (truth_id (old ++ id ∷ [])) q ∙ get_or-append_seam old id [] 0))
-                  (subst (λ j. Means nodes marked e'.prop id (holds nodes j)) (sym here) (f.means (subst (Reaches nodes root) here r) (ap (sort_at nodes) (sym here) ∙ s)))
+                  subst (λ j. Means nodes marked e'.prop j (Term i)) (sym (ap (truth_id (old ++ id ∷ [])) q ∙ get_or-append_seam old id [] 0))
+                  (subst (λ j. Means nodes marked e'.prop id (Term j)) (sym here) (f.means (subst (Reaches nodes root) here r) (ap (sort_at nodes) (sym here) ∙ s)))
             ]));
-        equations = λ i o n k. subst (λ q. Means nodes marked q n (equal nodes i o)) (sym same_prop) (f.encoding.equations i o n (ap (λ l. known l i o) (sym same_equations) ∙ k));
-        settled = λ i o lt c.
-            let k : IsKnown e' i o = elim (push-cases (length old) i (omega arith)) [
-              | inl q ↦ f.encoding.settled i o q c
-              | inr q ↦
-                  let here : i ≡ length e.truths.items = q ∙ count in
-                  subst (λ j. IsKnown e' j o) (sym here) (f.settled o (subst (λ j. Contains (partners_of partners j) o) here c))
-            ] in
-            record { id = k.id; known = ap (λ l. known l i o) same_equations ∙ k.known };
+        equations = λ i o n k. subst (λ q. Means nodes marked q n (Words i o)) (sym same_prop) (f.encoding.equations i o n (ap (λ l. known l i o) (sym same_equations) ∙ k));
       }
 
   -- at first nothing is encoded
-  pub IsEncoding-start : (e : Encoding) → e.prop ≡ [] → e.truths.items ≡ [] → e.equations ≡ [] → IsEncoding nodes root marked partners e
+  pub IsEncoding-start : (e : Encoding) → e.prop ≡ [] → e.truths.items ≡ [] → e.equations ≡ [] → IsEncoding nodes root marked e
   IsEncoding-start e p t q = record {
     atoms = record {
       edges = λ id x y at. absurd (none-some _ (ap (λ l. slice_get l id) (sym p) ∙ at));
@@ -192,23 +220,4 @@ module _ (nodes : List Node) (root : ℕ) (marked : Option (List ℕ)) (partners
     };
     truths = λ i lt. absurd (omega (arith, lt, ap length t));
     equations = λ i o id k. absurd (none-some id (ap (λ l. known l i o) (sym q) ∙ k));
-    settled = λ i o lt. absurd (omega (arith, lt, ap length t));
   }
-
-  -- the result of a step that adds its node
-  pub Adds-result : {E : Type 0} (e : Encoding) (p : List PropNode) (value : (ℕ → Scalar) → Bool) (r : Result ℕ E) → IsEncoding nodes root marked partners e → IfOk r (λ id. Gives nodes marked e.prop p id value)
-      → IfOk r (λ id. Adds nodes root marked partners e (record { prop = p; truths = e.truths; equations = e.equations }) id value)
-  Adds-result e p value (Ok id) h s = Adds-Gives e p id value h s
-  Adds-result e p value (Err x) h s = tt
-
-  -- what is added has also what has the same value
-  pub Adds-value : {E : Type 0} (e e' : Encoding) (value other : (ℕ → Scalar) → Bool) (r : Result ℕ E) → ((v : ℕ → Scalar) → value v ≡ other v)
-      → IfOk r (λ id. Adds nodes root marked partners e e' id value) → IfOk r (λ id. Adds nodes root marked partners e e' id other)
-  Adds-value e e' value other (Ok id) same s = record {
-    encoding = s.encoding;
-    truths = s.truths;
-    equations = s.equations;
-    extends = s.extends;
-    means = Means-same nodes marked e'.prop id value other (λ v k. same v) s.means;
-  }
-  Adds-value e e' value other (Err x) same s = tt

@@ -14,7 +14,7 @@ use Rattle.bd_function.specs.Flat.{IsFlat}
 use Rattle.bd_function.specs.Values.{is_marked}
 use Rattle.bd_equality.specs.Encoding.{IsVariable, has_mark}
 use Rattle.bd_equality.specs.Edges.{IsVertex}
-use Rattle.bd_equality.specs.inner.Means.{symbol_variable}
+use Rattle.bd_equality.specs.Made.{symbol_variable}
 use Rattle.bd_equality.proofs.Finding.{app_of, applies_use}
 use Rattle.bd_equality.proofs.Flats.{word_is}
 use Rattle.bd_equality.proofs.Groups.{next-cases}

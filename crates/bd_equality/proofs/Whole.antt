@@ -14,8 +14,8 @@ use Rattle.bd_transitive.specs.declared.graph.Edge.{Edge}
 use Rattle.bd_transitive.specs.Edges.{AreEdges, Joins}
 use Rattle.bd_equality.specs.Encoding.{AgreesWith, EncodesByEdges, atom_value}
 use Rattle.bd_equality.specs.Edges.{IsApart, IsEdge, ReachesEdge}
+use Rattle.bd_equality.specs.Made.{Term}
 use Rattle.bd_equality.specs.inner.Means.{HasAtoms, Means, edge}
-use Rattle.bd_equality.specs.inner.Steps.{holds}
 
 module _ (nodes : List Node) (root : ℕ) (marked : Option (List ℕ)) (edges : List Edge) (prop : List PropNode) (top : ℕ) (atoms : HasAtoms nodes marked prop)
     (among : (e : Edge) → ReachesEdge prop top e → Contains edges e) where
@@ -24,7 +24,7 @@ module _ (nodes : List Node) (root : ℕ) (marked : Option (List ℕ)) (edges : 
   agree value v h id (TruthOf x) r at = h.truths x (atoms.truths id x at)
 
   -- only the values of the edges and of the truth variables count
-  pub by_edges_of : IsGraph prop → Means nodes marked prop top (holds nodes root) → EncodesByEdges nodes root marked edges prop top
+  pub by_edges_of : IsGraph prop → Means nodes marked prop top (Term root) → EncodesByEdges nodes root marked edges prop top
   by_edges_of g m = record {
     denotes = λ value v k h. truth_agrees value (atom_value v) prop top g (agree value v h) m.inside ∙ m.is v k;
   }

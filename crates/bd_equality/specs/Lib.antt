@@ -1,3 +1,4 @@
 pub mod Encoding
+pub mod Made
 pub mod Edges
 pub mod inner

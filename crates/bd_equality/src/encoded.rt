@@ -5,14 +5,14 @@ ghost use Rattle.bd_transitive.specs.Edges.{AreEdges};
 ghost use Rattle.bd_transitive.specs.declared.graph.Edge.{Edge as TheEdge};
 ghost use Rattle.bd_equality.specs.Encoding.{Encodes, EncodesByEdges};
 ghost use Rattle.bd_equality.specs.Edges.{IsApart, IsEdge, ReachesEdge};
+ghost use Rattle.bd_equality.specs.Made.{Made, Term};
 ghost use Rattle.bd_equality.specs.inner.Apart.{IsReached};
 ghost use Rattle.bd_equality.specs.inner.Means.{HasAtoms, Means};
-ghost use Rattle.bd_equality.specs.inner.Steps.{holds};
 
 use crate::apart::apart;
-use crate::asked::asked;
 use crate::encoding::Encoding;
 use crate::pairs::Pairs;
+use crate::sharing::Trees;
 use bd_function::{Flat, Marked};
 use bd_model::Distinct;
 use bd_prop::{Atom, Prop, PropNode};
@@ -41,6 +41,8 @@ pub fn encode(
     ensures graph { IfOk result (λ e. IsGraph e.prop) }
     ensures denotes { IfOk result (λ e.
         Encodes flat.now.graph flat.now.root (option_copied marked.entry) e.prop e.root) }
+    ensures made { IfOk result (λ e. Made flat.now.graph (option_copied marked.entry) e.prop
+        (Term flat.now.root) e.root) }
     ensures by_edges { IfOk result (λ e.
         EncodesByEdges flat.now.graph flat.now.root (option_copied marked.entry) e.edges e.prop
         e.root) }
@@ -73,14 +75,14 @@ fn truth_graph(
 ) -> Result<(Prop, usize), AllocError>
     ensures atoms { IfOk result (λ r. HasAtoms flat.now.graph (option_copied marked.entry) r.0) }
     ensures means { IfOk result (λ r. Means flat.now.graph (option_copied marked.entry) r.0 r.1
-        (holds flat.now.graph flat.now.root)) }
+        (Term flat.now.root)) }
 {
     let marks = reached(&flat.graph, flat.root)?;
-    let partners = asked(alloc, flat, &marks)?;
+    let mut trees = Trees::new(alloc, flat.graph.len())?;
     let mut encoding = Encoding::new(alloc);
     for index in 0..flat.graph.len() {
         let id = flat.graph.id(index);
-        let node = encoding.next(flat, marked, &marks, &partners, id)?;
+        let node = encoding.next(flat, marked, &marks, &mut trees, id)?;
         encoding.truths.push(node)?;
     }
     let root = encoding.node(flat.root);

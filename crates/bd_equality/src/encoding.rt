@@ -1,17 +1,18 @@
-//! One pass in rising order. Each truth value that is reached has a node from those of its parts; the equations of
-//! an ite have theirs from the control's and those of the branches' equations. So each node's parts stand before it.
-ghost use Rattle.std.specs.Prelude.{◌≡◌, ◌<◌, ◌↔◌, ℕ, [], Contains, IfOk, IsTrue, OnOk, Some, length, option_copied, false, slice_get, slice_index_or};
+//! One pass in rising order. Each truth value that is reached has a node from those of its parts. An equation of two
+//! words is settled before its own node: a stack of visits goes down to the equations on which it rests, each of which
+//! is settled once.
+ghost use Rattle.std.specs.Prelude.{◌≡◌, ◌<◌, ◌↔◌, ℕ, [], true, false, IfOk, IsTrue, OnOk, length, option_copied, slice_index_or};
 ghost use Rattle.bd_model.specs.declared.design.Sort.TheVariants as sort;
-ghost use Rattle.bd_terms.specs.declared.node.Node.TheVariants as node;
-ghost use Rattle.bd_terms.specs.Graph.{HasSort, IsGraph, sort_at};
+ghost use Rattle.bd_terms.specs.Graph.{HasSort};
 ghost use Rattle.bd_terms.specs.Reaches.{Reaches};
-ghost use Rattle.bd_equality.specs.inner.Split.{AreAsked, IsAsked, IsBefore, IsWord, partners_of};
-ghost use Rattle.bd_equality.specs.inner.Steps.{Adds, Follows, IsEncoding, IsKnown, Settles, equal, holds, truth_id};
+ghost use Rattle.bd_equality.specs.Made.{Term, Words};
+ghost use Rattle.bd_equality.specs.inner.Split.{IsControl, IsPair, part};
+ghost use Rattle.bd_equality.specs.inner.Steps.{Adds, Enters, Follows, IsEncoding, IsSettled, Passes, Settles, truth_id};
 
-use crate::asked::Partners;
 use crate::equations::Equations;
 use crate::leaf::{leaf, symbol_variable};
-use crate::split::{Equation, split};
+use crate::sharing::Trees;
+use crate::split::{Equation, between, rests_on};
 use bd_function::{Flat, Marked};
 use bd_model::Sort;
 use bd_prop::{Atom, Prop};
@@ -22,9 +23,18 @@ use std::alloc::{AllocError, Global};
 /// equations.
 #[derive(Drop)]
 pub(crate) struct Encoding {
+    alloc: Global,
     pub(crate) prop: Prop,
     pub(crate) truths: Vec<usize>,
     pub(crate) equations: Equations,
+}
+
+/// What is still to be done for an equation: to look at it, or to make its node by a control, when the equations on
+/// which it rests have theirs.
+#[derive(Clone, Copy)]
+pub(crate) enum Visit {
+    Enter(Equation),
+    Finish(Equation, Id),
 }
 
 impl Encoding {
@@ -34,6 +44,7 @@ impl Encoding {
         ensures equations { result.equations ≡ [] }
     {
         Encoding {
+            alloc,
             prop: Prop::new(alloc),
             truths: Vec::new(alloc),
             equations: Equations::new(alloc),
@@ -48,36 +59,29 @@ impl Encoding {
         self.truths[id.index()]
     }
 
-    /// The node of the next term: one of no meaning for a word and what isn't reached. The equations of an ite are
-    /// settled.
+    /// The node of the next term: one of no meaning for a word and what isn't reached.
     pub(crate) fn next(
         &mut self,
         flat: &Flat,
         marked: Option<&Marked>,
         marks: &ReachedTerms,
-        partners: &[Partners],
+        trees: &mut Trees,
         id: Id,
     ) -> Result<usize, AllocError>
         requires next { id ≡ length self.old.truths.items }
         requires inside { id < length flat.now.graph }
         requires reached { (k : ℕ) → IsTrue (slice_index_or marks.now k false)
             ↔ Reaches flat.now.graph flat.now.root k }
-        requires asked { AreAsked flat.now.graph flat.now.root 0 partners.now }
-        requires encoding { IsEncoding flat.now.graph flat.now.root (option_copied marked)
-            partners.now self.old }
+        requires encoding { IsEncoding flat.now.graph flat.now.root (option_copied marked) self.old }
         ensures { IfOk result (λ node. Follows flat.now.graph flat.now.root
-            (option_copied marked.entry)
-            partners.now self.old self.new node) }
+            (option_copied marked.entry) self.old self.new node) }
     {
         if !marks.has(id) {
             return Ok(0);
         }
         match flat.graph.sort(id) {
-            Sort::Bool => self.truth(flat, marked, partners, id),
-            _ => {
-                self.settle(flat, marked, partners, id)?;
-                Ok(0)
-            }
+            Sort::Bool => self.truth(flat, marked, trees, id),
+            _ => Ok(0),
         }
     }
 
@@ -86,18 +90,15 @@ impl Encoding {
         &mut self,
         flat: &Flat,
         marked: Option<&Marked>,
-        partners: &[Partners],
+        trees: &mut Trees,
         id: Id,
     ) -> Result<usize, AllocError>
         requires next { id ≡ length self.old.truths.items }
         requires sorted { HasSort flat.now.graph id sort.Bool }
         requires reached { Reaches flat.now.graph flat.now.root id }
-        requires asked { AreAsked flat.now.graph flat.now.root 0 partners.now }
-        requires encoding { IsEncoding flat.now.graph flat.now.root (option_copied marked)
-            partners.now self.old }
-        ensures { IfOk result (λ node. Adds flat.now.graph flat.now.root
-            (option_copied marked.entry)
-            partners.now self.old self.new node (holds flat.now.graph id)) }
+        requires encoding { IsEncoding flat.now.graph flat.now.root (option_copied marked) self.old }
+        ensures { IfOk result (λ node. Passes flat.now.graph flat.now.root
+            (option_copied marked.entry) self.old self.new node (Term id)) }
     {
         match flat.graph.node(id) {
             Node::Not(a) => {
@@ -117,93 +118,124 @@ impl Encoding {
                 let no = self.node(*no);
                 self.prop.mk_ite(control, yes, no)
             }
-            Node::Eq(a, b) => self.equation(flat, marked, partners, *a, *b),
+            Node::Eq(a, b) => {
+                let equation = between(*a, *b);
+                self.equal(flat, marked, trees, &equation)
+            }
             Node::Pred(sym, _) => self.prop.mk_atom(Atom::Truth(symbol_variable(*sym))),
             _ => self.prop.mk_true(),
         }
     }
 
-    /// The node of an equation of two words: the one that is settled, or that of leaves.
+    /// The node of an equation of two words that are passed.
+    fn equal(
+        &mut self,
+        flat: &Flat,
+        marked: Option<&Marked>,
+        trees: &mut Trees,
+        equation: &Equation,
+    ) -> Result<usize, AllocError>
+        requires pair { IsPair flat.now.graph flat.now.root (length self.old.truths.items) equation.now }
+        requires encoding { IsEncoding flat.now.graph flat.now.root (option_copied marked) self.old }
+        ensures { IfOk result (λ node. Passes flat.now.graph flat.now.root
+            (option_copied marked.entry) self.old self.new node
+            (Words equation.now.left equation.now.right)) }
+    {
+        self.settle(flat, marked, trees, equation)?;
+        self.equation(flat, marked, equation)
+    }
+
+    /// The node of an equation that is settled: the one that is kept, or that of an equation that isn't taken apart.
     fn equation(
         &mut self,
         flat: &Flat,
         marked: Option<&Marked>,
-        partners: &[Partners],
-        a: Id,
-        b: Id,
+        equation: &Equation,
     ) -> Result<usize, AllocError>
-        requires first { IsWord flat.now.graph flat.now.root a }
-        requires second { IsWord flat.now.graph flat.now.root b }
-        requires asked { IsAsked flat.now.graph partners.now a b }
-        requires before { IsBefore flat.now.graph a b (length self.old.truths.items) }
-        requires encoding { IsEncoding flat.now.graph flat.now.root (option_copied marked)
-            partners.now self.old }
+        requires pair { IsPair flat.now.graph flat.now.root (length self.old.truths.items) equation.now }
+        requires settled { IsSettled flat.now.graph self.old equation.now }
+        requires encoding { IsEncoding flat.now.graph flat.now.root (option_copied marked) self.old }
         ensures { IfOk result (λ node. Adds flat.now.graph flat.now.root
-            (option_copied marked.entry)
-            partners.now self.old self.new node (equal flat.now.graph a b)) }
+            (option_copied marked.entry) self.old self.new node
+            (Words equation.now.left equation.now.right)) }
     {
-        match split(&flat.graph, a, b) {
-            Some(equation) => Ok(self.equations.get(equation)),
-            None => leaf(&mut self.prop, flat, marked, a, b),
+        match self.equations.get(equation) {
+            Some(node) => Ok(node),
+            None => leaf(&mut self.prop, flat, marked, equation.left, equation.right),
         }
     }
 
-    /// Settles the equations of the next word, if it is an ite.
+    /// Settles an equation of two words that are passed.
     fn settle(
         &mut self,
         flat: &Flat,
         marked: Option<&Marked>,
-        partners: &[Partners],
-        id: Id,
+        trees: &mut Trees,
+        equation: &Equation,
     ) -> Result<(), AllocError>
-        requires next { id ≡ length self.old.truths.items }
-        requires inside { id < length flat.now.graph }
-        requires asked { AreAsked flat.now.graph flat.now.root 0 partners.now }
-        requires encoding { IsEncoding flat.now.graph flat.now.root (option_copied marked)
-            partners.now self.old }
-        ensures encoding { OnOk result (IsEncoding flat.now.graph flat.now.root
-            (option_copied marked.entry) partners.now self.new) }
-        ensures truths { OnOk result (self.new.truths.items ≡ self.old.truths.items) }
-        ensures settled { OnOk result ((o : ℕ) → Contains (partners_of partners.now id) o →
-            IsKnown self.new id o) }
+        requires pair { IsPair flat.now.graph flat.now.root (length self.old.truths.items) equation.now }
+        requires encoding { IsEncoding flat.now.graph flat.now.root (option_copied marked) self.old }
+        ensures { OnOk result (Settles flat.now.graph flat.now.root
+            (option_copied marked.entry) self.old self.new equation.now) }
     {
-        let Node::Ite(control, yes, no) = flat.graph.node(id) else {
-            return Ok(());
-        };
-        for other in partners[id.index()].as_slice() {
-            let equation = Equation {
-                ite: id,
-                other: *other,
-            };
-            self.settle_one(flat, marked, partners, equation, *control, *yes, *no)?;
+        let mut visits = Vec::new(self.alloc);
+        visits.push(Visit::Enter(*equation))?;
+        while let Some(visit) = visits.pop() {
+            match visit {
+                Visit::Enter(entered) => self.enter(flat, trees, &mut visits, &entered)?,
+                Visit::Finish(waiting, control) => self.finish(flat, marked, &waiting, control)?,
+            }
         }
         Ok(())
     }
 
-    /// Settles one equation of the next word, which is an ite.
-    fn settle_one(
+    /// Puts an equation on the stack with those on which it rests above it, unless it is settled.
+    fn enter(
+        &self,
+        flat: &Flat,
+        trees: &mut Trees,
+        visits: &mut Vec<Visit>,
+        equation: &Equation,
+    ) -> Result<(), AllocError>
+        requires left { equation.now.left < length flat.now.graph }
+        requires right { equation.now.right < length flat.now.graph }
+        ensures { OnOk result (Enters flat.now.graph self.now visits.old.items visits.new.items
+            equation.now) }
+    {
+        if self.equations.get(equation).is_some() {
+            return Ok(());
+        }
+        if let Some(control) = trees.control(&flat.graph, equation)? {
+            let parts = rests_on(&flat.graph, control, equation);
+            visits.push(Visit::Finish(*equation, control))?;
+            visits.push(Visit::Enter(parts.no))?;
+            visits.push(Visit::Enter(parts.yes))?;
+        }
+        Ok(())
+    }
+
+    /// Settles an equation by a control, when those on which it rests are settled.
+    fn finish(
         &mut self,
         flat: &Flat,
         marked: Option<&Marked>,
-        partners: &[Partners],
-        equation: Equation,
+        equation: &Equation,
         control: Id,
-        yes: Id,
-        no: Id,
     ) -> Result<(), AllocError>
-        requires next { equation.ite ≡ length self.old.truths.items }
-        requires graph { IsGraph flat.now.graph }
-        requires node { slice_get flat.now.graph equation.ite ≡ Some (node.Ite control yes no) }
-        requires partner { Contains (partners_of partners.now equation.ite) equation.other }
-        requires asked { AreAsked flat.now.graph flat.now.root 0 partners.now }
-        requires encoding { IsEncoding flat.now.graph flat.now.root (option_copied marked)
-            partners.now self.old }
-        ensures { OnOk result (Settles flat.now.graph flat.now.root (option_copied marked.entry)
-            partners.now self.old self.new equation) }
+        requires pair { IsPair flat.now.graph flat.now.root (length self.old.truths.items) equation.now }
+        requires control { IsControl flat.now.graph equation.now.left equation.now.right control }
+        requires yes { IsSettled flat.now.graph self.old
+            (part flat.now.graph true control equation.now) }
+        requires no { IsSettled flat.now.graph self.old
+            (part flat.now.graph false control equation.now) }
+        requires encoding { IsEncoding flat.now.graph flat.now.root (option_copied marked) self.old }
+        ensures { OnOk result (Settles flat.now.graph flat.now.root
+            (option_copied marked.entry) self.old self.new equation.now) }
     {
+        let parts = rests_on(&flat.graph, control, equation);
         let control = self.node(control);
-        let yes = self.equation(flat, marked, partners, yes, equation.other)?;
-        let no = self.equation(flat, marked, partners, no, equation.other)?;
+        let yes = self.equation(flat, marked, &parts.yes)?;
+        let no = self.equation(flat, marked, &parts.no)?;
         let node = self.prop.mk_ite(control, yes, no)?;
         self.equations.keep(equation, node)
     }

@@ -1,5 +1,5 @@
 //! The nodes of equations.
-ghost use Rattle.std.specs.Prelude.{◌≡◌, ℕ, [], Some, OnOk, unwrap_or, if◌then◌else◌};
+ghost use Rattle.std.specs.Prelude.{◌≡◌, ℕ, [], Some, OnOk, if◌then◌else◌};
 ghost use Rattle.bd_equality.specs.inner.Sets.{is_equation, known};
 
 use crate::split::Equation;
@@ -7,7 +7,7 @@ use indexmap::IndexMap;
 use std::alloc::{AllocError, Global};
 use std::marker::Model;
 
-/// A node of the truth graph for each equation that is settled.
+/// A node of the truth graph for each equation that is taken apart and settled.
 #[derive(Drop)]
 pub(crate) struct Equations {
     nodes: IndexMap<Equation, usize>,
@@ -31,20 +31,20 @@ impl Equations {
         }
     }
 
-    /// The node of an equation that is settled.
-    pub(crate) fn get(&self, equation: Equation) -> usize
-        ensures { result ≡ unwrap_or (known self.now equation.ite equation.other) 0 }
+    /// The node of an equation, if one is kept.
+    pub(crate) fn get(&self, equation: &Equation) -> Option<usize>
+        ensures { result ≡ known self.now equation.now.left equation.now.right }
     {
-        self.nodes.get(&equation).copied().unwrap_or(0)
+        self.nodes.get(equation).copied()
     }
 
     /// Keeps the node of an equation.
-    pub(crate) fn keep(&mut self, equation: Equation, node: usize) -> Result<(), AllocError>
-        ensures { OnOk result ((i o : ℕ) → known self.new i o
-            ≡ (if is_equation equation.ite equation.other i o then Some node
-            else known self.old i o)) }
+    pub(crate) fn keep(&mut self, equation: &Equation, node: usize) -> Result<(), AllocError>
+        ensures { OnOk result ((a b : ℕ) → known self.new a b
+            ≡ (if is_equation equation.now.left equation.now.right a b then Some node
+            else known self.old a b)) }
     {
-        self.nodes.insert(equation, node)?;
+        self.nodes.insert(*equation, node)?;
         Ok(())
     }
 }

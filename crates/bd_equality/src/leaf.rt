@@ -1,12 +1,12 @@
 //! Atoms.
-ghost use Rattle.std.specs.Prelude.{◌≡◌, ◌||◌, None, IfOk, option_copied};
+ghost use Rattle.std.specs.Prelude.{◌≡◌, ◌||◌, IfOk, option_copied};
 ghost use Rattle.bd_model.specs.declared.design.Sort.TheVariants as sort;
 ghost use Rattle.bd_terms.specs.Graph.{HasSort};
 ghost use Rattle.bd_terms.specs.declared.node.Node.TheVariants as node;
 ghost use Rattle.bd_equality.specs.Encoding.{has_mark};
-ghost use Rattle.bd_equality.specs.inner.Split.{split};
-ghost use Rattle.bd_equality.specs.inner.Means.{Gives, symbol_variable, node_variable};
-ghost use Rattle.bd_equality.specs.inner.Steps.{equal};
+ghost use Rattle.bd_equality.specs.inner.Split.{IsWhole};
+ghost use Rattle.bd_equality.specs.Made.{Words, symbol_variable};
+ghost use Rattle.bd_equality.specs.inner.Means.{Gives, node_variable};
 
 use bd_function::{Flat, Marked};
 use bd_prop::{Atom, Prop};
@@ -62,10 +62,9 @@ pub(crate) fn leaf(
 ) -> Result<usize, AllocError>
     requires first { HasSort flat.now.graph a sort.Word }
     requires second { HasSort flat.now.graph b sort.Word }
-    requires whole { split flat.now.graph a b ≡ None }
+    requires whole { IsWhole flat.now.graph a b }
     ensures { IfOk result (λ id. Gives flat.now.graph (option_copied marked.entry) prop.old
-        prop.new id
-        (equal flat.now.graph a b)) }
+        prop.new id (Words a b)) }
 {
     if a == b {
         return prop.mk_true();

@@ -2,12 +2,12 @@
 #![tactic(auto)]
 
 mod apart;
-mod asked;
 mod encoded;
 mod encoding;
 mod equations;
 mod leaf;
 mod pairs;
+mod sharing;
 mod split;
 
 pub use encoded::{Encoded, encode};

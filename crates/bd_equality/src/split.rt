@@ -1,36 +1,79 @@
-//! How an equation of ite trees is taken apart.
-ghost use Rattle.std.specs.Prelude.{◌≡◌, ◌<◌, length};
-ghost use Rattle.bd_equality.specs.inner.Split.{is_ite, split};
+//! How an equation of ite trees is taken apart: by a control of one of its words.
+ghost use Rattle.std.specs.Prelude.{◌≡◌, ◌<◌, true, false, length};
+ghost use Rattle.bd_terms.specs.Graph.{IsGraph};
+ghost use Rattle.bd_equality.specs.Made.{branch, head};
+ghost use Rattle.bd_equality.specs.inner.Split.{between, part};
 
 use bd_terms::{Graph, Id, Node};
 
-/// An equation of an ite and another word, which is no ite or stands before it.
+/// An equation of two words, the one that stands earlier on the left.
 #[derive(Clone, Copy, Debug, PartialEq, Eq, Hash)]
 pub(crate) struct Equation {
-    pub(crate) ite: Id,
-    pub(crate) other: Id,
+    pub(crate) left: Id,
+    pub(crate) right: Id,
 }
 
-fn is_ite(graph: &Graph, id: Id) -> bool
-    requires { id < length graph.now }
-    ensures { result ≡ is_ite graph.now id }
-{
-    matches!(graph.node(id), Node::Ite(..))
+/// What an equation rests on: a control, and the equations of what both words are where it is true and where it is false.
+#[derive(Clone, Copy, Debug)]
+pub(crate) struct Parts {
+    pub(crate) yes: Equation,
+    pub(crate) no: Equation,
 }
 
-/// The equation of two words by the ite that is taken apart, the later one of two; none where no ite is to be.
-pub(crate) fn split(graph: &Graph, a: Id, b: Id) -> Option<Equation>
-    requires first { a < length graph.now }
-    requires second { b < length graph.now }
-    ensures { result ≡ split graph.now a b }
+/// The equation of two words.
+pub(crate) fn between(a: Id, b: Id) -> Equation
+    ensures { result ≡ between a b }
 {
-    if a == b {
-        None
-    } else if is_ite(graph, a) && (b.index() < a.index() || !is_ite(graph, b)) {
-        Some(Equation { ite: a, other: b })
-    } else if is_ite(graph, b) {
-        Some(Equation { ite: b, other: a })
+    if b.index() < a.index() {
+        Equation { left: b, right: a }
     } else {
-        None
+        Equation { left: a, right: b }
+    }
+}
+
+/// The control of a term, if it is an ite.
+pub(crate) fn head(graph: &Graph, id: Id) -> Option<Id>
+    requires { id < length graph.now }
+    ensures { result ≡ head graph.now id }
+{
+    match graph.node(id) {
+        Node::Ite(control, _, _) => Some(*control),
+        _ => None,
+    }
+}
+
+/// What a word is where the control is true, and where it is false: an ite of this control is one of its branches, and
+/// each other word stays.
+fn branches(graph: &Graph, control: Id, id: Id) -> (Id, Id)
+    requires { id < length graph.now }
+    ensures yes { result.0 ≡ branch graph.now true control id }
+    ensures no { result.1 ≡ branch graph.now false control id }
+    ensures graph { IsGraph graph.now }
+{
+    match graph.node(id) {
+        Node::Ite(test, yes, no) => {
+            if *test == control {
+                (*yes, *no)
+            } else {
+                (id, id)
+            }
+        }
+        _ => (id, id),
+    }
+}
+
+/// The equations on which an equation rests, by a control.
+pub(crate) fn rests_on(graph: &Graph, control: Id, equation: &Equation) -> Parts
+    requires left { equation.now.left < length graph.now }
+    requires right { equation.now.right < length graph.now }
+    ensures yes { result.yes ≡ part graph.now true control equation.now }
+    ensures no { result.no ≡ part graph.now false control equation.now }
+    ensures graph { IsGraph graph.now }
+{
+    let left = branches(graph, control, equation.left);
+    let right = branches(graph, control, equation.right);
+    Parts {
+        yes: between(left.0, right.0),
+        no: between(left.1, right.1),
     }
 }

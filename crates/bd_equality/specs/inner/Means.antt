@@ -1,11 +1,11 @@
 -- What nodes of the truth graph mean under values of the variables.
-use Rattle.std.specs.Prelude.{◌≡◌, ◌<◌, ℕ, Bool, List, Option, length}
+use Rattle.std.specs.Prelude.{◌≡◌, ◌<◌, ◌==◌, ℕ, Bool, List, Option, length}
 use Rattle.bd_model.specs.declared.design.Sort.TheVariants as sort
 use Rattle.bd_model.specs.declared.table.Scalar.{Scalar}
-use Rattle.bd_terms.specs.declared.node.Sym.{Sym}
-use Rattle.bd_terms.specs.declared.node.Sym.TheVariants.{Var}
 use Rattle.bd_terms.specs.declared.node.Node.{Node}
 use Rattle.bd_terms.specs.declared.node.Node.TheVariants.{App}
+use Rattle.bd_terms.specs.Denotation.{truth, word}
+use Rattle.bd_function.specs.Flat.{under}
 use Rattle.bd_prop.specs.declared.atom.Atom.TheVariants.{Edge as EdgeOf, Truth as TruthOf}
 use Rattle.bd_prop.specs.declared.node.PropNode.{PropNode}
 use Rattle.bd_prop.specs.declared.node.PropNode.TheVariants.{Atom as AtomOf}
@@ -14,6 +14,7 @@ use Rattle.bd_prop.specs.Truth.{truth_at}
 use Rattle.bd_transitive.specs.declared.graph.Edge.{Edge}
 use Rattle.bd_equality.specs.Encoding.{IsVariable, KeepsMarkedApart, atom_value}
 use Rattle.bd_equality.specs.Edges.{IsEdge}
+use Rattle.bd_equality.specs.Made.{Made, Subject, Term, Words, symbol_variable}
 
 abbrev pub edge : ℕ → ℕ → Edge
 edge x y = record { from = x; to = y }
@@ -23,22 +24,24 @@ pub record HasAtoms (nodes : List Node) (marked : Option (List ℕ)) (prop : Lis
   pub edges : (id x y : ℕ) → StandsAt prop id (AtomOf (EdgeOf x y)) → IsEdge nodes marked (edge x y)
   pub truths : (id x : ℕ) → StandsAt prop id (AtomOf (TruthOf x)) → IsVariable nodes sort.Bool x
 
--- a node that has this value under all values of the variables that keep the marked ones apart
-pub record Means (nodes : List Node) (marked : Option (List ℕ)) (prop : List PropNode) (id : ℕ) (value : (ℕ → Scalar) → Bool) : Type 0 where
-  pub inside : id < length prop
-  pub is : (v : ℕ → Scalar) → KeepsMarkedApart nodes marked v → truth_at (atom_value v) prop id ≡ value v
+-- whether a truth value is true, or two words are equal, under values of the variables
+abbrev pub value_of : List Node → Subject → (ℕ → Scalar) → Bool
+value_of nodes (Term i) v = truth (under v) nodes i
+value_of nodes (Words a b) v = word (under v) nodes a == word (under v) nodes b
 
--- the graph grew, and has a node that has this value
-pub record Gives (nodes : List Node) (marked : Option (List ℕ)) (prop prop' : List PropNode) (id : ℕ) (value : (ℕ → Scalar) → Bool) : Type 0 where
+-- a node that is made for this, and has its value under all values of the variables that keep the marked ones apart
+pub record Means (nodes : List Node) (marked : Option (List ℕ)) (prop : List PropNode) (id : ℕ) (subject : Subject) : Type 0 where
+  pub inside : id < length prop
+  pub is : (v : ℕ → Scalar) → KeepsMarkedApart nodes marked v → truth_at (atom_value v) prop id ≡ value_of nodes subject v
+  pub made : Made nodes marked prop subject id
+
+-- the graph grew, and has a node that is made for this
+pub record Gives (nodes : List Node) (marked : Option (List ℕ)) (prop prop' : List PropNode) (id : ℕ) (subject : Subject) : Type 0 where
   pub extends : Extends prop prop'
   pub atoms : HasAtoms nodes marked prop → HasAtoms nodes marked prop'
-  pub means : Means nodes marked prop' id value
+  pub means : Means nodes marked prop' id subject
 
--- the variable that a symbol is, and that a word is
-abbrev pub symbol_variable : Sym → ℕ
-symbol_variable (Var x) = x
-symbol_variable _ = 0
-
+-- the variable that a word is
 abbrev pub node_variable : Node → ℕ
 node_variable (App s args) = symbol_variable s
 node_variable _ = 0

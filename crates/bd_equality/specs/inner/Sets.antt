@@ -6,14 +6,14 @@ use Rattle.bd_equality.specs.declared.split.Equation.{Equation}
 use Rattle.bd_equality.specs.declared.pairs.VariablePair.{VariablePair}
 
 abbrev pub is_equation : ℕ → ℕ → ℕ → ℕ → Bool
-is_equation ite other i o = (ite == i) && (other == o)
+is_equation left right a b = (left == a) && (right == b)
 
 abbrev pub is_key : Equation → Equation → Bool
-is_key k l = is_equation k.ite k.other l.ite l.other
+is_key k l = is_equation k.left k.right l.left l.right
 
 -- the node that is kept for an equation
 abbrev pub known : List (Equation × ℕ) → ℕ → ℕ → Option ℕ
-known nodes i o = lookup (is_key (record { ite = i; other = o })) nodes
+known nodes a b = lookup (is_key (record { left = a; right = b })) nodes
 
 -- the variable that is kept for a constant
 abbrev pub variable_of : List (ℕ × ℕ) → ℕ → Option ℕ

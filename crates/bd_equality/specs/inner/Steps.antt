@@ -1,60 +1,91 @@
 -- What is encoded so far.
-use Rattle.std.specs.Prelude.{◌≡◌, ◌<◌, ℕ, Bool, ◌==◌, List, Contains, Option, Some, length, slice_index_or}
+use Rattle.std.specs.Prelude.{◌≡◌, ◌<◌, ◌≤◌, ◌+◌, ◌⊎◌, ℕ, Bool, true, false, List, [], ◌∷◌, ◌++◌, Option, Some, length, slice_get, slice_index_or}
 use Rattle.bd_model.specs.declared.design.Sort.TheVariants as sort
-use Rattle.bd_model.specs.declared.table.Scalar.{Scalar}
 use Rattle.bd_terms.specs.declared.node.Node.{Node}
-use Rattle.bd_terms.specs.Graph.{sort_at}
+use Rattle.bd_terms.specs.Graph.{IsGraph, sort_at}
 use Rattle.bd_terms.specs.Reaches.{Reaches}
-use Rattle.bd_terms.specs.Denotation.{truth, word}
-use Rattle.bd_function.specs.Flat.{under}
 use Rattle.bd_prop.specs.Graph.{Extends}
 use Rattle.bd_equality.specs.declared.encoding.Encoding.{Encoding}
+use Rattle.bd_equality.specs.declared.encoding.Visit.{Visit}
+use Rattle.bd_equality.specs.declared.encoding.Visit.TheVariants.{Enter, Finish}
 use Rattle.bd_equality.specs.declared.split.Equation.{Equation}
-use Rattle.bd_equality.specs.inner.Split.{partners_of}
+use Rattle.bd_equality.specs.Made.{Subject, Term, Words}
+use Rattle.bd_equality.specs.inner.Split.{IsControl, IsPair, IsWhole, part}
 use Rattle.bd_equality.specs.inner.Sets.{known}
 use Rattle.bd_equality.specs.inner.Means.{HasAtoms, Means}
-
--- whether two words are equal, and whether a truth value is true, under values of the variables
-abbrev pub equal : List Node → ℕ → ℕ → (ℕ → Scalar) → Bool
-equal nodes a b v = word (under v) nodes a == word (under v) nodes b
-
-abbrev pub holds : List Node → ℕ → (ℕ → Scalar) → Bool
-holds nodes id v = truth (under v) nodes id
 
 -- the node of a truth value that is passed
 abbrev pub truth_id : List ℕ → ℕ → ℕ
 truth_id truths id = slice_index_or truths id 0
 
 -- an equation's node is kept
-pub record IsKnown (e : Encoding) (ite other : ℕ) : Type 0 where
+pub record IsKnown (e : Encoding) (left right : ℕ) : Type 0 where
   pub id : ℕ
-  pub known : known e.equations ite other ≡ Some id
+  pub known : known e.equations left right ≡ Some id
 
--- each truth value that is passed and reached has a node, and so has each equation of an ite that is passed and asked for
-pub record IsEncoding (nodes : List Node) (root : ℕ) (marked : Option (List ℕ)) (partners : List (List ℕ)) (e : Encoding) : Type 0 where
+-- each truth value that is passed and reached has a node, and each equation whose node is kept has that one
+pub record IsEncoding (nodes : List Node) (root : ℕ) (marked : Option (List ℕ)) (e : Encoding) : Type 0 where
   pub atoms : HasAtoms nodes marked e.prop
-  pub truths : (i : ℕ) → i < length e.truths.items → Reaches nodes root i → sort_at nodes i ≡ sort.Bool → Means nodes marked e.prop (truth_id e.truths.items i) (holds nodes i)
-  pub equations : (i o id : ℕ) → known e.equations i o ≡ Some id → Means nodes marked e.prop id (equal nodes i o)
-  pub settled : (i o : ℕ) → i < length e.truths.items → Contains (partners_of partners i) o → IsKnown e i o
+  pub truths : (i : ℕ) → i < length e.truths.items → Reaches nodes root i → sort_at nodes i ≡ sort.Bool → Means nodes marked e.prop (truth_id e.truths.items i) (Term i)
+  pub equations : (a b id : ℕ) → known e.equations a b ≡ Some id → Means nodes marked e.prop id (Words a b)
 
--- a node more: it has this value, and what was encoded stays
-pub record Adds (nodes : List Node) (root : ℕ) (marked : Option (List ℕ)) (partners : List (List ℕ)) (e e' : Encoding) (id : ℕ) (value : (ℕ → Scalar) → Bool) : Type 0 where
-  pub encoding : IsEncoding nodes root marked partners e'
+-- an equation that isn't taken apart, or whose node is kept
+abbrev pub IsSettled : List Node → Encoding → Equation → Type 0
+IsSettled nodes e q = IsWhole nodes q.left q.right ⊎ IsKnown e q.left q.right
+
+-- a node more: it is made for this, and what was encoded stays
+pub record Adds (nodes : List Node) (root : ℕ) (marked : Option (List ℕ)) (e e' : Encoding) (id : ℕ) (subject : Subject) : Type 0 where
+  pub encoding : IsEncoding nodes root marked e'
   pub truths : e'.truths.items ≡ e.truths.items
   pub equations : e'.equations ≡ e.equations
   pub extends : Extends e.prop e'.prop
-  pub means : Means nodes marked e'.prop id value
+  pub means : Means nodes marked e'.prop id subject
+
+-- a node more for the next term, and perhaps equations
+pub record Passes (nodes : List Node) (root : ℕ) (marked : Option (List ℕ)) (e e' : Encoding) (id : ℕ) (subject : Subject) : Type 0 where
+  pub encoding : IsEncoding nodes root marked e'
+  pub truths : e'.truths.items ≡ e.truths.items
+  pub means : Means nodes marked e'.prop id subject
 
 -- one equation more is settled
-pub record Settles (nodes : List Node) (root : ℕ) (marked : Option (List ℕ)) (partners : List (List ℕ)) (e e' : Encoding) (equation : Equation) : Type 0 where
-  pub encoding : IsEncoding nodes root marked partners e'
+pub record Settles (nodes : List Node) (root : ℕ) (marked : Option (List ℕ)) (e e' : Encoding) (q : Equation) : Type 0 where
+  pub encoding : IsEncoding nodes root marked e'
   pub truths : e'.truths.items ≡ e.truths.items
-  pub stays : (i o : ℕ) → IsKnown e i o → IsKnown e' i o
-  pub settled : IsKnown e' equation.ite equation.other
+  pub stays : (a b : ℕ) → IsKnown e a b → IsKnown e' a b
+  pub settled : IsSettled nodes e' q
 
--- the next term's node: a truth value that is reached has it, and the equations of an ite that are asked for are settled
-pub record Follows (nodes : List Node) (root : ℕ) (marked : Option (List ℕ)) (partners : List (List ℕ)) (e e' : Encoding) (id : ℕ) : Type 0 where
-  pub encoding : IsEncoding nodes root marked partners e'
+-- the next term's node: a truth value that is reached has it
+pub record Follows (nodes : List Node) (root : ℕ) (marked : Option (List ℕ)) (e e' : Encoding) (id : ℕ) : Type 0 where
+  pub encoding : IsEncoding nodes root marked e'
   pub truths : e'.truths.items ≡ e.truths.items
-  pub means : Reaches nodes root (length e.truths.items) → sort_at nodes (length e.truths.items) ≡ sort.Bool → Means nodes marked e'.prop id (holds nodes (length e.truths.items))
-  pub settled : (o : ℕ) → Contains (partners_of partners (length e.truths.items)) o → IsKnown e' (length e.truths.items) o
+  pub means : Reaches nodes root (length e.truths.items) → sort_at nodes (length e.truths.items) ≡ sort.Bool → Means nodes marked e'.prop id (Term (length e.truths.items))
+
+-- the equation of a visit
+abbrev pub equation_of : Visit → Equation
+equation_of (Enter q) = q
+equation_of (Finish q c) = q
+
+-- a visit to the equation stands in the stack, at a place or above it
+pub record IsAwaited (visits : List Visit) (place : ℕ) (q : Equation) : Type 0 where
+  pub at : ℕ
+  pub above : place ≤ at
+  pub visit : Visit
+  pub there : slice_get visits at ≡ Some visit
+  pub is : equation_of visit ≡ q
+
+-- the equation is settled, or will be when the stack is down to a place
+abbrev pub IsOwed : List Node → Encoding → List Visit → ℕ → Equation → Type 0
+IsOwed nodes e visits place q = IsSettled nodes e q ⊎ IsAwaited visits place q
+
+-- each equation that is to be finished rests on those that are settled or visited before
+pub record IsSettling (nodes : List Node) (root place : ℕ) (e : Encoding) (visits : List Visit) (q : Equation) : Type 0 where
+  pub pairs : (k : ℕ) (v : Visit) → slice_get visits k ≡ Some v → IsPair nodes root place (equation_of v)
+  pub controls : (k : ℕ) (p : Equation) (c : ℕ) → slice_get visits k ≡ Some (Finish p c) → IsControl nodes p.left p.right c
+  pub parts : (k : ℕ) (p : Equation) (c : ℕ) (side : Bool) → slice_get visits k ≡ Some (Finish p c) → IsOwed nodes e visits (k + 1) (part nodes side c p)
+  pub asked : IsOwed nodes e visits 0 q
+
+-- what an equation that is entered puts on the stack: nothing if it is settled, else itself and what it rests on above it
+abbrev pub Enters : List Node → Encoding → List Visit → List Visit → Equation → Type 0
+Enters nodes e old new q =
+    ((new ≡ old) × IsSettled nodes e q)
+    ⊎ ((c : ℕ) × IsControl nodes q.left q.right c × IsGraph nodes × (new ≡ ((old ++ Finish q c ∷ []) ++ Enter (part nodes false c q) ∷ []) ++ Enter (part nodes true c q) ∷ []))

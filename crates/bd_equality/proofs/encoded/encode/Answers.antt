@@ -37,3 +37,6 @@ returns-clause-apart_simple c =
     (λ e h. edge_of_either c.args.flat.now.graph c.args.flat.now.syms c.args.distinct.now (option_copied c.args.marked) c.in_ok-prop.prop c.in_ok-prop.root e c.in_ok-prop.ensures.atoms
     (inr ((c.in_ok-pairs.ensures e).0 (subst (λ l. Contains l e) c.in_ok-apart.ensures.edges h))))
     (subst (AllPairs (λ e f. e ≢ f)) (sym c.in_ok-apart.ensures.edges) c.in_ok-apart.ensures.once)
+
+pub returns-clause-made : goal.returns-clause-made
+returns-clause-made c = c.in_ok-prop.ensures.means.made

@@ -1,6 +1,5 @@
 use Rattle.std.proofs.Common.{sym, ◌∙◌, eqb-true, option_copied}
-use Rattle.bd_equality.proofs.Leaves.{leaf_of, Gives-itself, Gives-variable, Gives-marked, Gives-edge}
-use Rattle.bd_equality.proofs.Splits.{split_none}
+use Rattle.bd_equality.proofs.Leaves.{leaf_of, whole_apart, Gives-itself, Gives-variable, Gives-marked, Gives-edge}
 use Rattle.bd_equality.proofs.leaf.leaf.Goals as goal
 
 pub returns-then-eq : goal.returns-then-eq
@@ -12,7 +11,7 @@ returns-then-eq c =
 pub returns-then-a-b : goal.returns-then-a-b
 returns-then-a-b c =
     let nodes = c.args.flat.now.graph in
-    let plain = split_none nodes c.args.a c.args.b c.requires.whole (sym c.eq.ensures ∙ c.if-eq.false) in
+    let plain = whole_apart nodes c.args.a c.args.b c.requires.whole (sym c.eq.ensures ∙ c.if-eq.false) in
     let la = leaf_of nodes c.node.ensures.graph c.args.flat.now.root c.args.flat.now.syms c.args.flat.now.flat c.args.a c.node.result.now c.requires.first c.node.ensures.node plain.0 c.word_variable-a.result c.word_variable-a.ensures in
     let lb = leaf_of nodes c.node.ensures.graph c.args.flat.now.root c.args.flat.now.syms c.args.flat.now.flat c.args.b c.node-2.result.now c.requires.second c.node-2.ensures.node plain.1 c.word_variable-b.result c.word_variable-b.ensures in
     Gives-variable nodes (option_copied c.args.marked) c.args.a c.args.b c.word_variable-a.result c.word_variable-b.result la lb c.args.prop.now c.mk_true-then-a-b.new.self c.mk_true-then-a-b.result
@@ -21,7 +20,7 @@ returns-then-a-b c =
 pub returns-in_ok-truth : goal.returns-in_ok-truth
 returns-in_ok-truth c =
     let nodes = c.args.flat.now.graph in
-    let plain = split_none nodes c.args.a c.args.b c.requires.whole (sym c.eq.ensures ∙ c.if-eq.false) in
+    let plain = whole_apart nodes c.args.a c.args.b c.requires.whole (sym c.eq.ensures ∙ c.if-eq.false) in
     let la = leaf_of nodes c.node.ensures.graph c.args.flat.now.root c.args.flat.now.syms c.args.flat.now.flat c.args.a c.node.result.now c.requires.first c.node.ensures.node plain.0 c.word_variable-a.result c.word_variable-a.ensures in
     let lb = leaf_of nodes c.node.ensures.graph c.args.flat.now.root c.args.flat.now.syms c.args.flat.now.flat c.args.b c.node-2.result.now c.requires.second c.node-2.ensures.node plain.1 c.word_variable-b.result c.word_variable-b.ensures in
     Gives-marked nodes (option_copied c.args.marked) c.args.a c.args.b c.word_variable-a.result c.word_variable-b.result la lb c.args.prop.now c.mk_true-then-has_either_mark.new.self c.mk_not.new.self c.in_ok-truth.truth c.mk_not.result
@@ -31,7 +30,7 @@ returns-in_ok-truth c =
 pub returns-else-has_either_mark : goal.returns-else-has_either_mark
 returns-else-has_either_mark c =
     let nodes = c.args.flat.now.graph in
-    let plain = split_none nodes c.args.a c.args.b c.requires.whole (sym c.eq.ensures ∙ c.if-eq.false) in
+    let plain = whole_apart nodes c.args.a c.args.b c.requires.whole (sym c.eq.ensures ∙ c.if-eq.false) in
     let la = leaf_of nodes c.node.ensures.graph c.args.flat.now.root c.args.flat.now.syms c.args.flat.now.flat c.args.a c.node.result.now c.requires.first c.node.ensures.node plain.0 c.word_variable-a.result c.word_variable-a.ensures in
     let lb = leaf_of nodes c.node.ensures.graph c.args.flat.now.root c.args.flat.now.syms c.args.flat.now.flat c.args.b c.node-2.result.now c.requires.second c.node-2.ensures.node plain.1 c.word_variable-b.result c.word_variable-b.ensures in
     Gives-edge nodes (option_copied c.args.marked) c.args.a c.args.b c.word_variable-a.result c.word_variable-b.result la lb c.args.prop.now c.mk_atom.new.self c.min.result c.max.result c.mk_atom.result

@@ -1,17 +1,24 @@
-use Rattle.std.proofs.Common.{sym, ◌∙◌, subst, option_copied}
-use Rattle.bd_equality.specs.inner.Steps.{Adds, equal}
-use Rattle.bd_equality.proofs.Stepping.{Adds-result, Adds-settled}
+use Rattle.std.proofs.Common.{sym, ◌∙◌, option_copied, refl}
+use Rattle.bd_equality.specs.Made.{Words}
+use Rattle.bd_equality.proofs.Stepping.{Adds-kept, Adds-result, whole_of}
 use Rattle.bd_equality.proofs.encoding.Encoding.equation.Goals as goal
+
+pub leaf-requires-clause-first : goal.leaf-requires-clause-first
+leaf-requires-clause-first c = c.requires.pair.left.sorted
+
+pub leaf-requires-clause-second : goal.leaf-requires-clause-second
+leaf-requires-clause-second c = c.requires.pair.right.sorted
+
+pub leaf-requires-clause-whole : goal.leaf-requires-clause-whole
+leaf-requires-clause-whole c =
+    whole_of c.args.flat.now.graph c.args.flat.now.root (option_copied c.args.marked) c.args.self.now c.args.equation.now c.requires.settled (sym c.get.ensures ∙ c.in-None.is)
 
 pub returns-in-Some : goal.returns-in-Some
 returns-in-Some c =
-    let nodes = c.args.flat.now.graph in
-    let root = c.args.flat.now.root in
-    let e = c.args.self.now in
-    subst (λ id. Adds nodes root (option_copied c.args.marked) c.args.partners.now e e id (equal nodes c.args.a c.args.b)) (sym c.get.ensures)
-    (Adds-settled nodes root (option_copied c.args.marked) c.args.partners.now e c.args.a c.args.b c.in-Some.equation c.requires.encoding (sym c.split.ensures ∙ c.in-Some.is) c.requires.asked c.requires.before)
+    Adds-kept c.args.flat.now.graph c.args.flat.now.root (option_copied c.args.marked) c.args.self.now c.args.equation.now c.in-Some.node c.requires.encoding (sym c.get.ensures ∙ c.in-Some.is)
 
 pub returns-in-None : goal.returns-in-None
 returns-in-None c =
-    Adds-result c.args.flat.now.graph c.args.flat.now.root (option_copied c.args.marked) c.args.partners.now c.args.self.now c.leaf.new.prop
-    (equal c.args.flat.now.graph c.args.a c.args.b) c.leaf.result c.requires.encoding c.leaf.ensures
+    Adds-result c.args.flat.now.graph c.args.flat.now.root (option_copied c.args.marked) c.args.self.now
+    (record { alloc = c.args.self.now.alloc; prop = c.leaf.new.prop; truths = c.args.self.now.truths; equations = c.args.self.now.equations })
+    (Words c.args.equation.now.left c.args.equation.now.right) c.leaf.result c.requires.encoding c.leaf.ensures refl refl
