@@ -13,7 +13,7 @@ use Rattle.std.proofs.lemmas.Slice.Eq.{bytes_eq-Decides}
 use Rattle.bd_files.specs.declared.devices.FileCall.TheVariants.{Save}
 use Rattle.bd_files.specs.declared.devices.SaveError.{SaveError}
 use Rattle.bd_files.specs.declared.devices.SaveError.TheVariants.{Failed, Memory}
-use Rattle.bd_files.specs.Shelf.{File, ShelfState, bytes_of, put_file, files_of, saved, failed, numbered}
+use Rattle.bd_files.specs.Shelf.{File, ShelfState, bytes_of, put_file, files_of, saved, failed, numbered, telling}
 
 pub bytes_of-put_file : (files : List File) (name bytes : List ℕ) → bytes_of (put_file files name bytes) name ≡ Some bytes
 bytes_of-put_file [] name bytes = grind (arith, bytes_eq-Decides name name)
@@ -52,7 +52,7 @@ files_of_push_absent held searched name text bytes same is absent =
     files_of_push held name bytes (subst (λ (xs : List (String Global × Vec ℕ Global)). length xs ≤ place_in xs (string_bytes name)) same (subst (λ (t : List ℕ). length searched ≤ place_in searched t) is later))
 
 -- a save leaves what is under every other name, whatever it answers
-pub keeps_others : {T : Type 0} (result : Result T SaveError) (old new : ShelfState) (name bytes other : List ℕ) → OnOk result (new ≡ saved old name bytes) → (IsErrOf result Failed → new ≡ failed old Save name) → (IsErrOf result Memory → new ≡ numbered old) → other ≢ name → bytes_of new.held other ≡ bytes_of old.held other
+pub keeps_others : {T : Type 0} (result : Result T SaveError) (old new : ShelfState) (name bytes other : List ℕ) → OnOk result (new ≡ telling new.calls (saved old name bytes)) → (IsErrOf result Failed → new ≡ telling new.calls (failed old Save name)) → (IsErrOf result Memory → new ≡ telling new.calls (numbered old)) → other ≢ name → bytes_of new.held other ≡ bytes_of old.held other
 keeps_others (Ok v) old new name bytes other ok fails memory differs =
     ap (λ (shelf : ShelfState). bytes_of shelf.held other) ok ∙ bytes_of-put_file_other old.held name bytes other differs
 keeps_others (Err Failed) old new name bytes other ok fails memory differs =

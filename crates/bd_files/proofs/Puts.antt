@@ -6,7 +6,8 @@ use Rattle.std.proofs.lemmas.Bool.{cases_lt}
 use Rattle.std.proofs.lemmas.List.{take_more, take-append-le, flat_map_more, take-append-drop}
 use Rattle.std.proofs.Math.Seq.{take-append-add}
 use Rattle.std.proofs.lemmas.List.Concat.{flat_map-append}
-use Rattle.bd_files.specs.Devices.{Appends, AppendsPrefix}
+use Rattle.bd_files.specs.Devices.{Appends, AppendsPrefix, Counts}
+use Rattle.bd_files.specs.Numbers.{number_after}
 
 Appends-then : (a b c : Option (List ℕ)) (xs ys : List ℕ) → Appends a b xs → Appends b c ys → Appends a c (xs ++ ys)
 Appends-then None b c xs ys first second = second ∙ ap (option_map (λ w. w ++ ys)) first
@@ -48,3 +49,8 @@ AppendsPrefix-pieces f xs i d a b c lt first second =
     subst (λ l. AppendsPrefix a c l) (sym (text_split f xs i d lt))
     (AppendsPrefix-more a c (flat_map f (take i xs) ++ f (get_or xs i d)) (flat_map f (drop (i + 1) xs))
     (AppendsPrefix-then a b c (flat_map f (take i xs)) (f (get_or xs i d)) first second))
+
+-- the next number is one more, where there is one
+pub counts_next : (next : Option ℕ) → Counts next (number_after next) 1
+counts_next None = tt
+counts_next (Some number) = grind arith

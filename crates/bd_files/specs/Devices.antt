@@ -12,6 +12,26 @@ Held = List ℕ → Option (List ℕ)
 abbrev pub Blame : Type 0
 Blame = FileCall × List ℕ
 
+-- a call on files: a load of a name, of which at most so many bytes are asked for, or a save of
+-- bytes under a name
+pub data Call : Type 0 where
+  loading : List ℕ → ℕ → Call
+  saving : List ℕ → List ℕ → Call
+
+-- these calls were made after those before, where the object tells its calls; it may stop telling
+abbrev pub Makes : Option (List Call) → Option (List Call) → List Call → Type 0
+Makes None None calls = Unit {0}
+Makes None (Some after) calls = ⊥
+Makes (Some before) None calls = Unit {0}
+Makes (Some before) (Some after) calls = after ≡ before ++ calls
+
+-- so many puts were made, where the object tells the number that each raises; it may stop telling
+abbrev pub Counts : Option ℕ → Option ℕ → ℕ → Type 0
+Counts None None puts = Unit {0}
+Counts None (Some after) puts = ⊥
+Counts (Some before) None puts = Unit {0}
+Counts (Some before) (Some after) puts = after ≡ before + puts
+
 -- the largest 64-bit number, where a count of faults stays
 abbrev pub last_count : ℕ
 last_count = 2 ^ 64 - 1

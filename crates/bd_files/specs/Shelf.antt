@@ -8,7 +8,7 @@ use Rattle.std.specs.String.{string_bytes}
 use Rattle.std.specs.declared.alloc.Global.{Global}
 use Rattle.std.specs.declared.string.String.{String}
 use Rattle.std.specs.declared.vec.Vec.{Vec}
-use Rattle.bd_files.specs.Devices.{FaultRecord, faulted}
+use Rattle.bd_files.specs.Devices.{Call, FaultRecord, faulted}
 use Rattle.bd_files.specs.declared.devices.FileCall.{FileCall}
 use Rattle.bd_files.specs.Numbers.{number_after}
 
@@ -20,12 +20,14 @@ File = List ℕ × List ℕ
 abbrev pub files_of : List (String Global × Vec ℕ Global) → List File
 files_of = map (λ file. (string_bytes file.0, file.1.items))
 
--- `next` is the number of the next call, and `fails` has the numbers of the calls that are to fail
+-- `next` is the number of the next call, and `fails` has the numbers of the calls that are to fail;
+-- `calls` are those that were made, while there is memory to tell them
 pub record ShelfState : Type 0 where
   pub held : List File
   pub fails : List ℕ
   pub next : Option ℕ
   pub faults : FaultRecord
+  pub calls : Option (List Call)
 
 -- the bytes of the first file with that name
 abbrev pub bytes_of : List File → List ℕ → Option (List ℕ)
@@ -54,6 +56,10 @@ load_of shelf name most =
 abbrev pub numbered : ShelfState → ShelfState
 numbered shelf = record shelf { next = number_after shelf.next }
 
+-- the shelf that tells these calls
+abbrev pub telling : Option (List Call) → ShelfState → ShelfState
+telling calls shelf = record shelf { calls = calls }
+
 -- a shelf that holds these files, before its first call
 abbrev pub new_shelf : List File → List ℕ → ShelfState
 new_shelf files fails = record {
@@ -61,6 +67,7 @@ new_shelf files fails = record {
   fails = fails;
   next = Some 1;
   faults = record { count = 0; blame = None };
+  calls = Some [];
 }
 
 -- the shelf after a call that failed

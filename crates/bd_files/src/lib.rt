@@ -13,6 +13,7 @@ mod devices;
 mod fault_log;
 mod memory_files;
 mod memory_sink;
+mod noted;
 mod pieces;
 
 pub use devices::{FileCall, Files, LoadError, PutError, SaveError, Sink};

@@ -2,20 +2,22 @@
 //!
 //! A shelf keeps its files in a list, the first of a name counting. Each call takes the next
 //! number before it does anything else, so a call that answers want of memory is numbered too.
-ghost use Rattle.std.specs.Prelude.{◌≡◌, ◌+◌, true, false, Some, None, OnOk, OnErr, IfOk, IsErrOf, IsOkAnd, position, find, take, option_map};
+ghost use Rattle.std.specs.Prelude.{◌≡◌, ◌+◌, [], ◌∷◌, true, false, Some, None, OnOk, OnErr, IfOk, IsErrOf, IsOkAnd, position, find, take, option_map};
 ghost use Rattle.std.specs.Option.{option_copied};
 ghost use Rattle.std.specs.String.{string_bytes};
 ghost use Rattle.std.specs.Str.{bytes_eq};
+ghost use Rattle.bd_files.specs.Devices.{Makes, loading, saving};
 ghost use Rattle.bd_files.specs.Numbers.{number_after};
-ghost use Rattle.bd_files.specs.Shelf.{files_of, bytes_of, put_file, is_due, load_of, new_shelf, numbered, failed, saved};
+ghost use Rattle.bd_files.specs.Shelf.{files_of, bytes_of, put_file, is_due, load_of, new_shelf, numbered, failed, saved, telling};
 
 use super::calls::take_number;
+use super::noted::{NotedCall, note_load, note_save};
 use super::{FaultLog, FileCall, Files, LoadError, SaveError};
 use std::alloc::{AllocError, Global};
 use std::marker::Model;
 
 /// Files in memory, of which calls with given numbers fail. The calls on a shelf, loads and saves
-/// together, have the numbers 1, 2, 3, ..
+/// together, have the numbers 1, 2, 3, .. The shelf tells them, until memory runs out for it.
 #[derive(Debug, Drop)]
 pub struct Shelf {
     alloc: Global,
@@ -23,9 +25,11 @@ pub struct Shelf {
     fails: Vec<u64>,
     next: Option<u64>,
     faults: FaultLog,
+    calls: Option<Vec<NotedCall>>,
 }
 
 impl Model for Shelf {
+    ghost use Rattle.bd_files.specs.Noted.{calls_of};
     ghost use Rattle.bd_files.specs.Shelf.{ShelfState, files_of};
 
     ghost Value = { ShelfState };
@@ -35,6 +39,7 @@ impl Model for Shelf {
       fails = shelf.fails.items;
       next = shelf.next;
       faults = shelf.faults;
+      calls = calls_of shelf.calls;
     } };
 }
 
@@ -54,6 +59,7 @@ impl Shelf {
             fails,
             next: Some(1),
             faults: FaultLog::new(),
+            calls: Some(Vec::new(alloc)),
         })
     }
 
@@ -73,16 +79,21 @@ impl Files for Shelf {
 
     ghost blame = { λ shelf. shelf.faults.blame };
 
+    ghost calls = { λ shelf. shelf.calls };
+
     fn load(&mut self, name: &str, most: usize) -> Result<Vec<u8>, LoadError>
         ensures given { IfOk result (λ bytes.
             load_of self.old name.now most ≡ Some bytes.items) }
-        ensures ok { OnOk result (self.new ≡ numbered self.old) }
+        ensures called { Makes self.old.calls self.new.calls (loading name.now most ∷ []) }
+        ensures ok { OnOk result (self.new ≡ telling self.new.calls (numbered self.old)) }
         ensures fails { IsErrOf result LoadError.Failed → load_of self.old name.now most ≡ None }
         ensures failed { IsErrOf result LoadError.Failed →
-            self.new ≡ failed self.old FileCall.Load name.now }
-        ensures memory { IsErrOf result LoadError.Memory → self.new ≡ numbered self.old }
+            self.new ≡ telling self.new.calls (failed self.old FileCall.Load name.now) }
+        ensures memory { IsErrOf result LoadError.Memory →
+            self.new ≡ telling self.new.calls (numbered self.old) }
     {
         let due = is_due_now(&self.fails, &mut self.next);
+        note_load(self.alloc, &mut self.calls, name, most);
         let blamed = String::from_str(self.alloc, name).map_err(|_| LoadError::Memory)?;
         let found = if due {
             None
@@ -99,15 +110,19 @@ impl Files for Shelf {
     }
 
     fn save(&mut self, name: &str, bytes: &[u8]) -> Result<(), SaveError>
-        ensures ok { OnOk result (self.new ≡ saved self.old name.now bytes.now) }
+        ensures called { Makes self.old.calls self.new.calls (saving name.now bytes.now ∷ []) }
+        ensures ok { OnOk result
+            (self.new ≡ telling self.new.calls (saved self.old name.now bytes.now)) }
         ensures ok_unless_due { OnOk result (is_due self.old.fails self.old.next ≡ false) }
         ensures fails_if_due { IsErrOf result SaveError.Failed →
             is_due self.old.fails self.old.next ≡ true }
         ensures failed { IsErrOf result SaveError.Failed →
-            self.new ≡ failed self.old FileCall.Save name.now }
-        ensures memory { IsErrOf result SaveError.Memory → self.new ≡ numbered self.old }
+            self.new ≡ telling self.new.calls (failed self.old FileCall.Save name.now) }
+        ensures memory { IsErrOf result SaveError.Memory →
+            self.new ≡ telling self.new.calls (numbered self.old) }
     {
         let due = is_due_now(&self.fails, &mut self.next);
+        note_save(self.alloc, &mut self.calls, name, bytes);
         let name = String::from_str(self.alloc, name).map_err(|_| SaveError::Memory)?;
         if due {
             self.faults.add(FileCall::Save, name);

@@ -71,10 +71,13 @@ impl Page {
     }
 }
 
+#[tactic(auto, using(crate::proofs::Puts::counts_next))]
 impl Sink for Page {
     ghost written = { λ page. Some page.written };
 
     ghost faults = { λ page. page.faults };
+
+    ghost puts = { λ page. page.next };
 
     fn put(&mut self, bytes: &[u8]) -> Result<(), PutError>
         ensures ok { is_ok result ≡ takes_all self.old (length bytes.now) }

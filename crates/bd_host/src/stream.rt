@@ -40,6 +40,8 @@ impl<W: Write> Sink for Stream<W> {
 
     ghost faults = { λ stream. stream.faults };
 
+    ghost puts = { λ _. None };
+
     fn put(&mut self, bytes: &[u8]) -> Result<(), PutError>
         ensures whole { OnOk result
             (Appends (W.contents self.old.writer) (W.contents self.new.writer) bytes.now) }

@@ -40,6 +40,8 @@ impl Files for WatchedFiles {
 
     ghost blame = { λ _. None };
 
+    ghost calls = { λ _. None };
+
     fn load(&mut self, name: &str, most: usize) -> Result<Vec<u8>, LoadError> {
         let Some(load) = self.expected.get(self.next) else {
             self.as_expected = false;
@@ -76,6 +78,8 @@ impl Sink for WatchedSink {
     ghost written = { λ _. None };
 
     ghost faults = { λ _. 0 };
+
+    ghost puts = { λ _. None };
 
     fn put(&mut self, bytes: &[u8]) -> Result<(), PutError> {
         let fits = match self.expected.get(self.next) {

@@ -12,6 +12,7 @@ save-tells c =
     record {
       saved = on_ok_weaker c.result (λ is. ap (λ (shelf : ShelfState). bytes_of shelf.held name) is ∙ bytes_of-put_file old.held name bytes) c.ensures.ok;
       keeps_others = λ other. keeps_others c.result old c.new.self.now name bytes other c.ensures.ok c.ensures.failed c.ensures.memory;
+      called = c.ensures.called;
       never_falls = search rules;
       failed_rose = search rules;
       failed_blames = search rules;
