@@ -1,7 +1,7 @@
 -- From the answer to a question to the run that prints it.
 use Rattle.std.proofs.Common.{◌≡◌, ◌≢◌, ◌∙◌, ℕ, List, refl, sym, ap, subst, inl, inr}
 use Rattle.std.specs.Prelude.{◌⊎◌, Option, Some, None, Result, Ok, Err, IfSome, IfOk, IfErr, IsErrOf}
-use Rattle.bd_files.specs.Devices.{Held, Rose, Appends, AppendsPrefix}
+use Rattle.bd_files.specs.Devices.{Held, Rose, Appends, AppendsPrefix, Counts}
 use Rattle.bd_goal.specs.Laws.{Differs}
 use Rattle.bd_model.specs.Conditions.{Abstraction, JudgedBy}
 use Rattle.bd_model.specs.DesignView.{DesignView}
@@ -33,6 +33,7 @@ use Rattle.bd_app.specs.declared.answer.Ended.{Ended}
 use Rattle.bd_app.specs.declared.answer.Ended.TheVariants.{Proved, Bounded, Completed, Usage, Refused, BadText, Device, Memory}
 use Rattle.bd_app.specs.declared.verdict.Asked.{Asked}
 use Rattle.bd_app.specs.inner.Done.{IsDone, IsEarlyFault, IsFault, ended_of}
+use Rattle.bd_app.proofs.Calls.{report_called}
 use Rattle.bd_app.proofs.Effects.{out_effects}
 use Rattle.bd_app.proofs.Results.{IfSome-weaker}
 use Rattle.bd_app.proofs.Verdicts.{no_bounded, no_completed, no_memory_verdict, no_proved, no_ran, no_replayed, no_retraced, no_usage_verdict, same_verdict, verdict_reports}
@@ -187,8 +188,8 @@ early_no_out e fault is = subst IsEarlyFault is fault
 -- the answer to a question that was put
 pub answered : (P R : Type 0) (q : Question) (r : Result Answer Ended) (final : Ended) (a b : FilesSeen) (out out' : SinkSeen) → IfErr r (λ e. (final ≡ e) × P)
     → IfOk r (λ x. ((final ≡ x.ended) × Appends out.written out'.written x.report.items) ⊎ ((final ≡ Device which.Out) × R × AppendsPrefix out.written out'.written x.report.items))
-    → IsDone (meaning_of q) a b r → IsAnswered (meaning_of q) final a b out out'
-answered P R q (Err e) final a b out out' fault put done =
+    → IfOk r (λ x. Counts out.puts out'.puts 1) → IsDone (meaning_of q) a b r → IsAnswered (meaning_of q) final a b out out'
+answered P R q (Err e) final a b out out' fault put once done =
     let m = meaning_of q in
     let early = fault_early m a.held e done.fault in
     record {
@@ -198,14 +199,14 @@ answered P R q (Err e) final a b out out' fault put done =
       cut = λ is. absurd (early_no_out e early (sym fault.0 ∙ is));
       effects = subst (λ x. Effects m a b x) (sym fault.0) done.effects;
     }
-answered P R q (Ok x) final a b out out' fault put done =
+answered P R q (Ok x) final a b out out' fault put once done =
     let m = meaning_of q in
     let reported : HasReport x.ended = reports q a.held x.ended x.report.items done.answer in
     elim put [
       | inl h ↦ record {
         refused = λ file offset code is. absurd (subst HasReport (sym h.0 ∙ is) reported);
         bad_text = λ line column why cnf is. absurd (subst HasReport (sym h.0 ∙ is) reported);
-        printed = λ _. (x.report.items, h.1, subst (λ e. m.IsAnswer a.held e x.report.items) (sym h.0) done.answer);
+        printed = λ _. (x.report.items, h.1, once, subst (λ e. m.IsAnswer a.held e x.report.items) (sym h.0) done.answer);
         cut = λ is. absurd (subst HasReport (sym h.0 ∙ is) reported);
         effects = subst (λ e. Effects m a b e) (sym h.0) done.effects;
       }
@@ -213,8 +214,8 @@ answered P R q (Ok x) final a b out out' fault put done =
         refused = λ file offset code is. absurd (cc (h.0, is));
         bad_text = λ line column why cnf is. absurd (cc (h.0, is));
         printed = λ has. absurd (subst HasReport h.0 has);
-        cut = λ is. (x.ended, x.report.items, h.2, done.answer, done.effects.saved);
-        effects = subst (λ e. Effects m a b e) (sym h.0) (out_effects m a b x.ended reported done.effects);
+        cut = λ is. (x.ended, x.report.items, h.2, once, done.answer, done.effects.saved, report_called m a b x.ended reported done.effects.called);
+        effects = subst (λ e. Effects m a b e) (sym h.0) (out_effects m a b x.ended x.report.items reported done.answer done.effects);
       }
     ]
 
@@ -224,6 +225,14 @@ pub out_rises : (P : Type 0) (o n : ℕ) (r : Result Answer Ended) (final : Ende
     → final ≡ Device which.Out → Rose o n
 out_rises P o n (Err e) final w w' fault put report early is = absurd (early_no_out e early (sym fault.0 ∙ is))
 out_rises P o n (Ok x) final w w' fault put report early is = elim put [ inl h ↦ absurd (subst HasReport (sym h.0 ∙ is) report) | inr h ↦ h.1 ]
+
+-- a report is put once
+pub put_once : (P : Type 0) (C : Type 0) (r : Result Answer Ended) (final : Ended) → IfErr r (λ e. (final ≡ e) × P) → IfOk r (λ x. C) → IfErr r IsEarlyFault → (HasReport final) ⊎ (final ≡ Device which.Out) → C
+put_once P C (Ok x) final fault once early either = once
+put_once P C (Err e) final fault once early either = elim either [
+  | inl reported ↦ absurd (early_silent e early (subst HasReport fault.0 reported))
+  | inr is ↦ absurd (early_no_out e early (sym fault.0 ∙ is))
+]
 
 -- what has no report prints nothing, but for a failing output
 pub silent : (P R : Type 0) (r : Result Answer Ended) (final : Ended) (w w' : Option (List ℕ)) → IfErr r (λ e. (final ≡ e) × P)
@@ -255,20 +264,20 @@ module _ (words : List (List ℕ)) (final : Ended) (a b : FilesSeen) (out out' :
   asked_for v None asks is = elim (usage asks) [ inl h ↦ absurd (no_usage_verdict v (sym is ∙ h)) | inr h ↦ absurd (no_memory_verdict v (sym is ∙ h)) ]
   asked_for v (Some q) asks is =
       let printed = (answers q asks).printed (subst HasReport (sym is) (verdict_reports v)) in
-      (q, asks, verdict_for q a.held v printed.0 (subst (λ e. (meaning_of q).IsAnswer a.held e printed.0) is printed.2))
+      (q, asks, verdict_for q a.held v printed.0 (subst (λ e. (meaning_of q).IsAnswer a.held e printed.0) is printed.3))
 
   for_proof : (work : Work) (o : Option Question) → taken words ≡ o → final ≡ Proved work → ForDesign a.held words IsRight
   for_proof work None asks is = elim (usage asks) [ inl h ↦ absurd (cc (is, h)) | inr h ↦ absurd (cc (is, h)) ]
   for_proof work (Some q) asks is =
       let printed = (answers q asks).printed (subst HasReport (sym is) tt) in
-      (q, asks, proved_right q a.held work printed.0 (subst (λ e. (meaning_of q).IsAnswer a.held e printed.0) is printed.2))
+      (q, asks, proved_right q a.held work printed.0 (subst (λ e. (meaning_of q).IsAnswer a.held e printed.0) is printed.3))
 
   for_run : (answer : BoundedAnswer) (P : BoundedRun → DesignView → Type 0) (o : Option Question) → taken words ≡ o → final ≡ Bounded answer
       → ((q : BoundedRun) (d : DesignView) → Says d q.cycles answer → HasWork d q.cycles q.budget answer → P q d) → ForBounded a.held words P
   for_run answer P None asks is f = elim (usage asks) [ inl h ↦ absurd (cc (is, h)) | inr h ↦ absurd (cc (is, h)) ]
   for_run answer P (Some q) asks is f =
       let printed = (answers q asks).printed (subst HasReport (sym is) tt) in
-      let found = run_for q a.held answer printed.0 (subst (λ e. (meaning_of q).IsAnswer a.held e printed.0) is printed.2) in
+      let found = run_for q a.held answer printed.0 (subst (λ e. (meaning_of q).IsAnswer a.held e printed.0) is printed.3) in
       (found.question, asks ∙ ap Some found.is_asked, IfSome-weaker _ _ a.held (λ h asked. (found.design, asked, f found.question found.design found.says found.work)) found.asks)
 
   for_completion : (answer : Complete) (P : Completion → DesignView → Abstraction → Type 0) (o : Option Question) → taken words ≡ o → final ≡ Completed answer
@@ -276,7 +285,7 @@ module _ (words : List (List ℕ)) (final : Ended) (a b : FilesSeen) (out out' :
   for_completion answer P None asks is f = elim (usage asks) [ inl h ↦ absurd (cc (is, h)) | inr h ↦ absurd (cc (is, h)) ]
   for_completion answer P (Some q) asks is f =
       let printed = (answers q asks).printed (subst HasReport (sym is) tt) in
-      let found = completion_for q a.held answer printed.0 (subst (λ e. (meaning_of q).IsAnswer a.held e printed.0) is printed.2) in
+      let found = completion_for q a.held answer printed.0 (subst (λ e. (meaning_of q).IsAnswer a.held e printed.0) is printed.3) in
       (found.question, asks ∙ ap Some found.is_asked, IfSome-weaker _ _ a.held (λ h asked. (found.design, found.abs, asked, f found.question found.design (abstraction_by found.design found.abs) found.says found.work)) found.asks)
 
   for_verdict : (v : Verdict) (P : Asked → DesignView → Type 0) → final ≡ ended_by v → ((asked : Asked) (d : DesignView) → IsVerdict d asked v → P asked d) → ForVerdict a.held words P

@@ -11,6 +11,7 @@ use Rattle.bd_typer.specs.Denotes.{DenotesCompleted}
 use Rattle.bd_typer.specs.Joined.{JoinedView}
 use Rattle.bd_typer.specs.Faults.{FileFault}
 use Rattle.bd_typer.specs.declared.fault.Text.TheVariants.{Comp}
+use Rattle.bd_app.specs.Answer.{HasReport}
 use Rattle.bd_app.specs.Complete.{Completion, IsCompleteReport, complete_meaning}
 use Rattle.bd_app.specs.Completions.{AreCompleted, Completes, abstraction_by}
 use Rattle.bd_app.specs.Files.{HoldsShort}
@@ -21,7 +22,7 @@ use Rattle.bd_app.specs.declared.answer.Ended.{Ended}
 use Rattle.bd_app.specs.declared.answer.Ended.TheVariants.{Refused, Memory}
 use Rattle.bd_app.specs.inner.Completed.{AreCompletion, AreNoCompletion, OnCompletion}
 use Rattle.bd_app.specs.inner.Done.{IsDone}
-use Rattle.bd_app.proofs.Effects.{AreTextsRefused, IsQuiet, Stand, quiet_done, texts_refused}
+use Rattle.bd_app.proofs.Effects.{AreTextsRefused, IsPlain, Stand, quiet_done, texts_refused}
 use Rattle.bd_app.proofs.Loads.{text_short}
 use Rattle.bd_app.proofs.Results.{IfSome-both, passed}
 use Rattle.bd_app.proofs.Verdicts.{no_completed}
@@ -51,18 +52,18 @@ module _ (q : Completion) (held : Option Held) (s : Sources) (comp : List ℕ) (
   texts_faulty Memory fault = tt
   texts_faulty _ fault = absurd fault
 
-complete_quiet : (agree : Bool) (budget : ℕ) (d : DesignView) (abs : Abstraction) (e : Ended) (report : List ℕ) → IsCompleteReport agree budget d abs e report → IsQuiet e
-complete_quiet agree budget d abs e report is = record {
-  no_device = λ w same. cc (is.ended, same);
-  no_verdict = λ v same. no_completed v is.answer (sym same ∙ is.ended);
+complete_plain : (agree : Bool) (budget : ℕ) (d : DesignView) (abs : Abstraction) (e : Ended) (report : List ℕ) → IsCompleteReport agree budget d abs e report → IsPlain e
+complete_plain agree budget d abs e report is = record {
+  quiet = record { no_device = λ w same. cc (is.ended, same); no_verdict = λ v same. no_completed v is.answer (sym same ∙ is.ended) };
+  reported = subst HasReport (sym is.ended) tt;
 }
 
 -- the answer to a question on a completion function, from what is said of its texts
-pub complete_done : (q : Completion) (a b : FilesSeen) (s : Sources) (comp : List ℕ) (r : Result Answer Ended) → Stand a b → IfSome a.held (λ h. TextSources q.names h s)
+pub complete_done : (q : Completion) (a b : FilesSeen) (s : Sources) (comp : List ℕ) (r : Result Answer Ended) → Stand (complete_meaning q).files a b → IfSome a.held (λ h. TextSources q.names h s)
     → IfSome a.held (λ h. HoldsShort h (Comp, q.names.text) comp) → OnCompletion (IsCompleteReport q.agree q.budget) s comp r → IsDone (complete_meaning q) a b r
 complete_done q a b s comp (Ok answer) stand given short on =
     let said = on.said in
-    quiet_done (complete_meaning q) a b answer stand (complete_quiet q.agree q.budget said.0 (abstraction_by said.0 said.1) answer.ended answer.report.items said.3) (record {
+    quiet_done (complete_meaning q) a b answer stand (complete_plain q.agree q.budget said.0 (abstraction_by said.0 said.1) answer.ended answer.report.items said.3) (record {
       design = said.0;
       abs = said.1;
       asks = completed q a.held s comp given short (Ok (record { design = said.0; abs = said.1 })) said.2;

@@ -1,12 +1,12 @@
 -- What answers leave of the files.
-use Rattle.std.proofs.Common.{◌≡◌, ◌≢◌, ◌≤◌, ◌∙◌, refl, sym, subst, ap, inl, inr, arith}
+use Rattle.std.proofs.Common.{◌≡◌, ◌≢◌, ◌≤◌, ◌∙◌, ℕ, List, [], ◌++◌, refl, sym, subst, ap, inl, inr, arith}
 use Rattle.std.specs.Prelude.{Option, None, Result, Ok, Err, IfSome, IsErrAnd}
 use Rattle.bd_files.specs.Devices.{Held}
 use Rattle.bd_verify.specs.declared.verdict.Verdict.{Verdict}
 use Rattle.bd_verify.specs.declared.verdict.Work.{Work}
 use Rattle.bd_app.specs.Answer.{HasReport, SavesNothing}
-use Rattle.bd_app.specs.Files.{AreSaved, AreSavedUpTo, AreShort, IsEither, KeepsAllBut}
-use Rattle.bd_app.specs.Meaning.{Effects, FilesSeen, IsVerdictFor, Meaning}
+use Rattle.bd_app.specs.Files.{AreSaved, AreSavedUpTo, AreShort, File, IsEither, KeepsAllBut, loads, saves}
+use Rattle.bd_app.specs.Meaning.{Called, Effects, FilesSeen, IsCalled, IsVerdictFor, Meaning}
 use Rattle.bd_app.specs.Verdicts.{ended_by, work_of}
 use Rattle.bd_app.specs.declared.answer.Answer.{Answer}
 use Rattle.bd_app.specs.declared.answer.Which.{Which}
@@ -16,32 +16,40 @@ use Rattle.bd_app.specs.declared.answer.Ended.TheVariants.{Refused, BadText, Dev
 use Rattle.bd_app.specs.inner.Done.{IsDone, IsFault}
 use Rattle.bd_app.specs.inner.Loaded.{IsLoadFault, Loads}
 use Rattle.bd_app.specs.inner.Saved.{IsSaveFault, Saves}
+use Rattle.bd_files.proofs.Called.{makes_none}
+use Rattle.bd_app.proofs.Calls.{called_none, called_report, called_then, called_whole, load_called, loads_called, report_called, save_called, verdict_called}
 use Rattle.bd_app.proofs.Results.{IfSome-both, IfSome-weaker, no_error, passed, rose_after}
 use Rattle.bd_app.proofs.Saves.{keeps_same}
 use Rattle.bd_app.proofs.Verdicts.{no_device, no_verdict, same_verdict, verdict_reports, verdict_saves}
 
 -- ---- nothing happened but reading
 
--- the files stand, but for the count of their faults
-pub record Stand (before after : FilesSeen) : Type 0 where
+-- after loads of some files they stand, but for the count of their faults
+pub record Stand (files : List File) (before after : FilesSeen) : Type 0 where
   pub held : after.held ≡ before.held
   pub blame : after.blame ≡ before.blame
   pub never_falls : before.faults ≤ after.faults
+  pub called : Called before after (loads files)
 
-pub unchanged : (files : FilesSeen) → Stand files files
-unchanged files = record { held = refl; blame = refl; never_falls = omega arith }
+pub unchanged : (files : FilesSeen) → Stand [] files files
+unchanged files = record { held = refl; blame = refl; never_falls = omega arith; called = makes_none files.calls }
 
 -- files that were loaded stand
-pub loaded_stand : {T : Type 0} {files : _} {a b : FilesSeen} {x : T} → Loads files a b (Ok x) → Stand a b
-loaded_stand {T} {files} {a} {b} {x} l = record { held = l.held; blame = l.else_keeps_blame (no_error x _); never_falls = l.never_falls }
+pub loaded_stand : {T : Type 0} {files : _} {a b : FilesSeen} {x : T} → Loads files a b (Ok x) → Stand files a b
+loaded_stand {T} {files} {a} {b} {x} l = record { held = l.held; blame = l.else_keeps_blame (no_error x _); never_falls = l.never_falls; called = l.called }
 
 -- an answer that is no fault of a device, and no verdict
 pub record IsQuiet (e : Ended) : Type 0 where
   pub no_device : (w : Which) → e ≢ Device w
   pub no_verdict : (v : Verdict) → e ≢ ended_by v
 
-quiet_effects : (m : Meaning) (a b : FilesSeen) (e : Ended) → Stand a b → IsQuiet e → Effects m a b e
-quiet_effects m a b e stand quiet = record {
+-- such an answer that has a report
+pub record IsPlain (e : Ended) : Type 0 where
+  pub quiet : IsQuiet e
+  pub reported : HasReport e
+
+quiet_effects : {files : List File} (m : Meaning) (a b : FilesSeen) (e : Ended) → Stand files a b → IsQuiet e → IsCalled m a b e → Effects m a b e
+quiet_effects {files} m a b e stand quiet called = record {
   load_rose = λ is. absurd (quiet.no_device _ is);
   load_blamed = λ is. absurd (quiet.no_device _ is);
   save_rose = λ is. absurd (quiet.no_device _ is);
@@ -52,6 +60,7 @@ quiet_effects m a b e stand quiet = record {
   others = keeps_same a.held b.held _ stand.held;
   held = λ nothing. stand.held;
   never_falls = stand.never_falls;
+  called = called;
 }
 
 -- ---- a load failed
@@ -83,6 +92,7 @@ load_effects m a b e l = record {
   others = keeps_same a.held b.held _ l.held;
   held = λ nothing. l.held;
   never_falls = l.never_falls;
+  called = load_called m a b e l.called_up_to;
 }
 
 pub load_failed : {T : Type 0} (m : Meaning) (a b : FilesSeen) (e : Ended) (r : Result Answer Ended) → IsErrAnd r (λ y. y ≡ e) → Loads {T = T} m.files a b (Err e) → IsDone m a b r
@@ -109,24 +119,36 @@ texts_fault m held (BadText line column why cnf) short fault = IfSome-both _ _ _
 texts_fault m held Memory short fault = tt
 texts_fault m held _ short fault = absurd fault
 
-pub texts_refused : (m : Meaning) (a b : FilesSeen) (e : Ended) → Stand a b → IfSome a.held (λ h. AreShort h m.files) → AreTextsRefused m a.held e → IsDone m a b (Err e)
-texts_refused m a b e stand short fault =
-    record { answer = tt; fault = texts_fault m a.held e short fault; effects = quiet_effects m a b e stand (texts_quiet m a.held e fault) }
+texts_called : (m : Meaning) (a b : FilesSeen) (e : Ended) → IfSome a.held (λ h. AreShort h m.files) → Called a b (loads m.files) → AreTextsRefused m a.held e → IsCalled m a b e
+texts_called m a b (Refused file offset code) short called fault = inr (short, called)
+texts_called m a b (BadText line column why cnf) short called fault = loads_called m a b (BadText line column why cnf) (λ v is. no_verdict (BadText line column why cnf) v (λ h. h) is) called
+texts_called m a b Memory short called fault = inl (called_whole a b (loads m.files) called)
+texts_called m a b _ short called fault = absurd fault
 
--- want of memory
-pub memory_done : (m : Meaning) (a b : FilesSeen) → Stand a b → IsDone m a b (Err Memory)
-memory_done m a b stand = record { answer = tt; fault = tt; effects = quiet_effects m a b Memory stand (record { no_device = λ w is. cc is; no_verdict = λ v is. no_verdict Memory v (λ h. h) is }) }
+pub texts_refused : (m : Meaning) (a b : FilesSeen) (e : Ended) → Stand m.files a b → IfSome a.held (λ h. AreShort h m.files) → AreTextsRefused m a.held e → IsDone m a b (Err e)
+texts_refused m a b e stand short fault =
+    record { answer = tt; fault = texts_fault m a.held e short fault; effects = quiet_effects m a b e stand (texts_quiet m a.held e fault) (texts_called m a b e short stand.called fault) }
+
+-- want of memory before the first load
+pub memory_done : (m : Meaning) (a b : FilesSeen) → Stand [] a b → IsDone m a b (Err Memory)
+memory_done m a b stand = record {
+  answer = tt;
+  fault = tt;
+  effects = quiet_effects m a b Memory stand (record { no_device = λ w is. cc is; no_verdict = λ v is. no_verdict Memory v (λ h. h) is }) (inl (called_none a b (loads m.files) stand.called));
+}
 
 -- an answer that is no verdict
-pub quiet_done : (m : Meaning) (a b : FilesSeen) (answer : Answer) → Stand a b → IsQuiet answer.ended → m.IsAnswer a.held answer.ended answer.report.items → IsDone m a b (Ok answer)
-quiet_done m a b answer stand quiet is = record { answer = is; fault = tt; effects = quiet_effects m a b answer.ended stand quiet }
+pub quiet_done : (m : Meaning) (a b : FilesSeen) (answer : Answer) → Stand m.files a b → IsPlain answer.ended → m.IsAnswer a.held answer.ended answer.report.items → IsDone m a b (Ok answer)
+quiet_done m a b answer stand plain is =
+    let called = called_report m a b answer.ended plain.reported (loads_called m a b answer.ended plain.quiet.no_verdict stand.called) in
+    record { answer = is; fault = tt; effects = quiet_effects m a b answer.ended stand plain.quiet called }
 
 -- ---- verdicts
 
 -- a verdict's answer, after its work was saved
 pub verdict_done : (m : Meaning) (a b : FilesSeen) (v : Verdict) (answer : Answer) → answer.ended ≡ ended_by v → m.IsAnswer a.held answer.ended answer.report.items → AreSaved b.held m.cnf m.lrat (work_of v)
-    → KeepsAllBut a.held b.held (IsEither m.cnf m.lrat) → b.blame ≡ a.blame → a.faults ≤ b.faults → IsDone m a b (Ok answer)
-verdict_done m a b v answer is says saved others blame rises =
+    → KeepsAllBut a.held b.held (IsEither m.cnf m.lrat) → b.blame ≡ a.blame → a.faults ≤ b.faults → Called a b (loads m.files ++ saves m.cnf m.lrat (work_of v)) → IsDone m a b (Ok answer)
+verdict_done m a b v answer is says saved others blame rises called =
     let other : (w : Which) → answer.ended ≢ Device w = λ w. no_device answer.ended w (subst HasReport (sym is) (verdict_reports v)) in
     record {
       answer = says;
@@ -142,6 +164,7 @@ verdict_done m a b v answer is says saved others blame rises =
         others = others;
         held = λ nothing. absurd (verdict_saves v (subst SavesNothing is nothing));
         never_falls = rises;
+        called = subst (λ e. IsCalled m a b e) (sym is) (verdict_called m a b v called);
       };
     }
 
@@ -164,7 +187,7 @@ save_changes Memory fault = λ h. h
 save_changes _ fault = absurd fault
 
 -- the work of a verdict wasn't saved
-pub save_failed : {T : Type 0} (m : Meaning) (a b c : FilesSeen) (v : Verdict) (e : Ended) (r : Result Answer Ended) → IsErrAnd r (λ y. y ≡ e) → Stand a b → IsVerdictFor m a.held v
+pub save_failed : {T : Type 0} (m : Meaning) (a b c : FilesSeen) (v : Verdict) (e : Ended) (r : Result Answer Ended) → IsErrAnd r (λ y. y ≡ e) → Stand m.files a b → IsVerdictFor m a.held v
     → Saves {T = T} m.cnf m.lrat (work_of v) b c (Err e) → IsDone m a c r
 save_failed m a b c v e r is stand verdict s = passed (λ z. IsDone m a c z) r e is (record {
   answer = tt;
@@ -184,12 +207,13 @@ save_failed m a b c v e r is stand verdict s = passed (λ z. IsDone m a c z) r e
     others = subst (λ h. KeepsAllBut h c.held (IsEither m.cnf m.lrat)) stand.held s.others;
     held = λ nothing. absurd (save_changes e s.fault nothing);
     never_falls = omega (arith, stand.never_falls, s.never_falls);
+    called = save_called m a b c v e s.fault stand.called verdict (λ same. s.called_up_to (ap (λ x. Err x) same)) (λ same. s.called_first (ap (λ x. Err x) same));
   };
 })
 
 -- it was saved, and then memory ran out
-pub memory_after : {T : Type 0} (m : Meaning) (a b c : FilesSeen) (x : T) (work : Work) → Stand a b → Saves m.cnf m.lrat work b c (Ok x) → IsDone m a c (Err Memory)
-memory_after m a b c x work stand s = record {
+pub memory_after : {T : Type 0} (m : Meaning) (a b c : FilesSeen) (x : T) (v : Verdict) → Stand m.files a b → IsVerdictFor m a.held v → Saves m.cnf m.lrat (work_of v) b c (Ok x) → IsDone m a c (Err Memory)
+memory_after m a b c x v stand verdict s = record {
   answer = tt;
   fault = tt;
   effects = record {
@@ -203,6 +227,7 @@ memory_after m a b c x work stand s = record {
     others = subst (λ h. KeepsAllBut h c.held (IsEither m.cnf m.lrat)) stand.held s.others;
     held = λ nothing. absurd nothing;
     never_falls = omega (arith, stand.never_falls, s.never_falls);
+    called = inr (v, verdict, called_whole a c (loads m.files ++ saves m.cnf m.lrat (work_of v)) (called_then a b c (loads m.files) (saves m.cnf m.lrat (work_of v)) stand.called s.called));
   };
 }
 
@@ -213,8 +238,8 @@ none_saved after work = record { formula = λ name is other. absurd (cc is); pro
 -- ---- the output failed
 
 -- what stood before the report was printed stands
-pub out_effects : (m : Meaning) (a b : FilesSeen) (e : Ended) → HasReport e → Effects m a b e → Effects m a b (Device which.Out)
-out_effects m a b e reported effects = record {
+pub out_effects : (m : Meaning) (a b : FilesSeen) (e : Ended) (report : List ℕ) → HasReport e → m.IsAnswer a.held e report → Effects m a b e → Effects m a b (Device which.Out)
+out_effects m a b e report reported is effects = record {
   load_rose = λ same. absurd (cc same);
   load_blamed = λ same. absurd (cc same);
   save_rose = λ same. absurd (cc same);
@@ -225,4 +250,5 @@ out_effects m a b e reported effects = record {
   others = effects.others;
   held = λ nothing. absurd nothing;
   never_falls = effects.never_falls;
+  called = (e, report, is, report_called m a b e reported effects.called);
 }

@@ -1,4 +1,5 @@
 pub mod Results
+pub mod Calls
 pub mod Loads
 pub mod WordValues
 pub mod Saves

@@ -10,14 +10,15 @@ use Rattle.bd_typer.specs.declared.premise.Premise.{Premise}
 use Rattle.bd_typer.specs.declared.premise.Premise.TheVariants as premises
 use Rattle.bd_typer.specs.declared.fault.Text.{Text}
 use Rattle.bd_typer.specs.declared.fault.Text.TheVariants as text
-use Rattle.bd_app.specs.Files.{AreShort, BlamesOneOf, DesignNames, File, HoldsShort, IsShort, TextNames, design_files, most_bytes, one_if, text_files}
+use Rattle.bd_app.specs.Files.{AreShort, BlamesOneOf, DesignNames, File, HoldsShort, IsLong, IsShort, TextNames, design_files, loads, most_bytes, one_if, text_files}
 use Rattle.bd_app.specs.Meaning.{FilesSeen, IsTooLong}
 use Rattle.bd_app.specs.Sources.{HoldSources, HoldsShortIf, Sources, TextSources}
 use Rattle.bd_app.specs.declared.answer.Ended.{Ended}
 use Rattle.bd_app.specs.declared.answer.Ended.TheVariants.{Refused, Device, Memory}
 use Rattle.bd_app.specs.declared.answer.Which.TheVariants as which
 use Rattle.bd_app.specs.inner.Loaded.{IsLoadFault, Loads}
-use Rattle.bd_app.proofs.Results.{IfSome-both, IfSome-weaker, no_error, passed, rose_after, same_error}
+use Rattle.bd_app.proofs.Calls.{called_then, fails_before, fails_next}
+use Rattle.bd_app.proofs.Results.{IfSome-both, IfSome-weaker, OnOk-weaker, no_error, passed, rose_after, same_error}
 
 -- ---- what was loaded of a file
 
@@ -39,6 +40,13 @@ loaded_short None file bytes loaded few = tt
 loaded_short (Some held) file bytes loaded few =
     let full = held_bytes (most_bytes file.0) (held file.1) bytes loaded in
     (full.1 ∙ ap Some (sym (few_held (most_bytes file.0) full.0 bytes full.2 few)), few)
+
+-- too many bytes are held
+pub long_held : (held : Option Held) (file : File) (bytes : List ℕ) → IsLoaded held file.1 (most_bytes file.0) bytes → most_bytes file.0 < length bytes → IfSome held (λ h. IsLong h file)
+long_held None file bytes loaded many = tt
+long_held (Some held) file bytes loaded many =
+    let full = held_bytes (most_bytes file.0) (held file.1) bytes loaded in
+    (full.0, full.1, many_held (most_bytes file.0) full.0 bytes full.2 many)
 
 -- of too many bytes one more than the most is loaded
 pub loaded_long : (held : Option Held) (text : Text) (name : List ℕ) (bytes : List ℕ) → IsLoaded held name (most_bytes text) bytes → most_bytes text < length bytes
@@ -121,6 +129,8 @@ first_fails {T} {S} {file} {more} {a} {b} {e} r is l = passed (λ z. Loads (file
   else_keeps_blame = λ other. l.else_keeps_blame (λ same. other (same_error _ _ same));
   held = l.held;
   never_falls = l.never_falls;
+  called = tt;
+  called_up_to = fails_before a b (file ∷ []) more e l.called_up_to;
 })
 
 -- the last load failed
@@ -132,6 +142,8 @@ last_fails {T} {S} {files} {a} {b} {e} r is l = passed (λ z. Loads files a b z)
   else_keeps_blame = λ other. l.else_keeps_blame (λ same. other (same_error _ _ same));
   held = l.held;
   never_falls = l.never_falls;
+  called = tt;
+  called_up_to = l.called_up_to;
 })
 
 -- the last load gave its bytes
@@ -143,6 +155,8 @@ last_loads {T} {S} {files} {a} {b} {x} y l = record {
   else_keeps_blame = λ other. l.else_keeps_blame (no_error x _);
   held = l.held;
   never_falls = l.never_falls;
+  called = l.called;
+  called_up_to = tt;
 }
 
 -- the first load gave its bytes, and then the others were loaded
@@ -155,6 +169,8 @@ loads_next {T} {S} {file} {more} {a} {b} {c} {x} {r} short one others = record {
   else_keeps_blame = λ other. others.else_keeps_blame other ∙ one.else_keeps_blame (no_error x _);
   held = others.held ∙ one.held;
   never_falls = omega (arith, one.never_falls, others.never_falls);
+  called = OnOk-weaker _ _ r (λ more_called. called_then a b c (loads (file ∷ [])) (loads more) one.called more_called) others.called;
+  called_up_to = fails_next a b c file more r short one.held one.called others.called_up_to;
 }
 
 -- ---- all of them

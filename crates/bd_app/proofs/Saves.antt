@@ -6,13 +6,14 @@ use Rattle.bd_files.specs.Devices.{Blame, Held, Holds, KeepsOthers, Rose}
 use Rattle.bd_files.specs.declared.devices.FileCall.TheVariants as call
 use Rattle.bd_lrat.specs.Text.{lrat as lrat_text}
 use Rattle.bd_verify.specs.declared.verdict.Work.{Work}
-use Rattle.bd_app.specs.Files.{AreSaved, AreSavedUpTo, KeepsAllBut}
-use Rattle.bd_app.specs.Meaning.{FilesSeen}
+use Rattle.bd_app.specs.Files.{AreSaved, AreSavedUpTo, KeepsAllBut, save_if}
+use Rattle.bd_app.specs.Meaning.{Called, CalledFirst, FilesSeen}
 use Rattle.bd_app.specs.Words.{Name}
 use Rattle.bd_app.specs.declared.answer.Ended.{Ended}
-use Rattle.bd_app.specs.declared.answer.Ended.TheVariants.{Device}
+use Rattle.bd_app.specs.declared.answer.Ended.TheVariants.{Device, Memory}
 use Rattle.bd_app.specs.declared.answer.Which.TheVariants.{Save}
 use Rattle.bd_app.specs.inner.Saved.{IsSaveFault, Saves}
+use Rattle.bd_app.proofs.Calls.{called_ok, called_then, first_after, first_before, formula_up_to, proof_up_to}
 use Rattle.bd_app.proofs.Results.{OnOk-weaker, passed, rose_after, same_error}
 
 -- where nothing changes
@@ -79,12 +80,17 @@ keeps_both (Some a) None c P Q one two = absurd one
 keeps_both (Some a) (Some b) None P Q one two = absurd two
 keeps_both (Some a) (Some b) (Some c) P Q one two = λ other not_named. two other (λ q. not_named (inr q)) ∙ one other (λ p. not_named (inl p))
 
+-- one error isn't two
+two_errors : {T : Type 0} (e one other : Ended) → ¬ (one ≡ other) → IsErrOf {T = T} (Err e) one → IsErrOf {T = T} (Err e) other → ⊥
+two_errors e one other differs is also = let first : e ≡ one = cc is in let second : e ≡ other = cc also in differs (sym first ∙ second)
+
 -- the save of the formula failed
 pub formula_fails : {T S : Type 0} (cnf lrat : Option Name) (work : Work) (a b : FilesSeen) (e : Ended) (r : Result S Ended) → IsErrAnd r (λ y. y ≡ e) → IsSaveFault e
     → (IsErrOf {T = T} (Err e) (Device Save) → Rose a.faults b.faults)
     → (IsErrOf {T = T} (Err e) (Device Save) → (n : Name) × (cnf ≡ Some n) × (b.blame ≡ Some (call.Save, n)))
-    → (¬ IsErrOf {T = T} (Err e) (Device Save) → b.blame ≡ a.blame) → KeepsAllBut a.held b.held (λ n. cnf ≡ Some n) → a.faults ≤ b.faults → Saves cnf lrat work a b r
-formula_fails {T} {S} cnf lrat work a b e r is fault rose blamed quiet keeps rises = passed (λ z. Saves cnf lrat work a b z) r e is (record {
+    → (¬ IsErrOf {T = T} (Err e) (Device Save) → b.blame ≡ a.blame) → KeepsAllBut a.held b.held (λ n. cnf ≡ Some n) → a.faults ≤ b.faults
+    → (¬ IsErrOf {T = T} (Err e) Memory → Called a b (save_if cnf (dimacs work.cnf))) → (IsErrOf {T = T} (Err e) Memory → CalledFirst a b (save_if cnf (dimacs work.cnf))) → Saves cnf lrat work a b r
+formula_fails {T} {S} cnf lrat work a b e r is fault rose blamed quiet keeps rises called first = passed (λ z. Saves cnf lrat work a b z) r e is (record {
   fault = fault;
   saved = tt;
   up_to = λ same. up_to_formula a.held b.held b.blame cnf lrat work (blamed (same_error e _ same)) keeps;
@@ -93,14 +99,18 @@ formula_fails {T} {S} cnf lrat work a b e r is fault rose blamed quiet keeps ris
   blamed = λ same. let by = blamed (same_error e _ same) in (by.0, inl by.1, by.2);
   else_keeps_blame = λ other. quiet (λ same. other (same_error e _ same));
   never_falls = rises;
+  called = tt;
+  called_up_to = λ same. formula_up_to a b cnf lrat work (blamed (same_error e _ same)) (called (λ memory. two_errors e (Device Save) Memory (λ both. cc both) (same_error e _ same) memory));
+  called_first = λ same. first_before a b (save_if cnf (dimacs work.cnf)) (save_if lrat (lrat_text work.log)) (first (same_error e _ same));
 })
 
 -- it stands, and the proof was saved or not
 pub proof_follows : {T : Type 0} (cnf lrat : Option Name) (work : Work) (a b c : FilesSeen) (r : Result T Ended) → ((name : Name) → cnf ≡ Some name → Holds b.held name (dimacs work.cnf))
     → KeepsAllBut a.held b.held (λ n. cnf ≡ Some n) → b.blame ≡ a.blame → a.faults ≤ b.faults → IfErr r IsSaveFault → OnOk r ((n : Name) → lrat ≡ Some n → Holds c.held n (lrat_text work.log))
     → KeepsAllBut b.held c.held (λ n. lrat ≡ Some n) → (IsErrOf r (Device Save) → Rose b.faults c.faults)
-    → (IsErrOf r (Device Save) → (n : Name) × (lrat ≡ Some n) × (c.blame ≡ Some (call.Save, n))) → (¬ IsErrOf r (Device Save) → c.blame ≡ b.blame) → b.faults ≤ c.faults → Saves cnf lrat work a c r
-proof_follows cnf lrat work a b c r formula kept unblamed rises fault saved keeps rose blamed quiet rises' = record {
+    → (IsErrOf r (Device Save) → (n : Name) × (lrat ≡ Some n) × (c.blame ≡ Some (call.Save, n))) → (¬ IsErrOf r (Device Save) → c.blame ≡ b.blame) → b.faults ≤ c.faults
+    → Called a b (save_if cnf (dimacs work.cnf)) → (¬ IsErrOf r Memory → Called b c (save_if lrat (lrat_text work.log))) → (IsErrOf r Memory → CalledFirst b c (save_if lrat (lrat_text work.log))) → Saves cnf lrat work a c r
+proof_follows cnf lrat work a b c r formula kept unblamed rises fault saved keeps rose blamed quiet rises' called next first = record {
   fault = fault;
   saved = OnOk-weaker _ _ r (λ proof. are_saved b.held c.held cnf lrat work formula keeps proof) saved;
   up_to = λ is. let by = blamed is in up_to_proof a.held b.held c.held c.blame cnf lrat work by.0 formula keeps by.1 by.2;
@@ -109,4 +119,7 @@ proof_follows cnf lrat work a b c r formula kept unblamed rises fault saved keep
   blamed = λ is. let by = blamed is in (by.0, inr by.1, by.2);
   else_keeps_blame = λ other. quiet other ∙ unblamed;
   never_falls = omega (arith, rises, rises');
+  called = OnOk-weaker _ _ r (λ more. called_then a b c (save_if cnf (dimacs work.cnf)) (save_if lrat (lrat_text work.log)) called more) (called_ok _ r next);
+  called_up_to = λ is. proof_up_to a b c cnf lrat work called (blamed is) (next (λ memory. cc (is, memory)));
+  called_first = λ is. first_after a b c (save_if cnf (dimacs work.cnf)) (save_if lrat (lrat_text work.log)) called (first is);
 }

@@ -2,6 +2,7 @@
 use Rattle.std.proofs.Common.{◌≡◌, ◌∙◌, ℕ, true, false, List, [], ◌∷◌, ◌++◌, length, drop, drop-cons, get_or, add-one, ap, ap₂, append_assoc, refl, sym, subst, inl, inr, arith, ◌<◌, ◌+◌, Bool}
 use Rattle.std.specs.Prelude.{◌⊎◌, Option, Result, Ok, Err, IfSome, IfOk, IfErr, IsErrAnd}
 use Rattle.bd_files.specs.Devices.{Held}
+use Rattle.bd_files.proofs.Called.{makes_none}
 use Rattle.bd_model.specs.DesignView.{DesignView}
 use Rattle.bd_model.specs.declared.case.Case.{Case}
 use Rattle.bd_model.specs.declared.case.Trail.{Trail}
@@ -10,9 +11,10 @@ use Rattle.bd_typer.specs.Denotes.{DenotesWith}
 use Rattle.bd_typer.specs.declared.premise.Premise.{Premise}
 use Rattle.bd_typer.specs.Faults.{FileFault}
 use Rattle.bd_typer.specs.declared.fault.Text.TheVariants as text
+use Rattle.bd_app.specs.Answer.{HasReport}
 use Rattle.bd_app.specs.Bounded.{IsBoundedReport}
 use Rattle.bd_app.specs.Check.{Check, CheckSources, check_asked, check_meaning, check_names}
-use Rattle.bd_app.specs.Files.{DesignNames, HoldsShort, IsEither, KeepsAllBut, TextNames}
+use Rattle.bd_app.specs.Files.{DesignNames, HoldsShort, IsEither, KeepsAllBut, TextNames, loads, saves}
 use Rattle.bd_app.specs.Generate.{Gen, gen_asked, gen_lead, gen_meaning, generated}
 use Rattle.bd_app.specs.Meaning.{FilesSeen, IsVerdictFor}
 use Rattle.bd_app.specs.Recheck.{Recheck, recheck_meaning}
@@ -30,7 +32,8 @@ use Rattle.bd_app.specs.declared.verdict.Asked.{Asked}
 use Rattle.bd_app.specs.declared.verdict.ShownVerdict.{ShownVerdict}
 use Rattle.bd_app.specs.inner.Done.{AreDesign, AreRefused, IsBadProof, IsDone, IsProvedBy, IsSaidOf, IsShownOf, IsTextRefused, OnDesign, OnSources, OnText}
 use Rattle.bd_app.specs.inner.Saved.{Saves}
-use Rattle.bd_app.proofs.Effects.{AreTextsRefused, IsQuiet, Stand, memory_after, none_saved, quiet_done, texts_refused, unchanged, verdict_done}
+use Rattle.bd_app.proofs.Calls.{called_then}
+use Rattle.bd_app.proofs.Effects.{AreTextsRefused, IsPlain, Stand, memory_after, none_saved, quiet_done, texts_refused, unchanged, verdict_done}
 use Rattle.bd_app.proofs.Loads.{sources_short, text_short}
 use Rattle.bd_app.proofs.Results.{IfSome-all, IfSome-both, IfSome-weaker, no_error, passed}
 use Rattle.bd_app.proofs.Saves.{keeps_same}
@@ -71,7 +74,7 @@ module _ {V : Type 0} (k : TextKind V) (names : TextNames) (Says : DesignView �
 
 -- the answer to a question on a text, from what is said of its bytes
 pub text_done : {V : Type 0} (k : TextKind V) (names : TextNames) (Says : DesignView → V → Ended → List ℕ → Type 0) (a b : FilesSeen) (s : Sources) (bytes : List ℕ) (r : Result Answer Ended)
-    → ((d : DesignView) (x : V) (e : Ended) (report : List ℕ) → Says d x e report → IsQuiet e) → Stand a b → IfSome a.held (λ h. TextSources names h s)
+    → ((d : DesignView) (x : V) (e : Ended) (report : List ℕ) → Says d x e report → IsPlain e) → Stand (text_meaning k names Says).files a b → IfSome a.held (λ h. TextSources names h s)
     → IfSome a.held (λ h. HoldsShort h (k.file, names.text) bytes) → OnSources (IsSaidOf k Says) (IsTextRefused k) s bytes r → IsDone (text_meaning k names Says) a b r
 text_done k names Says a b s bytes (Ok answer) quiet stand given short on =
     let said = on.said.2 in
@@ -91,22 +94,22 @@ text_done k names Says a b s bytes (Err e) quiet stand given short on =
     texts_refused (text_meaning k names Says) a b e stand (IfSome-both _ _ _ a.held (λ h g c. text_short h k.file names s bytes g c) given short)
     (any_refused k names Says a.held s bytes given short e on.refused)
 
-pub judgement_quiet : (d : DesignView) (c : Case) (e : Ended) (report : List ℕ) → IsJudgement d c e report → IsQuiet e
-judgement_quiet d c e report is = record {
-  no_device = λ w same. cc (is.ended, same);
-  no_verdict = λ v same. no_replayed v is.judgement (sym same ∙ is.ended);
+pub judgement_plain : (d : DesignView) (c : Case) (e : Ended) (report : List ℕ) → IsJudgement d c e report → IsPlain e
+judgement_plain d c e report is = record {
+  quiet = record { no_device = λ w same. cc (is.ended, same); no_verdict = λ v same. no_replayed v is.judgement (sym same ∙ is.ended) };
+  reported = subst HasReport (sym is.ended) tt;
 }
 
-pub trace_quiet : (cycles : ℕ) (d : DesignView) (c : Case) (e : Ended) (report : List ℕ) → IsTrace cycles d c e report → IsQuiet e
-trace_quiet cycles d c e report is = record {
-  no_device = λ w same. cc (is.ended, same);
-  no_verdict = λ v same. no_ran v (sym same ∙ is.ended);
+pub trace_plain : (cycles : ℕ) (d : DesignView) (c : Case) (e : Ended) (report : List ℕ) → IsTrace cycles d c e report → IsPlain e
+trace_plain cycles d c e report is = record {
+  quiet = record { no_device = λ w same. cc (is.ended, same); no_verdict = λ v same. no_ran v (sym same ∙ is.ended) };
+  reported = subst HasReport (sym is.ended) tt;
 }
 
-pub retraced_quiet : (d : DesignView) (t : Trail) (e : Ended) (report : List ℕ) → IsRetraced d t e report → IsQuiet e
-retraced_quiet d t e report is = record {
-  no_device = λ w same. cc (is.ended, same);
-  no_verdict = λ v same. no_retraced v is.judgement (sym same ∙ is.ended);
+pub retraced_plain : (d : DesignView) (t : Trail) (e : Ended) (report : List ℕ) → IsRetraced d t e report → IsPlain e
+retraced_plain d t e report is = record {
+  quiet = record { no_device = λ w same. cc (is.ended, same); no_verdict = λ v same. no_retraced v is.judgement (sym same ∙ is.ended) };
+  reported = subst HasReport (sym is.ended) tt;
 }
 
 -- from a text on a design to one on sources
@@ -148,11 +151,14 @@ module _ (q : Recheck) (held : Option Held) (s : Sources) (bytes : List ℕ) (gi
   proof_refused e fault = elim fault [ inl h ↦ recheck_refused e h | inr h ↦ bad_proof h.0 e h.1 h.2 ]
 
 -- the answer to a proof, from what is said of its bytes
-pub recheck_done : (q : Recheck) (a b : FilesSeen) (s : Sources) (bytes : List ℕ) (r : Result Answer Ended) → Stand a b → IfSome a.held (λ h. TextSources q h s)
+pub recheck_done : (q : Recheck) (a b : FilesSeen) (s : Sources) (bytes : List ℕ) (r : Result Answer Ended) → Stand (recheck_meaning q).files a b → IfSome a.held (λ h. TextSources q h s)
     → IfSome a.held (λ h. HoldsShort h (text.Proof, q.text) bytes) → OnSources IsProvedBy IsBadProof s bytes r → IsDone (recheck_meaning q) a b r
 recheck_done q a b s bytes (Ok answer) stand given proof on =
     let said = on.said.2 in
-    quiet_done (recheck_meaning q) a b answer stand (record { no_device = λ w same. cc (said.ended, same); no_verdict = λ v same. no_proved v said.work (sym same ∙ said.ended) }) (record {
+    quiet_done (recheck_meaning q) a b answer stand (record {
+      quiet = record { no_device = λ w same. cc (said.ended, same); no_verdict = λ v same. no_proved v said.work (sym same ∙ said.ended) };
+      reported = subst HasReport (sym said.ended) tt;
+    }) (record {
       work = said.work;
       ended = said.ended;
       proves = IfSome-both _ _ _ a.held (λ h g p. record {
@@ -175,7 +181,7 @@ check_refused q held s Memory given fault = tt
 check_refused q held s _ given fault = absurd fault
 
 -- the sources of a check are refused
-pub check_texts : (q : Check) (a b : FilesSeen) (s : Sources) (e : Ended) (r : Result Answer Ended) → IsErrAnd r (λ y. y ≡ e) → Stand a b → IfSome a.held (λ h. CheckSources q h s) → AreRefused s e
+pub check_texts : (q : Check) (a b : FilesSeen) (s : Sources) (e : Ended) (r : Result Answer Ended) → IsErrAnd r (λ y. y ≡ e) → Stand (check_meaning q).files a b → IfSome a.held (λ h. CheckSources q h s) → AreRefused s e
     → IsDone (check_meaning q) a b r
 check_texts q a b s e r is stand given fault = passed (λ z. IsDone (check_meaning q) a b z) r e is (
     texts_refused (check_meaning q) a b e stand (IfSome-weaker _ _ a.held (λ h g. sources_short h (check_names q) s g) given) (check_refused q a.held s e given fault))
@@ -186,24 +192,24 @@ pub check_verdict : (q : Check) (held : Option Held) (s : Sources) (shows : Bool
 check_verdict q held s shows f given (d, design, shown) =
     record { asked = check_asked q; is_asked = refl; design = d; asks = is_design held (CheckSources q) s d given design; is_verdict = shown.verdict }
 
-check_done_at : {T : Type 0} (q : Check) (a b c : FilesSeen) (s : Sources) (x : T) (d : DesignView) (f : ShownVerdict) (r : Result Answer Ended) → Stand a b → IfSome a.held (λ h. CheckSources q h s)
-    → AreDesign s d → Saves q.cnf q.lrat (work_of f.verdict) b c (Ok x) → IfOk r (λ y. y.ended ≡ ended_by f.verdict)
+check_done_at : {T : Type 0} (q : Check) (a b c : FilesSeen) (s : Sources) (x : T) (d : DesignView) (f : ShownVerdict) (r : Result Answer Ended) → Stand (check_meaning q).files a b → IfSome a.held (λ h. CheckSources q h s)
+    → AreDesign s d → IsVerdictFor (check_meaning q) a.held f.verdict → Saves q.cnf q.lrat (work_of f.verdict) b c (Ok x) → IfOk r (λ y. y.ended ≡ ended_by f.verdict)
     → IfOk r (λ y. IsVerdictReport (check_asked q) true [] d y.ended y.report.items) → IfErr r (λ e. e ≡ Memory) → IsDone (check_meaning q) a c r
-check_done_at q a b c s x d f (Ok answer) stand given design saves ended report memory =
+check_done_at q a b c s x d f (Ok answer) stand given design verdict saved ended report memory =
     verdict_done (check_meaning q) a c f.verdict answer ended
     (record { design = d; asks = is_design a.held (CheckSources q) s d given design; says = report })
-    saves.saved (subst (λ h. KeepsAllBut h c.held (IsEither q.cnf q.lrat)) stand.held saves.others) (saves.else_keeps_blame (no_error x _) ∙ stand.blame)
-    (omega (arith, stand.never_falls, saves.never_falls))
-check_done_at q a b c s x d f (Err e) stand given design saves ended report memory =
-    subst (λ z. IsDone (check_meaning q) a c (Err z)) (sym memory) (memory_after (check_meaning q) a b c x (work_of f.verdict) stand saves)
+    saved.saved (subst (λ h. KeepsAllBut h c.held (IsEither q.cnf q.lrat)) stand.held saved.others) (saved.else_keeps_blame (no_error x _) ∙ stand.blame)
+    (omega (arith, stand.never_falls, saved.never_falls)) (called_then a b c (loads (check_meaning q).files) (saves q.cnf q.lrat (work_of f.verdict)) stand.called saved.called)
+check_done_at q a b c s x d f (Err e) stand given design verdict saves ended report memory =
+    subst (λ z. IsDone (check_meaning q) a c (Err z)) (sym memory) (memory_after (check_meaning q) a b c x f.verdict stand verdict saves)
 
 -- the answer to a check, after its work was saved
-pub check_done : {T : Type 0} (q : Check) (a b c : FilesSeen) (s : Sources) (x : T) (f : ShownVerdict) (lead : List ℕ) (r : Result Answer Ended) → Stand a b → IfSome a.held (λ h. CheckSources q h s)
+pub check_done : {T : Type 0} (q : Check) (a b c : FilesSeen) (s : Sources) (x : T) (f : ShownVerdict) (lead : List ℕ) (r : Result Answer Ended) → Stand (check_meaning q).files a b → IfSome a.held (λ h. CheckSources q h s)
     → IsShownOf s (check_asked q) true f → Saves q.cnf q.lrat (work_of f.verdict) b c (Ok x) → lead ≡ [] → IfOk r (λ y. y.ended ≡ ended_by f.verdict)
     → IfOk r (λ y. y.report.items ≡ (lead ++ verdict_words q.budget f.verdict ++ 10 ∷ []) ++ f.case.items) → IfErr r (λ e. e ≡ Memory) → IsDone (check_meaning q) a c r
 check_done q a b c s x f lead r stand given (d, design, shown) saves led ended report memory =
     let whole = subst (λ l. IfOk r (λ y. y.report.items ≡ (l ++ verdict_words q.budget f.verdict ++ 10 ∷ []) ++ f.case.items)) led report in
-    check_done_at q a b c s x d f r stand given design saves ended (verdict_report d (check_asked q) true f [] r shown ended whole) memory
+    check_done_at q a b c s x d f r stand given design (check_verdict q a.held s true f given (d, design, shown)) saves ended (verdict_report d (check_asked q) true f [] r shown ended whole) memory
 
 -- ---- answers on a design
 
@@ -229,17 +235,17 @@ module _ (names : DesignNames) (Says : DesignView → Ended → List ℕ → Typ
   sources_faulty held s Memory given fault = tt
   sources_faulty held s _ given fault = absurd fault
 
-  pub design_done : (a b : FilesSeen) (s : Sources) (r : Result Answer Ended) → ((d : DesignView) (e : Ended) (report : List ℕ) → Says d e report → IsQuiet e) → Stand a b → IfSome a.held (λ h. HoldSources h names s)
+  pub design_done : (a b : FilesSeen) (s : Sources) (r : Result Answer Ended) → ((d : DesignView) (e : Ended) (report : List ℕ) → Says d e report → IsPlain e) → Stand (design_meaning names Says).files a b → IfSome a.held (λ h. HoldSources h names s)
       → OnDesign Says s r → IsDone (design_meaning names Says) a b r
   design_done a b s (Ok answer) quiet stand given on =
       quiet_done (design_meaning names Says) a b answer stand (quiet _ _ _ on.said.2) (record { design = on.said.0; asks = is_design a.held (λ h. HoldSources h names) s on.said.0 given on.said.1; says = on.said.2 })
   design_done a b s (Err e) quiet stand given on =
       texts_refused (design_meaning names Says) a b e stand (IfSome-weaker _ _ a.held (λ h g. sources_short h names s g) given) (sources_faulty a.held s e given on.refused)
 
-pub bounded_quiet : (cycles budget : ℕ) (d : DesignView) (e : Ended) (report : List ℕ) → IsBoundedReport cycles budget d e report → IsQuiet e
-bounded_quiet cycles budget d e report is = record {
-  no_device = λ w same. cc (is.ended, same);
-  no_verdict = λ v same. no_bounded v is.answer (sym same ∙ is.ended);
+pub bounded_plain : (cycles budget : ℕ) (d : DesignView) (e : Ended) (report : List ℕ) → IsBoundedReport cycles budget d e report → IsPlain e
+bounded_plain cycles budget d e report is = record {
+  quiet = record { no_device = λ w same. cc (is.ended, same); no_verdict = λ v same. no_bounded v is.answer (sym same ∙ is.ended) };
+  reported = subst HasReport (sym is.ended) tt;
 }
 
 -- ---- generated pipelines
@@ -254,6 +260,6 @@ gen_done q files s (Ok answer) is on =
     let says = on.said.2 in
     verdict_done (gen_meaning q) files files says.verdict answer says.ended
     (record { design = on.said.0; asks = IfSome-all _ files.held (λ h. record { sources = s; given = is; denoted = on.said.1 }); says = says })
-    (none_saved files.held (work_of says.verdict)) (keeps_same files.held files.held _ refl) refl (omega arith)
+    (none_saved files.held (work_of says.verdict)) (keeps_same files.held files.held _ refl) refl (omega arith) (makes_none files.calls)
 gen_done q files s (Err e) is on =
     texts_refused (gen_meaning q) files files e (unchanged files) (IfSome-all _ files.held (λ h. tt)) (gen_refused q files.held s e is on.refused)

@@ -3,7 +3,7 @@
 use Rattle.std.specs.Prelude.{◌≡◌, ◌≢◌, ◌⊎◌, ◌≤◌, ◌<◌, ℕ, List, [], ◌∷◌, ◌++◌, length, map, Option, Some, None}
 use Rattle.std.specs.List.{AllByRecursion, Contains}
 use Rattle.bd_cnf.specs.Problem.{dimacs}
-use Rattle.bd_files.specs.Devices.{Blame, Held, Holds, KeepsOthers}
+use Rattle.bd_files.specs.Devices.{Blame, Call, Held, Holds, KeepsOthers, loading, saving}
 use Rattle.bd_files.specs.declared.devices.FileCall.TheVariants as call
 use Rattle.bd_lrat.specs.Text.{lrat as lrat_text}
 use Rattle.bd_verify.specs.declared.verdict.Work.{Work}
@@ -100,6 +100,10 @@ pub record IsFirstLong (held : Held) (files : List File) (text : Text) : Type 0 
   pub short : AreShort held before
   pub long : IsLong held (text, name)
 
+-- the calls that load the files, in this order, each of at most its most bytes
+abbrev pub loads : List File → List Call
+loads = map (λ file. loading file.1 (most_bytes file.0))
+
 -- the last call that failed was a load of one of the files
 abbrev pub BlamesOneOf : Option Blame → List File → Type 0
 BlamesOneOf blame files =
@@ -129,6 +133,15 @@ pub record AreSaved (after : Option Held) (cnf lrat : Option Name) (work : Work)
   pub formula : (name : Name) → cnf ≡ Some name → lrat ≢ Some name →
       Holds after name (dimacs work.cnf)
   pub proof : (name : Name) → lrat ≡ Some name → Holds after name (lrat_text work.log)
+
+-- the save of bytes, where a name is given
+abbrev pub save_if : Option Name → List ℕ → List Call
+save_if None bytes = []
+save_if (Some name) bytes = saving name bytes ∷ []
+
+-- the calls that save a verdict's work, in this order
+abbrev pub saves : Option Name → Option Name → Work → List Call
+saves cnf lrat work = save_if cnf (dimacs work.cnf) ++ save_if lrat (lrat_text work.log)
 
 -- one of the two saves failed, and the names differ: where it was that of the formula, all but the
 -- file of its name stands; where it was that of the proof, the formula is saved

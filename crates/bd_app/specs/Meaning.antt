@@ -1,21 +1,22 @@
 -- What a command with its words means: which files it reads and saves, why one is refused, and what
 -- its answers say; and what is left of the files after it.
-use Rattle.std.specs.Prelude.{◌≡◌, ◌≢◌, ◌⊎◌, ◌≤◌, ℕ, List, Option, Some, IfSome}
+use Rattle.std.specs.Prelude.{◌≡◌, ◌≢◌, ◌⊎◌, ◌≤◌, ℕ, List, [], ◌∷◌, ◌++◌, Option, Some, IfSome}
 use Rattle.bd_model.specs.DesignView.{DesignView}
 use Rattle.bd_cnf.specs.Problem.{Problem}
-use Rattle.bd_files.specs.Devices.{Blame, Held, Rose}
+use Rattle.bd_files.specs.Devices.{Blame, Call, Held, Makes, Rose, saving}
+use Rattle.bd_files.specs.declared.devices.FileCall.TheVariants as call
 use Rattle.bd_proof_text.specs.declared.fault.Why.{Why}
 use Rattle.bd_text.specs.declared.code.Code.{Code}
 use Rattle.bd_text.specs.declared.code.Code.TheVariants.{TooLong}
 use Rattle.bd_typer.specs.declared.fault.Text.{Text}
 use Rattle.bd_verify.specs.declared.verdict.Verdict.{Verdict}
 use Rattle.bd_app.specs.Answer.{SavesNothing}
-use Rattle.bd_app.specs.Files.{AreSaved, AreSavedUpTo, AreShort, BlamesOneOf, BlamesSaveOf, File, IsEither, IsFirstLong, KeepsAllBut, most_bytes}
+use Rattle.bd_app.specs.Files.{AreSaved, AreSavedUpTo, AreShort, BlamesOneOf, BlamesSaveOf, File, IsEither, IsFirstLong, IsLong, KeepsAllBut, loads, most_bytes, saves}
 use Rattle.bd_app.specs.Verdicts.{IsVerdict, ended_by, work_of}
 use Rattle.bd_app.specs.Words.{Name}
-use Rattle.bd_app.specs.declared.answer.Which.TheVariants.{Load, Save}
+use Rattle.bd_app.specs.declared.answer.Which.TheVariants.{Load, Save, Out}
 use Rattle.bd_app.specs.declared.answer.Ended.{Ended}
-use Rattle.bd_app.specs.declared.answer.Ended.TheVariants.{Device}
+use Rattle.bd_app.specs.declared.answer.Ended.TheVariants.{Correct, Wrong, Void, Undecided, Usage, Refused, Device, Memory}
 use Rattle.bd_app.specs.declared.verdict.Asked.{Asked}
 
 pub record Meaning : Type 1 where
@@ -79,16 +80,92 @@ pub record IsVerdictFor (m : Meaning) (held : Option Held) (v : Verdict) : Type 
 
 -- ---- effects on devices
 
--- files as a caller sees them: what they hold, how many faults came, and the blame
+-- files as a caller sees them: what they hold, how many faults came, the blame, and the calls
 pub record FilesSeen : Type 0 where
   pub held : Option Held
   pub faults : ℕ
   pub blame : Option Blame
+  pub calls : Option (List Call)
 
-abbrev pub files_seen : {F : Type 0}
-    → (F → Option Held) → (F → ℕ) → (F → Option Blame) → F → FilesSeen
-files_seen held faults blame files =
-    record { held = held files; faults = faults files; blame = blame files }
+abbrev pub files_seen : {F : Type 0} → (F → Option Held) → (F → ℕ) → (F → Option Blame)
+    → (F → Option (List Call)) → F → FilesSeen
+files_seen held faults blame calls files = record {
+  held = held files;
+  faults = faults files;
+  blame = blame files;
+  calls = calls files;
+}
+
+-- ---- the calls on the files
+
+-- just these calls were made
+abbrev pub Called : FilesSeen → FilesSeen → List Call → Type 0
+Called before after calls = Makes before.calls after.calls calls
+
+-- the first of these calls were made, maybe none or all of them
+pub record CalledFirst (before after : FilesSeen) (calls : List Call) : Type 0 where
+  pub first : List Call
+  pub rest : List Call
+  pub order : calls ≡ first ++ rest
+  pub called : Called before after first
+
+-- files were loaded one after another up to this one: each before it is held, and isn't too long
+pub record LoadedUpTo (before after : FilesSeen) (files : List File) (file : File) : Type 0 where
+  pub first : List File
+  pub rest : List File
+  pub order : files ≡ first ++ file ∷ rest
+  pub short : IfSome before.held (λ held. AreShort held first)
+  pub called : Called before after (loads (first ++ file ∷ []))
+
+-- after these calls a verdict's work was saved up to this call, which failed
+pub record SavedUpTo (before after : FilesSeen) (loaded saved : List Call) : Type 0 where
+  pub first : List Call
+  pub name : Name
+  pub bytes : List ℕ
+  pub rest : List Call
+  pub order : saved ≡ first ++ saving name bytes ∷ rest
+  pub failed : after.blame ≡ Some (call.Save, name)
+  pub called : Called before after (loaded ++ first ++ saving name bytes ∷ [])
+
+-- the loads gave no bytes of a file: it is the last that was loaded
+abbrev pub LoadsFail : FilesSeen → FilesSeen → List File → Ended → Type 0
+LoadsFail before after files (Refused file offset code) =
+    (name : Name) × IfSome before.held (λ held. IsLong held (file, name))
+    × LoadedUpTo before after files (file, name)
+LoadsFail before after files (Device Load) =
+    (file : File) × (after.blame ≡ Some (call.Load, file.1)) × LoadedUpTo before after files file
+LoadsFail before after files Memory = CalledFirst before after (loads files)
+LoadsFail before after files _ = ⊥
+
+-- the saves of an answer: those of a verdict's work
+abbrev pub saves_of : Meaning → Ended → List Call
+saves_of m (Correct c work) = saves m.cnf m.lrat work
+saves_of m (Wrong k c work) = saves m.cnf m.lrat work
+saves_of m (Void work) = saves m.cnf m.lrat work
+saves_of m (Undecided asked work) = saves m.cnf m.lrat work
+saves_of m _ = []
+
+-- the calls of an answer: the loads in the order of the words, and then its saves
+abbrev pub CalledAll : Meaning → FilesSeen → FilesSeen → Ended → Type 0
+CalledAll m before after e = Called before after (loads m.files ++ saves_of m e)
+
+-- the calls before an answer: all of them, or up to the one that its fault comes of
+abbrev pub IsCalled : Meaning → FilesSeen → FilesSeen → Ended → Type 0
+IsCalled m before after Usage = ⊥
+IsCalled m before after (Refused file offset code) =
+    LoadsFail before after m.files (Refused file offset code)
+    ⊎ (IfSome before.held (λ held. AreShort held m.files) × Called before after (loads m.files))
+IsCalled m before after (Device Load) = LoadsFail before after m.files (Device Load)
+IsCalled m before after (Device Save) =
+    (v : Verdict) × IsVerdictFor m before.held v
+    × SavedUpTo before after (loads m.files) (saves m.cnf m.lrat (work_of v))
+IsCalled m before after (Device Out) =
+    (e : Ended) × (report : List ℕ) × m.IsAnswer before.held e report × CalledAll m before after e
+IsCalled m before after Memory =
+    LoadsFail before after m.files Memory
+    ⊎ ((v : Verdict) × IsVerdictFor m before.held v
+    × CalledFirst before after (loads m.files ++ saves m.cnf m.lrat (work_of v)))
+IsCalled m before after e = CalledAll m before after e
 
 -- the work of a verdict is saved as the words ask
 abbrev pub IsSaved : Meaning → Option Held → Ended → Type 0
@@ -116,3 +193,5 @@ pub record Effects (m : Meaning) (before after : FilesSeen) (e : Ended) : Type 0
   pub others : KeepsAllBut before.held after.held (IsEither m.cnf m.lrat)
   pub held : SavesNothing e → after.held ≡ before.held
   pub never_falls : before.faults ≤ after.faults
+  -- each file is loaded once and each part saved once, in the order of the words
+  pub called : IsCalled m before after e

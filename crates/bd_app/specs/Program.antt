@@ -19,7 +19,7 @@ use Rattle.bd_completion.specs.declared.answer.Complete.{Complete}
 use Rattle.bd_completion.specs.declared.answer.Complete.TheVariants as found
 use Rattle.bd_goal.specs.Laws.{Differs}
 use Rattle.bd_cnf.specs.Problem.{Problem}
-use Rattle.bd_files.specs.Devices.{Held, Rose, Appends, AppendsPrefix, PutsOrFaults}
+use Rattle.bd_files.specs.Devices.{Held, Rose, Appends, AppendsPrefix, Counts, PutsOrFaults}
 use Rattle.bd_proof_text.specs.declared.fault.Why.{Why}
 use Rattle.bd_text.specs.declared.code.Code.{Code}
 use Rattle.bd_typer.specs.declared.fault.Text.{Text}
@@ -32,7 +32,7 @@ use Rattle.bd_app.specs.Bounded.{BoundedRun, bounded_meaning}
 use Rattle.bd_app.specs.Commands.{Question, bounded, complete, meaning_of, taken}
 use Rattle.bd_app.specs.Complete.{Completion}
 use Rattle.bd_app.specs.Completions.{CompletesTo, abstraction_by}
-use Rattle.bd_app.specs.Meaning.{Effects, FilesSeen, IsProofRefused, IsRefused, IsSaved, Meaning}
+use Rattle.bd_app.specs.Meaning.{CalledAll, Effects, FilesSeen, IsProofRefused, IsRefused, IsSaved, Meaning}
 use Rattle.bd_app.specs.Verdicts.{MayGive, ended_by}
 use Rattle.bd_app.specs.declared.answer.Which.TheVariants.{Out}
 use Rattle.bd_app.specs.declared.answer.Ended.{Ended}
@@ -43,9 +43,12 @@ use Rattle.bd_app.specs.declared.verdict.Asked.{Asked}
 pub record SinkSeen : Type 0 where
   pub written : Option (List ℕ)
   pub faults : ℕ
+  pub puts : Option ℕ
 
-abbrev pub sink_seen : {S : Type 0} → (S → Option (List ℕ)) → (S → ℕ) → S → SinkSeen
-sink_seen written faults sink = record { written = written sink; faults = faults sink }
+abbrev pub sink_seen : {S : Type 0}
+    → (S → Option (List ℕ)) → (S → ℕ) → (S → Option ℕ) → S → SinkSeen
+sink_seen written faults puts sink =
+    record { written = written sink; faults = faults sink; puts = puts sink }
 
 -- ---- the headline
 
@@ -128,12 +131,13 @@ pub record IsAnswered (m : Meaning) (e : Ended) (files files' : FilesSeen) (out 
   pub bad_text : (line column : ℕ) (why : Why) (cnf : Problem) → e ≡ BadText line column why cnf →
       IfSome files.held (λ held. IsProofRefused m held line column why cnf)
   pub printed : HasReport e → (report : List ℕ)
-      × Appends out.written out'.written report × m.IsAnswer files.held e report
+      × Appends out.written out'.written report × Counts out.puts out'.puts 1
+      × m.IsAnswer files.held e report
   -- where the output failed, a prefix of the report of an answer that is true went out, after what
   -- that answer saves
   pub cut : e ≡ Device Out → (a : Ended) × (report : List ℕ)
-      × AppendsPrefix out.written out'.written report × m.IsAnswer files.held a report
-      × IsSaved m files'.held a
+      × AppendsPrefix out.written out'.written report × Counts out.puts out'.puts 1
+      × m.IsAnswer files.held a report × IsSaved m files'.held a × CalledAll m files files' a
   pub effects : Effects m files files' e
 
 -- a run on these words that ends with this answer

@@ -32,8 +32,8 @@ fn load<F: Files>(files: &mut F, file: Text, name: &str) -> Result<Vec<u8>, Ende
     ensures loaded { IfOk result (λ bytes. IfSome (F.held files.old) (λ held.
         HoldsShort held (file, name.now) bytes.items)) }
     ensures few { IfOk result (λ bytes. length bytes.items ≤ most_bytes file) }
-    ensures left { Loads ((file, name.now) ∷ []) (files_seen F.held F.faults F.blame files.old)
-        (files_seen F.held F.faults F.blame files.new) result }
+    ensures left { Loads ((file, name.now) ∷ []) (files_seen F.held F.faults F.blame F.calls files.old)
+        (files_seen F.held F.faults F.blame F.calls files.new) result }
 {
     let most = most_bytes(file);
     match files.load(name, most) {
@@ -64,8 +64,8 @@ fn load_if<F: Files>(
     ensures few { IfOk result (λ bytes.
         IfSome (bytes_of bytes) (λ b. length b ≤ most_bytes file)) }
     ensures left { Loads (one_if file (given name.entry))
-        (files_seen F.held F.faults F.blame files.old)
-        (files_seen F.held F.faults F.blame files.new) result }
+        (files_seen F.held F.faults F.blame F.calls files.old)
+        (files_seen F.held F.faults F.blame F.calls files.new) result }
 {
     match name {
         Some(name) => Ok(Some(load(files, file, name)?)),
@@ -97,8 +97,8 @@ pub fn load_sources<F: Files>(files: &mut F, names: DesignFiles<'_>) -> Result<S
         HoldSources held (design_names names.entry) (sources_view s))) }
     ensures few { IfOk result (λ s. AreFew (sources_view s)) }
     ensures left { Loads (design_files (design_names names.entry))
-        (files_seen F.held F.faults F.blame files.old)
-        (files_seen F.held F.faults F.blame files.new) result }
+        (files_seen F.held F.faults F.blame F.calls files.old)
+        (files_seen F.held F.faults F.blame F.calls files.new) result }
 {
     let pipe = load(files, Text::Pipe, names.pipe)?;
     let spec = load(files, Text::Spec, names.spec)?;
@@ -140,8 +140,8 @@ pub fn load_text<F: Files>(
     ensures few { IfOk result (λ bytes. AreFew (sources_view bytes.sources)) }
     ensures few_text { IfOk result (λ bytes. length bytes.text.items ≤ most_bytes file) }
     ensures left { Loads (text_files file (text_names names.entry))
-        (files_seen F.held F.faults F.blame files.old)
-        (files_seen F.held F.faults F.blame files.new) result }
+        (files_seen F.held F.faults F.blame F.calls files.old)
+        (files_seen F.held F.faults F.blame F.calls files.new) result }
 {
     let design = names.design;
     let pipe = load(files, Text::Pipe, design.pipe)?;

@@ -6,7 +6,7 @@
 //! holds at the end. Everything that the program does to the world goes through the three objects
 //! that it is given, so the clauses speak of all of it.
 ghost use Rattle.std.specs.Prelude.{◌≡◌, ◌≢◌, ◌≤◌, ◌⊎◌, ℕ, Option, Some, None, IfOk, IfErr, IsErrOf};
-ghost use Rattle.bd_files.specs.Devices.{Rose, Appends, AppendsPrefix};
+ghost use Rattle.bd_files.specs.Devices.{Rose, Appends, AppendsPrefix, Counts};
 ghost use Rattle.bd_model.specs.Fits.{Fits, TrailFits};
 ghost use Rattle.bd_goal.specs.Laws.{Differs};
 ghost use Rattle.bd_model.specs.Conditions.{IsJudged, JudgedBy, SomeCaseMeetsInvariant};
@@ -15,7 +15,7 @@ ghost use Rattle.bd_model.specs.TrailJudged.{IsTrailJudged};
 ghost use Rattle.bd_verify.specs.declared.verdict.Work.{Work};
 ghost use Rattle.bd_app.specs.Answer.{HasReport};
 ghost use Rattle.bd_app.specs.Commands.{Question, meaning_of, taken};
-ghost use Rattle.bd_app.specs.Meaning.{files_seen};
+ghost use Rattle.bd_app.specs.Meaning.{files_seen, IsCalled};
 ghost use Rattle.bd_app.specs.Program.{ForBounded, ForCompletion, ForDesign, IsRun, sink_seen};
 ghost use Rattle.bd_app.specs.Words.{texts_of};
 ghost use Rattle.bd_app.specs.inner.Asked.{asked, IsInRange};
@@ -36,8 +36,8 @@ use std::alloc::Global;
 fn answered<F: Files>(alloc: Global, files: &mut F, command: Command<'_>) -> Result<Answer, Ended>
     requires { IsInRange command }
     ensures { IsDone (meaning_of (asked command.entry))
-        (files_seen F.held F.faults F.blame files.old)
-        (files_seen F.held F.faults F.blame files.new) result }
+        (files_seen F.held F.faults F.blame F.calls files.old)
+        (files_seen F.held F.faults F.blame F.calls files.new) result }
 {
     match command {
         Command::Check(options) => check::answer(alloc, files, options),
@@ -60,8 +60,8 @@ fn answer_of<F: Files>(alloc: Global, words: &[String], files: &mut F) -> Result
     ensures report { IfOk result (λ a. HasReport a.ended) }
     ensures fault { IfErr result IsEarlyFault }
     ensures done { (q : Question) → taken (texts_of words.now) ≡ Some q →
-        IsDone (meaning_of q) (files_seen F.held F.faults F.blame files.old)
-        (files_seen F.held F.faults F.blame files.new) result }
+        IsDone (meaning_of q) (files_seen F.held F.faults F.blame F.calls files.old)
+        (files_seen F.held F.faults F.blame F.calls files.new) result }
     ensures never_falls { F.faults files.old ≤ F.faults files.new }
 {
     match command_of(alloc, words) {
@@ -78,6 +78,7 @@ fn put_report<O: Sink>(answer: Result<Answer, Ended>, out: &mut O) -> Ended
         × Appends (O.written out.old) (O.written out.new) a.report.items)
         ⊎ ((result ≡ Ended.Device Which.Out) × Rose (O.faults out.old) (O.faults out.new)
         × AppendsPrefix (O.written out.old) (O.written out.new) a.report.items)) }
+    ensures once { IfOk answer (λ a. Counts (O.puts out.old) (O.puts out.new) 1) }
     ensures never_falls { O.faults out.old ≤ O.faults out.new }
 {
     let answer = match answer {
@@ -135,10 +136,18 @@ pub fn run<F: Files, O: Sink, E: Sink>(
 
     // All of it: what each answer means and what causes it, what is saved and what is printed.
     ensures run { IsRun (texts_of words.now) result
-        (files_seen F.held F.faults F.blame files.old)
-        (files_seen F.held F.faults F.blame files.new)
-        (sink_seen O.written O.faults out.old) (sink_seen O.written O.faults out.new)
-        (sink_seen E.written E.faults err.old) (sink_seen E.written E.faults err.new) }
+        (files_seen F.held F.faults F.blame F.calls files.old)
+        (files_seen F.held F.faults F.blame F.calls files.new)
+        (sink_seen O.written O.faults O.puts out.old) (sink_seen O.written O.faults O.puts out.new)
+        (sink_seen E.written E.faults E.puts err.old) (sink_seen E.written E.faults E.puts err.new) }
+
+    // The calls: each file is loaded once and each part saved once, in the order of the words, up to
+    // the call that a fault comes of; and a report is put at once.
+    ensures calls { (q : Question) → taken (texts_of words.now) ≡ Some q →
+        IsCalled (meaning_of q) (files_seen F.held F.faults F.blame F.calls files.old)
+        (files_seen F.held F.faults F.blame F.calls files.new) result }
+    ensures one_put { HasReport result ⊎ (result ≡ Ended.Device Which.Out) →
+        Counts (O.puts out.old) (O.puts out.new) 1 }
 
     // What is left alone.
     ensures untouched { taken (texts_of words.now) ≡ None → files.new ≡ files.old }

@@ -1,8 +1,8 @@
 //! Saving a verdict's formula and proof.
-ghost use Rattle.std.specs.Prelude.{◌≡◌, ◌≤◌, List, ℕ, Some, OnOk, IfOk, IfErr, IsErrOf};
-ghost use Rattle.bd_files.specs.Devices.{Holds, KeepsOthers, Rose};
-ghost use Rattle.bd_app.specs.Files.{KeepsAllBut};
-ghost use Rattle.bd_app.specs.Meaning.{files_seen};
+ghost use Rattle.std.specs.Prelude.{◌≡◌, ◌≤◌, List, [], ◌∷◌, ℕ, Some, OnOk, IfOk, IfErr, IsErrOf};
+ghost use Rattle.bd_files.specs.Devices.{Holds, KeepsOthers, Makes, Rose, saving};
+ghost use Rattle.bd_app.specs.Files.{KeepsAllBut, save_if};
+ghost use Rattle.bd_app.specs.Meaning.{CalledFirst, files_seen};
 ghost use Rattle.bd_app.specs.Words.{given};
 ghost use Rattle.bd_app.specs.inner.Saved.{IsSaveFault, Saves, part_text};
 
@@ -17,6 +17,8 @@ use std::alloc::{AllocError, Global};
 fn save<F: Files>(files: &mut F, name: &str, text: &[u8]) -> Result<(), Ended>
     ensures saved { OnOk result (Holds (F.held files.new) name.now text.now) }
     ensures others { KeepsOthers (F.held files.old) (F.held files.new) name.now }
+    ensures called { Makes (F.calls files.old) (F.calls files.new)
+        (saving name.now text.now ∷ []) }
     ensures fault { IfErr result IsSaveFault }
     ensures rose { IsErrOf result (Ended.Device Which.Save) →
         Rose (F.faults files.old) (F.faults files.new) }
@@ -63,6 +65,12 @@ fn save_part<F: Files>(
         Holds (F.held files.new) n (part_text part.entry)) }
     ensures others { KeepsAllBut (F.held files.old) (F.held files.new)
         (λ n. given name.entry ≡ Some n) }
+    ensures called { ¬ IsErrOf result Ended.Memory → Makes (F.calls files.old) (F.calls files.new)
+        (save_if (given name.entry) (part_text part.entry)) }
+    ensures called_first { IsErrOf result Ended.Memory → CalledFirst
+        (files_seen F.held F.faults F.blame F.calls files.old)
+        (files_seen F.held F.faults F.blame F.calls files.new)
+        (save_if (given name.entry) (part_text part.entry)) }
     ensures fault { IfErr result IsSaveFault }
     ensures rose { IsErrOf result (Ended.Device Which.Save) →
         Rose (F.faults files.old) (F.faults files.new) }
@@ -90,8 +98,8 @@ pub fn save_work<F: Files>(
     lrat: Option<&str>,
 ) -> Result<(), Ended>
     ensures { Saves (given cnf.entry) (given lrat.entry) work.now
-        (files_seen F.held F.faults F.blame files.old)
-        (files_seen F.held F.faults F.blame files.new) result }
+        (files_seen F.held F.faults F.blame F.calls files.old)
+        (files_seen F.held F.faults F.blame F.calls files.new) result }
 {
     save_part(alloc, files, cnf, Part::Formula(&work.cnf))?;
     save_part(alloc, files, lrat, Part::Proof(&work.log))

@@ -1,10 +1,10 @@
 -- The bytes of files as the definitions see them, and what loading leaves.
-use Rattle.std.specs.Prelude.{◌≡◌, ◌≤◌, ℕ, List, length, Option, IfSome, IfErr, IsErrOf, Result, Vec}
+use Rattle.std.specs.Prelude.{◌≡◌, ◌≤◌, ℕ, List, length, Option, IfSome, OnOk, IfErr, IsErrOf, Result, Vec}
 use Rattle.std.specs.declared.alloc.Global.{Global}
 use Rattle.std.specs.Option.{option_map}
 use Rattle.bd_files.specs.Devices.{Held, Rose}
-use Rattle.bd_app.specs.Files.{BlamesOneOf, File}
-use Rattle.bd_app.specs.Meaning.{FilesSeen, IsTooLong}
+use Rattle.bd_app.specs.Files.{BlamesOneOf, File, loads}
+use Rattle.bd_app.specs.Meaning.{Called, FilesSeen, IsTooLong, LoadsFail}
 use Rattle.bd_app.specs.Sources.{Sources}
 use Rattle.bd_app.specs.declared.answer.Which.TheVariants as which
 use Rattle.bd_app.specs.declared.answer.Ended.{Ended}
@@ -41,3 +41,5 @@ pub record Loads {T : Type 0} (files : List File) (before after : FilesSeen) (r 
   pub else_keeps_blame : ¬ IsErrOf r (Device which.Load) → after.blame ≡ before.blame
   pub held : after.held ≡ before.held
   pub never_falls : before.faults ≤ after.faults
+  pub called : OnOk r (Called before after (loads files))
+  pub called_up_to : IfErr r (LoadsFail before after files)

@@ -1,11 +1,11 @@
 -- The texts that are saved of a verdict's work, and what saving leaves.
-use Rattle.std.specs.Prelude.{◌≡◌, ◌≤◌, ℕ, List, Option, OnOk, IfErr, IsErrOf, Result}
+use Rattle.std.specs.Prelude.{◌≡◌, ◌≤◌, ℕ, List, [], Option, OnOk, IfErr, IsErrOf, Result}
 use Rattle.bd_cnf.specs.Problem.{dimacs}
 use Rattle.bd_files.specs.Devices.{Rose}
 use Rattle.bd_lrat.specs.Text.{lrat}
 use Rattle.bd_verify.specs.declared.verdict.Work.{Work}
-use Rattle.bd_app.specs.Files.{AreSaved, AreSavedUpTo, BlamesSaveOf, IsEither, KeepsAllBut}
-use Rattle.bd_app.specs.Meaning.{FilesSeen}
+use Rattle.bd_app.specs.Files.{AreSaved, AreSavedUpTo, BlamesSaveOf, IsEither, KeepsAllBut, saves}
+use Rattle.bd_app.specs.Meaning.{Called, CalledFirst, FilesSeen, SavedUpTo}
 use Rattle.bd_app.specs.Words.{Name}
 use Rattle.bd_app.specs.declared.answer.Which.TheVariants as which
 use Rattle.bd_app.specs.declared.answer.Ended.{Ended}
@@ -35,3 +35,7 @@ pub record Saves {T : Type 0} (cnf lrat : Option Name) (work : Work) (before aft
   pub blamed : IsErrOf r (Device which.Save) → BlamesSaveOf after.blame cnf lrat
   pub else_keeps_blame : ¬ IsErrOf r (Device which.Save) → after.blame ≡ before.blame
   pub never_falls : before.faults ≤ after.faults
+  pub called : OnOk r (Called before after (saves cnf lrat work))
+  pub called_up_to : IsErrOf r (Device which.Save) →
+      SavedUpTo before after [] (saves cnf lrat work)
+  pub called_first : IsErrOf r Memory → CalledFirst before after (saves cnf lrat work)

@@ -222,8 +222,8 @@ pub fn answer<F: Files>(
 ) -> Result<Answer, Ended>
     requires { HasFewCycles options }
     ensures { IsDone (bounded_meaning (bounded_of options.entry))
-        (files_seen F.held F.faults F.blame files.old)
-        (files_seen F.held F.faults F.blame files.new) result }
+        (files_seen F.held F.faults F.blame F.calls files.old)
+        (files_seen F.held F.faults F.blame F.calls files.new) result }
 {
     let names = DesignFiles {
         pipe: options.pipe,

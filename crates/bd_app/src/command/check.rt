@@ -79,8 +79,8 @@ pub fn answer<F: Files>(
     options: CheckOptions<'_>,
 ) -> Result<Answer, Ended>
     ensures { IsDone (check_meaning (check_of options.entry))
-        (files_seen F.held F.faults F.blame files.old)
-        (files_seen F.held F.faults F.blame files.new) result }
+        (files_seen F.held F.faults F.blame F.calls files.old)
+        (files_seen F.held F.faults F.blame F.calls files.new) result }
 {
     let names = DesignFiles {
         pipe: options.pipe,

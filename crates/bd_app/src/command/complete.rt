@@ -207,8 +207,8 @@ pub fn answer<F: Files>(
     options: CompleteOptions<'_>,
 ) -> Result<Answer, Ended>
     ensures { IsDone (complete_meaning (complete_of options.entry))
-        (files_seen F.held F.faults F.blame files.old)
-        (files_seen F.held F.faults F.blame files.new) result }
+        (files_seen F.held F.faults F.blame F.calls files.old)
+        (files_seen F.held F.faults F.blame F.calls files.new) result }
 {
     let bytes = load_text(files, Text::Comp, options.files)?;
     answer_on_bytes(alloc, &bytes, options.agree, options.budget)

@@ -117,8 +117,8 @@ pub fn answer<F: Files>(
     options: TextFiles<'_>,
 ) -> Result<Answer, Ended>
     ensures { IsDone (retrace_meaning (retrace_of options.entry))
-        (files_seen F.held F.faults F.blame files.old)
-        (files_seen F.held F.faults F.blame files.new) result }
+        (files_seen F.held F.faults F.blame F.calls files.old)
+        (files_seen F.held F.faults F.blame F.calls files.new) result }
 {
     let bytes = load_text(files, Text::Trail, options)?;
     judged_bytes(alloc, &bytes)

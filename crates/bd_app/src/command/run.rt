@@ -141,8 +141,8 @@ pub fn answer<F: Files>(
     options: RunOptions<'_>,
 ) -> Result<Answer, Ended>
     ensures { IsDone (run_meaning (run_of options.entry))
-        (files_seen F.held F.faults F.blame files.old)
-        (files_seen F.held F.faults F.blame files.new) result }
+        (files_seen F.held F.faults F.blame F.calls files.old)
+        (files_seen F.held F.faults F.blame F.calls files.new) result }
 {
     let design = DesignFiles {
         pipe: options.pipe,
