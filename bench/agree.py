@@ -4,7 +4,7 @@
 A design has some latches, memories, inputs, functions and predicates, lets, cycles that flush it, steps, and perhaps
 distinct constants, an exact item and an invariant; its specification keeps some of its entries. Each case that is
 printed is replayed: it must break the condition that the program named, or hold where an invariant came with
-`correct`. Each proof that is saved is checked (`lrat_check.py`). It stops at the first design on which they differ,
+`correct`. Each proof that is saved is checked (`tools/lrat_check.py`). It stops at the first design on which they differ,
 and leaves its files.
 
 usage: agree.py PROGRAM COUNT [SEED]
@@ -15,9 +15,11 @@ import subprocess
 import sys
 import tempfile
 
+HERE = os.path.dirname(os.path.abspath(__file__))
+sys.path.append(os.path.join(os.path.dirname(HERE), "tools"))
+
 from lrat_check import check
 
-HERE = os.path.dirname(os.path.abspath(__file__))
 REFUTES, ENDS_OPEN = "accepted, and refutes the formula", "accepted, without the empty clause"
 PROOFS = {"correct": REFUTES, "void": REFUTES, "wrong": ENDS_OPEN}
 

@@ -2,7 +2,7 @@
 """Runs all designs of the gallery, and compares what the program says with what `gallery/verdicts.txt` does.
 
 Each line there has a pipeline, its specification, its invariant or `-`, and the verdict in plain and in diverse mode.
-Each printed case is replayed, each proof is checked (`lrat_check.py`), and where they are installed `z3` and `cvc5` are
+Each printed case is replayed, each proof is checked (`tools/lrat_check.py`), and where they are installed `z3` and `cvc5` are
 asked the same (`smtlib.py`), a minute each. It prints a table with processor seconds and peak memory in MB, names what
 takes more than 30 s or 2 GiB in the better mode, and ends with status 1 where anything differs.
 
@@ -16,9 +16,12 @@ import sys
 import tempfile
 
 from bench import run
-from lrat_check import check
 
 HERE = os.path.dirname(os.path.abspath(__file__))
+sys.path.append(os.path.join(os.path.dirname(HERE), "tools"))
+
+from lrat_check import check
+
 GALLERY = os.path.join(os.path.dirname(HERE), "gallery")
 MODES = {"plain": [], "diverse": ["--diverse"]}
 PROOFS = {"correct": "accepted, and refutes the formula", "void": "accepted, and refutes the formula"}
