@@ -1,11 +1,11 @@
 #!/usr/bin/env python3
 """A proof for a question that is too hard for one solver on one processor: cube and conquer.
 
-The kept formula of a design is split into cubes by variables that look-ahead chooses; each cube is solved by a solver of
-yours, and its proof is made LRAT (`elaborate.c`), under GNU parallel, here or on hosts of the same kind that it reaches.
-The proofs are joined to one: each line gets the negation of its cube's literals, and at last the cubes are resolved.
-Nothing of all this is trusted: what judges the result is a checker of LRAT, as `burch_dill recheck` is, and for
---diverse `bd_view recheck --diverse`.
+The kept formula of a design is split into cubes by variables that look-ahead chooses; each cube is solved by a solver
+of yours, and its proof is made LRAT (`elaborate.c`), under GNU parallel, here or on hosts of the same kind that it
+reaches. The proofs are joined to one: each line gets the negation of its cube's literals, and at last the cubes are
+resolved. Nothing of all this is trusted: what judges the result is a checker of LRAT, as `burch_dill recheck` is, and
+for --diverse `bd_view recheck --diverse`.
 
 Each cube is said as it ends, with its time. One that isn't solved in its time is split again.
 
@@ -13,7 +13,8 @@ usage: conquer.py PIPE SPEC [INV] PROOF [--diverse] [--cubes N] [--seconds N] [-
                   [--program FILE] [--hosts FILE]
 
 COMMAND and the program are as in `prove.py`. Each line of a file of hosts is one as GNU parallel takes it
-(`--sshloginfile`): `2/name`, a host with two jobs at a time, or `:`, this machine.
+(`--sshloginfile`): `2/name`, a host with two jobs at a time, or `:`, this machine. A host wants `python3`, `rsync` and
+the solver.
 """
 import argparse
 import os
@@ -191,9 +192,10 @@ class Runner:
         """The command that solves the cubes whose names follow."""
         words = ["parallel", "--will-cite", "--timeout", str(self.options.seconds), "--joblog", "log"]
         if self.options.hosts:
-            words += ["--sshloginfile", os.path.abspath(self.options.hosts), "--workdir", "...", "--return", "{}.lrat"]
+            words += ["--sshloginfile", os.path.abspath(self.options.hosts), "--workdir", str(self.folder)]
             sent = [f"{HERE}/./conquer.py", f"{HERE}/./prove.py", "kept.cnf", "elaborate"]
-            words += ["--cleanup", *(word for name in sent for word in ("--basefile", name)), "python3", "conquer.py"]
+            words += ["--return", "{}.lrat", "--cleanup", *(word for name in sent for word in ("--basefile", name))]
+            words += ["python3", "-B", "conquer.py"]
         else:
             words += ["--jobs", str(self.options.jobs), sys.executable, os.path.abspath(__file__)]
         return [*words, "--cube", "kept.cnf", "{}", shlex.quote(self.solver), "./elaborate", ":::"]
@@ -223,7 +225,7 @@ class Runner:
             _, host, _, seconds, *_, command = line.split("\t")
             name = next(word for word in command.split() if word in names)
             end = "solved" if self.is_solved(name) else "isn't solved, and is split"
-            print(f"{name} on {host}: {float(seconds):.1f} s, {end}", file=sys.stderr)
+            print(f"{name} on {host.split()[-1]}: {float(seconds):.1f} s, {end}", file=sys.stderr)
 
 
 def conquered(look: LookAhead, cubes: List[Cube], runner: Runner) -> List[Cube]:
