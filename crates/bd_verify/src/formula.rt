@@ -22,9 +22,20 @@ pub fn kept(alloc: Global, design: &Design) -> Result<Cnf, AllocError>
     ensures decides { IfOk result (Keeps (design_view design.now)
         (IsAsked Question.Breaks (design_view design.now))) }
 {
+    kept_in(alloc, design, Mode::Plain)
+}
+
+/// The formula that is kept of the question whether a case breaks a condition, in a mode: it is satisfiable exactly
+/// where one does.
+pub fn kept_in(alloc: Global, design: &Design, mode: Mode) -> Result<Cnf, AllocError>
+    requires { IsLawful (design_view design.now) }
+    ensures kept { IfOk result (IsKept (design_view design.now) Question.Breaks mode) }
+    ensures decides { IfOk result (Keeps (design_view design.now)
+        (IsAsked Question.Breaks (design_view design.now))) }
+{
     let mut graph = Graph::new(alloc);
     let root = root_of(alloc, &mut graph, design, Question::Breaks)?;
-    let reduction = reduced(alloc, design, &graph, root, Mode::Plain)?;
+    let reduction = reduced(alloc, design, &graph, root, mode)?;
     let Reduction { formula, .. } = reduction;
     let Formula { cnf, .. } = formula;
     Ok(cnf)
