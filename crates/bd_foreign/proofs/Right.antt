@@ -9,7 +9,7 @@ use Rattle.bd_model.specs.Lawful.{IsLawful}
 use Rattle.bd_model.specs.Right.{IsRight}
 use Rattle.bd_proof_text.specs.ProofText.{fault, proof_text}
 use Rattle.bd_proof_text.specs.Tokens.{place}
-use Rattle.bd_verify.specs.declared.verdict.Mode.TheVariants.{Plain}
+use Rattle.bd_verify.specs.declared.verdict.Mode.{Mode}
 use Rattle.bd_verify.specs.declared.verdict.Question.TheVariants.{Breaks}
 use Rattle.bd_verify.specs.declared.verdict.Work.{Work}
 use Rattle.bd_verify.specs.Kept.{IsKept}
@@ -17,7 +17,7 @@ use Rattle.bd_verify.specs.Verdict.{IsAsked, Keeps}
 use Rattle.bd_verify.proofs.Judgements.{right-unless}
 use Rattle.bd_foreign.specs.declared.fault.ProofFault.{ProofFault}
 use Rattle.bd_foreign.specs.declared.fault.ProofFault.TheVariants as proof
-use Rattle.bd_foreign.specs.Rechecked.{IsFaultOf, IsReadFrom}
+use Rattle.bd_foreign.specs.Rechecked.{IsFaultIn, IsReadIn}
 use Rattle.bd_foreign.specs.inner.Over.{IsFaultOver, IsReadOver}
 
 module _ (d : DesignView) (p : Problem) (bytes : List ℕ) where
@@ -30,21 +30,21 @@ module _ (d : DesignView) (p : Problem) (bytes : List ℕ) where
   right-over (Ok work) lawful keeps read = refuted-right work.log lawful keeps read.refutes
   right-over (Err e) lawful keeps read = tt
 
-  pub read-over : (r : Result Work ProofFault) → IsKept d Breaks Plain p → IfOk r (IsReadOver p bytes) → IfOk r (IsReadFrom d bytes)
-  read-over (Ok work) kept read = record {
-    kept = subst (IsKept d Breaks Plain) (sym read.same) kept;
+  pub read-over : (m : Mode) (r : Result Work ProofFault) → IsKept d Breaks m p → IfOk r (IsReadOver p bytes) → IfOk r (IsReadIn m d bytes)
+  read-over m (Ok work) kept read = record {
+    kept = subst (IsKept d Breaks m) (sym read.same) kept;
     lines = subst (λ q. proof_text q bytes ≡ Ok work.log) (sym read.same) read.lines;
   }
-  read-over (Err e) kept read = tt
+  read-over m (Err e) kept read = tt
 
   pub refutes-over : (r : Result Work ProofFault) → IfOk r (IsReadOver p bytes) → IfOk r (λ work. IsRefutation work.cnf work.log)
   refutes-over (Ok work) read = subst (λ q. IsRefutation q work.log) (sym read.same) read.refutes
   refutes-over (Err e) read = tt
 
-  pub fault-over : (r : Result Work ProofFault) → IsKept d Breaks Plain p → IfErr r (IsFaultOver p bytes) → IfErr r (IsFaultOf d bytes)
-  fault-over (Ok work) kept h = tt
-  fault-over (Err (proof.Bad line column cause cnf)) kept h = record {
-    kept = subst (IsKept d Breaks Plain) (sym h.0) kept;
+  pub fault-over : (m : Mode) (r : Result Work ProofFault) → IsKept d Breaks m p → IfErr r (IsFaultOver p bytes) → IfErr r (IsFaultIn m d bytes)
+  fault-over m (Ok work) kept h = tt
+  fault-over m (Err (proof.Bad line column cause cnf)) kept h = record {
+    kept = subst (IsKept d Breaks m) (sym h.0) kept;
     first = subst (λ q. proof_text q bytes ≡ Err (fault (place line column) cause)) (sym h.0) h.1;
   }
-  fault-over (Err proof.Memory) kept h = tt
+  fault-over m (Err proof.Memory) kept h = tt

@@ -7,4 +7,4 @@ mod rechecking;
 
 pub use bd_proof_text::Why;
 pub use fault::ProofFault;
-pub use rechecking::recheck;
+pub use rechecking::{recheck, recheck_in};
