@@ -1,0 +1,127 @@
+//! A state of the diagram of a case, each value with what it rests on.
+ghost use Rattle.std.specs.Prelude.{◌≡◌, IfOk};
+ghost use Rattle.bd_model.specs.DesignView.{design_view, DesignView};
+ghost use Rattle.bd_model.specs.Fits.{Fits};
+ghost use Rattle.bd_slice.specs.inner.Followed.{Other, Holds, Grows, FollowsKept, FollowsState, FollowsInputs};
+ghost use Rattle.bd_slice.specs.inner.Runs.{IsRun, FollowsEntry};
+
+use crate::cycle::{cycle, flush, look, spec_steps};
+use crate::graph::Graph;
+use crate::kept::{Base, Kept, Traced, TracedMemory};
+use crate::place::{Column, Place};
+use bd_model::{Case, Design, Sequence, Value};
+use std::alloc::{AllocError, Global};
+
+/// A state of the diagram, and what its values rest on.
+#[derive(Drop)]
+pub struct Run {
+    pub graph: Graph,
+    pub state: Vec<Kept>,
+}
+
+/// The run of a case up to a state of its diagram.
+pub fn run_of(
+    alloc: Global,
+    design: &Design,
+    case: &Case,
+    column: Column,
+) -> Result<Run, AllocError>
+    ensures { IfOk result (λ r. IsRun (design_view design.now) case.now column r) }
+{
+    match column {
+        Column::Before(cycles) => run_before(alloc, design, case, cycles),
+        Column::After(cycles) => run_after(alloc, design, case, cycles),
+        Column::Steps(steps) => run_steps(alloc, design, case, steps),
+    }
+}
+
+fn run_before(alloc: Global, design: &Design, case: &Case, cycles: u32) -> Result<Run, AllocError>
+    ensures { IfOk result (λ r. IsRun (design_view design.now) case.now (Column.Before cycles) r) }
+{
+    let mut graph = Graph::new(alloc)?;
+    let first = graph.state_of(alloc, case)?;
+    let state = flush(alloc, &mut graph, case, &design.pipe, first, cycles)?;
+    Ok(Run { graph, state })
+}
+
+fn run_after(alloc: Global, design: &Design, case: &Case, cycles: u32) -> Result<Run, AllocError>
+    ensures { IfOk result (λ r. IsRun (design_view design.now) case.now (Column.After cycles) r) }
+{
+    let mut graph = Graph::new(alloc)?;
+    let first = graph.state_of(alloc, case)?;
+    let inputs = graph.inputs_of(alloc, case)?;
+    let next = cycle(
+        alloc,
+        &mut graph,
+        case,
+        &design.pipe,
+        first.as_slice(),
+        inputs.as_slice(),
+    )?;
+    let state = flush(alloc, &mut graph, case, &design.pipe, next, cycles)?;
+    Ok(Run { graph, state })
+}
+
+fn run_steps(alloc: Global, design: &Design, case: &Case, steps: u32) -> Result<Run, AllocError>
+    ensures { IfOk result (λ r. IsRun (design_view design.now) case.now (Column.Steps steps) r) }
+{
+    let mut graph = Graph::new(alloc)?;
+    let first = graph.state_of(alloc, case)?;
+    let end = flush(alloc, &mut graph, case, &design.pipe, first, design.flush)?;
+    let visible = look(alloc, &design.visible, end.as_slice())?;
+    let state = spec_steps(alloc, &mut graph, case, design, visible, steps)?;
+    Ok(Run { graph, state })
+}
+
+impl Graph {
+    /// The case's state: each latch is a place, and each memory is one of the case's.
+    fn state_of(&mut self, alloc: Global, case: &Case) -> Result<Vec<Kept>, AllocError>
+        ensures grows { IfOk result (λ ks. Grows self.old.nodes self.new.nodes) }
+        ensures follows { IfOk result (λ ks. (d : DesignView) (o : Other) →
+            Holds case.now self.new.nodes o → Fits d case.now → Fits d o.case →
+            FollowsState o ks.items o.case.state) }
+    {
+        let mut state = Vec::new(alloc);
+        for (entry, value) in case.state.as_slice().iter().enumerate() {
+            state.push(self.entry_of(alloc, value, entry)?)?;
+        }
+        Ok(state)
+    }
+
+    /// An entry of the case's state.
+    fn entry_of(&mut self, alloc: Global, value: &Value, entry: usize) -> Result<Kept, AllocError>
+        ensures grows { IfOk result (λ k. Grows self.old.nodes self.new.nodes) }
+        ensures follows { IfOk result (λ k. (c : Case) (o : Other) →
+            Holds c self.new.nodes o → FollowsEntry c o value.now entry k) }
+    {
+        match value {
+            Value::Scalar(scalar) => Ok(Kept::Scalar(Traced {
+                value: *scalar,
+                node: self.place(Place::Latch(entry))?,
+            })),
+            Value::Memory(_) => Ok(Kept::Memory(TracedMemory {
+                base: Base::Entry(entry),
+                links: Sequence::new(alloc),
+                shape: 0,
+            })),
+        }
+    }
+
+    /// The case's inputs, each of which is a place.
+    fn inputs_of(&mut self, alloc: Global, case: &Case) -> Result<Vec<Traced>, AllocError>
+        ensures grows { IfOk result (λ ts. Grows self.old.nodes self.new.nodes) }
+        ensures follows { IfOk result (λ ts. (d : DesignView) (o : Other) →
+            Holds case.now self.new.nodes o → Fits d case.now → Fits d o.case →
+            FollowsInputs o ts.items o.case.inputs) }
+    {
+        let mut inputs = Vec::new(alloc);
+        for (i, input) in case.inputs.as_slice().iter().enumerate() {
+            let node = self.place(Place::Input(i))?;
+            inputs.push(Traced {
+                value: *input,
+                node,
+            })?;
+        }
+        Ok(inputs)
+    }
+}

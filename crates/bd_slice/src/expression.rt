@@ -1,0 +1,252 @@
+//! Values of expressions, each with what it rests on.
+//!
+//! Of a choice that is its condition and the branch taken, of a conjunction the first part that is false, of a read the
+//! comparisons with the addresses written and the word that it meets. Lets are valued once, in order.
+ghost use Rattle.std.specs.Prelude.{◌≡◌, ◌==◌, ◌||◌, IfOk, IsTrue, List, map, not, ℕ};
+ghost use Rattle.std.specs.List.{list_all, list_any};
+ghost use mathlib.Core.Bool.{beq};
+ghost use Rattle.bd_model.specs.ExprView.{expr_view, expr_views};
+ghost use Rattle.bd_model.specs.Table.{at};
+ghost use Rattle.bd_model.specs.Value.{is_true, scalar_truth, scalar_word, table_of, value_of, values_of, word_of};
+ghost use Rattle.bd_slice.specs.inner.Followed.{Other, Holds, Grows, Follows, Combines};
+ghost use Rattle.bd_slice.specs.inner.Env.{InOthers, Traces, TracesScalar};
+
+use crate::graph::Graph;
+use crate::kept::{Kept, Traced, kept_at, traced_at};
+use crate::place::Place;
+use bd_model::{Case, Expr, Exprs, Local, Scalar, Sequence, Table, Words};
+use std::alloc::{AllocError, Global};
+
+/// What names stand for where an expression is valued.
+#[derive(Drop)]
+pub struct Names<'a> {
+    pub alloc: Global,
+    pub case: &'a Case,
+    pub state: &'a [Kept],
+    pub inputs: &'a [Traced],
+    pub lets: Vec<Kept>,
+}
+
+/// Words, and the node of what they rest on.
+#[derive(Drop)]
+struct Arguments {
+    words: Words,
+    node: usize,
+}
+
+impl Graph {
+    /// Whether the first implies the second: what decides is the first where it is false, else the second where it is
+    /// true, else both.
+    fn implied(&mut self, p: Traced, q: Traced) -> Result<Traced, AllocError>
+        ensures grows { IfOk result (λ t. Grows self.old.nodes self.new.nodes) }
+        ensures follows { IfOk result (λ t. Combines self.new.nodes p q t
+            (λ x y. Scalar.Bool (not (scalar_truth x) || scalar_truth y))) }
+    {
+        if !p.value.truth() {
+            return Ok(Traced {
+                value: Scalar::Bool(true),
+                node: p.node,
+            });
+        }
+        if q.value.truth() {
+            return Ok(Traced {
+                value: Scalar::Bool(true),
+                node: q.node,
+            });
+        }
+        Ok(Traced {
+            value: Scalar::Bool(false),
+            node: self.both(p.node, q.node)?,
+        })
+    }
+
+    /// Whether both have the same truth value.
+    fn same_truth(&mut self, p: Traced, q: Traced) -> Result<Traced, AllocError>
+        ensures grows { IfOk result (λ t. Grows self.old.nodes self.new.nodes) }
+        ensures follows { IfOk result (λ t. Combines self.new.nodes p q t
+            (λ x y. Scalar.Bool (beq (scalar_truth x) (scalar_truth y)))) }
+    {
+        Ok(Traced {
+            value: Scalar::Bool(p.value.truth() == q.value.truth()),
+            node: self.both(p.node, q.node)?,
+        })
+    }
+
+    /// Whether both are the same word.
+    fn same_word(&mut self, p: Traced, q: Traced) -> Result<Traced, AllocError>
+        ensures grows { IfOk result (λ t. Grows self.old.nodes self.new.nodes) }
+        ensures follows { IfOk result (λ t. Combines self.new.nodes p q t
+            (λ x y. Scalar.Bool (scalar_word x == scalar_word y))) }
+    {
+        Ok(Traced {
+            value: Scalar::Bool(p.value.word() == q.value.word()),
+            node: self.both(p.node, q.node)?,
+        })
+    }
+
+    /// What a symbol's table has at arguments.
+    fn applied(&mut self, case: &Case, f: u32, args: Arguments) -> Result<Traced, AllocError>
+        ensures grows { IfOk result (λ t. Grows self.old.nodes self.new.nodes) }
+        ensures follows { IfOk result (λ t. (o : Other) (ns : List ℕ) → Holds case.now self.new.nodes o →
+            (IsTrue (o.has args.node) → ns ≡ args.words) →
+            Follows o t (at (table_of o.case.interp f) ns)) }
+    {
+        let value = table_at(case.interp.as_slice(), f, args.words.as_slice());
+        let row = self.place(Place::Row(f, args.words))?;
+        Ok(Traced {
+            value,
+            node: self.both(args.node, row)?,
+        })
+    }
+}
+
+fn table_at(interp: &[Table], f: u32, args: &[u64]) -> Scalar
+    ensures { result ≡ at (table_of interp.now f) args.now }
+{
+    match interp.get(f as usize) {
+        Some(table) => table.at(args),
+        None => Scalar::Bool(false),
+    }
+}
+
+/// The value of an expression.
+#[cycle(trace)]
+pub fn trace(graph: &mut Graph, names: &Names, expr: &Expr) -> Result<Kept, AllocError>
+    ensures grows { IfOk result (λ k. Grows graph.old.nodes graph.new.nodes) }
+    ensures follows { IfOk result (λ k. Traces graph.new.nodes names.now (expr_view expr.now) k) }
+{
+    match expr {
+        Expr::Bool(b) => Ok(Kept::Scalar(Traced::constant(Scalar::Bool(*b)))),
+        Expr::Entry(i) => Ok(kept_at(names.state, *i)?),
+        Expr::Input(i) => Ok(Kept::Scalar(traced_at(names.inputs, *i))),
+        Expr::Local(i) => Ok(kept_at(names.lets.as_slice(), *i)?),
+        Expr::Not(a) => {
+            let part = trace_scalar(graph, names, a)?;
+            Ok(Kept::Scalar(Traced {
+                value: Scalar::Bool(!part.value.truth()),
+                node: part.node,
+            }))
+        }
+        Expr::And(parts) => Ok(Kept::Scalar(trace_all(graph, names, parts)?)),
+        Expr::Or(parts) => Ok(Kept::Scalar(trace_any(graph, names, parts)?)),
+        Expr::Implies(a, b) => {
+            let p = trace_scalar(graph, names, a)?;
+            let q = trace_scalar(graph, names, b)?;
+            Ok(Kept::Scalar(graph.implied(p, q)?))
+        }
+        Expr::Iff(a, b) => {
+            let p = trace_scalar(graph, names, a)?;
+            let q = trace_scalar(graph, names, b)?;
+            Ok(Kept::Scalar(graph.same_truth(p, q)?))
+        }
+        Expr::Equal(a, b) => {
+            let p = trace_scalar(graph, names, a)?;
+            let q = trace_scalar(graph, names, b)?;
+            Ok(Kept::Scalar(graph.same_word(p, q)?))
+        }
+        Expr::Ite(p, a, b) => {
+            let condition = trace_scalar(graph, names, p)?;
+            if condition.value.truth() {
+                let taken = trace(graph, names, a)?;
+                let chosen = graph.under(names.alloc, condition.node, taken)?;
+                Ok(chosen)
+            } else {
+                let taken = trace(graph, names, b)?;
+                let chosen = graph.under(names.alloc, condition.node, taken)?;
+                Ok(chosen)
+            }
+        }
+        Expr::Read(m, a) => {
+            let memory = trace(graph, names, m)?.memory(names.alloc)?;
+            let address = trace_scalar(graph, names, a)?.word();
+            let read = graph.read(names.case, &memory, address)?;
+            Ok(Kept::Scalar(read.scalar()))
+        }
+        Expr::Write(m, a, d) => {
+            let memory = trace(graph, names, m)?.memory(names.alloc)?;
+            let address = trace_scalar(graph, names, a)?.word();
+            let word = trace_scalar(graph, names, d)?.word();
+            Ok(Kept::Memory(memory.written(names.alloc, address, word)?))
+        }
+        Expr::Apply(f, args) => {
+            let args = trace_words(graph, names, args)?;
+            Ok(Kept::Scalar(graph.applied(names.case, *f, args)?))
+        }
+    }
+}
+
+#[cycle(trace)]
+pub fn trace_scalar(graph: &mut Graph, names: &Names, expr: &Expr) -> Result<Traced, AllocError>
+    ensures grows { IfOk result (λ t. Grows graph.old.nodes graph.new.nodes) }
+    ensures follows { IfOk result (λ t.
+        TracesScalar graph.new.nodes names.now (expr_view expr.now) t) }
+{
+    Ok(trace(graph, names, expr)?.scalar())
+}
+
+/// Whether all are true: the first that is false decides, else all.
+#[cycle(trace)]
+fn trace_all(graph: &mut Graph, names: &Names, parts: &Exprs) -> Result<Traced, AllocError>
+    ensures grows { IfOk result (λ t. Grows graph.old.nodes graph.new.nodes) }
+    ensures follows { IfOk result (λ t. InOthers graph.new.nodes names.now (λ o env.
+        Follows o t (Scalar.Bool (list_all is_true (values_of env (expr_views parts.now)))))) }
+{
+    let mut node = 0;
+    for part in &parts.items {
+        let traced = trace_scalar(graph, names, part)?;
+        if !traced.value.truth() {
+            return Ok(Traced {
+                value: Scalar::Bool(false),
+                node: traced.node,
+            });
+        }
+        node = graph.both(node, traced.node)?;
+    }
+    Ok(Traced {
+        value: Scalar::Bool(true),
+        node,
+    })
+}
+
+/// Whether some is true: the first that is true decides, else all.
+#[cycle(trace)]
+fn trace_any(graph: &mut Graph, names: &Names, parts: &Exprs) -> Result<Traced, AllocError>
+    ensures grows { IfOk result (λ t. Grows graph.old.nodes graph.new.nodes) }
+    ensures follows { IfOk result (λ t. InOthers graph.new.nodes names.now (λ o env.
+        Follows o t (Scalar.Bool (list_any is_true (values_of env (expr_views parts.now)))))) }
+{
+    let mut node = 0;
+    for part in &parts.items {
+        let traced = trace_scalar(graph, names, part)?;
+        if traced.value.truth() {
+            return Ok(Traced {
+                value: Scalar::Bool(true),
+                node: traced.node,
+            });
+        }
+        node = graph.both(node, traced.node)?;
+    }
+    Ok(Traced {
+        value: Scalar::Bool(false),
+        node,
+    })
+}
+
+#[cycle(trace)]
+fn trace_words(graph: &mut Graph, names: &Names, parts: &Exprs) -> Result<Arguments, AllocError>
+    ensures grows { IfOk result (λ a. Grows graph.old.nodes graph.new.nodes) }
+    ensures follows { IfOk result (λ a. InOthers graph.new.nodes names.now (λ o env.
+        IsTrue (o.has a.node) → map word_of (values_of env (expr_views parts.now)) ≡ a.words)) }
+{
+    let mut words = Vec::new(names.alloc);
+    let mut node = 0;
+    for part in &parts.items {
+        let traced = trace_scalar(graph, names, part)?;
+        words.push(traced.value.word())?;
+        node = graph.both(node, traced.node)?;
+    }
+    Ok(Arguments {
+        words: Sequence::from_vec(words),
+        node,
+    })
+}
