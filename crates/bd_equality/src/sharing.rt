@@ -66,7 +66,7 @@ impl Trees {
     fn shares_half(&mut self, graph: &Graph, equation: &Equation) -> Result<bool, AllocError> {
         self.seen(graph, equation.right)?;
         let seen = self.seen(graph, equation.left)?;
-        Ok(seen.words / 2 <= seen.shared)
+        Ok(seen.words <= seen.shared.saturating_mul(2))
     }
 
     /// Walks over a word's tree.
