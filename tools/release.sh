@@ -35,7 +35,8 @@ shared() {
     cp README.md CHANGELOG.md CONTRIBUTING.md LICENSE-MIT LICENSE-APACHE VERSION pyproject.toml "$1"
     cp -R docs gallery "$1"
     cp -R crates/burch_dill/data "$1/crates/burch_dill"
-    cp -R tools/burch_dill tools/*.py "$1/tools"
+    cp -R tools/burch_dill "$1/tools"
+    find tools -maxdepth 1 -name '*.py' -exec cp {} "$1/tools" \; -o -name '*.c' -exec cp {} "$1/tools" \;
     find "$1" -name __pycache__ -prune -exec rm -rf {} +
 }
 
