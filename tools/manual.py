@@ -17,6 +17,9 @@ from typing import Iterator, List
 ROOT = Path(__file__).resolve().parent.parent
 COMMANDS = ROOT / "docs" / "commands"
 LANGUAGE = ROOT / "docs" / "LANGUAGE.md"
+# heads of columns that go without saying
+PLAIN = ("Means", "Says", "Text", "Does", "File", "Comes where", "Why", "What it asks", "Sort", "What it is", "Line",
+         "How to live with it", "Code and place", "Fault")
 VERSION = (ROOT / "VERSION").read_text(encoding="ascii").strip()
 
 
@@ -43,13 +46,13 @@ def row(line: str) -> List[str]:
 
 
 def table(lines: List[str]) -> Iterator[str]:
-    """A table as a list of its first cells, each with the others below it; one more column than two has its head."""
+    """A table as a list of its first cells, each with the others below it, with their heads where these tell more."""
     head, *rows = [row(line) for line in lines if not re.fullmatch(r"[|\s:-]+", line)]
     for first, *others in rows:
         yield ".TP"
         yield inline(first)
-        named = [f"{name.lower()} {cell}" if name == "Status" else cell for name, cell in zip(head[1:], others)]
-        yield inline("; ".join(part for part in named if part))
+        named = [cell if name in PLAIN else f"{name.lower()}: {cell}" for name, cell in zip(head[1:], others) if cell]
+        yield inline("; ".join(named))
 
 
 def code(lines: List[str]) -> Iterator[str]:

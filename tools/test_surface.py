@@ -103,13 +103,17 @@ class Manual(unittest.TestCase):
             names = {path.name for path in Path(folder).iterdir()}
             self.assertEqual(names, {f"{path.stem}.1" for path in PAGES.glob("*.md")} | {"burch_dill-language.7"})
             text = Path(folder, "burch_dill-check.1").read_text()
-            if shutil.which("groff"):
-                done = subprocess.run(["groff", "-man", "-Tutf8", "-ww", str(Path(folder, "burch_dill-check.1"))],
-                                      capture_output=True, text=True, check=True)
-                self.assertEqual(done.stderr, "")
+            for path in Path(folder).iterdir() if shutil.which("groff") else ():
+                done = subprocess.run(["groff", "-man", "-Tutf8", "-ww", str(path)], capture_output=True, text=True,
+                                      check=True)
+                self.assertEqual(done.stderr, "", path.name)
         self.assertIn(".SH NAME\nburch_dill\\-check \\- whether a pipeline is right in every state\n", text)
         self.assertIn("\\fBbd_view\\-show\\fR(1)", text)
         self.assertNotIn("](", text)
+
+    def test_tables(self) -> None:
+        lines = ["| Printed | Means | Status | In |", "|---|---|---|---|", "| `a` | it is | 3 | |"]
+        self.assertEqual(list(manual.table(lines)), [".TP", "\\fBa\\fR", "it is; status: 3"])
 
     def test_spans(self) -> None:
         self.assertEqual(manual.inline("a `b-c` [d](e.md) **f**"), "a \\fBb\\-c\\fR d \\fBf\\fR")
