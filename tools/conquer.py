@@ -225,7 +225,8 @@ class Runner:
             _, host, _, seconds, *_, command = line.split("\t")
             name = next(word for word in command.split() if word in names)
             end = "solved" if self.is_solved(name) else "isn't solved, and is split"
-            print(f"{name} on {host.split()[-1]}: {float(seconds):.1f} s, {end}", file=sys.stderr)
+            where = "this machine" if host == ":" else host.split()[-1]
+            print(f"{name} on {where}: {float(seconds):.1f} s, {end}", file=sys.stderr)
 
 
 def conquered(look: LookAhead, cubes: List[Cube], runner: Runner) -> List[Cube]:
