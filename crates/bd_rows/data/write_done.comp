@@ -1,0 +1,1 @@
+(completion (abstract pc pc) (abstract rf (ite v (write rf d (alu o a)) rf)))

@@ -1,0 +1,1 @@
+(completion (abstract pc pc) (abstract rf rf))
