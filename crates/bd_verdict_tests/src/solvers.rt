@@ -4,7 +4,7 @@ ghost use Rattle.bd_model.specs.DesignView.{design_view};
 ghost use Rattle.bd_model.specs.Lawful.{IsLawful};
 
 use crate::checks::{CHECKS, Check};
-use crate::rows::joined;
+use crate::files::joined;
 use bd_cdcl::{Cdcl, Found, HonestSolver, Plain, Scripted};
 use bd_cnf::Cnf;
 use bd_lrat::{Hints, Line, Log, refutes};
@@ -47,16 +47,6 @@ fn work(verdict: &Verdict) -> &Work {
     }
 }
 
-/// The budget of a check: each that its words name is 0.
-fn budget(check: &Check) -> u32 {
-    for word in check.words {
-        if *word == "--budget" {
-            return 0;
-        }
-    }
-    200_000
-}
-
 /// The verdict on it by the solver.
 fn found<S: HonestSolver>(
     alloc: Global,
@@ -67,7 +57,7 @@ fn found<S: HonestSolver>(
     requires { IsLawful (design_view design.now) }
 {
     let given = !check.inv.is_empty();
-    verify(alloc, solver, design, budget(check), given, Mode::Plain)
+    verify(alloc, solver, design, check.budget, given, Mode::Plain)
 }
 
 /// The hints, without the one at the place.
