@@ -1,9 +1,5 @@
-//! Texts with their cases, and each code with its place.
+//! Texts with their cases.
 
-use Code::{
-    ByteNotAllowed, DeclaredTwice, Malformed, MissingOrTwice, NotDistinct, NotName, NotNumber,
-    Unbalanced, UnknownName, WrongArity, WrongHead, WrongSort,
-};
 use Held::{Bit, Memory, Word};
 use Sample::{DistinctConstants, DoubleIncrement, EachSort, Nothing, StallingBit, WriteBack};
 use TableDraft::{Truths, Words};
@@ -14,7 +10,6 @@ use bd_examples::designs::{
 };
 use bd_examples::draft::{CaseDraft, DesignDraft, Held, NO_CASE, TableDraft};
 use bd_model::{Case, Scalar};
-use bd_text::Code;
 use std::alloc::{AllocError, Global};
 use std::test::Fail;
 
@@ -217,141 +212,6 @@ fn reads_cases(rt: HostRuntime) {
         for row in rows {
             assert_eq!(rt; reads(rt.alloc(), row), Ok(true), "{:?}", row.2);
         }
-    }
-}
-
-/// A design, a text with a fault, its offset and its code.
-struct Bad(Sample, &'static [u8], usize, Code);
-
-static FAULTS: [Bad; 52] = [
-    Bad(
-        DoubleIncrement,
-        b"(case 1\n (function inc 0 (1 2) (1 1) (2 3))\n (latch pc 1)",
-        57,
-        Unbalanced,
-    ),
-    Bad(DoubleIncrement, b"(case 3 \x01", 8, ByteNotAllowed),
-    Bad(Nothing, b"", 0, WrongHead),
-    Bad(Nothing, b" case", 1, WrongHead),
-    Bad(Nothing, b"()", 0, WrongHead),
-    Bad(Nothing, b" (cast 1)", 1, WrongHead),
-    Bad(Nothing, b"((case) 1)", 0, WrongHead),
-    Bad(Nothing, b" (case)", 1, WrongHead),
-    Bad(Nothing, b"(case 01 x)", 6, WrongHead),
-    Bad(Nothing, b"(case (1))", 6, WrongHead),
-    Bad(Nothing, b"(case) x", 0, WrongHead),
-    Bad(Nothing, b"(case 1 x) (case 1)", 11, WrongHead),
-    Bad(DoubleIncrement, b"(case 1 x)", 8, Malformed),
-    Bad(DoubleIncrement, b"(case 1 ())", 8, Malformed),
-    Bad(DoubleIncrement, b"(case 1 ((latch) pc 1))", 8, Malformed),
-    Bad(DoubleIncrement, b"(case 1 (lutch pc 1))", 8, Malformed),
-    Bad(DoubleIncrement, b"(case 1 (latch pc))", 8, Malformed),
-    Bad(DoubleIncrement, b"(case 1 (latch 1 1 2))", 8, Malformed),
-    Bad(DoubleIncrement, b"(case 1 (function inc))", 8, Malformed),
-    Bad(EachSort, b"(case 1 (memory m))", 8, Malformed),
-    Bad(EachSort, b"(case 1 (input i))", 8, Malformed),
-    Bad(EachSort, b"(case 1 (input i x 1))", 8, Malformed),
-    Bad(DistinctConstants, b"(case 1 (constant c 1))", 8, Malformed),
-    Bad(
-        DistinctConstants,
-        b"(case 2 (constant c 1 (2)))",
-        8,
-        Malformed,
-    ),
-    Bad(DistinctConstants, b"(case 2 (constant c))", 8, Malformed),
-    Bad(DoubleIncrement, b"(case 1 (latch (pc) 1))", 15, Malformed),
-    Bad(DoubleIncrement, b"(case 1 (latch 1 x))", 15, NotName),
-    Bad(DoubleIncrement, b"(case 1 (latch q x))", 15, UnknownName),
-    Bad(DoubleIncrement, b"(case 1 (input pc x))", 15, WrongSort),
-    Bad(DoubleIncrement, b"(case 1 (latch inc x))", 15, WrongSort),
-    Bad(
-        DoubleIncrement,
-        b"(case 1 (predicate inc x))",
-        19,
-        WrongSort,
-    ),
-    Bad(EachSort, b"(case 1 (function p 0))", 18, WrongSort),
-    Bad(EachSort, b"(case 1 (latch m 0))", 15, WrongSort),
-    Bad(EachSort, b"(case 1 (memory w 0))", 16, WrongSort),
-    Bad(EachSort, b"(case 1 (latch i true))", 15, WrongSort),
-    Bad(EachSort, b"(case 2 (constant g 0))", 18, WrongSort),
-    Bad(DistinctConstants, b"(case 2 (function c 3))", 18, WrongSort),
-    Bad(DistinctConstants, b"(case 2 (constant p 3))", 18, WrongSort),
-    Bad(
-        DoubleIncrement,
-        b"(case 1 (latch pc 1) (latch pc x))",
-        28,
-        DeclaredTwice,
-    ),
-    Bad(DoubleIncrement, b"(case 1 (latch pc (1)))", 18, Malformed),
-    Bad(
-        StallingBit,
-        b"(case 1 (input go true) (latch a 1))",
-        33,
-        WrongSort,
-    ),
-    Bad(DoubleIncrement, b"(case 1 (latch pc true))", 18, NotNumber),
-    Bad(
-        DoubleIncrement,
-        b"(case 1 (function inc 0 (01 2)) (latch pc 1))",
-        25,
-        NotNumber,
-    ),
-    Bad(
-        DoubleIncrement,
-        b"(case 1 (function inc 0 (1 18446744073709551616)) (latch pc 1))",
-        27,
-        NotNumber,
-    ),
-    Bad(
-        DoubleIncrement,
-        b"(case 1 (latch pc 99999999999999999999))",
-        18,
-        NotNumber,
-    ),
-    Bad(
-        DoubleIncrement,
-        b"(case 1 (function inc 0 x))",
-        24,
-        Malformed,
-    ),
-    Bad(
-        DoubleIncrement,
-        b"(case 1 (function inc 0 ()))",
-        24,
-        WrongArity,
-    ),
-    Bad(
-        DoubleIncrement,
-        b"(case 1 (function inc 0 (x)))",
-        24,
-        WrongArity,
-    ),
-    Bad(EachSort, b"(case 1 (memory m 0 (5)))", 20, WrongArity),
-    Bad(StallingBit, b" (case 1 (latch a true))", 1, MissingOrTwice),
-    Bad(
-        DistinctConstants,
-        b"(case 2 (constant c 3) (latch p 0) (latch b false))",
-        0,
-        MissingOrTwice,
-    ),
-    Bad(
-        DistinctConstants,
-        b"(case 1 (latch p 0) (latch b false))",
-        0,
-        NotDistinct,
-    ),
-];
-
-#[test]
-fn refuses_cases(rt: HostRuntime) {
-    for Bad(design, text, offset, code) in &FAULTS {
-        let got = read(rt.alloc(), *design, *text);
-        let want = CaseFault::Bad {
-            offset: *offset,
-            code: *code,
-        };
-        assert_eq!(rt; got, Err(want), "{text:?}");
     }
 }
 

@@ -1,6 +1,6 @@
 //! Texts, and the designs that they denote, written out by hand.
 
-use crate::faults::read;
+use crate::long::read;
 use bd_examples::build::is_design;
 use bd_examples::designs::{DISTINCT_CONSTANTS, EACH_ITEM, TWIN_VALID_BITS, TWO_STAGE};
 use bd_examples::draft::DesignDraft;

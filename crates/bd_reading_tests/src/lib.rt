@@ -8,9 +8,9 @@ mod completions;
 #[cfg(test)]
 mod designs;
 #[cfg(test)]
-mod faults;
-#[cfg(test)]
 mod forms;
+#[cfg(test)]
+mod long;
 #[cfg(test)]
 mod texts;
 #[cfg(test)]

@@ -1,10 +1,6 @@
-//! Texts with their trails, and each code with its place.
+//! Texts with their trails.
 
 use crate::cases::Sample;
-use Code::{
-    ByteNotAllowed, DeclaredTwice, Malformed, MissingOrTwice, NotDistinct, NotNumber, Unbalanced,
-    UnknownName, WrongHead, WrongSort,
-};
 use Held::{Bit, Memory, Word};
 use Sample::{DistinctConstants, EachSort, Nothing, StallingBit};
 use TableDraft::{Truths, Words};
@@ -12,7 +8,6 @@ use bd_case::{TrailFault, read_trail, trail_text};
 use bd_examples::build;
 use bd_examples::draft::{Held, NO_TRAIL, TableDraft, TrailDraft};
 use bd_model::{Scalar, Trail};
-use bd_text::Code;
 use std::alloc::{AllocError, Global};
 use std::test::Fail;
 
@@ -145,72 +140,5 @@ fn reads_trails(rt: HostRuntime) {
         for row in rows {
             assert_eq!(rt; reads(rt.alloc(), row), Ok(true), "{:?}", row.2);
         }
-    }
-}
-
-/// A design, a text with a fault, its offset and its code.
-struct Bad(Sample, &'static [u8], usize, Code);
-
-static FAULTS: [Bad; 29] = [
-    Bad(Nothing, b"(trail 1", 8, Unbalanced),
-    Bad(Nothing, b"(trail x \x01", 9, ByteNotAllowed),
-    Bad(Nothing, b"", 0, WrongHead),
-    Bad(Nothing, b" trail", 1, WrongHead),
-    Bad(Nothing, b"(case 1)", 0, WrongHead),
-    Bad(Nothing, b" (trail)", 1, WrongHead),
-    Bad(Nothing, b"(trail x)", 7, WrongHead),
-    Bad(Nothing, b"(trail 01)", 7, WrongHead),
-    Bad(Nothing, b"(trail (1))", 7, WrongHead),
-    Bad(Nothing, b"(trail 17 x) y", 7, WrongHead),
-    Bad(Nothing, b"(trail 1 x) y", 12, WrongHead),
-    Bad(Nothing, b"(trail 16 x)", 10, Malformed),
-    Bad(StallingBit, b"(trail 1 (latch a))", 9, Malformed),
-    Bad(StallingBit, b"(trail 2 (latch a x x))", 9, Malformed),
-    Bad(StallingBit, b"(trail 1 (input))", 9, Malformed),
-    Bad(StallingBit, b"(trail 1 (input go))", 9, Malformed),
-    Bad(StallingBit, b"(trail 0 (input 1 x))", 9, Malformed),
-    Bad(StallingBit, b"(trail 1 (input go x x))", 9, Malformed),
-    Bad(StallingBit, b"(trail 1 (input up x))", 16, UnknownName),
-    Bad(StallingBit, b"(trail 1 (input a x))", 16, WrongSort),
-    Bad(
-        StallingBit,
-        b"(trail 1 (input go true) (input go x))",
-        32,
-        DeclaredTwice,
-    ),
-    Bad(StallingBit, b"(trail 3 (input go true 1 x))", 24, WrongSort),
-    Bad(EachSort, b"(trail 2 (input j 1 true))", 20, NotNumber),
-    Bad(EachSort, b"(trail 2 (input j 1 (2)))", 20, Malformed),
-    Bad(StallingBit, b" (trail 0 (latch a true))", 1, MissingOrTwice),
-    Bad(StallingBit, b"(trail 0 (input go))", 0, MissingOrTwice),
-    Bad(
-        DistinctConstants,
-        b"(trail 0 (function c 3))",
-        19,
-        WrongSort,
-    ),
-    Bad(
-        DistinctConstants,
-        b"(trail 0 (constant c 3) (latch p 0) (latch b false))",
-        0,
-        MissingOrTwice,
-    ),
-    Bad(
-        DistinctConstants,
-        b"(trail 0 (constant c 3) (constant d 3) (latch p 0) (latch b false))",
-        0,
-        NotDistinct,
-    ),
-];
-
-#[test]
-fn refuses_trails(rt: HostRuntime) {
-    for Bad(design, text, offset, code) in &FAULTS {
-        let got = read(rt.alloc(), *design, *text);
-        let want = TrailFault::Bad {
-            offset: *offset,
-            code: *code,
-        };
-        assert_eq!(rt; got, Err(want), "{text:?}");
     }
 }
