@@ -1,5 +1,7 @@
 //! Devices in memory that keep which calls were made on them.
 
+ghost use Rattle.std.specs.Prelude.{None};
+
 use bd_files::{Files, LoadError, PutError, SaveError, Sink};
 use std::alloc::Global;
 
@@ -37,6 +39,8 @@ impl<F: Files> Files for Watched<F> {
 
     ghost blame = { λ watched. F.blame watched.files };
 
+    ghost calls = { λ _. None };
+
     fn load(&mut self, name: &str, most: usize) -> Result<Vec<u8>, LoadError> {
         if write!(self.calls, "load {name} {most}\n").is_err() {
             return Err(LoadError::Memory);
@@ -63,6 +67,8 @@ impl<S: Sink> Sink for Counted<S> {
     ghost written = { λ counted. S.written counted.sink };
 
     ghost faults = { λ counted. S.faults counted.sink };
+
+    ghost puts = { λ counted. S.puts counted.sink };
 
     fn put(&mut self, bytes: &[u8]) -> Result<(), PutError> {
         self.puts = self.puts.saturating_add(1);
