@@ -37,10 +37,10 @@ fn run_on<F: Files, O: Sink, E: Sink>(
     err: &mut E,
 ) -> ExitCode
     ensures { EndsWith (texts_of words.now) (exit_status result)
-        (files_seen F.held F.faults F.blame files.old)
-        (files_seen F.held F.faults F.blame files.new)
-        (sink_seen O.written O.faults out.old) (sink_seen O.written O.faults out.new)
-        (sink_seen E.written E.faults err.old) (sink_seen E.written E.faults err.new) }
+        (files_seen F.held F.faults F.blame F.calls files.old)
+        (files_seen F.held F.faults F.blame F.calls files.new)
+        (sink_seen O.written O.faults O.puts out.old) (sink_seen O.written O.faults O.puts out.new)
+        (sink_seen E.written E.faults E.puts err.old) (sink_seen E.written E.faults E.puts err.new) }
 {
     exit_code(&run(alloc, words, files, out, err))
 }
@@ -54,10 +54,10 @@ fn program<F: Files, O: Sink, E: Sink>(
     err: &mut E,
 ) -> ExitCode
     ensures run { IfOk words (λ words. EndsWith (texts_of words.items) (exit_status result)
-        (files_seen F.held F.faults F.blame files.old)
-        (files_seen F.held F.faults F.blame files.new)
-        (sink_seen O.written O.faults out.old) (sink_seen O.written O.faults out.new)
-        (sink_seen E.written E.faults err.old) (sink_seen E.written E.faults err.new)) }
+        (files_seen F.held F.faults F.blame F.calls files.old)
+        (files_seen F.held F.faults F.blame F.calls files.new)
+        (sink_seen O.written O.faults O.puts out.old) (sink_seen O.written O.faults O.puts out.new)
+        (sink_seen E.written E.faults E.puts err.old) (sink_seen E.written E.faults E.puts err.new)) }
 
     // Where there is no memory for the words, only the line of that is put.
     ensures no_words { OnErr words (exit_status result ≡ status_of Ended.Memory) }
