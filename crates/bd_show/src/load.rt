@@ -48,8 +48,8 @@ fn load<F: Files>(files: &mut F, file: Text, name: &str) -> Result<Vec<u8>, Load
     ensures loaded { IfOk result (λ bytes. IfSome (F.held files.old) (λ held.
         HoldsShort held (file, name.now) bytes.items)) }
     ensures few { IfOk result (λ bytes. length bytes.items ≤ 1048576) }
-    ensures left { IsOneLoad file name.now (files_seen F.held F.faults F.blame files.old)
-        (files_seen F.held F.faults F.blame files.new) result }
+    ensures left { IsOneLoad file name.now (files_seen F.held F.faults F.blame F.calls files.old)
+        (files_seen F.held F.faults F.blame F.calls files.new) result }
 {
     match files.load(name, MAX_FILE) {
         Ok(bytes) => {
@@ -75,8 +75,8 @@ fn load_if<F: Files>(
         HoldsShortIf held file (given name.entry) (bytes_of bytes))) }
     ensures few { IfOk result (λ bytes. IsFewIf (bytes_of bytes)) }
     ensures left { IsOneLoadIf file (given name.entry)
-        (files_seen F.held F.faults F.blame files.old)
-        (files_seen F.held F.faults F.blame files.new) result }
+        (files_seen F.held F.faults F.blame F.calls files.old)
+        (files_seen F.held F.faults F.blame F.calls files.new) result }
 {
     match name {
         Some(name) => Ok(Some(load(files, file, name)?)),
@@ -89,8 +89,8 @@ pub fn load_texts<F: Files>(files: &mut F, names: FileNames<'_>) -> Result<Texts
     ensures held { IfOk result (λ texts. IfSome (F.held files.old) (λ held.
         HoldTexts held (names_of names.entry) (texts_view texts))) }
     ensures few { IfOk result (λ texts. AreFew (texts_view texts)) }
-    ensures left { IsLoad (names_of names.entry) (files_seen F.held F.faults F.blame files.old)
-        (files_seen F.held F.faults F.blame files.new) result }
+    ensures left { IsLoad (names_of names.entry) (files_seen F.held F.faults F.blame F.calls files.old)
+        (files_seen F.held F.faults F.blame F.calls files.new) result }
 {
     let pipe = load(files, Text::Pipe, names.pipe)?;
     let spec = load(files, Text::Spec, names.spec)?;

@@ -156,8 +156,8 @@ fn saved<F: Files>(
     drawn: Seen,
 ) -> Result<Answer, AllocError>
     ensures { IsSaved (given page.entry) drawn.answer.ended drawn.answer.text.items
-        (files_seen F.held F.faults F.blame files.old)
-        (files_seen F.held F.faults F.blame files.new) result }
+        (files_seen F.held F.faults F.blame F.calls files.old)
+        (files_seen F.held F.faults F.blame F.calls files.new) result }
 {
     let Seen {
         answer,
@@ -183,8 +183,8 @@ pub fn answer<F: Files>(
     options: ShowOptions<'_>,
 ) -> Result<Answer, AllocError>
     ensures { IsDoneOn (Question.show (show_of options.entry))
-        (files_seen F.held F.faults F.blame files.old)
-        (files_seen F.held F.faults F.blame files.new) result }
+        (files_seen F.held F.faults F.blame F.calls files.old)
+        (files_seen F.held F.faults F.blame F.calls files.new) result }
 {
     let texts = match load_texts(files, options.names) {
         Ok(texts) => texts,

@@ -104,8 +104,8 @@ pub fn answer<F: Files>(
     names: FileNames<'_>,
 ) -> Result<Answer, AllocError>
     ensures { IsDoneOn (Question.shrink (names_of names.entry))
-        (files_seen F.held F.faults F.blame files.old)
-        (files_seen F.held F.faults F.blame files.new) result }
+        (files_seen F.held F.faults F.blame F.calls files.old)
+        (files_seen F.held F.faults F.blame F.calls files.new) result }
 {
     match load_texts(files, names) {
         Ok(texts) => on_texts(alloc, names, &texts),
