@@ -32,6 +32,11 @@ abbrev pub why_words : Why → List ℕ
 why_words (why.NotAccepted r) = refused_words r
 why_words _ = []
 
+-- CODE TEXT
+abbrev pub cause_text : Why → List ℕ
+cause_text why =
+    code_name (why_code why) ++ codes " " ++ code_text (why_code why) ++ why_words why
+
 -- proof:LINE:COLUMN: CODE TEXT
 abbrev pub proof_line_of : (line column code text words : List ℕ) → List ℕ
 proof_line_of line column code text words =

@@ -14,3 +14,4 @@ pub mod words;
 pub use answer::{Ended, Which};
 pub use bd_typer::Text;
 pub use program::run;
+pub use proof_fault::cause_text;

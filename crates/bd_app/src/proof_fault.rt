@@ -1,7 +1,7 @@
 //! The line of a fault of a proof text.
-ghost use Rattle.std.specs.Prelude.{◌≡◌, ◌≤◌, ◌++◌};
+ghost use Rattle.std.specs.Prelude.{◌≡◌, ◌≤◌, ◌++◌, IfOk};
 ghost use Rattle.bd_files.specs.Devices.{PutsOrFaults};
-ghost use Rattle.bd_app.specs.ProofFaults.{proof_line, refused_words, why_code, why_words};
+ghost use Rattle.bd_app.specs.ProofFaults.{cause_text, proof_line, refused_words, why_code, why_words};
 ghost use Rattle.bd_app.specs.inner.ProofLine.{number_text, proof_parts};
 
 use crate::answer::put_text;
@@ -10,6 +10,7 @@ use bd_lrat::Refused;
 use bd_proof_text::Why;
 use bd_text::Code;
 use itoa::Buffer;
+use std::alloc::{AllocError, Global};
 
 /// The code of a cause.
 fn code_of(why: Why) -> Code
@@ -56,6 +57,21 @@ fn digits(buffer: &mut Buffer, number: Option<u64>) -> &[u8]
         Some(number) => buffer.format(number).as_bytes(),
         None => b"",
     }
+}
+
+/// `CODE TEXT`, of a cause.
+pub fn cause_text(alloc: Global, why: Why) -> Result<Vec<u8>, AllocError>
+    ensures { IfOk result (λ text. text.items ≡ cause_text why) }
+{
+    let mut buffer = Buffer::new();
+    let (words, number) = why_parts(why);
+    let code = code_of(why);
+    let mut text = Vec::from_slice(alloc, code.name().as_bytes())?;
+    text.push(b' ')?;
+    text.extend_from_slice(code.text().as_bytes())?;
+    text.extend_from_slice(words)?;
+    text.extend_from_slice(digits(&mut buffer, number))?;
+    Ok(text)
 }
 
 /// Puts `proof:LINE:COLUMN: CODE TEXT`, in pieces and without memory.

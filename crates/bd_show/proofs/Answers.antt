@@ -9,7 +9,7 @@ use Rattle.bd_app.specs.Meaning.{FilesSeen}
 use Rattle.bd_app.proofs.Results.{IfSome-weaker, rose_after}
 use Rattle.bd_app.proofs.Saves.{keeps_same}
 use Rattle.bd_show.specs.Files.{HoldTexts, Texts}
-use Rattle.bd_show.specs.Meaning.{Blames, Means, Question, Says, SaysHeld, Show, asked_names, asked_page, show, shrink, about}
+use Rattle.bd_show.specs.Meaning.{Blames, Means, Question, Says, SaysHeld, Show, asked_names, asked_page, show, shrink, about, recheck}
 use Rattle.bd_show.specs.declared.answer.Answer.{Answer}
 use Rattle.bd_show.specs.declared.answer.Ended.{Ended}
 use Rattle.bd_show.specs.declared.answer.Ended.TheVariants as ended
@@ -46,36 +46,55 @@ said_means q held t (ended.Refused file offset code) text texts says = held_says
 said_means (show q) held t (ended.Shown j) text texts says = held_says (show q) held t (ended.Shown j) text texts says
 said_means (shrink names) held t (ended.Shown j) text texts says = absurd says
 said_means (about names) held t (ended.Shown j) text texts says = absurd says
+said_means (recheck q) held t (ended.Shown j) text texts says = absurd says
 said_means (show q) held t (ended.Shrunk k) text texts says = absurd says
 said_means (shrink names) held t (ended.Shrunk k) text texts says = held_says (shrink names) held t (ended.Shrunk k) text texts says
 said_means (about names) held t (ended.Shrunk k) text texts says = absurd says
+said_means (recheck q) held t (ended.Shrunk k) text texts says = absurd says
 said_means (show q) held t (ended.Unbroken j) text texts says = absurd says
 said_means (shrink names) held t (ended.Unbroken j) text texts says = held_says (shrink names) held t (ended.Unbroken j) text texts says
 said_means (about names) held t (ended.Unbroken j) text texts says = absurd says
+said_means (recheck q) held t (ended.Unbroken j) text texts says = absurd says
 said_means (show q) held t (ended.Described found) text texts says = absurd says
 said_means (shrink names) held t (ended.Described found) text texts says = absurd says
 said_means (about names) held t (ended.Described found) text texts says = held_says (about names) held t (ended.Described found) text texts says
+said_means (recheck q) held t (ended.Described found) text texts says = absurd says
+said_means (show q) held t ended.Proved text texts says = absurd says
+said_means (shrink names) held t ended.Proved text texts says = absurd says
+said_means (about names) held t ended.Proved text texts says = absurd says
+said_means (recheck q) held t ended.Proved text texts says = held_says (recheck q) held t ended.Proved text texts says
+said_means (show q) held t (ended.BadProof line column why) text texts says = absurd says
+said_means (shrink names) held t (ended.BadProof line column why) text texts says = absurd says
+said_means (about names) held t (ended.BadProof line column why) text texts says = absurd says
+said_means (recheck q) held t (ended.BadProof line column why) text texts says = held_says (recheck q) held t (ended.BadProof line column why) text texts says
 said_means (show q) held t ended.Told text texts says = absurd says
 said_means (shrink names) held t ended.Told text texts says = absurd says
 said_means (about names) held t ended.Told text texts says = absurd says
+said_means (recheck q) held t ended.Told text texts says = absurd says
 said_means (show q) held t ended.Usage text texts says = absurd says
 said_means (shrink names) held t ended.Usage text texts says = absurd says
 said_means (about names) held t ended.Usage text texts says = absurd says
+said_means (recheck q) held t ended.Usage text texts says = absurd says
 said_means (show q) held t (ended.TooLong file) text texts says = absurd says
 said_means (shrink names) held t (ended.TooLong file) text texts says = absurd says
 said_means (about names) held t (ended.TooLong file) text texts says = absurd says
+said_means (recheck q) held t (ended.TooLong file) text texts says = absurd says
 said_means (show q) held t (ended.Unread file) text texts says = absurd says
 said_means (shrink names) held t (ended.Unread file) text texts says = absurd says
 said_means (about names) held t (ended.Unread file) text texts says = absurd says
+said_means (recheck q) held t (ended.Unread file) text texts says = absurd says
 said_means (show q) held t ended.Unsaved text texts says = absurd says
 said_means (shrink names) held t ended.Unsaved text texts says = absurd says
 said_means (about names) held t ended.Unsaved text texts says = absurd says
+said_means (recheck q) held t ended.Unsaved text texts says = absurd says
 said_means (show q) held t ended.Unwritten text texts says = absurd says
 said_means (shrink names) held t ended.Unwritten text texts says = absurd says
 said_means (about names) held t ended.Unwritten text texts says = absurd says
+said_means (recheck q) held t ended.Unwritten text texts says = absurd says
 said_means (show q) held t ended.Memory text texts says = absurd says
 said_means (shrink names) held t ended.Memory text texts says = absurd says
 said_means (about names) held t ended.Memory text texts says = absurd says
+said_means (recheck q) held t ended.Memory text texts says = absurd says
 
 pub said_blames : (q : Question) (a b : FilesSeen) (t : Texts) (e : Ended) (text : List ℕ) → b.blame ≡ a.blame → Says q t e text → Blames q a b e
 said_blames q a b t (ended.Refused file offset code) text blame says = blame
@@ -83,15 +102,19 @@ said_blames q a b t (ended.Shown j) text blame says = blame
 said_blames q a b t (ended.Shrunk k) text blame says = blame
 said_blames q a b t (ended.Unbroken j) text blame says = blame
 said_blames q a b t (ended.Described found) text blame says = blame
+said_blames q a b t ended.Proved text blame says = blame
+said_blames q a b t (ended.BadProof line column why) text blame says = blame
 said_blames q a b t ended.Told text blame says = blame
 said_blames q a b t ended.Usage text blame says = blame
 said_blames q a b t (ended.TooLong file) text blame says = blame
 said_blames (show q) a b t (ended.Unread file) text blame says = absurd says
 said_blames (shrink names) a b t (ended.Unread file) text blame says = absurd says
 said_blames (about names) a b t (ended.Unread file) text blame says = absurd says
+said_blames (recheck q) a b t (ended.Unread file) text blame says = absurd says
 said_blames (show q) a b t ended.Unsaved text blame says = absurd says
 said_blames (shrink names) a b t ended.Unsaved text blame says = absurd says
 said_blames (about names) a b t ended.Unsaved text blame says = absurd says
+said_blames (recheck q) a b t ended.Unsaved text blame says = absurd says
 said_blames q a b t ended.Unwritten text blame says = blame
 said_blames q a b t ended.Memory text blame says = tt
 

@@ -1,5 +1,5 @@
 -- What loading one file after another says of all of them.
-use Rattle.std.proofs.Common.{◌≡◌, ◌+◌, ◌<◌, ◌≤◌, ◌∙◌, ℕ, List, [], ◌∷◌, ◌++◌, length, take, refl, ap, sym, subst, arith, length-take}
+use Rattle.std.proofs.Common.{◌≡◌, ◌+◌, ◌<◌, ◌≤◌, ◌∙◌, ℕ, List, [], ◌∷◌, ◌++◌, length, take, refl, ap, append_assoc, sym, subst, arith, length-take}
 use Rattle.std.specs.Option.{option_map}
 use Rattle.std.specs.Prelude.{Option, Some, None, Result, Ok, Err, IfSome, IsErrAnd}
 use Rattle.bd_files.specs.Devices.{Held, IsLoaded}
@@ -38,11 +38,19 @@ long_held (Some held) file bytes loaded many =
 abbrev pub Machines : Names → Held → Type 0
 Machines names h = IsShort h (text.Pipe, names.pipe) × IsShort h (text.Spec, names.spec)
 
+-- the files of a case and of a proof, where they are given
+abbrev pub texts_on : Names → List File
+texts_on names = one_if text.Case names.case ++ one_if text.Proof names.proof
+
 short_if : (h : Held) (t : Text) (name : Option Name) (bytes : Option (List ℕ)) → HoldsShortIf h t name bytes → AreShort h (one_if t name)
 short_if h t None None held = tt
 short_if h t None (Some bytes) held = absurd held
 short_if h t (Some name) None held = absurd held
 short_if h t (Some name) (Some bytes) held = ((bytes, held), tt)
+
+short_both : (h : Held) (files more : List File) → AreShort h files → AreShort h more → AreShort h (files ++ more)
+short_both h [] more short also = also
+short_both h (file ∷ files) more short also = (short.0, short_both h files more short.1 also)
 
 module _ (names : Names) (a b : FilesSeen) where
   -- a fault of a file that is blamed under its name, and is the first that is too long where it is too long
@@ -54,34 +62,46 @@ module _ (names : Names) (a b : FilesSeen) where
 
   pipe_fault : (e : LoadFault) → IsOneFault text.Pipe names.pipe a b e → IsFault names a b e
   pipe_fault e one = placed text.Pipe names.pipe e refl (λ long.
-      IfSome-weaker _ _ a.held (λ h l. record { before = []; name = names.pipe; after = (text.Spec, names.spec) ∷ (one_if text.Case names.case ++ one_if text.Inv names.inv); order = refl; short = tt; long = l }) long) one
+      IfSome-weaker _ _ a.held (λ h l. record { before = []; name = names.pipe; after = (text.Spec, names.spec) ∷ (one_if text.Case names.case ++ (one_if text.Proof names.proof ++ one_if text.Inv names.inv)); order = refl; short = tt; long = l }) long) one
 
   spec_fault : (e : LoadFault) → IfSome a.held (λ h. IsShort h (text.Pipe, names.pipe)) → IsOneFault text.Spec names.spec a b e → IsFault names a b e
   spec_fault e short one = placed text.Spec names.spec e refl (λ long.
-      IfSome-both _ _ _ a.held (λ h s l. record { before = (text.Pipe, names.pipe) ∷ []; name = names.spec; after = one_if text.Case names.case ++ one_if text.Inv names.inv; order = refl; short = (s, tt); long = l }) short long) one
+      IfSome-both _ _ _ a.held (λ h s l. record { before = (text.Pipe, names.pipe) ∷ []; name = names.spec; after = one_if text.Case names.case ++ (one_if text.Proof names.proof ++ one_if text.Inv names.inv); order = refl; short = (s, tt); long = l }) short long) one
 
   case_fault : (e : LoadFault) (n : Name) → names.case ≡ Some n → IfSome a.held (Machines names) → IsOneFault text.Case n a b e → IsFault names a b e
   case_fault e n is short one = placed text.Case n e (sym (ap or_none is)) (λ long.
       IfSome-both (Machines names) (λ h. IsLong h (text.Case, n)) _ a.held (λ h s l. record {
         before = (text.Pipe, names.pipe) ∷ (text.Spec, names.spec) ∷ [];
         name = n;
-        after = one_if text.Inv names.inv;
-        order = ap (λ c. (text.Pipe, names.pipe) ∷ (text.Spec, names.spec) ∷ (one_if text.Case c ++ one_if text.Inv names.inv)) is;
+        after = one_if text.Proof names.proof ++ one_if text.Inv names.inv;
+        order = ap (λ c. (text.Pipe, names.pipe) ∷ (text.Spec, names.spec) ∷ (one_if text.Case c ++ (one_if text.Proof names.proof ++ one_if text.Inv names.inv))) is;
         short = (s.0, (s.1, tt));
         long = l;
       }) short long) one
 
-  inv_fault : (e : LoadFault) (n : Name) (bytes : Option (List ℕ)) → names.inv ≡ Some n → IfSome a.held (Machines names) → IfSome a.held (λ h. HoldsShortIf h text.Case names.case bytes)
-      → IsOneFault text.Inv n a b e → IsFault names a b e
-  inv_fault e n bytes is short case one = placed text.Inv n e (sym (ap or_none is)) (λ long.
-      IfSome-both (λ h. Machines names h × HoldsShortIf h text.Case names.case bytes) (λ h. IsLong h (text.Inv, n)) _ a.held (λ h both l. record {
+  proof_fault : (e : LoadFault) (n : Name) (bytes : Option (List ℕ)) → names.proof ≡ Some n → IfSome a.held (Machines names) → IfSome a.held (λ h. HoldsShortIf h text.Case names.case bytes)
+      → IsOneFault text.Proof n a b e → IsFault names a b e
+  proof_fault e n bytes is short case one = placed text.Proof n e (sym (ap or_none is)) (λ long.
+      IfSome-both (λ h. Machines names h × HoldsShortIf h text.Case names.case bytes) (λ h. IsLong h (text.Proof, n)) _ a.held (λ h both l. record {
         before = (text.Pipe, names.pipe) ∷ (text.Spec, names.spec) ∷ one_if text.Case names.case;
         name = n;
-        after = [];
-        order = ap (λ i. (text.Pipe, names.pipe) ∷ (text.Spec, names.spec) ∷ (one_if text.Case names.case ++ one_if text.Inv i)) is;
+        after = one_if text.Inv names.inv;
+        order = ap (λ p. (text.Pipe, names.pipe) ∷ (text.Spec, names.spec) ∷ (one_if text.Case names.case ++ (one_if text.Proof p ++ one_if text.Inv names.inv))) is;
         short = (both.0.0, (both.0.1, short_if h text.Case names.case bytes both.1));
         long = l;
       }) (IfSome-both (Machines names) (λ h. HoldsShortIf h text.Case names.case bytes) (λ h. Machines names h × HoldsShortIf h text.Case names.case bytes) a.held (λ h s c. (s, c)) short case) long) one
+
+  inv_fault : (e : LoadFault) (n : Name) → names.inv ≡ Some n → IfSome a.held (Machines names) → IfSome a.held (λ h. AreShort h (texts_on names)) → IsOneFault text.Inv n a b e → IsFault names a b e
+  inv_fault e n is short on one = placed text.Inv n e (sym (ap or_none is)) (λ long.
+      IfSome-both (λ h. Machines names h × AreShort h (texts_on names)) (λ h. IsLong h (text.Inv, n)) _ a.held (λ h both l. record {
+        before = (text.Pipe, names.pipe) ∷ (text.Spec, names.spec) ∷ texts_on names;
+        name = n;
+        after = [];
+        order = ap (λ files. (text.Pipe, names.pipe) ∷ (text.Spec, names.spec) ∷ files) (sym (append_assoc (one_if text.Case names.case) (one_if text.Proof names.proof) (one_if text.Inv names.inv))
+            ∙ ap (λ i. texts_on names ++ one_if text.Inv i) is);
+        short = (both.0.0, (both.0.1, both.1));
+        long = l;
+      }) (IfSome-both (Machines names) (λ h. AreShort h (texts_on names)) (λ h. Machines names h × AreShort h (texts_on names)) a.held (λ h s c. (s, c)) short on) long) one
 
 pub pipe_fails : {T : Type 0} {a b : FilesSeen} {e : LoadFault} (names : Names) → IsOneLoad {T = T} text.Pipe names.pipe a b (Err e) → IsFault names a b e
 pipe_fails {T} {a} {b} {e} names one = pipe_fault names a b e one.fault
@@ -92,9 +112,13 @@ spec_fails {T} {a} {b} {e} names short one = spec_fault names a b e short one.fa
 pub case_fails : {T : Type 0} {a b : FilesSeen} {e : LoadFault} (names : Names) → IfSome a.held (Machines names) → IsOneLoadIf {T = T} text.Case names.case a b (Err e) → IsFault names a b e
 case_fails {T} {a} {b} {e} names short one = case_fault names a b e one.fault.0 one.fault.1 short one.fault.2
 
-pub inv_fails : {T : Type 0} {a b : FilesSeen} {e : LoadFault} (names : Names) (bytes : Option (List ℕ)) → IfSome a.held (Machines names) → IfSome a.held (λ h. HoldsShortIf h text.Case names.case bytes)
+pub proof_fails : {T : Type 0} {a b : FilesSeen} {e : LoadFault} (names : Names) (bytes : Option (List ℕ)) → IfSome a.held (Machines names) → IfSome a.held (λ h. HoldsShortIf h text.Case names.case bytes)
+    → IsOneLoadIf {T = T} text.Proof names.proof a b (Err e) → IsFault names a b e
+proof_fails {T} {a} {b} {e} names bytes short case one = proof_fault names a b e one.fault.0 bytes one.fault.1 short case one.fault.2
+
+pub inv_fails : {T : Type 0} {a b : FilesSeen} {e : LoadFault} (names : Names) → IfSome a.held (Machines names) → IfSome a.held (λ h. AreShort h (texts_on names))
     → IsOneLoadIf {T = T} text.Inv names.inv a b (Err e) → IsFault names a b e
-inv_fails {T} {a} {b} {e} names bytes short case one = inv_fault names a b e one.fault.0 bytes one.fault.1 short case one.fault.2
+inv_fails {T} {a} {b} {e} names short on one = inv_fault names a b e one.fault.0 one.fault.1 short on one.fault.2
 
 -- ---- one load after another
 
@@ -127,12 +151,18 @@ short_file held file bytes loaded = IfSome-weaker _ _ held (λ h short. (bytes, 
 pub machines_short : (names : Names) (held : Option Held) → IfSome held (λ h. IsShort h (text.Pipe, names.pipe)) → IfSome held (λ h. IsShort h (text.Spec, names.spec)) → IfSome held (Machines names)
 machines_short names held p s = IfSome-both (λ h. IsShort h (text.Pipe, names.pipe)) (λ h. IsShort h (text.Spec, names.spec)) (Machines names) held (λ h x y. (x, y)) p s
 
+pub texts_short : (names : Names) (held : Option Held) (case proof : Option (List ℕ)) → IfSome held (λ h. HoldsShortIf h text.Case names.case case) → IfSome held (λ h. HoldsShortIf h text.Proof names.proof proof)
+    → IfSome held (λ h. AreShort h (texts_on names))
+texts_short names held case proof c p =
+    IfSome-both (λ h. HoldsShortIf h text.Case names.case case) (λ h. HoldsShortIf h text.Proof names.proof proof) (λ h. AreShort h (texts_on names)) held
+    (λ h x y. short_both h (one_if text.Case names.case) (one_if text.Proof names.proof) (short_if h text.Case names.case case x) (short_if h text.Proof names.proof proof y)) c p
+
 -- ---- all of them
 
 pub all_held : (held : Option Held) (names : Names) (t : Texts) → IfSome held (λ h. HoldsShort h (text.Pipe, names.pipe) t.pipe) → IfSome held (λ h. HoldsShort h (text.Spec, names.spec) t.spec)
-    → IfSome held (λ h. HoldsShortIf h text.Case names.case t.case) → IfSome held (λ h. HoldsShortIf h text.Inv names.inv t.inv) → IfSome held (λ h. HoldTexts h names t)
-all_held None names t p s c i = tt
-all_held (Some h) names t p s c i = record { pipe = p; spec = s; case = c; inv = i }
+    → IfSome held (λ h. HoldsShortIf h text.Case names.case t.case) → IfSome held (λ h. HoldsShortIf h text.Proof names.proof t.proof) → IfSome held (λ h. HoldsShortIf h text.Inv names.inv t.inv) → IfSome held (λ h. HoldTexts h names t)
+all_held None names t p s c q i = tt
+all_held (Some h) names t p s c q i = record { pipe = p; spec = s; case = c; proof = q; inv = i }
 
 -- what holds of what is held holds after a load too, and the other way round
 pub moved : {T : Type 0} (P : Held → Type 0) {a b : FilesSeen} {x : T} → Leaves a b (Ok x) → IfSome a.held P → IfSome b.held P

@@ -2,7 +2,7 @@
 use Rattle.std.specs.Prelude.{ℕ}
 use Rattle.bd_model.specs.declared.case.Judged.TheVariants as judged
 use Rattle.bd_show.specs.declared.answer.Ended.{Ended}
-use Rattle.bd_show.specs.declared.answer.Ended.TheVariants.{Shown, Shrunk, Unbroken, Described, Told, Usage, Refused, TooLong, Unread, Unsaved, Unwritten, Memory}
+use Rattle.bd_show.specs.declared.answer.Ended.TheVariants.{Shown, Shrunk, Unbroken, Described, Proved, BadProof, Told, Usage, Refused, TooLong, Unread, Unsaved, Unwritten, Memory}
 
 abbrev pub status_of : Ended → ℕ
 status_of (Shown judged.Holds) = 0
@@ -11,6 +11,8 @@ status_of (Shown (judged.Broken k)) = 1
 status_of (Shrunk k) = 0
 status_of (Unbroken j) = 9
 status_of (Described found) = 0
+status_of Proved = 0
+status_of (BadProof line column why) = 3
 status_of Told = 0
 status_of Usage = 2
 status_of (Refused file offset code) = 3
@@ -25,5 +27,6 @@ abbrev pub HasReport : Ended → Type 0
 HasReport (Shown j) = Unit {0}
 HasReport (Shrunk k) = Unit {0}
 HasReport (Described found) = Unit {0}
+HasReport Proved = Unit {0}
 HasReport Told = Unit {0}
 HasReport _ = ⊥

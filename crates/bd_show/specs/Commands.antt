@@ -8,9 +8,9 @@ use Rattle.clap.specs.Simple.{App, Shape, new_rule, new_shape, subcommand_of}
 use Rattle.clap.specs.Walk.{Row, first_of}
 use Rattle.clap.specs.declared.error.kind.ErrorKind.TheVariants.{DisplayHelp, DisplayVersion}
 use Rattle.bd_app.specs.Commands.{if_faultless}
-use Rattle.bd_app.specs.Words.{flag, flag_at, machines_command, option, required, ◌>>=◌}
+use Rattle.bd_app.specs.Words.{flag, flag_at, machines_command, mode_at, option, required, ◌>>=◌}
 use Rattle.bd_show.specs.Files.{Names}
-use Rattle.bd_show.specs.Meaning.{Question, show, shrink, about}
+use Rattle.bd_show.specs.Meaning.{Question, show, shrink, about, recheck}
 
 -- show PIPE SPEC CASE [INV] [--whole] [--html FILE]
 abbrev pub show_command : Shape
@@ -27,20 +27,52 @@ shrink_command =
 abbrev pub about_command : Shape
 about_command = machines_command (codes "about") (new_rule (codes "INV") ∷ [])
 
+-- recheck PIPE SPEC PROOF [INV] [--diverse]
+abbrev pub recheck_command : Shape
+recheck_command =
+    machines_command (codes "recheck") (required (codes "PROOF") ∷ new_rule (codes "INV")
+    ∷ flag (codes "diverse") ∷ [])
+
 -- the files of a case
 unfoldable pub case_names : List Row → Option Names
 case_names rows = do
   pipe ← first_of (codes "PIPE") rows
   spec ← first_of (codes "SPEC") rows
   case ← first_of (codes "CASE") rows
-  Some (record { pipe = pipe; spec = spec; case = Some case; inv = first_of (codes "INV") rows })
+  Some (record {
+    pipe = pipe;
+    spec = spec;
+    case = Some case;
+    proof = None;
+    inv = first_of (codes "INV") rows;
+  })
 
 -- the files of a design
 unfoldable pub design_names : List Row → Option Names
 design_names rows = do
   pipe ← first_of (codes "PIPE") rows
   spec ← first_of (codes "SPEC") rows
-  Some (record { pipe = pipe; spec = spec; case = None; inv = first_of (codes "INV") rows })
+  Some (record {
+    pipe = pipe;
+    spec = spec;
+    case = None;
+    proof = None;
+    inv = first_of (codes "INV") rows;
+  })
+
+-- the files of a proof
+unfoldable pub proof_names : List Row → Option Names
+proof_names rows = do
+  pipe ← first_of (codes "PIPE") rows
+  spec ← first_of (codes "SPEC") rows
+  proof ← first_of (codes "PROOF") rows
+  Some (record {
+    pipe = pipe;
+    spec = spec;
+    case = None;
+    proof = Some proof;
+    inv = first_of (codes "INV") rows;
+  })
 
 unfoldable pub show_question : List Row → Option Question
 show_question rows = do
@@ -61,10 +93,15 @@ about_question rows = do
   names ← design_names rows
   Some (about names)
 
+unfoldable pub recheck_question : List Row → Option Question
+recheck_question rows = do
+  names ← proof_names rows
+  Some (recheck (record { names = names; mode = mode_at (codes "diverse") rows }))
+
 unfoldable pub command_line : App
 command_line = record {
   top = record (new_shape (codes "bd_view")) { is_leaf = false; has_version = true };
-  subs = show_command ∷ shrink_command ∷ about_command ∷ [];
+  subs = show_command ∷ shrink_command ∷ about_command ∷ recheck_command ∷ [];
 }
 
 -- what the command of this name asks
@@ -72,7 +109,8 @@ unfoldable pub question_of : List ℕ → List Row → Option Question
 question_of name rows =
     if bytes_eq name (codes "show") then show_question rows
     else (if bytes_eq name (codes "shrink") then shrink_question rows
-    else (if bytes_eq name (codes "about") then about_question rows else None))
+    else (if bytes_eq name (codes "about") then about_question rows
+    else (if bytes_eq name (codes "recheck") then recheck_question rows else None)))
 
 -- what the words ask for, where they are taken: clap finds no fault in them, and they name a command
 unfoldable pub taken : List (List ℕ) → Option Question

@@ -17,11 +17,12 @@ use Rattle.bd_app.specs.Files.{File, HoldsShort, one_if}
 use Rattle.bd_app.specs.Sources.{HoldsShortIf}
 use Rattle.bd_show.specs.declared.load.FileNames.{FileNames}
 
--- the names of the files of a design, of a case of it, and of an invariant
+-- the names of the files of a design, of a case of it, of a proof that it is right, and of an invariant
 pub record Names : Type 0 where
   pub pipe : Name
   pub spec : Name
   pub case : Option Name
+  pub proof : Option Name
   pub inv : Option Name
 
 abbrev pub names_of : FileNames → Names
@@ -29,6 +30,7 @@ names_of files = record {
   pipe = files.pipe.now;
   spec = files.spec.now;
   case = given files.case;
+  proof = given files.proof;
   inv = given files.inv;
 }
 
@@ -36,13 +38,15 @@ names_of files = record {
 abbrev pub files_of : Names → List File
 files_of names =
     (text.Pipe, names.pipe) ∷ (text.Spec, names.spec)
-    ∷ (one_if text.Case names.case ++ one_if text.Inv names.inv)
+    ∷ (one_if text.Case names.case
+    ++ (one_if text.Proof names.proof ++ one_if text.Inv names.inv))
 
 -- their bytes
 pub record Texts : Type 0 where
   pub pipe : List ℕ
   pub spec : List ℕ
   pub case : Option (List ℕ)
+  pub proof : Option (List ℕ)
   pub inv : Option (List ℕ)
 
 -- they are held under the names, not too many
@@ -50,6 +54,7 @@ pub record HoldTexts (held : Held) (names : Names) (texts : Texts) : Type 0 wher
   pub pipe : HoldsShort held (text.Pipe, names.pipe) texts.pipe
   pub spec : HoldsShort held (text.Spec, names.spec) texts.spec
   pub case : HoldsShortIf held text.Case names.case texts.case
+  pub proof : HoldsShortIf held text.Proof names.proof texts.proof
   pub inv : HoldsShortIf held text.Inv names.inv texts.inv
 
 -- the last call that failed was the save of the page
@@ -87,12 +92,14 @@ abbrev pub name_in : Names → Text → Name
 name_in names text.Pipe = names.pipe
 name_in names text.Spec = names.spec
 name_in names text.Inv = or_none names.inv
+name_in names text.Proof = or_none names.proof
 name_in names _ = or_none names.case
 
 abbrev pub bytes_in : Texts → Text → List ℕ
 bytes_in texts text.Pipe = texts.pipe
 bytes_in texts text.Spec = texts.spec
 bytes_in texts text.Inv = or_none texts.inv
+bytes_in texts text.Proof = or_none texts.proof
 bytes_in texts _ = or_none texts.case
 
 -- the last call that failed was the load of this file

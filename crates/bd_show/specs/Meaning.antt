@@ -1,11 +1,20 @@
 -- What the answers to a question say of its texts, and what is left of the files.
 use Rattle.std.specs.Prelude.{◌≡◌, ◌≤◌, ◌++◌, ℕ, Bool, true, false, List, [], codes, Option, None, Some, IfSome, is_some, Ok}
 use Rattle.bd_model.specs.DesignView.{DesignView}
+use Rattle.bd_cnf.specs.Problem.{Problem}
+use Rattle.bd_lrat.specs.Log.{IsRefutation}
 use Rattle.bd_model.specs.Conditions.{IsJudged}
+use Rattle.bd_model.specs.Right.{IsRight}
 use Rattle.bd_model.specs.declared.case.Case.{Case}
 use Rattle.bd_model.specs.declared.case.Condition.{Condition}
 use Rattle.bd_model.specs.declared.case.Judged.{Judged}
 use Rattle.bd_model.specs.declared.case.Judged.TheVariants.{Holds, Outside, Broken}
+use Rattle.bd_proof_text.specs.ProofText.{fault}
+use Rattle.bd_proof_text.specs.Tokens.{place}
+use Rattle.bd_proof_text.specs.declared.fault.Why.{Why}
+use Rattle.bd_verify.specs.declared.verdict.Mode.{Mode}
+use Rattle.bd_verify.specs.declared.verdict.Work.{Work}
+use Rattle.bd_foreign.specs.Rechecked.{HasFaultIn, IsReadIn}
 use Rattle.bd_shrink.specs.Shrunk.{IsShrunk}
 use Rattle.bd_about.specs.Findings.{AreFindings}
 use Rattle.bd_about.specs.Lines.{about_lines}
@@ -18,34 +27,43 @@ use Rattle.bd_files.specs.Devices.{Held, Rose}
 use Rattle.bd_picture.specs.Sentence.{sentence}
 use Rattle.bd_app.specs.Files.{IsFirstLong, KeepsAllBut}
 use Rattle.bd_app.specs.Meaning.{FilesSeen}
+use Rattle.bd_app.specs.ProofFaults.{cause_text}
 use Rattle.bd_app.specs.Words.{Name}
-use Rattle.bd_show.specs.Place.{fault_text}
+use Rattle.bd_show.specs.Place.{fault_text, placed}
 use Rattle.bd_show.specs.Files.{AreCase, AreDesign, BlamesLoad, BlamesSave, HoldTexts, IsTextFault, Names, Texts, bytes_in, files_of, name_in, or_none}
 use Rattle.bd_show.specs.LetNames.{AreLetNames}
 use Rattle.bd_show.specs.declared.answer.Ended.{Ended}
-use Rattle.bd_show.specs.declared.answer.Ended.TheVariants.{Shown, Shrunk, Unbroken, Described, Refused, TooLong, Unread, Unsaved, Memory}
+use Rattle.bd_show.specs.declared.answer.Ended.TheVariants.{Shown, Shrunk, Unbroken, Described, Proved, BadProof, Refused, TooLong, Unread, Unsaved, Memory}
 
--- what is asked: what a case shows, all of it or what is left of it, maybe with a page; what is left of a case; or
--- what can be said of a design without a case
+-- what is asked: what a case shows, all of it or what is left of it, maybe with a page; what is left of a case;
+-- what can be said of a design without a case; or whether a text over the formula that is kept in a mode proves a
+-- design right
 pub record Show : Type 0 where
   pub names : Names
   pub whole : Bool
   pub page : Option Name
 
+pub record Recheck : Type 0 where
+  pub names : Names
+  pub mode : Mode
+
 pub data Question : Type 0 where
   show : Show → Question
   shrink : Names → Question
   about : Names → Question
+  recheck : Recheck → Question
 
 abbrev pub asked_names : Question → Names
 asked_names (show q) = q.names
 asked_names (shrink names) = names
 asked_names (about names) = names
+asked_names (recheck q) = q.names
 
 abbrev pub asked_page : Question → Option Name
 asked_page (show q) = q.page
 asked_page (shrink names) = None
 asked_page (about names) = None
+asked_page (recheck q) = None
 
 -- ---- what an answer says of texts
 
@@ -96,6 +114,22 @@ pub record IsDescribed (texts : Texts) (d : DesignView) (found : Findings) (text
   pub named : AreLetNames texts names
   pub lines : text ≡ about_lines d names unread found
 
+-- the text is that the bytes prove the design right: their lines, up to the one that adds the empty clause, are
+-- accepted over the formula that is kept, in the mode, of the question whether a case breaks a condition
+pub record IsProved (m : Mode) (d : DesignView) (bytes text : List ℕ) : Type 0 where
+  pub work : Work
+  pub read : IsReadIn m d bytes work
+  pub refutes : IsRefutation work.cnf work.log
+  pub right : IsRight d
+  pub line : text ≡ codes "correct by proof\n"
+
+-- the bytes have this first fault over that formula, and the text is its line, under the name of the file
+pub record IsBadProof (m : Mode) (name : Name) (d : DesignView) (bytes : List ℕ) (line column : ℕ)
+    (why : Why) (text : List ℕ) : Type 0 where
+  pub cnf : Problem
+  pub first : HasFaultIn m d bytes (fault (place line column) why) cnf
+  pub line_is : text ≡ placed name line column (cause_text why)
+
 abbrev pub OfDesign : Texts → (DesignView → Type 0) → Type 0
 OfDesign texts P = (d : DesignView) × AreDesign texts (Ok d) × P d
 
@@ -112,6 +146,11 @@ Says (shrink names) texts (Shrunk k) text = OfCase texts (λ d c. IsSmaller d c 
 Says (shrink names) texts (Unbroken j) text = OfCase texts (λ d c. IsUnbroken d c j text)
 Says (about names) texts (Described found) text =
     OfDesign texts (λ d. IsDescribed texts d found text)
+Says (recheck q) texts Proved text =
+    OfDesign texts (λ d. IsProved q.mode d (or_none texts.proof) text)
+Says (recheck q) texts (BadProof line column why) text =
+    OfDesign texts (λ d. IsBadProof q.mode (or_none q.names.proof) d (or_none texts.proof)
+    line column why text)
 Says q texts e text = ⊥
 
 -- ---- what it says of files

@@ -3,6 +3,7 @@ ghost use Rattle.std.specs.Prelude.{◌≡◌, ◌↔◌, IsTrue};
 ghost use Rattle.bd_show.specs.Answer.{HasReport, status_of};
 
 use bd_about::Findings;
+use bd_foreign::Why;
 use bd_model::{Condition, Judged};
 use bd_text::Code;
 use bd_typer::Text;
@@ -18,6 +19,14 @@ pub enum Ended {
     Unbroken(Judged),
     /// What can be said of a design without a case was printed, and this was found.
     Described(Findings),
+    /// The text proves that the design is right.
+    Proved,
+    /// The text is no proof that the design is right: it has this fault, at a line and a column from 1.
+    BadProof {
+        line: u64,
+        column: u64,
+        why: Why,
+    },
     /// Help or the version was asked for.
     Told,
     /// The words aren't taken.
@@ -53,10 +62,14 @@ impl Ended {
         ensures { result ≡ status_of self }
     {
         match self {
-            Ended::Shown(Judged::Holds) | Ended::Shrunk(_) | Ended::Described(_) | Ended::Told => 0,
+            Ended::Shown(Judged::Holds)
+            | Ended::Shrunk(_)
+            | Ended::Described(_)
+            | Ended::Proved
+            | Ended::Told => 0,
             Ended::Shown(Judged::Broken(_)) => 1,
             Ended::Usage => 2,
-            Ended::Refused { .. } | Ended::TooLong(_) => 3,
+            Ended::Refused { .. } | Ended::BadProof { .. } | Ended::TooLong(_) => 3,
             Ended::Unread(_) | Ended::Unsaved | Ended::Unwritten => 5,
             Ended::Memory => 6,
             Ended::Shown(Judged::Outside) => 8,
@@ -70,7 +83,7 @@ impl Ended {
     {
         matches!(
             self,
-            Ended::Shown(_) | Ended::Shrunk(_) | Ended::Described(_) | Ended::Told
+            Ended::Shown(_) | Ended::Shrunk(_) | Ended::Described(_) | Ended::Proved | Ended::Told
         )
     }
 }

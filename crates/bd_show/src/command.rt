@@ -6,12 +6,13 @@ ghost use Rattle.clap.specs.Words.{app_of, found_of, rows_of, shape_of};
 ghost use Rattle.clap.specs.declared.builder.command.Command.TheViews.{out-Command as fields_of};
 ghost use Rattle.bd_app.specs.Words.{texts_of};
 ghost use Rattle.bd_show.specs.Files.{names_of};
-ghost use Rattle.bd_show.specs.Commands.{about_command, about_question, case_names, command_line, design_names, question_of, show_command, show_question, shrink_command, shrink_question, taken};
+ghost use Rattle.bd_show.specs.Commands.{about_command, about_question, case_names, command_line, design_names, proof_names, question_of, recheck_command, recheck_question, show_command, show_question, shrink_command, shrink_question, taken};
 ghost use Rattle.bd_show.specs.inner.Asked.{IsParsed, IsToldBy, IsWordsFault, asked};
 
 use crate::load::FileNames;
+use crate::rechecking::RecheckOptions;
 use crate::show::ShowOptions;
-use bd_app::words::{flag, flag_at, machines_command, option, required, with, word_at};
+use bd_app::words::{flag, flag_at, machines_command, mode_at, option, required, with, word_at};
 use clap::error::ErrorKind;
 use clap::{Arg, ArgMatches};
 use std::alloc::{AllocError, Global};
@@ -25,6 +26,8 @@ pub enum Command<'a> {
     Shrink(FileNames<'a>),
     /// What can be said of a design without a case.
     About(FileNames<'a>),
+    /// Whether a text proves that a design is right.
+    Recheck(RecheckOptions<'a>),
 }
 
 /// Why words ask nothing.
@@ -79,6 +82,17 @@ fn about_command<'a>(alloc: Global) -> Result<clap::Command<'a>, AllocError>
     with(command, Arg::new(alloc, "INV"))
 }
 
+/// The words of `recheck`.
+fn recheck_command<'a>(alloc: Global) -> Result<clap::Command<'a>, AllocError>
+    ensures shape { IfOk result (λ c. shape_of c ≡ recheck_command) }
+    ensures local { IfOk result (λ c. (fields_of c).has_globals ≡ false) }
+{
+    let command = machines_command(alloc, "recheck")?;
+    let command = with(command, required(alloc, "PROOF"))?;
+    let command = with(command, Arg::new(alloc, "INV"))?;
+    with(command, flag(alloc, "diverse"))
+}
+
 /// The whole command line.
 fn command_line<'a>(alloc: Global) -> Result<clap::Command<'a>, AllocError>
     ensures { IfOk result (λ c. app_of c ≡ command_line) }
@@ -88,11 +102,15 @@ fn command_line<'a>(alloc: Global) -> Result<clap::Command<'a>, AllocError>
     let about = about_command(alloc)?.about(
         "Says what nothing reads and what the verdict rests on",
     );
+    let recheck = recheck_command(alloc)?.about(
+        "Checks a proof in LRAT that a pipeline is right, with --diverse by positive equality",
+    );
     clap::Command::new(alloc, "bd_view")
-        .version("1.0")
+        .version("1.0.0")
         .subcommand(show)?
         .subcommand(shrink)?
-        .subcommand(about)
+        .subcommand(about)?
+        .subcommand(recheck)
 }
 
 /// The names of the files of a case.
@@ -104,6 +122,7 @@ fn case_names<'a>(matches: &ArgMatches<'a>) -> Option<FileNames<'a>>
         pipe: word_at(matches, "PIPE")?,
         spec: word_at(matches, "SPEC")?,
         case: Some(word_at(matches, "CASE")?),
+        proof: None,
         inv: word_at(matches, "INV"),
     })
 }
@@ -117,12 +136,27 @@ fn design_names<'a>(matches: &ArgMatches<'a>) -> Option<FileNames<'a>>
         pipe: word_at(matches, "PIPE")?,
         spec: word_at(matches, "SPEC")?,
         case: None,
+        proof: None,
+        inv: word_at(matches, "INV"),
+    })
+}
+
+/// The names of the files of a proof.
+#[tactic(auto, unfolding(crate::specs::Commands::proof_names))]
+fn proof_names<'a>(matches: &ArgMatches<'a>) -> Option<FileNames<'a>>
+    ensures { option_map names_of result ≡ proof_names (rows_of (found_of matches.now)) }
+{
+    Some(FileNames {
+        pipe: word_at(matches, "PIPE")?,
+        spec: word_at(matches, "SPEC")?,
+        case: None,
+        proof: Some(word_at(matches, "PROOF")?),
         inv: word_at(matches, "INV"),
     })
 }
 
 /// What the command of this name with these arguments asks for.
-#[tactic(auto, unfolding(crate::specs::Commands::question_of, crate::specs::Commands::show_question, crate::specs::Commands::shrink_question, crate::specs::Commands::about_question))]
+#[tactic(auto, unfolding(crate::specs::Commands::question_of, crate::specs::Commands::show_question, crate::specs::Commands::shrink_question, crate::specs::Commands::about_question, crate::specs::Commands::recheck_question))]
 fn question<'a>(name: &str, matches: &ArgMatches<'a>) -> Option<Command<'a>>
     ensures { option_map asked result ≡ question_of name.now (rows_of (found_of matches.now)) }
 {
@@ -136,6 +170,11 @@ fn question<'a>(name: &str, matches: &ArgMatches<'a>) -> Option<Command<'a>>
         Some(Command::Shrink(case_names(matches)?))
     } else if name == "about" {
         Some(Command::About(design_names(matches)?))
+    } else if name == "recheck" {
+        Some(Command::Recheck(RecheckOptions {
+            names: proof_names(matches)?,
+            mode: mode_at(matches, "diverse"),
+        }))
     } else {
         None
     }
@@ -180,4 +219,5 @@ pub fn command_of<'a>(alloc: Global, words: &'a [String]) -> Result<Command<'a>,
 }
 
 const NONE: &[u8] =
-    b"usage: bd_view show|shrink PIPE SPEC CASE [INV], or about PIPE SPEC [INV]; --help says more\n";
+    b"usage: bd_view show|shrink PIPE SPEC CASE [INV], about PIPE SPEC [INV], or recheck PIPE SPEC \
+PROOF [INV] [--diverse]; --help says more\n";

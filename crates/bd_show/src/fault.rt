@@ -20,12 +20,13 @@ fn name_in<'a>(names: FileNames<'a>, file: Text) -> &'a str
         Text::Pipe => names.pipe,
         Text::Spec => names.spec,
         Text::Inv => names.inv.unwrap_or(""),
+        Text::Proof => names.proof.unwrap_or(""),
         _ => names.case.unwrap_or(""),
     }
 }
 
 /// The bytes of a text that may be there.
-fn or_none(bytes: &Option<Vec<u8>>) -> &[u8]
+pub fn or_none(bytes: &Option<Vec<u8>>) -> &[u8]
     ensures { result.now ≡ or_none (bytes_of bytes.now) }
 {
     match bytes {
@@ -42,6 +43,7 @@ fn bytes_in(texts: &Texts, file: Text) -> &[u8]
         Text::Pipe => texts.pipe.as_slice(),
         Text::Spec => texts.spec.as_slice(),
         Text::Inv => or_none(&texts.inv),
+        Text::Proof => or_none(&texts.proof),
         _ => or_none(&texts.case),
     }
 }

@@ -11,6 +11,7 @@ mod open;
 mod place;
 mod program;
 mod read;
+mod rechecking;
 mod show;
 mod shrinking;
 

@@ -10,12 +10,13 @@ ghost use Rattle.bd_show.specs.inner.Loaded.{AreFew, IsFewIf, IsOneLoad, IsOneLo
 use bd_files::{Files, LoadError};
 use bd_typer::Text;
 
-/// The names of the files of a design, of a case of it, and of an invariant.
+/// The names of the files of a design, of a case of it, of a proof that it is right, and of an invariant.
 #[derive(Clone, Copy, Debug)]
 pub struct FileNames<'a> {
     pub pipe: &'a str,
     pub spec: &'a str,
     pub case: Option<&'a str>,
+    pub proof: Option<&'a str>,
     pub inv: Option<&'a str>,
 }
 
@@ -25,6 +26,7 @@ pub struct Texts {
     pub pipe: Vec<u8>,
     pub spec: Vec<u8>,
     pub case: Option<Vec<u8>>,
+    pub proof: Option<Vec<u8>>,
     pub inv: Option<Vec<u8>>,
 }
 
@@ -39,21 +41,34 @@ pub enum LoadFault {
     Memory,
 }
 
-/// The most bytes of a file.
+/// The most bytes of a file that is no proof.
 const MAX_FILE: usize = 1_048_576;
+
+/// The most bytes of a proof.
+const MAX_PROOF: usize = 67_108_864;
+
+/// The most bytes of a file.
+fn most_bytes(file: Text) -> usize
+    ensures { result ≡ most_bytes file }
+{
+    match file {
+        Text::Proof => MAX_PROOF,
+        _ => MAX_FILE,
+    }
+}
 
 /// The bytes of a file, if there aren't too many.
 fn load<F: Files>(files: &mut F, file: Text, name: &str) -> Result<Vec<u8>, LoadFault>
-    requires { most_bytes file ≡ 1048576 }
     ensures loaded { IfOk result (λ bytes. IfSome (F.held files.old) (λ held.
         HoldsShort held (file, name.now) bytes.items)) }
-    ensures few { IfOk result (λ bytes. length bytes.items ≤ 1048576) }
+    ensures few { IfOk result (λ bytes. length bytes.items ≤ most_bytes file) }
     ensures left { IsOneLoad file name.now (files_seen F.held F.faults F.blame F.calls files.old)
         (files_seen F.held F.faults F.blame F.calls files.new) result }
 {
-    match files.load(name, MAX_FILE) {
+    let most = most_bytes(file);
+    match files.load(name, most) {
         Ok(bytes) => {
-            if bytes.as_slice().len() <= MAX_FILE {
+            if bytes.as_slice().len() <= most {
                 Ok(bytes)
             } else {
                 Err(LoadFault::TooLong(file))
@@ -70,10 +85,9 @@ fn load_if<F: Files>(
     file: Text,
     name: Option<&str>,
 ) -> Result<Option<Vec<u8>>, LoadFault>
-    requires { most_bytes file ≡ 1048576 }
     ensures loaded { IfOk result (λ bytes. IfSome (F.held files.old) (λ held.
         HoldsShortIf held file (given name.entry) (bytes_of bytes))) }
-    ensures few { IfOk result (λ bytes. IsFewIf (bytes_of bytes)) }
+    ensures few { IfOk result (λ bytes. IsFewIf file (bytes_of bytes)) }
     ensures left { IsOneLoadIf file (given name.entry)
         (files_seen F.held F.faults F.blame F.calls files.old)
         (files_seen F.held F.faults F.blame F.calls files.new) result }
@@ -95,11 +109,13 @@ pub fn load_texts<F: Files>(files: &mut F, names: FileNames<'_>) -> Result<Texts
     let pipe = load(files, Text::Pipe, names.pipe)?;
     let spec = load(files, Text::Spec, names.spec)?;
     let case = load_if(files, Text::Case, names.case)?;
+    let proof = load_if(files, Text::Proof, names.proof)?;
     let inv = load_if(files, Text::Inv, names.inv)?;
     Ok(Texts {
         pipe,
         spec,
         case,
+        proof,
         inv,
     })
 }

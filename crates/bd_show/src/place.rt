@@ -70,8 +70,8 @@ fn push_blanks(out: &mut Vec<u8>, text: &[u8]) -> Result<(), AllocError>
 fn push_placed(
     out: &mut Vec<u8>,
     name: &[u8],
-    line: usize,
-    column: usize,
+    line: u64,
+    column: u64,
     message: &[u8],
 ) -> Result<(), AllocError>
     ensures { OnOk result (out.new.items
@@ -119,7 +119,7 @@ fn push_noted(
     let first = last_line(alloc, before)?;
     let line = ends(before).saturating_add(1);
     let column = first.len().saturating_add(1);
-    push_placed(out, name, line, column, message)?;
+    push_placed(out, name, line as u64, column as u64, message)?;
     push_excerpt(out, first.as_slice(), from(text, offset))?;
     Ok(())
 }
@@ -219,5 +219,20 @@ pub fn fault_text(
     let mut shown = Vec::new(alloc);
     push_noted(alloc, &mut shown, name, text, offset, message.as_slice())?;
     push_open(alloc, &mut shown, name, text, offset, code)?;
+    Ok(shown)
+}
+
+/// A message on a place of a text, without the text's line.
+pub fn placed_text(
+    alloc: Global,
+    name: &[u8],
+    line: u64,
+    column: u64,
+    message: &[u8],
+) -> Result<Vec<u8>, AllocError>
+    ensures { IfOk result (λ shown. shown.items ≡ placed name.now line column message.now) }
+{
+    let mut shown = Vec::new(alloc);
+    push_placed(&mut shown, name, line, column, message)?;
     Ok(shown)
 }

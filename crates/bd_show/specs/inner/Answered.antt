@@ -8,12 +8,13 @@ use Rattle.bd_app.specs.Files.{KeepsAllBut}
 use Rattle.bd_app.specs.Meaning.{FilesSeen}
 use Rattle.bd_app.specs.Words.{Name, given}
 use Rattle.bd_show.specs.Files.{BlamesSave, Names, Texts, name_in, names_of, or_none}
-use Rattle.bd_show.specs.Meaning.{IsAnswered, IsDescribed, IsSmaller, IsUnbroken, Question, Show}
+use Rattle.bd_show.specs.Meaning.{IsAnswered, IsBadProof, IsDescribed, IsProved, IsSmaller, IsUnbroken, Question, Recheck, Show}
 use Rattle.bd_show.specs.declared.answer.Answer.{Answer}
 use Rattle.bd_show.specs.declared.answer.Ended.{Ended}
 use Rattle.bd_show.specs.declared.answer.Ended.TheVariants as ended
 use Rattle.bd_show.specs.declared.load.LoadFault.{LoadFault}
 use Rattle.bd_show.specs.declared.load.LoadFault.TheVariants.{Failed, TooLong, Memory}
+use Rattle.bd_show.specs.declared.rechecking.RecheckOptions.{RecheckOptions}
 use Rattle.bd_show.specs.declared.show.ShowOptions.{ShowOptions}
 
 -- the question of these options
@@ -23,6 +24,9 @@ show_of options = record {
   whole = options.whole;
   page = given options.page;
 }
+
+abbrev pub recheck_of : RecheckOptions → Recheck
+recheck_of options = record { names = names_of options.names; mode = options.mode }
 
 -- an answer and its text, also where memory ran out
 abbrev pub ended_of : Result Answer AllocError → Ended
@@ -55,6 +59,13 @@ IsOfCase d c e text = ⊥
 abbrev pub IsOfDesign : Texts → DesignView → Ended → List ℕ → Type 0
 IsOfDesign texts d (ended.Described found) text = IsDescribed texts d found text
 IsOfDesign texts d e text = ⊥
+
+-- what `recheck` says of a design and of the bytes of the proof
+abbrev pub IsOfProof : Recheck → DesignView → List ℕ → Ended → List ℕ → Type 0
+IsOfProof q d bytes ended.Proved text = IsProved q.mode d bytes text
+IsOfProof q d bytes (ended.BadProof line column why) text =
+    IsBadProof q.mode (or_none q.names.proof) d bytes line column why text
+IsOfProof q d bytes e text = ⊥
 
 -- an answer after its page was saved, where one was asked for: it stands, or the save failed
 abbrev pub IsKept : Option Name → Ended → List ℕ → FilesSeen → FilesSeen → Answer → Type 0

@@ -7,10 +7,10 @@ use Rattle.clap.specs.declared.error.kind.ErrorKind.TheVariants as kind
 use Rattle.clap.specs.declared.parser.matches.ArgMatches.{ArgMatches}
 use Rattle.bd_show.specs.Commands.{AskHelp, command_line, taken}
 use Rattle.bd_show.specs.Files.{names_of}
-use Rattle.bd_show.specs.Meaning.{Question, show, shrink, about}
-use Rattle.bd_show.specs.inner.Answered.{show_of}
+use Rattle.bd_show.specs.Meaning.{Question, show, shrink, about, recheck}
+use Rattle.bd_show.specs.inner.Answered.{recheck_of, show_of}
 use Rattle.bd_show.specs.declared.command.Command.{Command}
-use Rattle.bd_show.specs.declared.command.Command.TheVariants.{Show, Shrink, About}
+use Rattle.bd_show.specs.declared.command.Command.TheVariants.{Show, Shrink, About, Recheck}
 use Rattle.bd_show.specs.declared.command.WordsFault.{WordsFault}
 use Rattle.bd_show.specs.declared.command.WordsFault.TheVariants.{Told, Usage, Memory}
 
@@ -19,6 +19,7 @@ abbrev pub asked : Command → Question
 asked (Show options) = show (show_of options)
 asked (Shrink names) = shrink (names_of names)
 asked (About names) = about (names_of names)
+asked (Recheck options) = recheck (recheck_of options)
 
 -- clap finds no fault in the words, and met this subcommand
 pub record IsParsed (words : List (List ℕ)) (m : ArgMatches) : Type 0 where

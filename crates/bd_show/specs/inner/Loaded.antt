@@ -5,7 +5,8 @@ use Rattle.std.specs.Option.{option_map}
 use Rattle.bd_files.specs.Devices.{Rose}
 use Rattle.bd_files.specs.declared.devices.FileCall.TheVariants as call
 use Rattle.bd_typer.specs.declared.fault.Text.{Text}
-use Rattle.bd_app.specs.Files.{IsFirstLong, IsLong}
+use Rattle.bd_typer.specs.declared.fault.Text.TheVariants.{Inv}
+use Rattle.bd_app.specs.Files.{IsFirstLong, IsLong, most_bytes}
 use Rattle.bd_app.specs.Meaning.{FilesSeen}
 use Rattle.bd_app.specs.Words.{Name}
 use Rattle.bd_show.specs.Files.{BlamesLoad, Names, Texts, files_of}
@@ -21,17 +22,18 @@ texts_view t = record {
   pipe = t.pipe.items;
   spec = t.spec.items;
   case = bytes_of t.case;
+  proof = bytes_of t.proof;
   inv = bytes_of t.inv;
 }
 
 -- few enough bytes for their readers
-abbrev pub IsFewIf : Option (List ℕ) → Type 0
-IsFewIf bytes = IfSome bytes (λ b. length b ≤ 1048576)
+abbrev pub IsFewIf : Text → Option (List ℕ) → Type 0
+IsFewIf file bytes = IfSome bytes (λ b. length b ≤ most_bytes file)
 
 pub record AreFew (t : Texts) : Type 0 where
   pub pipe : length t.pipe ≤ 1048576
   pub spec : length t.spec ≤ 1048576
-  pub inv : IsFewIf t.inv
+  pub inv : IsFewIf Inv t.inv
 
 -- why one file gave no bytes
 abbrev pub IsOneFault : Text → Name → FilesSeen → FilesSeen → LoadFault → Type 0

@@ -13,4 +13,6 @@ returns c =
     let shows = c.in_ok-subcommand.ensures.shape (ap (λ f. f.has_globals) c.about-show.ensures ∙ c.in_ok-show_command.ensures.local) ∙ ap₂ with_subcommand top show in
     let shrinks = c.in_ok-subcommand-2.ensures.shape (ap (λ f. f.has_globals) c.about-shrink.ensures ∙ c.in_ok-shrink_command.ensures.local) ∙ ap₂ with_subcommand shows shrink in
     let about = ap shape_of_fields c.about-about.ensures ∙ c.in_ok-about_command.ensures.shape in
-    IfOk-weaker c.subcommand-3.result _ _ (λ r added. added.shape (ap (λ f. f.has_globals) c.about-about.ensures ∙ c.in_ok-about_command.ensures.local) ∙ ap₂ with_subcommand shrinks about) c.subcommand-3.ensures
+    let abouts = c.in_ok-subcommand-3.ensures.shape (ap (λ f. f.has_globals) c.about-about.ensures ∙ c.in_ok-about_command.ensures.local) ∙ ap₂ with_subcommand shrinks about in
+    let recheck = ap shape_of_fields c.about-recheck.ensures ∙ c.in_ok-recheck_command.ensures.shape in
+    IfOk-weaker c.subcommand-4.result _ _ (λ r added. added.shape (ap (λ f. f.has_globals) c.about-recheck.ensures ∙ c.in_ok-recheck_command.ensures.local) ∙ ap₂ with_subcommand abouts recheck) c.subcommand-4.ensures
