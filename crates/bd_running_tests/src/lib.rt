@@ -14,6 +14,8 @@ mod judgements;
 #[cfg(test)]
 mod shrinking;
 #[cfg(test)]
+mod slices;
+#[cfg(test)]
 mod trails;
 #[cfg(test)]
 mod values;
