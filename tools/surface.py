@@ -55,6 +55,8 @@ PROGRAMS: Dict[str, Tuple[Command, ...]] = {
                 (("--whole", ""), ("--html", "FILE"))),
         Command("shrink", "a small case that breaks the same condition", ("PIPE", "SPEC", "CASE"), ("INV",)),
         Command("about", "what can be said of a design without a case", ("PIPE", "SPEC"), ("INV",)),
+        Command("recheck", "whether a proof from elsewhere shows that a pipeline is right, by positive equality too",
+                ("PIPE", "SPEC", "PROOF"), ("INV",), (("--diverse", ""),)),
     ),
 }
 # words that the companion takes beside its commands

@@ -23,6 +23,7 @@ TWIN, TWIN_INV, NO_STATE = (DATA / name for name in ("twin_valid_bits.pipe", "tw
 NOTHING_PENDING = DATA / "nothing_pending.inv"
 PRINTED = (PROGRAM / "stdout").read_text().partition("\n")[2]  # the case that the stale operand gives
 IS_THERE = shutil.which(os.environ.get("BURCH_DILL", "burch_dill")) is not None
+HAS_COMPANION = shutil.which(os.environ.get("BD_VIEW", "bd_view")) is not None
 
 
 def functions(both: Declarations) -> Dict[str, Function]:
@@ -290,6 +291,16 @@ class Answers(unittest.TestCase):
             with self.assertRaisesRegex(Fault, "^proof:2:") as raised:
                 recheck(TWO_STAGE, SPEC, "1 d 1 0\nnothing\n")
             self.assertEqual((raised.exception.offset, raised.exception.line), (None, 2))
+
+    @unittest.skipUnless(HAS_COMPANION, "no companion is named by BD_VIEW")
+    def test_saved_proof_by_positive_equality_is_read(self) -> None:
+        with tempfile.TemporaryDirectory() as folder:
+            proof = Path(folder, "proof.lrat")
+            self.assertTrue(check(TWO_STAGE, SPEC, diverse=True, proof=proof).is_right)
+            self.assertTrue(recheck(TWO_STAGE, SPEC, proof, diverse=True).is_right)
+            with self.assertRaises(Fault) as raised:
+                recheck(TWO_STAGE, SPEC, "", diverse=True)
+            self.assertEqual((raised.exception.file, raised.exception.code), ("proof", "E24"))
 
     def test_bounded(self) -> None:
         same = Start(iff(Bool("v"), Bool("w")))

@@ -78,10 +78,16 @@ def run(pipe: Source, spec: Source, case: Source, cycles: int, *,
     return [{name: content for _, name, content in map(named_content, read_trees(state))} for state in states]
 
 
-def recheck(pipe: Source, spec: Source, proof: Source, inv: Optional[Source] = None, *,
+def recheck(pipe: Source, spec: Source, proof: Source, inv: Optional[Source] = None, *, diverse: bool = False,
             program: Optional[File] = None, timeout: Optional[float] = None) -> Verdict:
-    """Whether a proof in LRAT from elsewhere shows that a pipeline is right. A proof that doesn't is a `Fault`."""
-    return _verdict(_ask("recheck", {"pipe": pipe, "spec": spec, "proof": proof, "inv": inv}, [], program, timeout))
+    """Whether a proof in LRAT from elsewhere shows that a pipeline is right. A proof that doesn't is a `Fault`.
+
+    With `diverse` the proof is one over the formula of positive equality, and `program` is `bd_view`.
+    """
+    files = {"pipe": pipe, "spec": spec, "proof": proof, "inv": inv}
+    if diverse:
+        return _verdict(_told("recheck", files, ["--diverse"], program, timeout)[1])
+    return _verdict(_ask("recheck", files, [], program, timeout))
 
 
 def bounded(pipe: Source, spec: Source, start: Source, cycles: int, *, budget: Optional[int] = None,
