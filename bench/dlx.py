@@ -179,8 +179,11 @@ class Parts:
         self.stall = self.pipe.input("stall", TRUE)
         slow = ["imem_done", "mem_done", *(f"alu_done{slot}" for slot in self.slots)] if form.slow else []
         self.done = {name: self.pipe.input(name, TRUE) for name in slow}
-        self.latches = {stage: [self.pipe.group(f"{stage}_{slot}", **sorts(form, stage, slot)) for slot in self.slots]
-                        for stage in (2, 3, 4, 5)}
+        self.latches: Dict[int, List[Group]] = {}
+        for stage, name in ((2, "decode"), (3, "execute"), (4, "memory"), (5, "write back")):
+            self.pipe.comment(f"in {name}")
+            self.latches[stage] = [self.pipe.group(f"{stage}_{slot}", **sorts(form, stage, slot))
+                                   for slot in self.slots]
         self.mem_hold = self.ex_hold = self.excepted = self.redirects = self.squash = FALSE
         self.kept: List[Dict[str, Word]] = []  # of each slot in execute, where it waits
         self.after: List[Tuple[Bool, Word]] = []  # whether fetch went elsewhere, and where it should have gone

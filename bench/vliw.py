@@ -5,9 +5,9 @@ They follow the published descriptions by Velev and Bryant (CAV and DAC 2000) of
 packet has WIDTH instructions, which read what stood before it. Each has a predicate register that enables it. Integer
 and floating-point registers are renamed by the current frame marker, which branches with a call change. Some of the
 integer slots load and store; a load may be ahead of its time, and a check of the table of such loads goes to a
-recovery where a store came between. Fetch, the integer and floating-point units and memory take any number of cycles. Four
-stages: fetch, registers, execute, write back. With -BP branches are predicted. The fields of a packet are functions
-of its address.
+recovery where a store came between. Fetch, the integer and floating-point units and memory take any number of cycles.
+Four stages: fetch, registers, execute, write back. With -BP branches are predicted. The fields of a packet are
+functions of its address.
 
 usage: vliw.py MACHINE [--wrong TWIN] PIPE SPEC
        vliw.py --list
@@ -248,9 +248,14 @@ class Pipe(Parts):
         self.hold = FALSE
         self.done = {name: self.pipe.input(f"{name}_done", TRUE) for name in ("imem", "int", "fp", "mem")}
         whole = sorts("pc" + " pg" * form.prediction, "v" + " pt" * form.prediction)
-        self.packets = {stage: self.pipe.group(stage, **whole) for stage in (2, 3)}
-        self.latches = {stage: [self.pipe.group(f"{stage}_{slot}", **self.held_by(stage, kind))
-                                for slot, kind in enumerate(self.kinds)] for stage in (2, 3)}
+        self.packets: Dict[int, Group] = {}
+        self.latches: Dict[int, List[Group]] = {}
+        for stage, name in ((2, "registers"), (3, "execute")):
+            self.pipe.comment(f"in {name}")
+            self.packets[stage] = self.pipe.group(stage, **whole)
+            self.latches[stage] = [self.pipe.group(f"{stage}_{slot}", **self.held_by(stage, kind))
+                                   for slot, kind in enumerate(self.kinds)]
+        self.pipe.comment("in write back: whether each slot writes a register file, where and what")
         self.back = {letter: {slot: self.pipe.group(f"4_{slot}", **{f"{letter}v": Bool, f"{letter}d": Word,
                                                                     f"{letter}x": Word})
                               for slot in writers(self, letter)} for letter in "ifpb"}

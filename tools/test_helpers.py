@@ -195,6 +195,20 @@ class Generators(unittest.TestCase):
             check(*superscalar.machines(2, 4), formula=second)
             self.assertEqual(first.read_bytes(), second.read_bytes())
 
+    def test_machines_of_the_field(self) -> None:
+        """What `bench/` writes of DLX and of VLIW machines is right, in each way of writing; its twins are wrong."""
+        for words, outcome in ((["dlx.py", "1xDLX-C"], Outcome.CORRECT),
+                               (["dlx.py", "1xDLX-C", "--idle", "--late", "--ordered"], Outcome.CORRECT),
+                               (["dlx.py", "1xDLX-C-MC-EX-BP"], Outcome.CORRECT),
+                               (["dlx.py", "1xDLX-C-EX", "--wrong", "faulting_store"], Outcome.WRONG_COMMUTE),
+                               (["dlx.py", "1xDLX-C-MC", "--wrong", "no_interlock"], Outcome.WRONG_INVARIANT),
+                               (["vliw.py", "4VLIW-MC-BP", "--wrong", "not_renamed"], Outcome.WRONG_COMMUTE)):
+            with self.subTest(words), tempfile.TemporaryDirectory() as folder:
+                files = [Path(folder, name) for name in ("p", "s", "i")[:3 if "DLX-C-MC" in words[1] else 2]]
+                script = Path(__file__).resolve().parent.parent / "bench" / words[0]
+                subprocess.run([sys.executable, str(script), *words[1:], *map(str, files)], check=True)
+                self.assertEqual(check(*files, diverse=True).outcome, outcome)
+
     def test_example_runs(self) -> None:
         self.assertEqual(len(list(example.verdicts(3))), 3)
 
