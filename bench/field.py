@@ -8,13 +8,14 @@ simplification, each with how many times ours they are, and their conflicts; and
 question as SMT-LIB (`smtlib.py`). The second table (--twins) has all wrong twins of each machine, the third (--ways)
 some machines written in other ways.
 
-Seconds are medians of --runs runs; with --counts each thing runs once and no seconds are printed, which serves where
-other work is done beside. `-` is a program that isn't installed, `>N` one that didn't end within the limit, of N
-processor seconds. It stops where two of them don't say the same. With --write a table is also put into FILE, in place
-of the one between the marks of its name, as `<!-- machines: made by bench/field.py -->`, `<!-- machines: to here -->`.
+Seconds are medians of --runs runs; what takes more than half a minute runs once. With --counts each thing runs once and
+no seconds are printed, which serves where other work is done beside. `-` is a program that isn't installed, `>N` one
+that didn't end within the limit, of N processor seconds. It stops where two of them don't say the same. With --write
+the rows are put into FILE too, between the marks of their table, as `<!-- machines: made by bench/field.py -->` and
+`<!-- machines: to here -->`; rows that stand there under the same head are kept where they weren't asked for.
 
 usage: field.py PROGRAM [--twins | --ways] [--all] [--only WORD] [--runs N] [--limit SECONDS] [--smt SECONDS]
-                [--counts] [--write FILE]
+                [--budget N] [--counts] [--write FILE]
 """
 import argparse
 import os
@@ -34,9 +35,10 @@ SOLVERS = {"minisat": ["minisat"], "cadical": ["cadical"],
 SMT = {"z3": ["z3"], "cvc5": ["cvc5", "--incremental"]}
 MACHINES = ("1xDLX-C", "1xDLX-C-MC-EX-BP", "2xDLX-CA", "2xDLX-CA-MC-EX-BP", "2xDLX-CC", "2xDLX-CC-MC", "2xDLX-CC-EX",
             "2xDLX-CC-BP", "2xDLX-CC-MC-EX-BP", "4VLIW-MC", "4VLIW-MC-BP", "9VLIW-MC", "9VLIW-MC-BP")
-WRITTEN = ("1xDLX-C", "1xDLX-C-MC-EX-BP", "2xDLX-CA", "2xDLX-CC-MC-EX-BP")
+WRITTEN = ("1xDLX-C", "1xDLX-C-MC-EX-BP", "2xDLX-CA")
 WAYS = {"as it is": {}, "decode written without a fetch": {"idle": True}, "fields taken in decode": {"late": True},
         "a memory for data": {"ordered": True}, "all three": {"idle": True, "late": True, "ordered": True}}
+LONG = 30  # seconds, from which on nothing runs twice
 EVERY = [*dlx.machines(), *vliw.machines()]
 
 
@@ -54,8 +56,10 @@ class Question:
                 with open(self.files[-1], "w", encoding="ascii") as file:
                     file.write(text)
 
-    def command(self, program):
-        return [program, "check", *self.files, "--diverse"]
+    def command(self, words, budget=None):
+        """The words that ask it, within a budget."""
+        most = str(words.budget if budget is None else budget)
+        return [words.program, "check", *self.files, "--diverse", "--budget", most]
 
     def as_smt(self):
         """The name of the question's file as SMT-LIB."""
@@ -73,19 +77,28 @@ def median(command, limit, runs):
             return None
         output = done[0]
         times.append(done[2])
+        if done[2] > LONG:
+            break
     return output, statistics.median(times)
+
+
+def sizes(cnf):
+    """How many variables and clauses a formula has."""
+    return [f"{int(count):,}" for count in formula_size(cnf)]
 
 
 def own_cells(question, words):
     """What the program says, its seconds, and the cells of its row."""
-    kept = run([*question.command(words.program), "--cnf", question.cnf, "--lrat", question.proof], words.limit)
+    kept = run([*question.command(words), "--cnf", question.cnf, "--lrat", question.proof], words.limit)
     if kept is None:
-        return None, words.limit, ["-", *([] if words.counts else [f">{words.limit}"]), "-", "-", "-"]
+        run([*question.command(words, 0), "--cnf", question.cnf], words.limit)
+        seconds = [] if words.counts else [f">{words.limit}"]
+        return None, words.limit, ["-", *seconds, "-", *sizes(question.cnf)]
     answer = kept[0].split("\n", 1)[0]
-    counts = [f"{int(count):,}" for count in (added_clauses(question.proof), *formula_size(question.cnf))]
+    counts = [f"{added_clauses(question.proof):,}", *sizes(question.cnf)]
     if words.counts:
         return answer, None, [answer, *counts]
-    timed = median(question.command(words.program), words.limit, words.runs)
+    timed = median(question.command(words), words.limit, words.runs)
     own = timed[1] if timed else words.limit
     return answer, own, [answer, f"{own:.2f}", *counts]
 
@@ -114,7 +127,7 @@ def machine_rows(words, folder):
         answer, own, cells = own_cells(question, words)
         if answer and not answer.startswith("undecided"):
             answers[answer.split()[0]] = words.program
-        for command in SOLVERS.values() if os.path.exists(question.cnf) else ():
+        for command in SOLVERS.values():
             seconds, count = other_cells([*command, question.cnf], words.limit, own, words, answers)
             cells += [count] if words.counts else [seconds, count]
         for command in () if words.counts else SMT.values():
@@ -133,7 +146,7 @@ def twin_rows(words, folder):
         for twin in twins:
             question = Question(folder, name, wrong=twin)
             answer, own, cells = own_cells(question, words)
-            learned = int(cells[-3].replace(",", "")) if answer else 0
+            learned = int(cells[-3].replace(",", "")) if answer else words.budget
             found.append((own or 0, learned, twin, bool(answer and answer.startswith("wrong"))))
         missed = [twin for _, _, twin, is_found in found if not is_found]
         slowest = max(found) if not words.counts else max(found, key=lambda row: row[1])
@@ -164,7 +177,16 @@ def heads(words):
     return "machines", machine_rows, ["machine", *own, *others]
 
 
-def put(name, table, document):
+def merged(old, new):
+    """A table's lines with what the new one has of it, or the new one where its head is another."""
+    if old[:2] != new[:2]:
+        return new
+    keys = 2 if " written " in new[0] else 1
+    rows = {tuple(line.split(" | ")[:keys]): line for line in [*old[2:], *new[2:]]}
+    return [*new[:2], *rows.values()]
+
+
+def put(name, lines, document):
     """Puts a table between its marks in a document."""
     first, last = f"<!-- {name}: made by bench/field.py -->\n", f"<!-- {name}: to here -->"
     with open(document, encoding="ascii") as file:
@@ -172,8 +194,10 @@ def put(name, table, document):
     found = re.search(re.escape(first) + ".*?" + re.escape(last), text, re.DOTALL)
     if not found:
         raise SystemExit(f"{document} has no marks for {name}")
+    old = [line for line in found.group().split("\n") if line.startswith("|")]
+    table = "\n".join(merged(old, lines))
     with open(document, "w", encoding="ascii") as file:
-        file.write(text[:found.start()] + first + "\n" + table + "\n" + last + text[found.end():])
+        file.write(f"{text[:found.start()]}{first}\n{table}\n\n{last}{text[found.end():]}")
 
 
 def main():
@@ -187,6 +211,7 @@ def main():
     parser.add_argument("--runs", type=int, default=3, help="how many runs a median is of")
     parser.add_argument("--limit", type=int, default=300, help="processor seconds for each run")
     parser.add_argument("--smt", type=int, default=60, help="the same for `z3` and `cvc5`")
+    parser.add_argument("--budget", type=int, default=200000, help="how many clauses `check` may learn")
     parser.add_argument("--counts", action="store_true", help="one run each, and no seconds")
     parser.add_argument("--write", metavar="FILE", help="put the table into this document too")
     words = parser.parse_args()
@@ -198,7 +223,7 @@ def main():
             lines.append("| " + " | ".join(cells) + " |")
             print(lines[-1], flush=True)
     if words.write:
-        put(name, "\n".join(lines) + "\n", words.write)
+        put(name, lines, words.write)
 
 
 if __name__ == "__main__":
