@@ -173,7 +173,7 @@ class Cases(unittest.TestCase):
         case = Case.read(PRINTED)
         self.assertEqual(case.text(), PRINTED)
         self.assertEqual(case.symbols["alu"], Table(0, (Row((3, 10), 12), Row((3, 12), 15))))
-        self.assertEqual((case.state["v"], case.state["d"], case.inputs), (True, 8, {"stall": False}))
+        self.assertEqual((case.state["v"], case.state["d"], case.inputs), (True, 7, {"stall": False}))
 
     def test_every_kind(self) -> None:
         text = ("(case 2\n (constant zero 7)\n (predicate taken false (7 true))\n (function f 1 (2 3 4))\n"
@@ -275,7 +275,7 @@ class Answers(unittest.TestCase):
         self.assertEqual(states[0], case.state)
         rf, after = states[0]["rf"], states[1]["rf"]
         assert isinstance(rf, Table) and isinstance(after, Table)
-        self.assertEqual((rf(8), after(8)), (10, 12))
+        self.assertEqual((rf(7), after(7)), (10, 12))
         self.assertEqual(run(STALE, SPEC, case, 0), states[:1])
 
     def test_saved_proof_is_read(self) -> None:

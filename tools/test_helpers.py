@@ -143,7 +143,7 @@ class Shown(unittest.TestCase):
             self.assertIn("<html", Path(folder, "page.html").read_text())
         self.assertEqual(shown.judgement, Judgement.BROKEN_COMMUTE)
         self.assertEqual(str(shown), shown.text)
-        self.assertIn("rf[8]*", shown.text)
+        self.assertIn("rf[7]*", shown.text)
         self.assertIsNone(shrink(TWO_STAGE, SPEC, case))
         self.assertEqual(show(TWO_STAGE, SPEC, case, whole=True).judgement, Judgement.HOLDS)
         self.assertEqual(f"{case}", case.text())
@@ -201,7 +201,7 @@ class Generators(unittest.TestCase):
                                (["dlx.py", "1xDLX-C", "--idle", "--late", "--ordered"], Outcome.CORRECT),
                                (["dlx.py", "1xDLX-C-MC-EX-BP"], Outcome.CORRECT),
                                (["dlx.py", "1xDLX-C-EX", "--wrong", "faulting_store"], Outcome.WRONG_COMMUTE),
-                               (["dlx.py", "1xDLX-C-MC", "--wrong", "no_interlock"], Outcome.WRONG_INVARIANT),
+                               (["dlx.py", "1xDLX-C-MC", "--wrong", "no_interlock"], Outcome.WRONG_COMMUTE),
                                (["vliw.py", "4VLIW-MC-BP", "--wrong", "not_renamed"], Outcome.WRONG_COMMUTE)):
             with self.subTest(words), tempfile.TemporaryDirectory() as folder:
                 files = [Path(folder, name) for name in ("p", "s", "i")[:3 if "DLX-C-MC" in words[1] else 2]]
