@@ -78,7 +78,7 @@ fn truth_graph(
         (Term flat.now.root)) }
 {
     let marks = reached(&flat.graph, flat.root)?;
-    let mut trees = Trees::new(alloc, flat.graph.len())?;
+    let mut trees = Trees::new(alloc, flat.graph.len(), marked.is_some())?;
     let mut encoding = Encoding::new(alloc);
     for index in 0..flat.graph.len() {
         let id = flat.graph.id(index);

@@ -1,7 +1,8 @@
 //! By which control an equation of two ite trees is taken apart. By the one that was made later, as in a decision
 //! diagram: so both words are taken apart from the same end. But where half of the earlier word's tree stands in that of
 //! the later one, this is the earlier one with more done before it, as a memory with more writes: it is taken apart first,
-//! until both are the same again.
+//! until both are the same again. Without marked variables that serves less, and the later word is always taken apart
+//! first.
 ghost use Rattle.std.specs.Prelude.{◌<◌, IfOk, length};
 ghost use Rattle.bd_equality.specs.inner.Split.{IsChosen};
 
@@ -12,10 +13,11 @@ use std::alloc::{AllocError, Global};
 /// How many words of a tree a walk looks at.
 const LIMIT: usize = 512;
 
-/// Walks over ite trees, each of which marks the words that it comes to.
+/// Walks over ite trees, each of which marks the words that it comes to, and whether the later control may go first.
 #[derive(Drop)]
 pub(crate) struct Trees {
     alloc: Global,
+    by_controls: bool,
     marks: Vec<u64>,
     walk: u64,
 }
@@ -28,8 +30,9 @@ struct Seen {
 }
 
 impl Trees {
-    pub(crate) fn new(alloc: Global, words: usize) -> Result<Trees, AllocError> {
+    pub(crate) fn new(alloc: Global, words: usize, by_controls: bool) -> Result<Trees, AllocError> {
         Ok(Trees {
+            by_controls,
             marks: vec![in alloc; 0; words]?,
             walk: 0,
             alloc,
@@ -55,7 +58,8 @@ impl Trees {
         let Some(later) = head(graph, equation.right) else {
             return Ok(Some(earlier));
         };
-        if earlier.index() <= later.index() || self.shares_half(graph, equation)? {
+        let is_earlier = !self.by_controls || earlier.index() <= later.index();
+        if is_earlier || self.shares_half(graph, equation)? {
             Ok(Some(later))
         } else {
             Ok(Some(earlier))
