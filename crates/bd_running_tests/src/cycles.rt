@@ -4,9 +4,9 @@ use bd_examples::build::{case, design, expr, is_state, locals, state, value};
 use bd_examples::cases::{GOING, PENDING, SEVEN_AT_FIVE};
 use bd_examples::designs::{STALLING_BIT, TWO_STAGE, WRITE_BACK};
 use bd_examples::draft::{CaseDraft, DesignDraft, Held};
-use bd_examples::forms::{EACH_FORM, FORMS, LET_VALUES, LETS, SEVENS};
+use bd_examples::forms::{FORMS, LETS, SEVENS};
 use bd_model::{Case, Design, Exprs, State, States};
-use bd_sim::{eval, flush, look, spec_step, step, trace, values_after};
+use bd_sim::{flush, look, spec_step, step, trace, values_after};
 use std::alloc::{AllocError, Global};
 use std::process::Abort;
 use std::test::Fail;
@@ -30,37 +30,6 @@ fn on_sevens(rt: &impl Abort, alloc: Global) -> Result<(), AllocError> {
 #[test]
 fn forms_are_valued(rt: HostRuntime) -> Result<(), Fail> {
     on_sevens(&rt, rt.alloc())?;
-    Ok(())
-}
-
-/// That each form has the value that is wanted, where the lets have these values.
-fn each_form(
-    rt: &impl Abort,
-    alloc: Global,
-    design: &Design,
-    at: &Case,
-    lets: &State,
-) -> Result<(), AllocError> {
-    for (form, (draft, held)) in FORMS.iter().enumerate() {
-        let expr = expr(alloc, draft)?;
-        let found = eval(
-            alloc, design, &expr, &at.interp, &at.state, &at.inputs, lets,
-        )?;
-        assert!(rt; found == value(alloc, held)?, "form {form}");
-    }
-    Ok(())
-}
-
-fn with_lets(rt: &impl Abort, alloc: Global) -> Result<(), AllocError> {
-    let design = design(alloc, &EACH_FORM)?;
-    let at = case(alloc, &SEVENS)?;
-    let lets = state(alloc, &LET_VALUES)?;
-    each_form(rt, alloc, &design, &at, &lets)
-}
-
-#[test]
-fn forms_are_valued_under_lets(rt: HostRuntime) -> Result<(), Fail> {
-    with_lets(&rt, rt.alloc())?;
     Ok(())
 }
 
