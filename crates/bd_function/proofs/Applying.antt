@@ -15,10 +15,11 @@ use Rattle.bd_terms.specs.declared.node.Sym.TheVariants.{Var}
 use Rattle.bd_terms.specs.declared.node.Node.{Node}
 use Rattle.bd_terms.specs.Graph.{Extends, HasSort, Use, node_uses, sort_at, uses}
 use Rattle.bd_terms.specs.Denotation.{denoted}
-use Rattle.bd_terms.proofs.Growth.{All-HasSort-Extends, denoted-Extends, inside-Extends, sort_at-Extends}
+use Rattle.bd_terms.proofs.Growth.{All-HasSort-Extends, denoted-Extends, get-Extends, inside-Extends, sort_at-Extends}
 use Rattle.bd_function.specs.declared.flat.FlatRow.{FlatRow}
 use Rattle.bd_function.specs.declared.flat.FlatSym.{FlatSym}
-use Rattle.bd_function.specs.Flat.{arguments, first_value, row_of, under}
+use Rattle.bd_function.specs.Flat.{application, arguments, first_value, row_of, under}
+use Rattle.bd_function.specs.Flattened.{StandsFor}
 use Rattle.bd_terms.specs.Renamed.{id_at}
 use Rattle.bd_function.specs.inner.Nested.{chosen}
 use Rattle.bd_function.specs.inner.Taken.{IsRow, as_sort, row_sort, use_of, with_row}
@@ -118,6 +119,10 @@ IsRow-later old new e variables own r h =
       inside = subst (λ i. i < length new) (sym place) (inside-Extends old new e (id_at variables r.var) h.inside);
       applied = subst (λ s. Contains (uses new) (use_of (Var r.var) 0 s)) (sym kind) (uses-Extends old new e _ h.applied);
       value = λ v. ap (denoted (under v) new) place ∙ denoted-Extends (under v) old new e (id_at variables r.var) h.inside ∙ h.value v ∙ ap (λ s. as_sort s (v r.var)) (sym kind);
+      stands =
+          subst (StandsFor new (row_sort new (variables ++ own ∷ []) r) r.var) (sym place)
+          (subst (λ s. StandsFor new s r.var (id_at variables r.var)) (sym kind)
+          (get-Extends old new e (id_at variables r.var) (application (row_sort old variables r) (Var r.var) []) h.stands));
     }
 
 -- the symbol at the place with a row more, or another one

@@ -5,6 +5,7 @@ pub mod Applying
 pub mod LaterVariables
 pub mod Choosing
 pub mod Stepping
+pub mod Making
 pub mod Taking
 pub mod Flattening
 pub mod Evaluating

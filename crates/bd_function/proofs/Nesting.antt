@@ -1,5 +1,5 @@
 -- The nested ite of an application, as it is built from its own variable outwards.
-use Rattle.std.proofs.Common.{◌≡◌, ℕ, zero, suc, ◌<◌, ◌&&◌, ◌==◌, if◌then◌else◌, List, [], ◌∷◌, length, drop, slice_get, Some, nat_eq, refl, ap, sym, ◌∙◌}
+use Rattle.std.proofs.Common.{◌≡◌, ℕ, zero, suc, ◌<◌, ◌&&◌, ◌==◌, if◌then◌else◌, List, [], ◌∷◌, length, drop, slice_get, Some, nat_eq, refl, ap, sym, ◌∙◌, subst}
 use Rattle.std.specs.List.{All}
 use Rattle.std.proofs.lemmas.Option.{none-some, same_Some}
 use Rattle.std.proofs.lemmas.List.Elements.{All-head, All-tail, All-contains}
@@ -11,9 +11,13 @@ use Rattle.bd_terms.specs.Graph.{AddsUses, Extends, HasSort, IsGraph, sort_at}
 use Rattle.bd_terms.specs.Denotation.{World, Denotes, Truth, denoted, truth, truth_of, word, word_of, words}
 use Rattle.bd_terms.proofs.Growth.{AddsUses-self, AddsUses-trans, Extends-self, Extends-trans, denoted-Extends}
 use Rattle.bd_terms.proofs.Places.{Contains-get}
+use Rattle.bd_terms.specs.declared.node.Node.TheVariants.{True, And, Eq, Ite}
+use Rattle.bd_walk.specs.Built.{IsBuilt}
+use Rattle.bd_walk.proofs.Building.{IsBuilt-Extends}
+use Rattle.bd_function.specs.Flattened.{IsEquality}
 use Rattle.bd_function.specs.declared.flat.FlatRow.{FlatRow}
 use Rattle.bd_terms.specs.Renamed.{id_at}
-use Rattle.bd_function.specs.inner.Nested.{AreEarlier, IsEarlier, chosen}
+use Rattle.bd_function.specs.inner.Nested.{AreEarlier, IsEarlier, IsNestedChoice, chosen}
 
 pub drop-get : {X : Type 0} → (xs : List X) (k : ℕ) (x : X) → slice_get xs k ≡ Some x → drop k xs ≡ x ∷ drop (suc k) xs
 drop-get [] k x h = absurd (none-some x h)
@@ -32,22 +36,43 @@ words-Extends w old new e (a ∷ args) h =
     let tail : words w new args ≡ words w old args = words-Extends w old new e args (All-tail (λ a. HasSort old a sort.Word) a args h) in
     λ i. head i ∷ tail i
 
+pub IsEquality-Extends : (a b : List Node) → Extends a b → (left right : List ℕ) (id : ℕ) → IsEquality a left right id → IsEquality b left right id
+IsEquality-Extends a b e [] [] id h = IsBuilt-Extends a b e True id h
+IsEquality-Extends a b e (x ∷ left) (y ∷ right) id h =
+    (h.0, h.1, IsBuilt-Extends a b e (Eq x y) h.0 h.2, IsEquality-Extends a b e left right h.1 h.3, IsBuilt-Extends a b e (And h.0 h.1) id h.4)
+IsEquality-Extends a b e [] (y ∷ right) id h = absurd h
+IsEquality-Extends a b e (x ∷ left) [] id h = absurd h
+
+pub IsNestedChoice-Extends : (a b : List Node) → Extends a b → (variables : List ℕ) (rows : List FlatRow) (args : List ℕ) (own id : ℕ) → IsNestedChoice a variables rows args own id → IsNestedChoice b variables rows args own id
+IsNestedChoice-Extends a b e variables [] args own id h = h
+IsNestedChoice-Extends a b e variables (r ∷ rows) args own id h = (
+  h.0,
+  h.1,
+  IsEquality-Extends a b e r.args args h.0 h.2,
+  IsNestedChoice-Extends a b e variables rows args own h.1 h.3,
+  IsBuilt-Extends a b e (Ite h.0 (id_at variables r.var) h.1) id h.4,
+)
+
 -- the equations from a place on
 pub record IsEqual (old new : List Node) (left right : List ℕ) (index id : ℕ) : Type 0 where
   pub extends : Extends old new
   pub uses : AddsUses old new []
   pub sorted : HasSort new id sort.Bool
   pub denotes : Denotes new id (λ w. Truth (pointwise nat_eq (words w old (drop index left)) (words w old (drop index right))))
+  pub made : IsEquality new (drop index left) (drop index right) id
 
 pub IsEqual-start : (old new : List Node) (left right : List ℕ) (id : ℕ) → length left ≡ length right → Extends old new → AddsUses old new []
-    → HasSort new id sort.Bool → Denotes new id (λ w. Truth (pointwise nat_eq (words w old []) (words w old []))) → IsEqual old new left right (length left) id
-IsEqual-start old new left right id size e u s d = record {
+    → HasSort new id sort.Bool → Denotes new id (λ w. Truth (pointwise nat_eq (words w old []) (words w old []))) → IsBuilt new True id → IsEqual old new left right (length left) id
+IsEqual-start old new left right id size e u s d b = record {
   extends = e;
   uses = u;
   sorted = s;
   denotes = record {
     is = λ w. d.is w ∙ sym (λ i. Truth (pointwise nat_eq (words w old (drop-all left i)) (words w old ((ap (λ n. drop n right) size ∙ drop-all right) i))));
   };
+  made =
+      subst (λ l. IsEquality new l (drop (length left) right) id) (sym (drop-all left))
+      (subst (λ l. IsEquality new [] l id) (sym (ap (λ n. drop n right) size ∙ drop-all right)) b);
 }
 
 pub IsEqual-step : (old g g1 g2 : List Node) (left right : List ℕ) (k id e id2 x y : ℕ)
@@ -55,8 +80,9 @@ pub IsEqual-step : (old g g1 g2 : List Node) (left right : List ℕ) (k id e id2
     → IsEqual old g left right (suc k) id
     → Extends g g1 → AddsUses g g1 [] → Denotes g1 e (λ w. Truth (word w g x == word w g y))
     → Extends g1 g2 → AddsUses g1 g2 [] → Denotes g2 id2 (λ w. Truth (truth w g1 e && truth w g1 id)) → HasSort g2 id2 sort.Bool
+    → IsBuilt g1 (Eq x y) e → IsBuilt g2 (And e id) id2
     → IsEqual old g2 left right k id2
-IsEqual-step old g g1 g2 left right k id e id2 x y hl hr gl gr h e1 u1 d1 e2 u2 d2 s2 = record {
+IsEqual-step old g g1 g2 left right k id e id2 x y hl hr gl gr h e1 u1 d1 e2 u2 d2 s2 b1 b2 = record {
   extends = Extends-trans old g g2 h.extends (Extends-trans g g1 g2 e1 e2);
   uses = AddsUses-trans old g g2 [] h.uses (AddsUses-trans g g1 g2 [] u1 u2);
   sorted = s2;
@@ -69,6 +95,10 @@ IsEqual-step old g g1 g2 left right k id e id2 x y hl hr gl gr h e1 u1 d1 e2 u2 
         d2.is w ∙ (λ i. Truth (first i && rest i))
         ∙ sym (λ i. Truth (pointwise nat_eq (words w old (drop-get left k x gl i)) (words w old (drop-get right k y gr i))));
   };
+  made =
+      subst (λ l. IsEquality g2 l (drop k right) id2) (sym (drop-get left k x gl))
+      (subst (λ l. IsEquality g2 (x ∷ drop (suc k) left) l id2) (sym (drop-get right k y gr))
+      (e, id, IsBuilt-Extends g1 g2 e2 (Eq x y) e b1, IsEquality-Extends g g2 (Extends-trans g g1 g2 e1 e2) (drop (suc k) left) (drop (suc k) right) id h.made, b2));
 }
 
 -- the choice among the rows from a place on
@@ -78,6 +108,7 @@ pub record IsNested (old new : List Node) (variables : List ℕ) (rows : List Fl
   pub sorted : HasSort new id (sort_at old own)
   pub denotes : Denotes new id (λ w. chosen w old variables (drop index rows) args (denoted w old own))
   pub graph : IsGraph old → IsGraph new
+  pub made : IsNestedChoice new variables (drop index rows) args own id
 
 pub IsNested-start : (old : List Node) (variables : List ℕ) (rows : List FlatRow) (args : List ℕ) (own : ℕ) → own < length old → IsNested old old variables rows args own (length rows) own
 IsNested-start old variables rows args own inside = record {
@@ -86,6 +117,7 @@ IsNested-start old variables rows args own inside = record {
   sorted = record { inside = inside; sorted = refl };
   denotes = record { is = λ w. sym (λ i. chosen w old variables (drop-all rows i) args (denoted w old own)) };
   graph = λ g. g;
+  made = subst (λ l. IsNestedChoice old variables l args own own) (sym (drop-all rows)) refl;
 }
 
 pub IsNested-step : (old g g1 g2 : List Node) (variables : List ℕ) (rows : List FlatRow) (args : List ℕ) (own k id e id2 : ℕ) (r : FlatRow)
@@ -93,9 +125,9 @@ pub IsNested-step : (old g g1 g2 : List Node) (variables : List ℕ) (rows : Lis
     → IsNested old g variables rows args own (suc k) id
     → Extends g g1 → AddsUses g g1 [] → Denotes g1 e (λ w. Truth (pointwise nat_eq (words w g r.args) (words w g args)))
     → Extends g1 g2 → AddsUses g1 g2 [] → Denotes g2 id2 (λ w. if truth w g1 e then denoted w g1 (id_at variables r.var) else denoted w g1 id)
-    → HasSort g2 id2 (sort_at old own) → IsGraph g2
+    → HasSort g2 id2 (sort_at old own) → IsGraph g2 → IsEquality g1 r.args args e → IsBuilt g2 (Ite e (id_at variables r.var) id) id2
     → IsNested old g2 variables rows args own k id2
-IsNested-step old g g1 g2 variables rows args own k id e id2 r ha hr gr h e1 u1 d1 e2 u2 d2 s2 is =
+IsNested-step old g g1 g2 variables rows args own k id e id2 r ha hr gr h e1 u1 d1 e2 u2 d2 s2 is b1 b2 =
     let row = All-contains (IsEarlier old variables (length args) (sort_at old own)) rows r hr (Contains-get rows k r gr) in
     record {
       extends = Extends-trans old g g2 h.extends (Extends-trans g g1 g2 e1 e2);
@@ -112,6 +144,9 @@ IsNested-step old g g1 g2 variables rows args own k id e id2 r ha hr gr h e1 u1 
             ∙ sym (λ i. chosen w old variables (drop-get rows k r gr i) args (denoted w old own));
       };
       graph = λ g. is;
+      made =
+          subst (λ l. IsNestedChoice g2 variables l args own id2) (sym (drop-get rows k r gr))
+          (e, id, IsEquality-Extends g1 g2 e2 r.args args e b1, IsNestedChoice-Extends g g2 (Extends-trans g g1 g2 e1 e2) variables (drop (suc k) rows) args own id h.made, b2);
     }
 
 pub row-get : (nodes : List Node) (variables : List ℕ) (arity : ℕ) (s : Sort) (rows : List FlatRow) (k : ℕ) (r : FlatRow)

@@ -15,13 +15,14 @@ use Rattle.bd_terms.specs.declared.node.Node.{Node}
 use Rattle.bd_terms.specs.Graph.{AddsUses, Extends, HasSort, IsGraph, Use, sort_at, uses}
 use Rattle.bd_terms.specs.Denotation.{World, Denotes, denoted, words}
 use Rattle.bd_terms.proofs.Places.{All-of, Contains-get}
-use Rattle.bd_terms.proofs.Growth.{All-HasSort-Extends, Extends-trans, HasSort-Extends, denoted-Extends}
+use Rattle.bd_terms.proofs.Growth.{All-HasSort-Extends, Extends-trans, HasSort-Extends, denoted-Extends, get-Extends}
 use Rattle.bd_function.specs.declared.flat.FlatRow.{FlatRow}
 use Rattle.bd_function.specs.declared.flat.FlatSym.{FlatSym}
 use Rattle.bd_function.specs.declared.eliminate.Taken.{Taken}
-use Rattle.bd_function.specs.Flat.{IsChosen, KeepsFirst, arguments, first_value, under}
+use Rattle.bd_function.specs.Flat.{IsChosen, KeepsFirst, application, arguments, first_value, under}
+use Rattle.bd_function.specs.Flattened.{StandsFor}
 use Rattle.bd_terms.specs.Renamed.{id_at}
-use Rattle.bd_function.specs.inner.Nested.{AreEarlier, IsEarlier, chosen}
+use Rattle.bd_function.specs.inner.Nested.{AreEarlier, IsEarlier, IsNestedChoice, chosen}
 use Rattle.bd_function.specs.inner.Taken.{AddsSymbol, AddsVariable, AreAlike, Chooses, HasRow, HasUse, IsApplied, IsRow, IsTaken, IsVariableBelow, Steps, as_sort, row_sort, use_of, with_row}
 use Rattle.bd_function.proofs.Nesting.{words-Extends}
 use Rattle.bd_function.proofs.Choosing.{AddsRow-IsChosen, Chooses-symbol}
@@ -97,9 +98,10 @@ pub record Applies (t2 t4 : Taken) (own id place var : ℕ) (args : List ℕ) (h
   pub variables : t4.variables.items ≡ t2.variables.items
   pub symbols : t4.symbols.keys ≡ t2.symbols.keys
   pub rows : t4.rows.items ≡ with_row t2.rows.items place (record { args = args; var = var })
+  pub made : IsNestedChoice t4.graph t2.variables.items holder.rows args own id
 
 -- a row is an earlier one, or the new one
-HasRow-cases : (t t1 t2 : Taken) (own : ℕ) (s : Sort) (k : Sym) (place : ℕ) (new : FlatRow) → AddsVariable t t1 own s → AddsSymbol t1 t2 k place
+pub HasRow-cases : (t t1 t2 : Taken) (own : ℕ) (s : Sort) (k : Sym) (place : ℕ) (new : FlatRow) → AddsVariable t t1 own s → AddsSymbol t1 t2 k place
     → (symbol : Sym) (r : FlatRow) → HasRow (with_row t2.rows.items place new) symbol r → HasRow t.rows.items symbol r ⊎ ((symbol ≡ k) × (r ≡ new))
 HasRow-cases t t1 t2 own s k place new v a symbol r h = elim (with_row-cases t2.rows.items place a.holder new a.there h.holder h.listed) [
   | inl q ↦ inl (HasRow-old t t1 t2 own s k place v a symbol r (record { holder = h.holder; listed = q; same = h.same; has = h.has }))
@@ -197,6 +199,9 @@ Applies-Steps t t1 t2 t4 own id place args s k taken alike inside v a ap4 =
       inside = subst (λ i. i < length t4.graph) (sym place_own) (HasSort-Extends t2.graph t4.graph ap4.extends own s own2).inside;
       applied = subst (λ x. Contains (uses t4.graph) (use_of (Var n) 0 x)) (sym kind) (uses-Extends t1.graph t4.graph e14 _ v.term.applied);
       value = λ b. ap (denoted (under b) t4.graph) place_own ∙ denoted-Extends (under b) t1.graph t4.graph e14 own v.term.sorted.inside ∙ v.term.denotes.is (under b) ∙ ap (λ x. as_sort x (b n)) (sym kind);
+      stands =
+          subst (StandsFor t4.graph (row_sort t4.graph (t.variables.items ++ own ∷ []) new) n) (sym place_own)
+          (subst (λ x. StandsFor t4.graph x n own) (sym kind) (get-Extends t1.graph t4.graph e14 own (application s (Var n) []) v.term.stands));
     } in
     record {
       extends = e04;

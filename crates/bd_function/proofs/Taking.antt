@@ -12,11 +12,12 @@ use Rattle.bd_terms.specs.declared.node.Node.{Node}
 use Rattle.bd_terms.specs.declared.node.Node.TheVariants.{True, Not, And, Or, Ite, Eq, App, Pred, Read, Write, Init}
 use Rattle.bd_terms.specs.Graph.{AddsUses, Extends, HasSort, IsGraph, Use, children, node_sort, node_uses, sorts, uses}
 use Rattle.bd_terms.specs.Denotation.{World, Denoted, Denotes, denoted, node_value, values, words}
-use Rattle.bd_terms.proofs.Growth.{All-HasSort-Extends, denoted-Extends, inside-Extends, sort_at-Extends}
+use Rattle.bd_terms.proofs.Growth.{All-HasSort-Extends, denoted-Extends, get-Extends, inside-Extends, sort_at-Extends}
 use Rattle.bd_function.specs.declared.flat.FlatRow.{FlatRow}
 use Rattle.bd_function.specs.declared.flat.FlatSym.{FlatSym}
 use Rattle.bd_function.specs.declared.eliminate.Taken.{Taken}
-use Rattle.bd_function.specs.Flat.{under}
+use Rattle.bd_function.specs.Flat.{application, under}
+use Rattle.bd_function.specs.Flattened.{StandsFor}
 use Rattle.bd_terms.specs.Renamed.{id_at, renamed}
 use Rattle.bd_function.specs.inner.Taken.{AreAlike, Chooses, HasRow, IsPlain, IsRow, IsTaken, IsVariableBelow, Steps, as_sort, row_sort, use_of}
 use Rattle.bd_function.proofs.Applying.{Contains-none, Later-same, uses-Extends}
@@ -96,6 +97,9 @@ IsRow-Extends old new e variables r h =
       inside = inside-Extends old new e (id_at variables r.var) h.inside;
       applied = subst (λ s. Contains (uses new) (use_of (Var r.var) 0 s)) (sym kind) (uses-Extends old new e _ h.applied);
       value = λ v. denoted-Extends (under v) old new e (id_at variables r.var) h.inside ∙ h.value v ∙ ap (λ s. as_sort s (v r.var)) (sym kind);
+      stands =
+          subst (λ s. StandsFor new s r.var (id_at variables r.var)) (sym kind)
+          (get-Extends old new e (id_at variables r.var) (application (row_sort old variables r) (Var r.var) []) h.stands);
     }
 
 -- a term that applies no symbol is a step

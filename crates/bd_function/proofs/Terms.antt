@@ -21,6 +21,7 @@ AddsTerm-word old new var id e u s d g k = record {
   sorted = s;
   denotes = record { is = d.is };
   graph = k;
+  stands = g.stored;
 }
 
 pub AddsTerm-truth : (old new : List Node) (var id : ℕ) → Extends old new → AddsUses old new (use_of (Var var) 0 sort.Bool ∷ []) → HasSort new id sort.Bool
@@ -32,6 +33,7 @@ AddsTerm-truth old new var id e u s d g k = record {
   sorted = s;
   denotes = record { is = d.is };
   graph = k;
+  stands = g.stored;
 }
 
 -- a scalar that is no word is a truth value

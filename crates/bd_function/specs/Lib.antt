@@ -1,4 +1,5 @@
 pub mod Flat
+pub mod Flattened
 pub mod Values
 pub mod Tables
 pub mod inner

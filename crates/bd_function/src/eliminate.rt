@@ -11,7 +11,8 @@ ghost use Rattle.bd_terms.specs.Graph.{AddsUses, Extends, FitsSorts, HasSort, Is
 ghost use Rattle.bd_terms.specs.Denotation.{Denotes, World, node_value, values, words};
 ghost use Rattle.bd_function.specs.Flat.{AreApplications, Flattens, HasAllApplications, IsChosen, ReachesNoMemory, under};
 ghost use Rattle.bd_terms.specs.Renamed.{renamed};
-ghost use Rattle.bd_function.specs.inner.Taken.{AddsSymbol, AddsTerm, AddsVariable, AreAlike, IsPlain, IsTaken, Steps, as_sort, is_scalar, use_of, with_row};
+ghost use Rattle.bd_function.specs.Flattened.{IsMadeFlat};
+ghost use Rattle.bd_function.specs.inner.Taken.{AddsApplication, AddsSymbol, AddsTerm, AddsVariable, AreAlike, IsPlain, IsTaken, MakesTerm, Steps, as_sort, is_scalar, use_of, with_row};
 
 use crate::flat::{Flat, FlatRow, FlatRows, FlatSym, FlatSyms};
 use crate::nested::nested;
@@ -36,6 +37,7 @@ pub fn flatten(alloc: Global, graph: &Graph, root: Id) -> Result<Flat, AllocErro
     requires sorted { HasSort graph.now root kind.Bool }
     requires memory { ReachesNoMemory graph.now root }
     ensures flattens { IfOk result (λ f. Flattens graph.now root f.graph f.root f.syms) }
+    ensures made { IfOk result (λ f. IsMadeFlat graph.now root f.graph f.root f.syms) }
     ensures rows { IfOk result (λ f. AreApplications graph.now root f.graph f.syms) }
     ensures all_rows { IfOk result (λ f. HasAllApplications graph.now root f.graph f.syms) }
     ensures chosen { IfOk result (λ f. (w : World) (choice : ℕ → Scalar) →
@@ -73,7 +75,8 @@ fn take(alloc: Global, taken: &mut Taken, ids: &[Id], node: &Node) -> Result<Id,
     requires plain { IsPlain node.now }
     requires taken { IsTaken taken.old }
     requires rows { AreAlike taken.old (node_uses node.now) }
-    ensures { IfOk result (λ id. Steps taken.old taken.new (node_uses node.now)
+    ensures made { IfOk result (MakesTerm taken.old taken.new (renamed ids.now node.now)) }
+    ensures steps { IfOk result (λ id. Steps taken.old taken.new (node_uses node.now)
         (children (renamed ids.now node.now)) id
         (node_sort (sorts taken.old.graph) (renamed ids.now node.now))
         (λ w v. node_value w (values (under v) taken.old.graph) (renamed ids.now node.now))) }
@@ -145,7 +148,8 @@ fn apply(
     requires sort { is_scalar sort ≡ true }
     requires taken { IsTaken taken.old }
     requires rows { AreAlike taken.old (use_of sym (length args.now) sort ∷ []) }
-    ensures { IfOk result (λ id.
+    ensures made { IfOk result (AddsApplication taken.old taken.new sort sym args.now) }
+    ensures steps { IfOk result (λ id.
         Steps taken.old taken.new (use_of sym (length args.now) sort ∷ []) args.now id sort
         (λ w v. as_sort sort (at (w sym) (words (under v) taken.old.graph args.now)))) }
 {

@@ -5,7 +5,8 @@ ghost use lib.Pointwise.{pointwise};
 ghost use Rattle.bd_model.specs.declared.design.Sort.TheVariants as sort;
 ghost use Rattle.bd_terms.specs.Graph.{AddsUses, Extends, HasSort, IsGraph, sort_at};
 ghost use Rattle.bd_terms.specs.Denotation.{Denotes, Truth, denoted, words};
-ghost use Rattle.bd_function.specs.inner.Nested.{AreEarlier, chosen};
+ghost use Rattle.bd_function.specs.Flattened.{IsEquality};
+ghost use Rattle.bd_function.specs.inner.Nested.{AreEarlier, IsNestedChoice, chosen};
 
 use crate::flat::FlatRow;
 use bd_terms::{Graph, Id};
@@ -18,6 +19,7 @@ pub(crate) fn equal(graph: &mut Graph, left: &[Id], right: &[Id]) -> Result<Id, 
     requires alike { length left.now ≡ length right.now }
     ensures denotes { IfOk result (λ id. Denotes graph.new id
         (λ w. Truth (pointwise nat_eq (words w graph.old left.now) (words w graph.old right.now)))) }
+    ensures made { IfOk result (IsEquality graph.new left.now right.now) }
     ensures sorted { IfOk result (λ id. HasSort graph.new id sort.Bool) }
     ensures extends { OnOk result (Extends graph.old graph.new) }
     ensures uses { OnOk result (AddsUses graph.old graph.new []) }
@@ -44,6 +46,7 @@ pub(crate) fn nested(
         rows.now }
     ensures denotes { IfOk result (λ id. Denotes graph.new id (λ w.
         chosen w graph.old variables.now rows.now args.now (denoted w graph.old own))) }
+    ensures made { IfOk result (IsNestedChoice graph.new variables.now rows.now args.now own) }
     ensures sorted { IfOk result (λ id. HasSort graph.new id (sort_at graph.old own)) }
     ensures graph { OnOk result (IsGraph graph.old → IsGraph graph.new) }
     ensures extends { OnOk result (Extends graph.old graph.new) }

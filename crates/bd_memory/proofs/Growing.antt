@@ -19,9 +19,12 @@ use Rattle.bd_terms.proofs.Denotations.{denoted-get}
 use Rattle.bd_memory.specs.declared.reads.ReadKey.{ReadKey}
 use Rattle.bd_memory.specs.inner.Reads.{known}
 use Rattle.bd_walk.specs.inner.Carrying.{Means}
-use Rattle.bd_memory.specs.inner.Forwarding.{Grows, IsForwarding, is_plain, place, word_at}
+use Rattle.bd_memory.specs.Forwarded.{is_plain}
+use Rattle.bd_memory.specs.inner.Forwarding.{Grows, IsForwarding, place, word_at}
 use Rattle.bd_memory.proofs.Plain.{Gives-IsPlain, IsPlain-empty}
 use Rattle.bd_walk.proofs.Renaming.{IsRenamed}
+use Rattle.bd_memory.specs.Forwarded.{Forwarded, Term, At}
+use Rattle.bd_memory.proofs.Making.{Forwarded-Extends}
 
 pub Means-Extends : (old new : List Node) → Extends old new → (id : ℕ) (s : Sort) (value : World → Denoted) → Means old id s value → Means new id s value
 Means-Extends old new e id s value m = record {
@@ -52,6 +55,8 @@ IsForwarding-Grows old root new new' places reads more f g h = record {
       Means-value new' id sort.Word (word_at old new m b) (word_at old new' m b)
       (Means-Extends new new' g.extends id sort.Word (word_at old new m b) (f.words m b id e))
       (λ w. word_at-Extends w old new new' g.extends m b (f.addresses m b id e).inside);
+  made_terms = λ k inside r apart. Forwarded-Extends old new new' g.extends (Term k) (place places k) (f.made_terms k inside r apart);
+  made_words = λ m b id e. Forwarded-Extends old new new' g.extends (At m b) id (f.made_words m b id e);
 }
 
 -- a plain term that is built
@@ -97,8 +102,9 @@ reached-KeepsSymbol old root new places reads f i node there u p = record {
 -- a place more
 pub IsForwarding-push : (old : List Node) (root : ℕ) (new : List Node) (places : List ℕ) (reads : List (ReadKey × ℕ)) (id : ℕ) → IsForwarding old root new places reads
     → (Reaches old root (length places) → sort_at old (length places) ≢ sort.Memory → Means new id (sort_at old (length places)) (λ w. denoted w old (length places)))
+    → (Reaches old root (length places) → sort_at old (length places) ≢ sort.Memory → Forwarded old new (Term (length places)) id)
     → IsForwarding old root new (places ++ id ∷ []) reads
-IsForwarding-push old root new places reads id f h = record {
+IsForwarding-push old root new places reads id f h made = record {
   source = f.source;
   graph = f.graph;
   plain = f.plain;
@@ -112,6 +118,14 @@ IsForwarding-push old root new places reads id f h = record {
   ];
   addresses = f.addresses;
   words = f.words;
+  made_terms = λ k inside r apart. elim (last-cases k (length places) (omega (arith, inside, length-append places (id ∷ [])))) [
+    | inl lt ↦ subst (Forwarded old new (Term k)) (sym (get_or_append_left places (id ∷ []) 0 k lt)) (f.made_terms k lt r apart)
+    | inr e ↦
+        subst (λ j. Forwarded old new (Term j) (place (places ++ id ∷ []) j)) (sym e)
+        (subst (Forwarded old new (Term (length places))) (sym (get_or-append_seam places id [] 0))
+        (made (subst (Reaches old root) e r) (subst (λ j. sort_at old j ≢ sort.Memory) e apart)))
+  ];
+  made_words = f.made_words;
 }
   where
     last-cases : (k n : ℕ) → k < n + 1 → (k < n) ⊎ (k ≡ n)
@@ -122,10 +136,10 @@ IsForwarding-push old root new places reads id f h = record {
 
 -- a read more
 pub IsForwarding-keep : (old : List Node) (root : ℕ) (new : List Node) (places : List ℕ) (reads reads' : List (ReadKey × ℕ)) (m b id : ℕ) → IsForwarding old root new places reads
-    → HasSort new b sort.Word → Means new id sort.Word (word_at old new m b)
+    → HasSort new b sort.Word → Means new id sort.Word (word_at old new m b) → Forwarded old new (At m b) id
     → ((n a : ℕ) → (known reads' n a ≡ known reads n a) ⊎ ((known reads' n a ≡ Some id) × (n ≡ m) × (a ≡ b)))
     → IsForwarding old root new places reads'
-IsForwarding-keep old root new places reads reads' m b id f sorted means h = record {
+IsForwarding-keep old root new places reads reads' m b id f sorted means made h = record {
   source = f.source;
   graph = f.graph;
   plain = f.plain;
@@ -141,6 +155,13 @@ IsForwarding-keep old root new places reads reads' m b id f sorted means h = rec
         subst (λ y. Means new y sort.Word (word_at old new n a)) (same_Some id x (sym p.0 ∙ e))
         (subst (λ y. Means new id sort.Word (word_at old new y a)) (sym p.1) (subst (λ y. Means new id sort.Word (word_at old new m y)) (sym p.2) means))
   ];
+  made_terms = f.made_terms;
+  made_words = λ n a x e. elim (h n a) [
+    | inl same ↦ f.made_words n a x (sym same ∙ e)
+    | inr p ↦
+        subst (Forwarded old new (At n a)) (same_Some id x (sym p.0 ∙ e))
+        (subst (λ y. Forwarded old new (At y a) id) (sym p.1) (subst (λ y. Forwarded old new (At m y) id) (sym p.2) made))
+  ];
 }
 
 -- nothing is forwarded first
@@ -153,4 +174,6 @@ IsForwarding-start old root g e = record {
   terms = λ k inside r apart. absurd (omega (arith, inside));
   addresses = λ m b id h. absurd (none-some id h);
   words = λ m b id h. absurd (none-some id h);
+  made_terms = λ k inside r apart. absurd (omega (arith, inside));
+  made_words = λ m b id h. absurd (none-some id h);
 }

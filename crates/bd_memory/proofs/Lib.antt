@@ -1,6 +1,7 @@
 pub mod Known
 pub mod Plain
 pub mod Moving
+pub mod Making
 pub mod Growing
 pub mod FromBelow
 pub mod Waiting

@@ -7,7 +7,7 @@ use Rattle.bd_memory.specs.declared.reads.ReadKey.{ReadKey}
 use Rattle.bd_memory.specs.declared.forwarding.Forwarding.{Forwarding}
 use Rattle.bd_memory.specs.declared.forwarding.ReadState.TheVariants.{Waits, Word as Given}
 use Rattle.bd_memory.specs.inner.Reads.{is_read, known}
-use Rattle.bd_memory.specs.inner.Forwarding.{Holds, IsForwarding, IsReadState}
+use Rattle.bd_memory.specs.inner.Forwarding.{Holds, IsForwarding, IsMadeState, IsReadState}
 use Rattle.bd_memory.proofs.Growing.{IsForwarding-keep}
 use Rattle.bd_memory.proofs.Waiting.{IsWaiting, IsWaiting-pop, IsWaiting-push, kept-cases, kept-there, missing, missing-less}
 
@@ -33,11 +33,11 @@ IsReading-push old root places f f' b top waiting waiting' here below r h a same
 
 -- its read is kept
 pub kept-Holds : (old : List Node) (root : ℕ) (f : Forwarding) (reads : List (ReadKey × ℕ)) (b here id : ℕ)
-    → Holds old root f → HasSort f.graph b sort.Word → IsReadState old f here b (Given id)
+    → Holds old root f → HasSort f.graph b sort.Word → IsReadState old f here b (Given id) → IsMadeState old f here b (Given id)
     → ((n a : ℕ) → known reads n a ≡ (if is_read here b n a then Some id else known f.reads n a))
     → IsForwarding old root f.graph f.places.items reads
-kept-Holds old root f reads b here id h a s k =
-    IsForwarding-keep old root f.graph f.places.items f.reads reads here b id h a s (kept-cases f.reads reads here b id k)
+kept-Holds old root f reads b here id h a s made k =
+    IsForwarding-keep old root f.graph f.places.items f.reads reads here b id h a s made (kept-cases f.reads reads here b id k)
 
 -- and the one above it is at hand
 pub popped-waits : (old : List Node) (root : ℕ) (places : List ℕ) (f f' : Forwarding) (reads : List (ReadKey × ℕ)) (b top : ℕ) (waiting rest : List ℕ) (here above id : ℕ) → IsReading old root places f b top waiting here

@@ -15,7 +15,8 @@ use Rattle.bd_walk.specs.inner.Carrying.{Means}
 use Rattle.bd_walk.proofs.Renaming.{IsRenamed, renames}
 use Rattle.bd_walk.proofs.Walking.{Contains-one}
 use Rattle.bd_memory.specs.declared.reads.ReadKey.{ReadKey}
-use Rattle.bd_memory.specs.inner.Forwarding.{IsForwarding, is_plain, place}
+use Rattle.bd_memory.specs.Forwarded.{is_plain}
+use Rattle.bd_memory.specs.inner.Forwarding.{IsForwarding, place}
 use Rattle.bd_memory.proofs.Plain.{Bool-no_memory, Word-no_memory}
 
 -- each of these that is no memory stays what it is where it is moved
@@ -43,7 +44,7 @@ sorted-apart : (old : List Node) (a : ℕ) (s : Sort) → HasSort old a s → s 
 sorted-apart old a s h apart e = apart (sym h.sorted ∙ e)
 
 -- a plain term that is no memory stands over none
-plain-children : (old : List Node) (node : Node) → FitsSorts old node → node_sort (sorts old) node ≢ sort.Memory → is_plain node ≡ true → NoMemories old (children node)
+pub plain-children : (old : List Node) (node : Node) → FitsSorts old node → node_sort (sorts old) node ≢ sort.Memory → is_plain node ≡ true → NoMemories old (children node)
 plain-children old True h apart p = none old
 plain-children old (Not a) h apart p = one old a (sorted-apart old a sort.Bool h Bool-no_memory)
 plain-children old (And a b) h apart p = more old a (b ∷ []) (sorted-apart old a sort.Bool h.0 Bool-no_memory) (one old b (sorted-apart old b sort.Bool h.1 Bool-no_memory))

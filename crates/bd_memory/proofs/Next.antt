@@ -17,7 +17,7 @@ use Rattle.bd_terms.proofs.Denotations.{denoted-get}
 use Rattle.bd_memory.specs.declared.reads.ReadKey.{ReadKey}
 use Rattle.bd_memory.specs.declared.forwarding.Forwarding.{Forwarding}
 use Rattle.bd_walk.specs.inner.Carrying.{Means}
-use Rattle.bd_memory.specs.inner.Forwarding.{Follows, Holds, IsForwarding, place, word_at}
+use Rattle.bd_memory.specs.inner.Forwarding.{Follows, Holds, IsForwarding, IsMadeAt, place, word_at}
 use Rattle.bd_memory.proofs.Plain.{Bool-no_memory, Word-no_memory}
 use Rattle.bd_memory.proofs.Moving.{child-means, passed-mean}
 use Rattle.bd_memory.proofs.Growing.{IsForwarding-push}
@@ -64,10 +64,10 @@ pub record IsPassed (old : List Node) (root : ℕ) (f : Forwarding) (index : ℕ
 
 -- a term more is passed
 pub IsPassed-push : (old : List Node) (root : ℕ) (new : List Node) (places places' : List ℕ) (reads : List (ReadKey × ℕ)) (id place' : ℕ) → IsForwarding old root new places reads → id ≡ length places
-    → Follows old root new id place' → places' ≡ places ++ place' ∷ [] → IsForwarding old root new places' reads
-IsPassed-push old root new places places' reads id place' f same h e =
+    → Follows old root new id place' → IsMadeAt old root new id place' → places' ≡ places ++ place' ∷ [] → IsForwarding old root new places' reads
+IsPassed-push old root new places places' reads id place' f same h made e =
     subst (λ l. IsForwarding old root new l reads) (sym e)
-    (IsForwarding-push old root new places reads place' f (subst (λ n. Follows old root new n place') same h))
+    (IsForwarding-push old root new places reads place' f (subst (λ n. Follows old root new n place') same h) (subst (λ n. IsMadeAt old root new n place') same made))
 
 -- where all are passed, the root is
 pub root-Means : (old : List Node) (top : ℕ) (new : List Node) (places : List ℕ) (reads : List (ReadKey × ℕ)) (root place' : ℕ) → IsForwarding old top new places reads → HasSort old top sort.Bool

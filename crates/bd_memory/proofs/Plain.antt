@@ -13,7 +13,8 @@ use Rattle.bd_terms.proofs.Places.{get-push}
 use Rattle.bd_terms.proofs.Graphs.{sort_at-get}
 use Rattle.bd_terms.proofs.Reaching.{children-below}
 use Rattle.bd_memory.specs.Forward.{HasNoMemory}
-use Rattle.bd_memory.specs.inner.Forwarding.{IsPlain, is_plain}
+use Rattle.bd_memory.specs.Forwarded.{is_plain}
+use Rattle.bd_memory.specs.inner.Forwarding.{IsPlain}
 
 OutcomePlain : Outcome → Type 0
 OutcomePlain (Same a) = Unit {0}

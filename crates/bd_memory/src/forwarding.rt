@@ -7,7 +7,8 @@ ghost use Rattle.bd_terms.specs.Graph.{HasSort, IsGraph, sort_at};
 ghost use Rattle.bd_terms.specs.Reaches.{Reaches};
 ghost use Rattle.bd_terms.specs.Denotation.{Word, denoted, word as word_in};
 ghost use Rattle.bd_walk.specs.inner.Carrying.{Means};
-ghost use Rattle.bd_memory.specs.inner.Forwarding.{Follows, Grows, Holds, IsReadState, MarksReached, place, word_at};
+ghost use Rattle.bd_memory.specs.Forwarded.{Forwarded, Term, At};
+ghost use Rattle.bd_memory.specs.inner.Forwarding.{Follows, Grows, Holds, IsMadeAt, IsMadeState, IsReadState, IsWritten, MarksReached, place, word_at};
 
 use crate::reads::Reads;
 use bd_model::Sort;
@@ -64,6 +65,7 @@ impl Forwarding {
         requires inside { id < length old.now }
         requires marked { MarksReached old.now root marks.now }
         ensures means { IfOk result (λ place. Follows old.now root self.new.graph id place) }
+        ensures made { IfOk result (IsMadeAt old.now root self.new.graph id) }
         ensures holds { OnOk result (Holds old.now root self.new) }
         ensures places { OnOk result (self.new.places.items ≡ self.old.places.items) }
     {
@@ -86,6 +88,8 @@ impl Forwarding {
         ensures means { IfOk result (λ id. Means self.new.graph id
             (sort_at old.now (length self.old.places.items))
             (λ w. denoted w old.now (length self.old.places.items))) }
+        ensures made { IfOk result (Forwarded old.now self.new.graph
+            (Term (length self.old.places.items))) }
         ensures holds { OnOk result (Holds old.now root self.new) }
         ensures places { OnOk result (self.new.places.items ≡ self.old.places.items) }
     {
@@ -112,6 +116,7 @@ impl Forwarding {
         requires address { HasSort self.old.graph address sort.Word }
         ensures means { IfOk result (λ id. Means self.new.graph id sort.Word
             (word_at old.now self.new.graph memory address)) }
+        ensures made { IfOk result (Forwarded old.now self.new.graph (At memory address)) }
         ensures holds { OnOk result (Holds old.now root self.new) }
         ensures places { OnOk result (self.new.places.items ≡ self.old.places.items) }
     {
@@ -151,6 +156,7 @@ impl Forwarding {
         requires passed { memory < length self.old.places.items }
         requires address { HasSort self.old.graph address sort.Word }
         ensures step { IfOk result (IsReadState old.now self.new memory address) }
+        ensures made { IfOk result (IsMadeState old.now self.new memory address) }
         ensures holds { OnOk result (Holds old.now root self.new) }
         ensures address { OnOk result (HasSort self.new.graph address sort.Word) }
         ensures places { OnOk result (self.new.places.items ≡ self.old.places.items) }
@@ -192,6 +198,7 @@ fn written(graph: &mut Graph, at: Id, word: Id, address: Id, rest: Id) -> Result
     ensures means { IfOk result (λ id. Means graph.new id sort.Word (λ w.
         Word (if word_in w graph.old address == word_in w graph.old at
         then word_in w graph.old word else word_in w graph.old rest))) }
+    ensures made { IfOk result (IsWritten graph.new at word address rest) }
     ensures grows { OnOk result (Grows graph.old graph.new []) }
 {
     let same = graph.mk_eq(address, at)?;

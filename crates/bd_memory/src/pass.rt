@@ -5,6 +5,7 @@ ghost use Rattle.std.specs.Prelude.{◌≡◌, ℕ, IfOk};
 ghost use Rattle.bd_model.specs.declared.design.Sort.TheVariants as sort;
 ghost use Rattle.bd_terms.specs.Graph.{HasSort, IsGraph};
 ghost use Rattle.bd_memory.specs.Forward.{HasNoMemory};
+ghost use Rattle.bd_memory.specs.Forwarded.{Forwarded, Term};
 ghost use Rattle.bd_walk.specs.Carried.{AppliesReached, DenotesSame};
 ghost use Rattle.bd_memory.specs.inner.Forwarding.{MarksReached};
 
@@ -16,6 +17,7 @@ use std::alloc::{AllocError, Global};
 pub fn forward(alloc: Global, graph: &Graph, root: Id) -> Result<(Graph, Id), AllocError>
     requires { HasSort graph.now root sort.Bool }
     ensures denotes { IfOk result (λ r. DenotesSame graph.now root r.0 r.1) }
+    ensures made { IfOk result (λ r. Forwarded graph.now r.0 (Term root) r.1) }
     ensures sorted { IfOk result (λ r. HasSort r.0 r.1 sort.Bool) }
     ensures memories { IfOk result (λ r. HasNoMemory r.0) }
     ensures symbols { IfOk result (λ r. AppliesReached graph.now root r.0) }
@@ -37,6 +39,7 @@ fn forward_marked(
     requires sorted { HasSort graph.now top sort.Bool }
     requires marked { MarksReached graph.now top marks.now }
     ensures denotes { IfOk result (λ r. DenotesSame graph.now top r.0 r.1) }
+    ensures made { IfOk result (λ r. Forwarded graph.now r.0 (Term top) r.1) }
     ensures sorted { IfOk result (λ r. HasSort r.0 r.1 sort.Bool) }
     ensures memories { IfOk result (λ r. HasNoMemory r.0) }
     ensures symbols { IfOk result (λ r. AppliesReached graph.now top r.0) }

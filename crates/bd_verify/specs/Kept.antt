@@ -15,10 +15,12 @@ use Rattle.bd_goal.specs.Claims.{Claims}
 use Rattle.bd_goal.specs.Formula.{Corresponds, IsOutside, address_count}
 use Rattle.bd_goal.specs.Symbols.{ReachesKnown}
 use Rattle.bd_memory.specs.Forward.{HasNoMemory}
+use Rattle.bd_memory.specs.Forwarded.{Forwarded, Term as OldTerm}
 use Rattle.bd_walk.specs.Carried.{AppliesReached, DenotesSame, HasSortsReached}
 use Rattle.bd_walk.specs.Ordered.{IsInWalkOrder}
 use Rattle.bd_function.specs.declared.flat.FlatSym.{FlatSym}
 use Rattle.bd_function.specs.Flat.{AreApplications, Flattens, HasAllApplications, IsChosen, IsFlat}
+use Rattle.bd_function.specs.Flattened.{IsMadeFlat}
 use Rattle.bd_diverse.specs.Marked.{HasVariable}
 use Rattle.bd_diverse.specs.Positive.{IsPositive}
 use Rattle.bd_prop.specs.declared.atom.Atom.TheVariants as atom
@@ -29,6 +31,7 @@ use Rattle.bd_cnf.specs.Literal.{Literal, literal}
 use Rattle.bd_cnf.specs.Problem.{Problem}
 use Rattle.bd_equality.specs.Edges.{IsApart, IsEdge, ReachesEdge}
 use Rattle.bd_equality.specs.Encoding.{Encodes, EncodesByEdges, has_mark}
+use Rattle.bd_equality.specs.Made.{Made, Term as FlatTerm}
 use Rattle.bd_transitive.specs.declared.graph.Edge.{Edge}
 use Rattle.bd_transitive.specs.declared.graph.Order.{Order}
 use Rattle.bd_transitive.specs.Clauses.{AreTriangleClauses}
@@ -58,11 +61,13 @@ pub record IsRootOf (d : DesignView) (asked : Question) (nodes : List Node) (roo
   pub claims : Claims d (claim_of asked d) nodes root
   pub known : ReachesKnown d (addresses_of asked d) nodes root
 
--- the new root denotes what the old one does, and has no memory below it
+-- the new root is made for the old one from reads that are pushed down through writes to first contents; it denotes what
+-- the old one does, and has no memory below it
 pub record RemovesMemories (old : List Node) (old_root : ℕ) (nodes : List Node) (root : ℕ) : Type 0 where
   pub graph : IsGraph nodes
   pub sorted : HasSort nodes root sort.Bool
   pub none : HasNoMemory nodes
+  pub made : Forwarded old nodes (OldTerm old_root) root
   pub denotes : DenotesSame old old_root nodes root
   pub reached : AppliesReached old old_root nodes
 
@@ -76,10 +81,11 @@ pub record OrdersTerms (old : List Node) (old_root : ℕ) (nodes : List Node) (r
   pub sorts : HasSortsReached old old_root nodes
   pub reached : AppliesReached old old_root nodes
 
--- the flat root has a variable for each application that the old one reaches
+-- the flat root is made for the old one, with a variable for each application that this reaches, and no others
 pub record RemovesFunctions (old : List Node) (old_root : ℕ) (nodes : List Node) (root : ℕ) (syms : List FlatSym) : Type 0 where
   pub graph : IsGraph nodes
   pub flat : IsFlat nodes root syms
+  pub made : IsMadeFlat old old_root nodes root syms
   pub flattens : Flattens old old_root nodes root syms
   pub rows : AreApplications old old_root nodes syms
   pub all_rows : HasAllApplications old old_root nodes syms
@@ -114,12 +120,13 @@ pub record IsFlatOf (is_root : List Node → ℕ → Type 0) (m : Mode) (nodes :
   pub functions : RemovesFunctions plain plain_root nodes root syms
   pub marks : AreMarks m plain plain_root syms marked
 
--- the truth root of a flat formula; its edges are those that it reaches, and those between constants that are kept
+-- the truth root of a flat formula, made for its root from the nodes of its parts; its edges are those that it reaches, and those between constants that are kept
 -- apart; no marked variable is the end of one
 pub record IsEncoded (d : DesignView) (nodes : List Node) (root : ℕ) (syms : List FlatSym) (marked : Option (List ℕ))
     (prop : List PropNode) (prop_root : ℕ) (edges apart : List Edge) : Type 0 where
   pub graph : IsPropGraph prop
   pub inside : prop_root < length prop
+  pub made : Made nodes marked prop (FlatTerm root) prop_root
   pub denotes : Encodes nodes root marked prop prop_root
   pub by_edges : EncodesByEdges nodes root marked edges prop prop_root
   pub simple : AreEdges edges

@@ -3,3 +3,4 @@ pub mod Closing
 pub mod Renaming
 pub mod Carrying
 pub mod Composing
+pub mod Building

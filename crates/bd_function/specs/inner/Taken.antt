@@ -1,5 +1,5 @@
 -- What holds of the terms, variables and rows that have been taken so far.
-use Rattle.std.specs.Prelude.{◌≡◌, ◌<◌, ◌⊎◌, ℕ, suc, zero, Bool, true, false, List, [], ◌∷◌, ◌++◌, Contains, length, map, slice_get, Some}
+use Rattle.std.specs.Prelude.{◌≡◌, ◌<◌, ◌⊎◌, ℕ, suc, zero, ◌+◌, Bool, true, false, List, [], ◌∷◌, ◌++◌, Contains, length, map, slice_get, Some}
 use Rattle.std.specs.List.{All}
 use Rattle.bd_model.specs.declared.design.Sort.{Sort}
 use Rattle.bd_model.specs.declared.design.Sort.TheVariants as sort
@@ -10,14 +10,16 @@ use Rattle.bd_model.specs.Fits.{scalar_sort}
 use Rattle.bd_terms.specs.declared.node.Sym.{Sym}
 use Rattle.bd_terms.specs.declared.node.Sym.TheVariants.{Var}
 use Rattle.bd_terms.specs.declared.node.Node.{Node}
-use Rattle.bd_terms.specs.declared.node.Node.TheVariants.{Read, Write, Init}
+use Rattle.bd_terms.specs.declared.node.Node.TheVariants.{App, Pred, Read, Write, Init}
 use Rattle.bd_terms.specs.Graph.{AddsUses, Extends, HasSort, IsGraph, Use, sort_at, uses}
 use Rattle.bd_terms.specs.Denotation.{World, Denoted, Denotes, Truth, Word, denoted, words}
 use Rattle.bd_terms.specs.Reaches.{Reaches}
 use Rattle.bd_function.specs.declared.flat.FlatRow.{FlatRow}
 use Rattle.bd_function.specs.declared.flat.FlatSym.{FlatSym}
 use Rattle.bd_function.specs.declared.eliminate.Taken.{Taken}
+use Rattle.bd_walk.specs.Built.{IsBuilt}
 use Rattle.bd_function.specs.Flat.{IsChosen, IsFirstVariable, KeepsFirst, application, under}
+use Rattle.bd_function.specs.Flattened.{AreRising, IsChoice, StandsFor}
 use Rattle.bd_terms.specs.Renamed.{id_at}
 
 -- the node is of no memory
@@ -53,6 +55,7 @@ pub record IsRow (nodes : List Node) (variables : List ℕ) (r : FlatRow) : Type
   pub inside : id_at variables r.var < length nodes
   pub applied : Contains (uses nodes) (use_of (Var r.var) 0 (row_sort nodes variables r))
   pub value : (v : ℕ → Scalar) → denoted (under v) nodes (id_at variables r.var) ≡ as_sort (row_sort nodes variables r) (v r.var)
+  pub stands : StandsFor nodes (row_sort nodes variables r) r.var (id_at variables r.var)
 
 -- a variable below the number
 pub record IsVariableBelow (n : ℕ) (u : Use) : Type 0 where
@@ -139,6 +142,7 @@ pub record AddsTerm (old new : List Node) (var id : ℕ) (s : Sort) : Type 0 whe
   pub sorted : HasSort new id s
   pub denotes : Denotes new id (λ w. as_sort s (at (w (Var var)) []))
   pub graph : IsGraph new
+  pub stands : StandsFor new s var id
 
 -- a variable more
 pub record AddsVariable (t t' : Taken) (id : ℕ) (s : Sort) : Type 0 where
@@ -163,3 +167,38 @@ abbrev pub with_row : List FlatSym → ℕ → FlatRow → List FlatSym
 with_row [] place r = []
 with_row (s ∷ ss) zero r = record { sym = s.sym; rows = s.rows ++ r ∷ [] } ∷ ss
 with_row (s ∷ ss) (suc place) r = s ∷ with_row ss place r
+
+-- the rows of each symbol are in the order of their variables
+abbrev pub AreInOrder : List FlatSym → Type 0
+AreInOrder syms = (s : FlatSym) → Contains syms s → AreRising s.rows
+
+-- the symbol is there, perhaps with further rows after its own
+pub record HasGrown (syms : List FlatSym) (s : FlatSym) : Type 0 where
+  pub later : FlatSym
+  pub listed : Contains syms later
+  pub same : later.sym ≡ s.sym
+  pub more : List FlatRow
+  pub grows : later.rows ≡ s.rows ++ more
+
+-- an application more: its row comes after those of its symbol, over which the term chooses
+pub record AddsApplication (t t' : Taken) (kind : Sort) (s : Sym) (args : List ℕ) (id : ℕ) : Type 0 where
+  pub own : ℕ
+  pub before : List FlatRow
+  pub stands : StandsFor t'.graph kind (length t.variables.items) own
+  pub choice : IsChoice t'.graph kind before args own id
+  pub counted : length t'.variables.items ≡ length t.variables.items + 1
+  pub there : Contains t'.rows.items (record { sym = s; rows = before ++ (record { args = args; var = length t.variables.items }) ∷ [] })
+  pub later : (x : FlatSym) → Contains t.rows.items x → HasGrown t'.rows.items x
+  pub order : AreInOrder t.rows.items → AreInOrder t'.rows.items
+
+-- a term more that is no application
+pub record BuildsTerm (t t' : Taken) (n : Node) (id : ℕ) : Type 0 where
+  pub built : IsBuilt t'.graph n id
+  pub variables : t'.variables.items ≡ t.variables.items
+  pub rows : t'.rows.items ≡ t.rows.items
+
+-- the term of a node over terms that were taken
+abbrev pub MakesTerm : Taken → Taken → Node → ℕ → Type 0
+MakesTerm t t' (App s args) id = AddsApplication t t' sort.Word s args id
+MakesTerm t t' (Pred s args) id = AddsApplication t t' sort.Bool s args id
+MakesTerm t t' n id = BuildsTerm t t' n id

@@ -10,6 +10,10 @@ use Rattle.bd_terms.specs.Denotation.{Denotes, Truth, denoted, truth, words}
 use Rattle.bd_terms.specs.Graph.{HasSort, sort_at}
 use Rattle.bd_terms.proofs.Growth.{All-HasSort-Extends, Extends-trans, HasSort-Extends}
 use Rattle.bd_terms.specs.Renamed.{id_at}
+use Rattle.bd_terms.specs.declared.node.Node.TheVariants.{Ite}
+use Rattle.bd_walk.specs.Built.{IsBuilt}
+use Rattle.bd_walk.proofs.Building.{IsBuilt-now}
+use Rattle.bd_function.specs.Flattened.{IsEquality}
 use Rattle.bd_function.proofs.Nesting.{IsNested, IsNested-start, IsNested-step, row-get, HasSort-known}
 use Rattle.bd_function.proofs.nested.nested.Goals as goal
 
@@ -64,9 +68,23 @@ loop-index-preserved c =
     c.in_ok-term.ensures.extends c.in_ok-term.ensures.uses
     (subst (λ j. Denotes c.mk_ite.new.self c.in_ok-term.term (λ w. if truth w c.equal.new.graph c.in_ok-same.same then denoted w c.equal.new.graph j else denoted w c.equal.new.graph c.loop-index.term)) var c.in_ok-term.ensures.denotes)
     (subst (HasSort c.mk_ite.new.self c.in_ok-term.term) (ap (sort_at c.equal.new.graph) var ∙ yes.sorted) c.in_ok-term.ensures.sorted) c.in_ok-term.ensures.graph
+    (subst (λ l. IsEquality c.equal.new.graph l c.args.args.now c.in_ok-same.same) c.as_slice.ensures c.in_ok-same.ensures.made)
+    (subst (λ j. IsBuilt c.mk_ite.new.self (Ite c.in_ok-same.same j c.loop-index.term) c.in_ok-term.term) var
+    (IsBuilt-now c.equal.new.graph c.mk_ite.new.self (Ite c.in_ok-same.same c.index-variables-row.result c.loop-index.term) c.in_ok-term.term (
+      c.in_ok-same.ensures.sorted,
+      subst (λ i. HasSort c.equal.new.graph i (sort_at c.equal.new.graph i)) (sym var) (HasSort-known c.equal.new.graph _ _ yes),
+      subst (λ i. HasSort c.equal.new.graph c.loop-index.term (sort_at c.equal.new.graph i)) (sym var)
+          (subst (HasSort c.equal.new.graph c.loop-index.term) (sym yes.sorted)
+          (HasSort-Extends c.loop-index.graph c.equal.new.graph c.in_ok-same.ensures.extends c.loop-index.term _ c.loop-index.invariant.sorted)),
+    ) c.in_ok-term.ensures.simplified))
 
 pub returns-clause-denotes : goal.returns-clause-denotes
 returns-clause-denotes c =
     let last : c.loop-index.index ≡ 0 = omega arith in
     let whole = subst (λ n. IsNested c.args.graph.now c.loop-index.graph c.args.variables.now c.args.rows.now c.args.args.now c.args.own n c.loop-index.term) last c.loop-index.invariant in
     whole.denotes
+
+pub returns-clause-made : goal.returns-clause-made
+returns-clause-made c =
+    let last : c.loop-index.index ≡ 0 = omega arith in
+    (subst (λ n. IsNested c.args.graph.now c.loop-index.graph c.args.variables.now c.args.rows.now c.args.args.now c.args.own n c.loop-index.term) last c.loop-index.invariant).made

@@ -23,13 +23,14 @@ returns c =
       asked = (refl, refl);
       built = c.in_ok-built.built;
       built_root = c.in_ok-built.built_root;
-      memories = record { graph = b.graph; sorted = b.sorted; none = b.memories; denotes = b.denotes; reached = b.symbols };
+      memories = record { graph = b.graph; sorted = b.sorted; none = b.memories; made = b.made; denotes = b.denotes; reached = b.symbols };
       plain = c.in_ok-plain.plain;
       plain_root = c.in_ok-plain.plain_root;
       order = record { graph = h.graph; sorted = h.sorted; order = h.order; denotes = h.denotes; sorts = h.sorts; reached = h.symbols };
       functions = record {
         graph = k.graph;
         flat = c.in_ok-flat.flat.flat;
+        made = k.made;
         flattens = k.flattens;
         rows = k.rows;
         all_rows = k.all_rows;

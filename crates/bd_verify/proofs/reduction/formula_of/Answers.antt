@@ -25,6 +25,7 @@ returns c = λ cycles.
       encoded = record {
         graph = h.graph;
         inside = h.root;
+        made = h.made;
         denotes = h.denotes;
         by_edges = h.by_edges;
         simple = h.simple;

@@ -1,11 +1,14 @@
 -- Reads are built from the lowest memory up.
 use Rattle.std.proofs.Common.{sym, ◌∙◌, subst}
-use Rattle.bd_memory.specs.inner.Forwarding.{IsReadState}
+use Rattle.bd_memory.specs.inner.Forwarding.{IsMadeState, IsReadState}
 use Rattle.bd_memory.proofs.Loop.{IsReading-push, kept-Holds, popped-smaller, popped-waits}
 use Rattle.bd_memory.proofs.forwarding.Forwarding.read.Goals as goal
 
 pub returns-in-Some-clause-means : goal.returns-in-Some-clause-means
 returns-in-Some-clause-means g c = c.requires.0.words c.args.memory c.args.address c.in-Some.word (sym c.get.ensures ∙ c.in-Some.is)
+
+pub returns-in-Some-clause-made : goal.returns-in-Some-clause-made
+returns-in-Some-clause-made g c = c.requires.0.made_words c.args.memory c.args.address c.in-Some.word (sym c.get.ensures ∙ c.in-Some.is)
 
 pub loop-waiting-preserved-in-Waits : goal.loop-waiting-preserved-in-Waits
 loop-waiting-preserved-in-Waits g c =
@@ -26,7 +29,8 @@ loop-waiting-preserved g c = record {
   holds =
       kept-Holds c.args.old.now g.root c.read_from_below.new.self c.keep.new.self c.args.address c.loop-waiting.here c.in-Word.word
       c.in_ok-below.ensures.holds c.in_ok-below.ensures.address
-      (subst (IsReadState c.args.old.now c.read_from_below.new.self c.loop-waiting.here c.args.address) c.in-Word.is c.in_ok-below.ensures.step) c.in_ok-keep-in-Word.ensures;
+      (subst (IsReadState c.args.old.now c.read_from_below.new.self c.loop-waiting.here c.args.address) c.in-Word.is c.in_ok-below.ensures.step)
+      (subst (IsMadeState c.args.old.now c.read_from_below.new.self c.loop-waiting.here c.args.address) c.in-Word.is c.in_ok-below.ensures.made) c.in_ok-keep-in-Word.ensures;
   address = c.in_ok-below.ensures.address;
   places_stay = c.in_ok-below.ensures.places ∙ c.loop-waiting.invariant.places_stay;
   waits =
@@ -39,4 +43,5 @@ pub returns-in-None-clause-holds : goal.returns-in-None-clause-holds
 returns-in-None-clause-holds g c =
     kept-Holds c.args.old.now g.root c.read_from_below.new.self c.keep.new.self c.args.address c.loop-waiting.here c.in-Word.word
     c.in_ok-below.ensures.holds c.in_ok-below.ensures.address
-    (subst (IsReadState c.args.old.now c.read_from_below.new.self c.loop-waiting.here c.args.address) c.in-Word.is c.in_ok-below.ensures.step) c.in_ok-keep-in-Word.ensures
+    (subst (IsReadState c.args.old.now c.read_from_below.new.self c.loop-waiting.here c.args.address) c.in-Word.is c.in_ok-below.ensures.step)
+    (subst (IsMadeState c.args.old.now c.read_from_below.new.self c.loop-waiting.here c.args.address) c.in-Word.is c.in_ok-below.ensures.made) c.in_ok-keep-in-Word.ensures

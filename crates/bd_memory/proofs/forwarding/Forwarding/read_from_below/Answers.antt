@@ -1,5 +1,6 @@
 -- The read of a write, of an ite and of first contents.
 use Rattle.std.proofs.Common.{[], ◌∷◌, Some, refl, ap, sym, ◌∙◌, subst, arith}
+use Rattle.std.proofs.lemmas.List.Elements.{All-cons, All-nil}
 use Rattle.bd_model.specs.declared.design.Sort.TheVariants as sort
 use Rattle.bd_terms.specs.declared.node.Node.TheVariants.{Write, Ite, Init, App}
 use Rattle.bd_terms.specs.declared.node.Sym.TheVariants as symbol
@@ -9,6 +10,9 @@ use Rattle.bd_terms.proofs.Growth.{HasSort-Extends}
 use Rattle.bd_terms.proofs.Reaching.{children-below}
 use Rattle.bd_memory.proofs.Plain.{Bool-no_memory, Word-no_memory}
 use Rattle.bd_memory.proofs.Growing.{Grows-Gives, IsForwarding-Grows, reached-KeepsSymbol}
+use Rattle.bd_walk.proofs.Building.{IsBuilt-now}
+use Rattle.bd_memory.specs.Forwarded.{OfInit}
+use Rattle.bd_memory.proofs.Making.{ite-made, write-made}
 use Rattle.bd_memory.proofs.FromBelow.{below-Means, init-Means, ite-Means, ite-sorts, memory-node, waits, write-Means}
 use Rattle.bd_memory.proofs.forwarding.Forwarding.read_from_below.Goals as goal
 
@@ -152,6 +156,38 @@ returns-in_ok-mk_app-in-Init-clause-holds g c =
 pub returns-in_ok-mk_app-in-Init-clause-address : goal.returns-in_ok-mk_app-in-Init-clause-address
 returns-in_ok-mk_app-in-Init-clause-address g c =
     HasSort-Extends c.args.self.now.graph c.mk_app.new.self c.mk_app.ensures.extends c.args.address sort.Word c.requires.1.1.1.1
+
+pub returns-in_ok-written-in-Write-clause-made : goal.returns-in_ok-written-in-Write-clause-made
+returns-in_ok-written-in-Write-clause-made g c =
+    write-made c.args.old.now g.root c.args.self.now.graph c.written.new.graph c.args.self.now.places.items c.args.self.now.reads c.requires.0
+    c.args.memory c.in-Write.below c.in-Write.at c.in-Write.word (c.node.ensures.node ∙ ap Some c.in-Write.is) c.requires.1.0 c.requires.1.1.1.0
+    c.args.address c.in-Some.rest (sym c.get.ensures ∙ c.in-Some.is) c.place-at.result c.place-word.result c.place-at.ensures c.place-word.ensures
+    c.in_ok-written-in-Write.ensures.grows.extends c.in_ok-written-in-Write.field-0 c.in_ok-written-in-Write.ensures.made
+
+pub returns-in_ok-mk_ite-in-Ite-clause-made : goal.returns-in_ok-mk_ite-in-Ite-clause-made
+returns-in_ok-mk_ite-in-Ite-clause-made g c =
+    let h = (c.requires.0.words c.in-Ite.yes c.args.address c.in-Some-get.if_so (sym c.get-in-Ite.ensures ∙ c.in-Some-get.is)).sorted in
+    let k = (c.requires.0.words c.in-Ite.no c.args.address c.in-Some-get-2.if_not (sym c.get-in-Ite-2.ensures ∙ c.in-Some-get-2.is)).sorted in
+    let there = c.node.ensures.node ∙ ap Some c.in-Ite.is in
+    let control =
+    (below-Means c.args.old.now g.root c.args.self.now.graph c.args.self.now.places.items c.args.self.now.reads c.requires.0
+    c.args.memory (Ite c.in-Ite.control c.in-Ite.yes c.in-Ite.no) there c.requires.1.0 c.requires.1.1.1.0 c.in-Ite.control sort.Bool (0, omega arith, refl)
+    (FitsSorts-get c.args.old.now c.requires.0.source c.args.memory (Ite c.in-Ite.control c.in-Ite.yes c.in-Ite.no) there).0 Bool-no_memory c.place-control.result c.place-control.ensures).sorted in
+    ite-made c.args.old.now g.root c.args.self.now.graph c.mk_ite.new.self c.args.self.now.places.items c.args.self.now.reads c.requires.0
+    c.args.memory c.in-Ite.control c.in-Ite.yes c.in-Ite.no there c.requires.1.0 c.requires.1.1.1.0
+    c.args.address c.in-Some-get.if_so c.in-Some-get-2.if_not (sym c.get-in-Ite.ensures ∙ c.in-Some-get.is) (sym c.get-in-Ite-2.ensures ∙ c.in-Some-get-2.is)
+    c.place-control.result c.place-control.ensures c.mk_ite.ensures.extends c.in_ok-mk_ite-in-Ite.field-0
+    (IsBuilt-now c.args.self.now.graph c.mk_ite.new.self (Ite c.place-control.result c.in-Some-get.if_so c.in-Some-get-2.if_not) c.in_ok-mk_ite-in-Ite.field-0
+    (control, subst (HasSort c.args.self.now.graph c.in-Some-get.if_so) (sym h.sorted) h, subst (HasSort c.args.self.now.graph c.in-Some-get-2.if_not) (sym h.sorted) k)
+    c.in_ok-mk_ite-in-Ite.ensures.simplified)
+
+pub returns-in_ok-mk_app-in-Init-clause-made : goal.returns-in_ok-mk_app-in-Init-clause-made
+returns-in_ok-mk_app-in-Init-clause-made g c =
+    let n = App (symbol.Entry c.in-Init.entry) (c.args.address ∷ []) in
+    OfInit c.args.memory c.in-Init.entry c.args.address c.in_ok-mk_app-in-Init.field-0 (c.node.ensures.node ∙ ap Some c.in-Init.is)
+    (IsBuilt-now c.args.self.now.graph c.mk_app.new.self n c.in_ok-mk_app-in-Init.field-0
+    (All-cons (λ a. HasSort c.args.self.now.graph a sort.Word) c.args.address [] c.requires.1.1.1.1 (All-nil (λ a. HasSort c.args.self.now.graph a sort.Word)))
+    c.in_ok-mk_app-in-Init.ensures.simplified)
 
 pub returns-in_default : goal.returns-in_default
 returns-in_default g c =

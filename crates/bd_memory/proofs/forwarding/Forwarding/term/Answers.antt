@@ -9,10 +9,11 @@ use Rattle.bd_terms.specs.Renamed.{renamed}
 use Rattle.bd_terms.proofs.Graphs.{FitsSorts-get, sort_at-get}
 use Rattle.bd_terms.proofs.Places.{AllByRecursion-of}
 use Rattle.bd_terms.proofs.Reaching.{children-below}
-use Rattle.bd_memory.specs.inner.Forwarding.{is_plain}
+use Rattle.bd_memory.specs.Forwarded.{is_plain}
 use Rattle.bd_memory.proofs.Plain.{Word-no_memory}
 use Rattle.bd_memory.proofs.Moving.{next-renamed, plain-term, renamed-plain}
 use Rattle.bd_memory.proofs.Growing.{next-IsForwarding, next-Means, reached-KeepsSymbol}
+use Rattle.bd_memory.proofs.Making.{plain-made, read-made}
 use Rattle.bd_memory.proofs.Next.{children-before, next-child, next-read}
 use Rattle.bd_memory.proofs.forwarding.Forwarding.term.Goals as goal
 
@@ -75,3 +76,19 @@ returns-in_ok-node-in_default-clause-holds g c =
     (subst (λ n. is_plain n ≡ true) (sym (c.in_ok-node-in_default.ensures ∙ ap (λ l. renamed l c.args.node.now) c.deref.ensures.value))
     (renamed-plain c.args.self.now.places.items c.args.node.now (plain-term c.args.old.now c.args.node.now (λ e. c.requires.1.1.1 (sort_at-get c.args.old.now c.requires.0.source (length c.args.self.now.places.items) c.args.node.now c.requires.1.0 ∙ e)) c.in_default.not-Read)))
     c.build.result c.build.ensures.gives c.build.ensures.extends c.build.ensures.uses c.build.ensures.graph
+
+pub returns-in-Read-clause-made : goal.returns-in-Read-clause-made
+returns-in-Read-clause-made g c =
+    read-made c.args.old.now g.root c.read.new.self.graph c.args.self.now.places.items c.read.new.self.places.items c.read.new.self.reads c.in-Read.memory c.in-Read.address c.place-address.result
+    c.requires.0.source (c.requires.1.0 ∙ ap Some c.in-Read.is) c.requires.1.1.0 c.place-address.ensures c.read.result c.read.ensures.made c.read.ensures.holds c.read.ensures.places
+
+pub returns-in_ok-node-in_default-clause-made : goal.returns-in_ok-node-in_default-clause-made
+returns-in_ok-node-in_default-clause-made g c =
+    let plain =
+    plain-term c.args.old.now c.args.node.now (λ e. c.requires.1.1.1 (sort_at-get c.args.old.now c.requires.0.source (length c.args.self.now.places.items) c.args.node.now c.requires.1.0 ∙ e)) c.in_default.not-Read in
+    let same = c.in_ok-node-in_default.ensures ∙ ap (λ l. renamed l c.args.node.now) c.deref.ensures.value in
+    plain-made c.args.old.now g.root c.args.self.now.graph c.build.new.self c.args.self.now.places.items c.args.self.now.reads c.requires.0 c.args.node.now c.requires.1.0 c.requires.1.1.0 c.requires.1.1.1
+    plain c.in_ok-node-in_default.node same
+    (next-renamed c.args.old.now g.root c.args.self.now.graph c.args.self.now.places.items c.args.self.now.reads c.requires.0 c.args.node.now c.requires.1.0 c.requires.1.1.0 c.requires.1.1.1
+    plain c.in_ok-node-in_default.node same).fits
+    c.build.ensures.extends c.build.result c.build.ensures.gives
