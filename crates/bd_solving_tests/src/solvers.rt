@@ -55,7 +55,7 @@ const CUBE_LOG: &str = "9 1 2 0 1 2 0\n10 1 0 9 3 4 0\n11 2 0 10 5 6 0\n12 0 10 
 const CUBE_TURNED_START: &str = "9 2 3 0 1 5 0\n10 3 0 9 3 7 0\n";
 
 /// The second variable was true last, so it is decided to be true.
-const CUBE_TURNED: &str = "9 2 3 0 1 5 0\n10 3 0 9 3 7 0\n11 -2 0 10 8 4 0\n12 0 10 11 2 6 0\n";
+const CUBE_TURNED: &str = "9 2 3 0 1 5 0\n10 3 0 9 3 7 0\n11 -2 0 10 4 8 0\n12 0 10 11 2 6 0\n";
 
 static ROWS: [Row; 14] = [
     (2, SQUARE, 0, Said::Spent, "", ""),

@@ -47,9 +47,9 @@ module _ (lists : List (List Watcher)) (l : Literal) (w : Watcher) where
       })
 
   -- what holds of each watcher and of the new one
-  pub all_listed : (P : Watcher → Type 0) → literal_index l < length lists → ((index : ℕ) → All P (get_or lists index [])) → P w → (index : ℕ) → All P (get_or (listed_more lists l w) index [])
+  pub all_listed : (P : ℕ → Watcher → Type 0) → literal_index l < length lists → ((index : ℕ) → All (P index) (get_or lists index [])) → P (literal_index l) w → (index : ℕ) → All (P index) (get_or (listed_more lists l w) index [])
   all_listed P h all new index =
       elim (cases_eq index (literal_index l)) [
-        | inl e ↦ subst (All P) (sym (ap (λ n. get_or (listed_more lists l w) n []) e ∙ now_listed h)) (All-push P (list_at lists l) w (all (literal_index l)) new)
-        | inr apart ↦ subst (All P) (sym (get_or-set_other lists (literal_index l) index _ [] apart)) (all index)
+        | inl e ↦ subst (λ n. All (P n) (get_or (listed_more lists l w) n [])) (sym e) (subst (All (P (literal_index l))) (sym (now_listed h)) (All-push (P (literal_index l)) (list_at lists l) w (all (literal_index l)) new))
+        | inr apart ↦ subst (All (P index)) (sym (get_or-set_other lists (literal_index l) index _ [] apart)) (all index)
       ]

@@ -18,7 +18,7 @@ use Rattle.bd_watch.specs.declared.watch.Watch.{Watch}
 use Rattle.bd_cnf.specs.Packed.{literal_index}
 use Rattle.bd_watch.specs.Levels.{Assigned, assigned, literals, decisions, IsComplete}
 use Rattle.bd_watch.specs.Trails.{LeveledTrail, extended, IsDecisionAt}
-use Rattle.bd_watch.specs.Watching.{clause_at, list_at, IsOneOf, IsPair, IsListed, IsWatcher, AreWatched, IsGuarded, AreGuarded, front, AreWatching, IsAsserting, pair_of}
+use Rattle.bd_watch.specs.Watching.{clause_at, list_at, IsOneOf, IsPair, IsListed, IsRest, IsWatcher, AreWatched, IsGuarded, AreGuarded, front, AreWatching, IsAsserting, pair_of}
 use Rattle.bd_watch.specs.Watch.{IsWatching, MayLearn, Learns}
 use Rattle.bd_watch.specs.inner.Loading.{Lists, Adds, IsStarting}
 use Rattle.bd_watch.proofs.Parts.{has_pushed, all_has, not_false}
@@ -40,15 +40,16 @@ module _ (limit : ℕ) (clauses : List (List Literal)) (pairs : List WatchedPair
   new_clause = get_or_push clauses clause [] (length clauses) refl
 
   -- a watcher of a clause is one where there are more
-  watcher_still : (w : Watcher) → IsWatcher clauses w → IsWatcher (clauses ++ clause ∷ []) w
-  watcher_still w is = record {
+  watcher_still : (index : ℕ) (w : Watcher) → IsWatcher clauses index w → IsWatcher (clauses ++ clause ∷ []) index w
+  watcher_still index w is = record {
     within = omega (arith, is.within, length_push clauses clause);
     long = subst (λ c. 2 ≤ length c) (sym (old_clause w.clause is.within)) is.long;
     blocker = subst (λ c. has_literal c w.blocker ≡ true) (sym (old_clause w.clause is.within)) is.blocker;
+    rest = subst (λ c. IsRest c index w) (sym (old_clause w.clause is.within)) is.rest;
   }
 
   -- one clause more, in lists that have its watchers
-  added : AreWatched limit clauses pairs lists → IsRising clause → IsBelow limit clause → (2 ≤ length clause → IsPair clause p) → (new : List (List Watcher)) → length new ≡ length lists → ((l : Literal) (k : ℕ) → IsListed (list_at lists l) 0 k → IsListed (list_at new l) 0 k) → (2 ≤ length clause → (l : Literal) → IsOneOf p l → IsListed (list_at new l) 0 (length clauses)) → ((index : ℕ) → All (IsWatcher (clauses ++ clause ∷ [])) (get_or new index [])) → AreWatched limit (clauses ++ clause ∷ []) (pairs ++ p ∷ []) new
+  added : AreWatched limit clauses pairs lists → IsRising clause → IsBelow limit clause → (2 ≤ length clause → IsPair clause p) → (new : List (List Watcher)) → length new ≡ length lists → ((l : Literal) (k : ℕ) → IsListed (list_at lists l) 0 k → IsListed (list_at new l) 0 k) → (2 ≤ length clause → (l : Literal) → IsOneOf p l → IsListed (list_at new l) 0 (length clauses)) → ((index : ℕ) → All (IsWatcher (clauses ++ clause ∷ []) index) (get_or new index [])) → AreWatched limit (clauses ++ clause ∷ []) (pairs ++ p ∷ []) new
   added was rising below pair new size still now watchers = record {
     packable = was.packable;
     paired = omega (arith, was.paired, length_push pairs p, length_push clauses clause);
@@ -80,8 +81,8 @@ module _ (limit : ℕ) (clauses : List (List Literal)) (pairs : List WatchedPair
       new_pair : (k : ℕ) (d : WatchedPair) → k ≡ length clauses → get_or (pairs ++ p ∷ []) k d ≡ p
       new_pair k d e = get_or_push pairs p d k (was.paired ∙ sym e)
 
-  pub added_long : (v w : Watcher) → AreWatched limit clauses pairs lists → IsRising clause → IsBelow limit clause → 2 ≤ length clause → IsPair clause p → v.clause ≡ length clauses → v.blocker ≡ p.second → w.clause ≡ length clauses → w.blocker ≡ p.first → AreWatched limit (clauses ++ clause ∷ []) (pairs ++ p ∷ []) (listed_more (listed_more lists p.first v) p.second w)
-  added_long v w was rising below long pair for blocker also other =
+  pub added_long : (v w : Watcher) → AreWatched limit clauses pairs lists → IsRising clause → IsBelow limit clause → 2 ≤ length clause → IsPair clause p → v.clause ≡ length clauses → v.blocker ≡ p.second → w.clause ≡ length clauses → w.blocker ≡ p.first → IsRest clause (literal_index p.first) v → IsRest clause (literal_index p.second) w → AreWatched limit (clauses ++ clause ∷ []) (pairs ++ p ∷ []) (listed_more (listed_more lists p.first v) p.second w)
+  added_long v w was rising below long pair for blocker also other rest more =
       added was rising below (λ _. pair) (listed_more once p.second w) (length-listed_more once p.second w ∙ length-listed_more lists p.first v)
       (λ l k there. still_listed once p.second w l k second_low (still_listed lists p.first v l k first_low there))
       (λ _ l one. elim one [
@@ -90,9 +91,9 @@ module _ (limit : ℕ) (clauses : List (List Literal)) (pairs : List WatchedPair
       ])
       (all_listed once p.second w (IsWatcher (clauses ++ clause ∷ [])) second_low
       (all_listed lists p.first v (IsWatcher (clauses ++ clause ∷ [])) first_low
-      (λ index. All-weaker (IsWatcher clauses) (IsWatcher (clauses ++ clause ∷ [])) watcher_still (get_or lists index []) (was.watchers index))
-      (entry v p.second for blocker pair.second))
-      (entry w p.first also other pair.first))
+      (λ index. All-weaker (IsWatcher clauses index) (IsWatcher (clauses ++ clause ∷ []) index) (watcher_still index) (get_or lists index []) (was.watchers index))
+      (entry v p.second (literal_index p.first) for blocker pair.second rest))
+      (entry w p.first (literal_index p.second) also other pair.first more))
     where
       once : List (List Watcher)
       once = listed_more lists p.first v
@@ -103,11 +104,12 @@ module _ (limit : ℕ) (clauses : List (List Literal)) (pairs : List WatchedPair
       second_low : literal_index p.second < length once
       second_low = omega (arith, was.sized, length-listed_more lists p.first v, index_below p.second limit (all_has (λ (l : Literal). l.var < limit) clause p.second below pair.second))
 
-      entry : (x : Watcher) (l : Literal) → x.clause ≡ length clauses → x.blocker ≡ l → has_literal clause l ≡ true → IsWatcher (clauses ++ clause ∷ []) x
-      entry x l at is here = record {
+      entry : (x : Watcher) (l : Literal) (index : ℕ) → x.clause ≡ length clauses → x.blocker ≡ l → has_literal clause l ≡ true → IsRest clause index x → IsWatcher (clauses ++ clause ∷ []) index x
+      entry x l index at is here rest = record {
         within = omega (arith, at, length_push clauses clause);
         long = subst (λ c. 2 ≤ length c) (sym whole) long;
         blocker = subst (λ c. has_literal c x.blocker ≡ true) (sym whole) (subst (λ (m : Literal). has_literal clause m ≡ true) (sym is) here);
+        rest = subst (λ c. IsRest c index x) (sym whole) rest;
       }
         where
           whole : clause_at (clauses ++ clause ∷ []) x.clause ≡ clause
@@ -222,7 +224,7 @@ adds_short w b clause one two third was rising below short clauses pairs lists t
       (subst (λ ps. AreWatched w.trail.limit (w.clauses ++ clause ∷ []) ps b.lists.items) (sym pairs)
       (subst (AreWatched w.trail.limit (w.clauses ++ clause ∷ []) (w.pairs.items ++ p ∷ [])) (sym lists)
       (added w.trail.limit w.clauses w.pairs.items w.lists.items clause p was rising below (λ long. absurd (omega (arith, short, long))) w.lists.items refl (λ l k there. there) (λ long. absurd (omega (arith, short, long)))
-      (λ index. All-weaker (IsWatcher w.clauses) (IsWatcher (w.clauses ++ clause ∷ [])) (watcher_still w.trail.limit w.clauses w.pairs.items w.lists.items clause p) (get_or w.lists.items index []) (was.watchers index))))));
+      (λ index. All-weaker (IsWatcher w.clauses index) (IsWatcher (w.clauses ++ clause ∷ []) index) (watcher_still w.trail.limit w.clauses w.pairs.items w.lists.items clause p index) (get_or w.lists.items index []) (was.watchers index))))));
   clauses = clauses;
   pairs = pairs;
   trail = trail;
@@ -234,8 +236,8 @@ adds_short w b clause one two third was rising below short clauses pairs lists t
 
 -- a clause of two literals or more was put in
 module _ (w base a b : Watch) (clause : List Literal) (one two : Literal) (third : Option Literal) (v x : Watcher) where
-  pub adds_long : AreWatched w.trail.limit w.clauses w.pairs.items w.lists.items → IsRising clause → IsBelow w.trail.limit clause → 2 ≤ length clause → IsPair clause (pair_of one two third) → v.clause ≡ length w.clauses → v.blocker ≡ two → x.clause ≡ length w.clauses → x.blocker ≡ one → base.clauses ≡ w.clauses ++ clause ∷ [] → base.pairs.items ≡ w.pairs.items ++ pair_of one two third ∷ [] → base.lists.items ≡ w.lists.items → base.trail ≡ w.trail → base.head ≡ w.head → Lists base a one v → Lists a b two x → Adds w b clause one two
-  adds_long was rising below long pair for blocker also other clauses pairs same_lists trail head first second =
+  pub adds_long : AreWatched w.trail.limit w.clauses w.pairs.items w.lists.items → IsRising clause → IsBelow w.trail.limit clause → 2 ≤ length clause → IsPair clause (pair_of one two third) → v.clause ≡ length w.clauses → v.blocker ≡ two → x.clause ≡ length w.clauses → x.blocker ≡ one → IsRest clause (literal_index one) v → IsRest clause (literal_index two) x → base.clauses ≡ w.clauses ++ clause ∷ [] → base.pairs.items ≡ w.pairs.items ++ pair_of one two third ∷ [] → base.lists.items ≡ w.lists.items → base.trail ≡ w.trail → base.head ≡ w.head → Lists base a one v → Lists a b two x → Adds w b clause one two
+  adds_long was rising below long pair for blocker also other rest more clauses pairs same_lists trail head first second =
       let all_clauses = second.clauses ∙ first.clauses ∙ clauses in
       let all_pairs = second.pairs ∙ first.pairs ∙ pairs in
       let all_trail = second.trail ∙ first.trail ∙ trail in
@@ -248,7 +250,7 @@ module _ (w base a b : Watch) (clause : List Literal) (one two : Literal) (third
             (subst (λ cs. AreWatched w.trail.limit cs b.pairs.items b.lists.items) (sym all_clauses)
             (subst (λ ps. AreWatched w.trail.limit (w.clauses ++ clause ∷ []) ps b.lists.items) (sym all_pairs)
             (subst (AreWatched w.trail.limit (w.clauses ++ clause ∷ []) (w.pairs.items ++ pair_of one two third ∷ [])) (sym all_lists)
-            (added_long w.trail.limit w.clauses w.pairs.items w.lists.items clause (pair_of one two third) v x was rising below long pair for blocker also other))));
+            (added_long w.trail.limit w.clauses w.pairs.items w.lists.items clause (pair_of one two third) v x was rising below long pair for blocker also other rest more))));
         clauses = all_clauses;
         pairs = all_pairs;
         trail = all_trail;

@@ -17,6 +17,7 @@ use Rattle.bd_watch.specs.inner.Visits.{ArePending}
 use Rattle.bd_watch.proofs.Placed.{literals-append}
 use Rattle.bd_watch.proofs.Guards.{true_grown}
 use Rattle.bd_watch.proofs.Values.{same_index}
+use Rattle.bd_watch.proofs.ThirdLiterals.{unsaid}
 
 -- a watcher of another clause than the one at a place is listed after it
 pub listed_next : (ws : List Watcher) (place k : ℕ) (d : Watcher) → k ≢ (get_or ws place d).clause → IsListed ws place k → IsListed ws (place + 1) k
@@ -75,7 +76,7 @@ all_removed P ws new place gone low all k d h =
 
 -- with another list of a literal, where each clause that watches it is listed, the clauses watch on
 module _ (clauses : List (List Literal)) (pairs : List WatchedPair) (lists : List (List Watcher)) (trail : LeveledTrail) (head : ℕ) (l : Literal) (new : List Watcher) where
-  relisted : AreWatching clauses pairs lists trail head → literal_index l < length lists → ((i : ℕ) (p : WatchedPair) → i < length clauses → 2 ≤ length (clause_at clauses i) → IsOneOf (get_or pairs i p) l → IsListed (list_at lists l) 0 i → IsListed new 0 i) → All (IsWatcher clauses) new → AreWatching clauses pairs (set lists (literal_index l) new) trail head
+  relisted : AreWatching clauses pairs lists trail head → literal_index l < length lists → ((i : ℕ) (p : WatchedPair) → i < length clauses → 2 ≤ length (clause_at clauses i) → IsOneOf (get_or pairs i p) l → IsListed (list_at lists l) 0 i → IsListed new 0 i) → All (IsWatcher clauses (literal_index l)) new → AreWatching clauses pairs (set lists (literal_index l) new) trail head
   relisted is at_index still all = record {
     watched = record {
       packable = was.packable;
@@ -111,11 +112,11 @@ module _ (clauses : List (List Literal)) (pairs : List WatchedPair) (lists : Lis
             | inr apart ↦ subst (λ ws. IsListed ws 0 i) (sym (get_or-set_other lists (literal_index l) (literal_index m) new [] apart)) (was.listed i p m h long one)
           ]
 
-      watchers : (index : ℕ) → All (IsWatcher clauses) (get_or (set lists (literal_index l) new) index [])
+      watchers : (index : ℕ) → All (IsWatcher clauses index) (get_or (set lists (literal_index l) new) index [])
       watchers index =
           elim (cases_eq index (literal_index l)) [
-            | inl e ↦ subst (All (IsWatcher clauses)) (sym (ap (λ n. get_or (set lists (literal_index l) new) n []) e ∙ now)) all
-            | inr apart ↦ subst (All (IsWatcher clauses)) (sym (get_or-set_other lists (literal_index l) index new [] apart)) (was.watchers index)
+            | inl e ↦ subst (λ n. All (IsWatcher clauses n) (get_or (set lists (literal_index l) new) n [])) (sym e) (subst (All (IsWatcher clauses (literal_index l))) (sym now) all)
+            | inr apart ↦ subst (All (IsWatcher clauses index)) (sym (get_or-set_other lists (literal_index l) index new [] apart)) (was.watchers index)
           ]
 
 module _ (clauses : List (List Literal)) (pairs : List WatchedPair) (lists : List (List Watcher)) (trail : LeveledTrail) (head place : ℕ) (l : Literal) where
@@ -135,23 +136,27 @@ module _ (clauses : List (List Literal)) (pairs : List WatchedPair) (lists : Lis
       (λ i p h long one there.
       let apart : i ≢ (get_or (list_at lists l) place d).clause = λ f. none p (subst (λ n. IsOneOf (get_or pairs n p) l) f one) in
       listed_removed (list_at lists l) new place 0 i d gone low (omega arith) apart there)
-      (all_removed (IsWatcher clauses) (list_at lists l) new place gone low (is.watched.watchers (literal_index l)))
+      (all_removed (IsWatcher clauses (literal_index l)) (list_at lists l) new place gone low (is.watched.watchers (literal_index l)))
 
   -- a watcher is given another blocker of its clause
   pub reblocked : (new : List Watcher) (blocker : Literal) → AreWatching clauses pairs lists trail head → HasBlocker (list_at lists l) place blocker new → place < length (list_at lists l) → ((d : Watcher) → has_literal (clause_at clauses (get_or (list_at lists l) place d).clause) blocker ≡ true) → AreWatching clauses pairs (set lists (literal_index l) new) trail head
   reblocked new blocker is has low here =
       relisted clauses pairs lists trail head l new is (has_list low)
       (λ i p h long one there. listed_reblocked (list_at lists l) new place 0 i blocker has low there)
-      (subst (All (IsWatcher clauses)) (sym has.set) (All-set (IsWatcher clauses) (list_at lists l) place has.watcher entry (is.watched.watchers (literal_index l))))
+      (subst (All (IsWatcher clauses (literal_index l))) (sym has.set) (All-set (IsWatcher clauses (literal_index l)) (list_at lists l) place has.watcher entry (is.watched.watchers (literal_index l))))
     where
-      was : IsWatcher clauses (get_or (list_at lists l) place has.watcher)
+      was : IsWatcher clauses (literal_index l) (get_or (list_at lists l) place has.watcher)
       was = is.watched.watchers (literal_index l) place has.watcher low
 
-      entry : IsWatcher clauses has.watcher
+      there : has_literal (clause_at clauses has.watcher.clause) blocker ≡ true
+      there = subst (λ n. has_literal (clause_at clauses n) blocker ≡ true) (has.was has.watcher) (here has.watcher)
+
+      entry : IsWatcher clauses (literal_index l) has.watcher
       entry = record {
         within = subst (λ n. n < length clauses) (has.was has.watcher) was.within;
         long = subst (λ n. 2 ≤ length (clause_at clauses n)) (has.was has.watcher) was.long;
-        blocker = subst (λ (m : Literal). has_literal (clause_at clauses has.watcher.clause) m ≡ true) (sym has.blocker_is) (subst (λ n. has_literal (clause_at clauses n) blocker ≡ true) (has.was has.watcher) (here has.watcher));
+        blocker = subst (λ (m : Literal). has_literal (clause_at clauses has.watcher.clause) m ≡ true) (sym has.blocker_is) there;
+        rest = unsaid (clause_at clauses has.watcher.clause) (literal_index l) has.watcher (has.rest_is ∙ sym has.blocker_is) (subst (λ (m : Literal). has_literal (clause_at clauses has.watcher.clause) m ≡ true) (sym has.rest_is) there);
       }
 
 module _ (clauses : List (List Literal)) (pairs new_pairs : List WatchedPair) (ws : List Watcher) (trail more : List Assigned) (l : Literal) (place : ℕ) (d : Watcher) where

@@ -1,12 +1,15 @@
 -- The third literal of a clause, besides the two that it watches.
-use Rattle.std.proofs.Common.{◌≡◌, ◌<◌, ◌+◌, ℕ, true, List, [], ◌∷◌, ◌++◌, Option, None, Some, length, take, get_or, sym, ap, ◌∙◌, subst, inl, inr}
+use Rattle.std.proofs.Common.{◌≡◌, ◌≢◌, ◌<◌, ◌+◌, ℕ, true, List, [], ◌∷◌, ◌++◌, Option, None, Some, length, take, get_or, sym, ap, ◌∙◌, subst, inl, inr, arith}
 use Rattle.std.proofs.lemmas.List.{take_more}
-use Rattle.std.specs.Prelude.{◌⊎◌, IfSome}
+use Rattle.std.specs.Prelude.{◌⊎◌, IfSome, unwrap_or}
 use Rattle.bd_cnf.specs.Literal.{Literal, has_literal}
+use Rattle.bd_cnf.specs.Packed.{literal_index}
 use Rattle.bd_watch.specs.declared.watcher.WatchedPair.{WatchedPair}
-use Rattle.bd_watch.specs.Watching.{IsThird, IsPair}
+use Rattle.bd_watch.specs.declared.watcher.Watcher.{Watcher}
+use Rattle.bd_watch.specs.Watching.{IsThird, IsPair, IsRest}
 use Rattle.bd_watch.specs.inner.Watchers.{AreTwo}
 use Rattle.bd_watch.proofs.Parts.{has_left, has_either, has_single}
+use Rattle.bd_watch.proofs.Guards.{apart_from}
 
 -- what some literals have besides two: none, or one
 abbrev pub HasBesides : List Literal → Literal → Literal → Option Literal → Type 0
@@ -47,3 +50,44 @@ third_of clause p l other t is two named = turned two
       not_second = λ e. third.not_first (e ∙ first);
       all = λ m h. elim (third.all m h) [ inl e ↦ inl e | inr (inl e) ↦ inr (inr (e ∙ sym first)) | inr (inr e) ↦ inr (inl (e ∙ sym second)) ];
     }
+
+-- a watcher whose rest is its blocker says nothing
+pub unsaid : (clause : List Literal) (index : ℕ) (w : Watcher) → w.rest ≡ w.blocker → has_literal clause w.rest ≡ true → IsRest clause index w
+unsaid clause index w same here = record { here = here; all = λ apart m h. absurd (apart_from w.rest w.blocker apart same) }
+
+-- the rest of a clause of three literals is the third
+pub rest_third : (clause : List Literal) (first second t : Literal) (w : Watcher) → IsThird clause first second t → w.blocker ≡ second → w.rest ≡ t → IsRest clause (literal_index first) w
+rest_third clause first second t w third blocker rest = record {
+  here = subst (λ (m : Literal). has_literal clause m ≡ true) (sym rest) third.here;
+  all = λ apart m h. elim (third.all m h) [ inl e ↦ inr (inr (e ∙ sym rest)) | inr (inl e) ↦ inl (ap literal_index e) | inr (inr e) ↦ inr (inl (e ∙ sym blocker)) ];
+}
+
+-- a clause of two literals has no other than two of its literals that differ
+two_only : (clause : List Literal) (first second m : Literal) → length clause ≡ 2 → has_literal clause first ≡ true → has_literal clause second ≡ true → first ≢ second → has_literal clause m ≡ true → (m ≡ first) ⊎ (m ≡ second)
+two_only [] first second m size one two apart h = absurd (omega arith)
+two_only (a ∷ []) first second m size one two apart h = absurd (omega arith)
+two_only (a ∷ b ∷ c ∷ rest) first second m size one two apart h = absurd (omega arith)
+two_only (a ∷ b ∷ []) first second m size one two apart h = from (either first one) (either second two) (either m h)
+  where
+    either : (x : Literal) → has_literal (a ∷ b ∷ []) x ≡ true → (x ≡ a) ⊎ (x ≡ b)
+    either x here = has_either (a ∷ []) (b ∷ []) x here (λ i. inl (has_single x a i)) (λ i. inr (has_single x b i))
+
+    from : (first ≡ a) ⊎ (first ≡ b) → (second ≡ a) ⊎ (second ≡ b) → (m ≡ a) ⊎ (m ≡ b) → (m ≡ first) ⊎ (m ≡ second)
+    from (inl e) (inl f) at = absurd (apart (e ∙ sym f))
+    from (inr e) (inr f) at = absurd (apart (e ∙ sym f))
+    from (inl e) (inr f) (inl g) = inl (g ∙ sym e)
+    from (inl e) (inr f) (inr g) = inr (g ∙ sym f)
+    from (inr e) (inl f) (inl g) = inr (g ∙ sym f)
+    from (inr e) (inl f) (inr g) = inl (g ∙ sym e)
+
+-- so its rest is the literal that it watches
+pub rest_first : (clause : List Literal) (p : WatchedPair) (w : Watcher) → IsPair clause p → length clause ≡ 2 → w.blocker ≡ p.second → w.rest ≡ p.first → IsRest clause (literal_index p.first) w
+rest_first clause p w is size blocker rest = record {
+  here = subst (λ (m : Literal). has_literal clause m ≡ true) (sym rest) is.first;
+  all = λ apart m h. elim (two_only clause p.first p.second m size is.first is.second is.apart h) [ inl e ↦ inl (ap literal_index e) | inr e ↦ inr (inl (e ∙ sym blocker)) ];
+}
+
+-- the rest is the third literal, where a third one is known, and else the blocker
+pub rest_known : (clause : List Literal) (p : WatchedPair) (w : Watcher) (o : Option Literal) → IsPair clause p → IfSome o (IsThird clause p.first p.second) → w.blocker ≡ p.second → w.rest ≡ unwrap_or o p.second → IsRest clause (literal_index p.first) w
+rest_known clause p w None is third blocker rest = unsaid clause (literal_index p.first) w (rest ∙ sym blocker) (subst (λ (m : Literal). has_literal clause m ≡ true) (sym rest) is.second)
+rest_known clause p w (Some t) is third blocker rest = rest_third clause p.first p.second t w third blocker rest

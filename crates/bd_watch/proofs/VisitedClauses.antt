@@ -1,8 +1,9 @@
 -- One clause is looked at whose watched literal has become false.
 use Rattle.std.proofs.Common.{◌≡◌, ◌≢◌, ℕ, ◌+◌, ◌<◌, ◌≤◌, true, false, List, [], ◌∷◌, ◌++◌, Vec, Global, Some, length, get_or, set, refl, sym, ap, ◌∙◌, subst, inl, inr, arith, append-nil, get_or-set_same, get_or-set_other}
+use Rattle.std.specs.Prelude.{◌⊎◌}
 use Rattle.std.specs.List.{list_any}
 use Rattle.std.proofs.lemmas.List.{get_or_read}
-use Rattle.bd_cnf.specs.Literal.{Literal, has_literal}
+use Rattle.bd_cnf.specs.Literal.{Literal, literal_eq, has_literal}
 use Rattle.bd_cnf.specs.Trail.{is_false}
 use Rattle.bd_cnf.proofs.Literals.{any_from_has}
 use Rattle.bd_watch.specs.declared.watcher.WatchedPair.{WatchedPair}
@@ -12,13 +13,13 @@ use Rattle.bd_watch.specs.declared.watch.Visited.TheVariants.{Moved, Kept, Block
 use Rattle.bd_cnf.specs.Packed.{literal_index}
 use Rattle.bd_watch.specs.Levels.{assigned, literals}
 use Rattle.bd_watch.specs.Trails.{LeveledTrail, extended}
-use Rattle.bd_watch.specs.Watching.{clause_at, list_at, IsOneOf, IsPair, IsWatcher, AreWatching}
+use Rattle.bd_watch.specs.Watching.{clause_at, list_at, IsOneOf, IsPair, IsRest, IsWatcher, AreWatching}
 use Rattle.bd_watch.specs.Watch.{IsWatching, Extends}
 use Rattle.bd_watch.specs.inner.Watchers.{AreTwo, HasBlocker, Removes}
 use Rattle.bd_watch.specs.inner.Visits.{Visits, MayWatch, IsLeft, IsLong, MayBlock, Renews, Unwatches}
 use Rattle.bd_watch.proofs.Parts.{has_pushed}
 use Rattle.bd_watch.proofs.Placed.{literals-append}
-use Rattle.bd_watch.proofs.Guards.{false_besides}
+use Rattle.bd_watch.proofs.Guards.{false_besides, apart_from}
 use Rattle.bd_watch.proofs.Values.{same_index, index_below}
 use Rattle.bd_watch.proofs.WatchedClauses.{literal_below, replaced, implied}
 use Rattle.bd_watch.proofs.PendingWatchers.{unlisted, reblocked}
@@ -88,12 +89,12 @@ pub index_listed : (w : Watch) (l : Literal) → IsWatching w → l.var < w.trai
 index_listed w l is low = omega (arith, is.watched.sized, index_below l w.trail.limit low)
 
 -- it watches another literal
-pub visits_replaced : (w : Watch) (ps : Vec WatchedPair Global) (ls : Vec (List Watcher) Global) (i index : ℕ) (p : WatchedPair) (old ws : List Watcher) (entry : Watcher) → IsWatching w → IsLong w i → MayWatch w i p → index ≡ literal_index p.first → old ≡ get_or w.lists.items index old → ws ≡ old ++ entry ∷ [] → entry.clause ≡ i → entry.blocker ≡ p.second → ps.items ≡ set w.pairs.items i p → ls.items ≡ set w.lists.items index ws → (l : Literal) → (IsOneOf p l → ⊥) → Visits w (record { clauses = w.clauses; pairs = ps; lists = ls; trail = w.trail; head = w.head }) l i Moved
-visits_replaced w ps ls i index p old ws entry is long may at read pushed for blocker new_pairs new_lists l apart = record {
+pub visits_replaced : (w : Watch) (ps : Vec WatchedPair Global) (ls : Vec (List Watcher) Global) (i index : ℕ) (p : WatchedPair) (old ws : List Watcher) (entry : Watcher) → IsWatching w → IsLong w i → MayWatch w i p → index ≡ literal_index p.first → old ≡ get_or w.lists.items index old → ws ≡ old ++ entry ∷ [] → entry.clause ≡ i → entry.blocker ≡ p.second → IsRest (clause_at w.clauses i) (literal_index p.first) entry → ps.items ≡ set w.pairs.items i p → ls.items ≡ set w.lists.items index ws → (l : Literal) → (IsOneOf p l → ⊥) → Visits w (record { clauses = w.clauses; pairs = ps; lists = ls; trail = w.trail; head = w.head }) l i Moved
+visits_replaced w ps ls i index p old ws entry is long may at read pushed for blocker rest new_pairs new_lists l apart = record {
   watching =
       subst (λ xs. AreWatching w.clauses xs ls.items w.trail w.head) (sym new_pairs)
       (subst (λ xs. AreWatching w.clauses (set w.pairs.items i p) xs w.trail w.head) (sym lists)
-      (replaced w.clauses w.pairs.items w.lists.items w.trail w.head i p entry is long.within long.long may.two may.second may.first for blocker));
+      (replaced w.clauses w.pairs.items w.lists.items w.trail w.head i p entry is long.within long.long may.two may.second may.first for blocker rest));
   extends = record { clauses = refl; limit = refl; head = refl; more = []; grown = sym (append-nil w.trail.entries) };
   list = ap (λ xs. get_or xs (literal_index l) []) lists ∙ get_or-set_other w.lists.items (literal_index p.first) (literal_index l) _ [] (λ e. apart (inl (same_index l p.first e)));
   pairs = λ k d other. ap (λ xs. get_or xs k d) new_pairs ∙ get_or-set_other w.pairs.items i k p d other;
@@ -110,8 +111,8 @@ visits_replaced w ps ls i index p old ws entry is long may at read pushed for bl
     lists = new_lists ∙ ap (λ n. set w.lists.items n ws) at ∙ ap (set w.lists.items (literal_index p.first)) (pushed ∙ ap (λ xs. xs ++ entry ∷ []) was)
 
 -- what a watcher that was read says of its clause and its blocker
-pub watcher_read : (w : Watch) (l : Literal) (place : ℕ) (entry : Watcher) → IsWatching w → place < length (list_at w.lists.items l) → ((d : Watcher) → get_or (list_at w.lists.items l) place d ≡ entry) → IsWatcher w.clauses entry
-watcher_read w l place entry is low at = subst (IsWatcher w.clauses) (at entry) (is.watched.watchers (literal_index l) place entry low)
+pub watcher_read : (w : Watch) (l : Literal) (place : ℕ) (entry : Watcher) → IsWatching w → place < length (list_at w.lists.items l) → ((d : Watcher) → get_or (list_at w.lists.items l) place d ≡ entry) → IsWatcher w.clauses (literal_index l) entry
+watcher_read w l place entry is low at = subst (IsWatcher w.clauses (literal_index l)) (at entry) (is.watched.watchers (literal_index l) place entry low)
 
 -- the list of a literal without a watcher
 pub unwatched : (w : Watch) (ls : Vec (List Watcher) Global) (l : Literal) (index place : ℕ) (old ws : List Watcher) → IsWatching w → l.var < w.trail.limit → place < length (list_at w.lists.items l) → ((p : WatchedPair) (d : Watcher) → IsOneOf (get_or w.pairs.items (get_or (list_at w.lists.items l) place d).clause p) l → ⊥) → index ≡ literal_index l → old ≡ get_or w.lists.items index old → Removes old place ws → ls.items ≡ set w.lists.items index ws → Unwatches w (record { clauses = w.clauses; pairs = w.pairs; lists = ls; trail = w.trail; head = w.head }) l place
@@ -126,7 +127,7 @@ unwatched w ls l index place old ws is below low none at read removes new_lists 
 }
   where
     default : Watcher
-    default = record { clause = 0; blocker = l }
+    default = record { clause = 0; blocker = l; rest = l }
 
     was : old ≡ list_at w.lists.items l
     was = get_or_read w.lists.items index old (subst (λ n. n < length w.lists.items) (sym at) (index_listed w l is below)) read [] ∙ ap (λ n. get_or w.lists.items n []) at
@@ -158,9 +159,29 @@ renewed w ls l blocker index place old ws is below may at read has new_lists = r
     lists = new_lists ∙ ap (λ n. set w.lists.items n ws) at
 
 -- a watcher's clause has two literals or more
-pub watcher_long : (w : Watch) (entry : Watcher) → IsWatcher w.clauses entry → IsLong w entry.clause
-watcher_long w entry is = record { within = is.within; long = is.long }
+pub watcher_long : (w : Watch) (index : ℕ) (entry : Watcher) → IsWatcher w.clauses index entry → IsLong w entry.clause
+watcher_long w index entry is = record { within = is.within; long = is.long }
 
 -- the pair that was read is the clause's
 pub pair_is : (w : Watch) (i : ℕ) (q : WatchedPair) → IsWatching w → IsLong w i → q ≡ get_or w.pairs.items i q → IsPair (clause_at w.clauses i) q
 pair_is w i q is long same = subst (IsPair (clause_at w.clauses i)) (sym same) (is.watched.two i q long.within long.long)
+
+-- of a clause of two or three literals one is left, where the others are false
+left_besides : (w : Watch) (entry : Watcher) (l left other : Literal) → IsWatcher w.clauses (literal_index l) entry → literal_eq entry.rest entry.blocker ≡ false → is_false (literals w.trail.entries) l ≡ true → is_false (literals w.trail.entries) other ≡ true → has_literal (clause_at w.clauses entry.clause) left ≡ true → ((m : Literal) → (m ≡ entry.blocker) ⊎ (m ≡ entry.rest) → (m ≡ left) ⊎ (m ≡ other)) → has_literal (literals w.trail.entries) left ≡ false → IsLeft w entry.clause left
+left_besides w entry l left other is two bad also here both not_true = record {
+  here = here;
+  besides = λ m h apart. elim (is.rest.all two m h) [
+    | inl e ↦ subst (λ (k : Literal). is_false (literals w.trail.entries) k ≡ true) (sym (same_index m l e)) bad
+    | inr one ↦ elim (both m one) [
+      | inl e ↦ absurd (apart_from m left apart e)
+      | inr e ↦ subst (λ (k : Literal). is_false (literals w.trail.entries) k ≡ true) (sym e) also
+    ]
+  ];
+  not_true = not_true;
+}
+
+pub left_blocker : (w : Watch) (entry : Watcher) (l : Literal) → IsWatcher w.clauses (literal_index l) entry → literal_eq entry.rest entry.blocker ≡ false → is_false (literals w.trail.entries) l ≡ true → is_false (literals w.trail.entries) entry.rest ≡ true → has_literal (literals w.trail.entries) entry.blocker ≡ false → IsLeft w entry.clause entry.blocker
+left_blocker w entry l is two bad also not_true = left_besides w entry l entry.blocker entry.rest is two bad also is.blocker (λ m one. one) not_true
+
+pub left_rest : (w : Watch) (entry : Watcher) (l : Literal) → IsWatcher w.clauses (literal_index l) entry → literal_eq entry.rest entry.blocker ≡ false → is_false (literals w.trail.entries) l ≡ true → is_false (literals w.trail.entries) entry.blocker ≡ true → has_literal (literals w.trail.entries) entry.rest ≡ false → IsLeft w entry.clause entry.rest
+left_rest w entry l is two bad also not_true = left_besides w entry l entry.rest entry.blocker is two bad also is.rest.here (λ m one. elim one [ inl e ↦ inr e | inr e ↦ inl e ]) not_true

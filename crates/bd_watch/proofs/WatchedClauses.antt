@@ -14,7 +14,7 @@ use Rattle.bd_watch.specs.declared.watcher.Watcher.{Watcher}
 use Rattle.bd_cnf.specs.Packed.{literal_index}
 use Rattle.bd_watch.specs.Levels.{Assigned, assigned, literals, IsPlaced, IsComplete}
 use Rattle.bd_watch.specs.Trails.{LeveledTrail, leveled, extended, IsDecisionAt}
-use Rattle.bd_watch.specs.Watching.{clause_at, list_at, pair_of, IsOneOf, IsPair, IsListed, IsWatcher, AreWatched, IsGuarded, AreGuarded, front, AreWatching}
+use Rattle.bd_watch.specs.Watching.{clause_at, list_at, pair_of, IsOneOf, IsPair, IsListed, IsRest, IsWatcher, AreWatched, IsGuarded, AreGuarded, front, AreWatching}
 use Rattle.bd_watch.proofs.Parts.{all_has, all_part, unassigned_from}
 use Rattle.bd_watch.proofs.Placed.{literals-append, complete_push, complete_front}
 use Rattle.bd_watch.proofs.Numbered.{numbered_at, closed_standing}
@@ -35,9 +35,9 @@ module _ (clauses : List (List Literal)) (pairs : List WatchedPair) (lists : Lis
     new_lists : List (List Watcher)
     new_lists = set lists (literal_index p.first) (list_at lists p.first ++ w ∷ [])
 
-    pub replaced : AreWatching clauses pairs lists trail head → i < length clauses → 2 ≤ length (clause_at clauses i) → IsPair (clause_at clauses i) p → ((d : WatchedPair) → IsOneOf (get_or pairs i d) p.second) → is_false (literals trail.entries) p.first ≡ false → w.clause ≡ i → w.blocker ≡ p.second → AreWatching clauses (set pairs i p) (set lists (literal_index p.first) (list_at lists p.first ++ w ∷ [])) trail head
+    pub replaced : AreWatching clauses pairs lists trail head → i < length clauses → 2 ≤ length (clause_at clauses i) → IsPair (clause_at clauses i) p → ((d : WatchedPair) → IsOneOf (get_or pairs i d) p.second) → is_false (literals trail.entries) p.first ≡ false → w.clause ≡ i → w.blocker ≡ p.second → IsRest (clause_at clauses i) (literal_index p.first) w → AreWatching clauses (set pairs i p) (set lists (literal_index p.first) (list_at lists p.first ++ w ∷ [])) trail head
     unfolding new_pairs new_lists
-    replaced is within long two old opens for blocker = record {
+    replaced is within long two old opens for blocker rest = record {
       watched = record {
         packable = was.packable;
         paired = length-set pairs i p ∙ was.paired;
@@ -87,12 +87,13 @@ module _ (clauses : List (List Literal)) (pairs : List WatchedPair) (lists : Lis
               | inr apart ↦ still_listed lists p.first w l k at_index (was.listed k d l h more (subst (λ (q : WatchedPair). IsOneOf q l) (get_or-set_other pairs i k p d apart) one))
             ]
 
-        watchers : (index : ℕ) → All (IsWatcher clauses) (get_or new_lists index [])
+        watchers : (index : ℕ) → All (IsWatcher clauses index) (get_or new_lists index [])
         watchers index =
             all_listed lists p.first w (IsWatcher clauses) at_index was.watchers (record {
               within = subst (λ n. n < length clauses) (sym for) within;
               long = subst (λ n. 2 ≤ length (clause_at clauses n)) (sym for) long;
               blocker = subst (λ (m : Literal). has_literal (clause_at clauses w.clause) m ≡ true) (sym blocker) (subst (λ n. has_literal (clause_at clauses n) p.second ≡ true) (sym for) two.second);
+              rest = subst (λ n. IsRest (clause_at clauses n) (literal_index p.first) w) (sym for) rest;
             }) index
 
         guard : (done ls : List Literal) → is_false done p.first ≡ false → AreGuarded clauses pairs done ls → AreGuarded clauses new_pairs done ls

@@ -2,7 +2,7 @@
 use Rattle.std.specs.Prelude.{◌≡◌, ◌≢◌, ◌<◌, ◌≤◌, ◌*◌, ◌^◌, ℕ, true, false, List, [], ◌⊎◌, length, take, slice_index_or, Option, IfSome, IsSomeAnd}
 use Rattle.std.specs.List.{All, list_any}
 use Rattle.std.specs.FinMap.{get}
-use Rattle.bd_cnf.specs.Literal.{Literal, has_literal, has_variable}
+use Rattle.bd_cnf.specs.Literal.{Literal, literal_eq, has_literal, has_variable}
 use Rattle.bd_cnf.specs.Clause.{IsRising}
 use Rattle.bd_cnf.specs.Standing.{Standing, IsBelow}
 use Rattle.bd_cnf.specs.Trail.{is_false, open_literals}
@@ -49,11 +49,17 @@ pub record IsListed (watchers : List Watcher) (from clause : ℕ) : Type 0 where
   pub within : place < length watchers
   pub is : (d : Watcher) → (slice_index_or watchers place d).clause ≡ clause
 
--- a watcher is for a clause of two or more literals, one of which is its blocker
-pub record IsWatcher (clauses : List (List Literal)) (w : Watcher) : Type 0 where
+-- besides the literal of that index and the blocker, a clause has at most this one; of a long clause it is the blocker again, and says nothing
+pub record IsRest (clause : List Literal) (index : ℕ) (w : Watcher) : Type 0 where
+  pub here : has_literal clause w.rest ≡ true
+  pub all : literal_eq w.rest w.blocker ≡ false → (m : Literal) → has_literal clause m ≡ true → (literal_index m ≡ index) ⊎ ((m ≡ w.blocker) ⊎ (m ≡ w.rest))
+
+-- a watcher of the literal of that index is for a clause of two or more literals, one of which is its blocker, and one its rest
+pub record IsWatcher (clauses : List (List Literal)) (index : ℕ) (w : Watcher) : Type 0 where
   pub within : w.clause < length clauses
   pub long : 2 ≤ length (clause_at clauses w.clause)
   pub blocker : has_literal (clause_at clauses w.clause) w.blocker ≡ true
+  pub rest : IsRest (clause_at clauses w.clause) index w
 
 -- each clause of two or more literals watches two of them
 pub record AreWatched (limit : ℕ) (clauses : List (List Literal)) (pairs : List WatchedPair) (lists : List (List Watcher)) : Type 0 where
@@ -64,7 +70,7 @@ pub record AreWatched (limit : ℕ) (clauses : List (List Literal)) (pairs : Lis
   pub below : All (IsBelow limit) clauses
   pub two : (i : ℕ) (d : WatchedPair) → i < length clauses → 2 ≤ length (clause_at clauses i) → IsPair (clause_at clauses i) (slice_index_or pairs i d)
   pub listed : (i : ℕ) (d : WatchedPair) (l : Literal) → i < length clauses → 2 ≤ length (clause_at clauses i) → IsOneOf (slice_index_or pairs i d) l → IsListed (list_at lists l) 0 i
-  pub watchers : (index : ℕ) → All (IsWatcher clauses) (slice_index_or lists index [])
+  pub watchers : (index : ℕ) → All (IsWatcher clauses index) (slice_index_or lists index [])
 
 -- a clause has two literals or more, and neither of the two that it watches is false
 pub record AreOpen (done clause : List Literal) (p : WatchedPair) : Type 0 where

@@ -3,7 +3,7 @@ ghost use Rattle.std.specs.Prelude.{◌≡◌, ◌≤◌, ◌<◌, ◌+◌, ◌^
 ghost use Rattle.bd_cnf.specs.Clause.{IsRising};
 ghost use Rattle.bd_cnf.specs.Standing.{IsBelow};
 ghost use Rattle.bd_cnf.specs.Packed.{literal_index};
-ghost use Rattle.bd_watch.specs.Watching.{IsPair, IsThird, AreWatched, pair_of};
+ghost use Rattle.bd_watch.specs.Watching.{IsPair, IsThird, IsRest, AreWatched, pair_of};
 ghost use Rattle.bd_watch.specs.Watch.{IsLoaded, Starts};
 ghost use Rattle.bd_watch.specs.inner.Loading.{Lists, Adds, IsStarting, StartsUnit};
 
@@ -43,6 +43,29 @@ fn third(lits: &[Lit], first: PackedLit, second: PackedLit) -> Option<PackedLit>
         }
     }
     third
+}
+
+/// The watcher of one of the two literals that a clause watches; the other is its blocker.
+fn watcher(lits: &[Lit], clause: u32, watched: PackedLit, blocker: PackedLit) -> Watcher
+    requires below { IsBelow (2 ^ 31) lits.now }
+    requires pair { IsPair lits.now (pair_of watched blocker None) }
+    ensures clause { result.clause ≡ clause }
+    ensures blocker { result.blocker ≡ blocker }
+    ensures rest { IsRest lits.now (literal_index watched) result }
+{
+    if lits.len() == 2 {
+        return Watcher {
+            clause,
+            blocker,
+            rest: watched,
+        };
+    }
+    let rest = third(lits, watched, blocker).unwrap_or(blocker);
+    Watcher {
+        clause,
+        blocker,
+        rest,
+    }
 }
 
 fn empty_lists(alloc: Global, count: usize) -> Result<Vec<WatchList>, AllocError>
@@ -108,10 +131,8 @@ impl Watch {
         if lits.len() < 2 {
             return Ok(());
         }
-        let blocker = second;
-        self.list(first, Watcher { clause, blocker })?;
-        let blocker = first;
-        self.list(second, Watcher { clause, blocker })
+        self.list(first, watcher(lits, clause, first, second))?;
+        self.list(second, watcher(lits, clause, second, first))
     }
 
     /// Puts the clauses of a formula in.

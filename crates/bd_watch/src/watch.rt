@@ -2,8 +2,9 @@
 //! only where one of its two has become false: then it is true, or watches another literal from
 //! then on, or is unit, or false. Going back changes no watched literal: where the two were right at
 //! the end of a level, they still are.
-ghost use Rattle.std.specs.Prelude.{◌≡◌, ◌<◌, ◌≤◌, ◌+◌, ◌^◌, length, true, IfOk, IfSome, IfNone, OnOk};
-ghost use Rattle.bd_cnf.specs.Literal.{Literal};
+ghost use Rattle.std.specs.Prelude.{◌≡◌, ◌<◌, ◌≤◌, ◌+◌, ◌^◌, length, true, false, IfOk, IfSome, IfNone, OnOk};
+ghost use Rattle.bd_cnf.specs.Literal.{Literal, has_literal};
+ghost use Rattle.bd_cnf.specs.Packed.{literal_index};
 ghost use Rattle.bd_cnf.specs.Standing.{IsBelow};
 ghost use Rattle.bd_cnf.specs.Trail.{is_false};
 ghost use Rattle.bd_watch.specs.declared.watch.Visited.TheVariants.{Moved};
@@ -68,8 +69,8 @@ impl Watch {
         ensures { OnOk result ((l : Literal) → (IsOneOf pair l → ⊥) →
             Visits self.old self.new l clause Moved) }
     {
-        let blocker = pair.second;
-        self.lists[pair.first.index()].push(Watcher { clause, blocker })?;
+        let watcher = pair.watcher(clause);
+        self.lists[pair.first.index()].push(watcher)?;
         self.pairs[clause as usize] = pair;
         Ok(())
     }
@@ -118,15 +119,42 @@ impl Watch {
         })
     }
 
+    /// The one literal that is left of a clause of two or three, if the others are false.
+    fn left(&self, watcher: &Watcher, lit: PackedLit) -> Option<PackedLit>
+        requires watching { IsWatching self.now }
+        requires watcher { IsWatcher self.now.clauses (literal_index lit) watcher.now }
+        requires falsified { is_false (literals self.now.trail.entries) lit ≡ true }
+        requires blocker { has_literal (literals self.now.trail.entries) watcher.now.blocker ≡ false }
+        requires rest { has_literal (literals self.now.trail.entries) watcher.now.rest ≡ false }
+        ensures { IfSome result (IsLeft self.now watcher.now.clause) }
+    {
+        if watcher.rest.is(watcher.blocker) {
+            return None;
+        }
+        if self.trail.has(watcher.rest.negated()) {
+            return Some(watcher.blocker);
+        }
+        if self.trail.has(watcher.blocker.negated()) {
+            return Some(watcher.rest);
+        }
+        None
+    }
+
     /// Looks at the clause of a watcher of a literal that has become false.
     fn visit(&mut self, watcher: Watcher, lit: PackedLit) -> Result<Visited, AllocError>
         requires watching { IsWatching self.old }
-        requires watcher { IsWatcher self.old.clauses watcher }
+        requires watcher { IsWatcher self.old.clauses (literal_index lit) watcher }
         requires falsified { is_false (literals self.old.trail.entries) lit ≡ true }
         ensures { IfOk result (Visits self.old self.new lit watcher.clause) }
     {
         if self.trail.has(watcher.blocker) {
             return Ok(Visited::Kept);
+        }
+        if self.trail.has(watcher.rest) {
+            return Ok(Visited::Kept);
+        }
+        if let Some(left) = self.left(&watcher, lit) {
+            return Ok(self.conclude(watcher.clause, left));
         }
         let place = watcher.clause as usize;
         let Some(other) = self.pairs[place].other(lit) else {

@@ -1,7 +1,9 @@
 //! Which clauses watch a literal. Each watcher has a second literal of its clause beside it, the
 //! blocker: while that is true, the clause need not be read.
-ghost use Rattle.std.specs.Prelude.{◌≡◌, ◌<◌, ◌≤◌, ◌+◌, ◌^◌, ◌++◌, ◌∷◌, [], Some, length, slice_get, OnOk, OnErr, IfSome, IfNone};
-ghost use Rattle.bd_watch.specs.Watching.{IsOneOf};
+ghost use Rattle.std.specs.Prelude.{◌≡◌, ◌<◌, ◌≤◌, ◌+◌, ◌^◌, ◌++◌, ◌∷◌, List, [], Some, length, slice_get, OnOk, OnErr, IfSome, IfNone};
+ghost use Rattle.bd_cnf.specs.Literal.{Literal};
+ghost use Rattle.bd_cnf.specs.Packed.{literal_index};
+ghost use Rattle.bd_watch.specs.Watching.{IsOneOf, IsPair, IsRest};
 ghost use Rattle.bd_watch.specs.inner.Watchers.{HasBlocker, Removes, AreTwo};
 
 use bd_cnf::PackedLit;
@@ -13,6 +15,9 @@ use std::marker::Model;
 pub(crate) struct Watcher {
     pub(crate) clause: u32,
     pub(crate) blocker: PackedLit,
+    /// What a clause of two or three literals has besides the blocker and, if it has three, the
+    /// literal that it watches. Of a longer one it is the blocker again.
+    pub(crate) rest: PackedLit,
 }
 
 /// The two literals that a clause watches, and its third if it has just three: such a clause need
@@ -37,6 +42,25 @@ impl WatchedPair {
             return Some(self.first);
         }
         None
+    }
+
+    /// The watcher of its first literal.
+    pub(crate) fn watcher(&self, clause: u32) -> Watcher
+        ensures clause { result.clause ≡ clause }
+        ensures blocker { result.blocker ≡ self.now.second }
+        ensures rest { (lits : List Literal) → IsPair lits self.now →
+            IsRest lits (literal_index self.now.first) result }
+    {
+        let blocker = self.second;
+        let rest = match self.third {
+            Some(third) => third,
+            None => blocker,
+        };
+        Watcher {
+            clause,
+            blocker,
+            rest,
+        }
     }
 }
 
@@ -80,7 +104,11 @@ impl WatchList {
         ensures { HasBlocker self.old place blocker self.new }
     {
         let clause = self.watchers[place].clause;
-        self.watchers[place] = Watcher { clause, blocker };
+        self.watchers[place] = Watcher {
+            clause,
+            blocker,
+            rest: blocker,
+        };
     }
 
     pub(crate) fn push(&mut self, watcher: Watcher) -> Result<(), AllocError>

@@ -6,15 +6,13 @@ use bd_cnf::PackedLit;
 use bd_watch::{Assigned, AssignmentTrail};
 use std::alloc::{AllocError, Global};
 
-/// What is known of a variable. The variables stand in a queue; 0 is none.
+/// The neighbours of a variable in the queue; 0 is none.
 #[derive(Clone, Copy)]
-struct Candidate {
+struct Neighbours {
     /// The one in front of it.
     before: usize,
     /// The one after it.
     after: usize,
-    /// When it was put at the end of the queue.
-    moved: u64,
 }
 
 /// A variable that was seen in the conflict at hand.
@@ -27,7 +25,10 @@ struct Seen {
 /// All variables, in a queue by when they were seen last.
 #[derive(Drop)]
 pub(crate) struct VariableQueue {
-    candidates: Vec<Candidate>,
+    links: Vec<Neighbours>,
+    /// By variable, when it was put at the end of the queue: apart from the links, since a backjump
+    /// reads nothing else.
+    moved: Vec<u64>,
     /// The one at the end of the queue.
     last: usize,
     /// Those after it have values.
@@ -42,13 +43,13 @@ impl VariableQueue {
     /// All variables up to `vars`, the greatest at the end.
     pub(crate) fn new(alloc: Global, vars: u64) -> Result<VariableQueue, AllocError> {
         let count = vars.checked_add(1).ok_or(AllocError)? as usize;
-        let alone = Candidate {
+        let alone = Neighbours {
             before: 0,
             after: 0,
-            moved: 0,
         };
         let mut order = VariableQueue {
-            candidates: vec![in alloc; alone; count]?,
+            links: vec![in alloc; alone; count]?,
+            moved: vec![in alloc; 0; count]?,
             last: 0,
             next: 0,
             moves: 0,
@@ -61,38 +62,45 @@ impl VariableQueue {
     /// Puts all variables into their first order.
     pub(crate) fn start_over(&mut self) {
         self.last = 0;
-        for var in 1..self.candidates.len() {
+        for var in 1..self.links.len() {
             self.append(var);
         }
         self.next = self.last;
     }
 
-    fn candidate(&self, var: usize) -> Option<Candidate> {
-        self.candidates.get(var).copied()
+    fn neighbours(&self, var: usize) -> Option<Neighbours> {
+        self.links.get(var).copied()
+    }
+
+    /// When a variable was put at the end.
+    fn moved(&self, var: usize) -> u64 {
+        self.moved.get(var).copied().unwrap_or(0)
     }
 
     /// Puts a variable that isn't in the queue at its end.
     fn append(&mut self, var: usize) {
         let last = self.last;
-        if let Some(candidate) = self.candidates.get_mut(last) {
-            candidate.after = var;
+        if let Some(link) = self.links.get_mut(last) {
+            link.after = var;
         }
         self.moves = self.moves.wrapping_add(1);
-        if let Some(candidate) = self.candidates.get_mut(var) {
-            candidate.before = last;
-            candidate.after = 0;
-            candidate.moved = self.moves;
+        if let Some(link) = self.links.get_mut(var) {
+            link.before = last;
+            link.after = 0;
+        }
+        if let Some(moved) = self.moved.get_mut(var) {
+            *moved = self.moves;
         }
         self.last = var;
     }
 
     /// Takes a variable that isn't the last out of the queue.
-    fn unlink(&mut self, candidate: Candidate) {
-        let Candidate { before, after, .. } = candidate;
-        if let Some(neighbour) = self.candidates.get_mut(before) {
+    fn unlink(&mut self, link: Neighbours) {
+        let Neighbours { before, after } = link;
+        if let Some(neighbour) = self.links.get_mut(before) {
             neighbour.after = after;
         }
-        if let Some(neighbour) = self.candidates.get_mut(after) {
+        if let Some(neighbour) = self.links.get_mut(after) {
             neighbour.before = before;
         }
     }
@@ -102,25 +110,25 @@ impl VariableQueue {
         if var == self.last {
             return;
         }
-        let Some(candidate) = self.candidate(var) else {
+        let Some(link) = self.neighbours(var) else {
             return;
         };
         if self.next == var {
-            self.next = if candidate.before > 0 {
-                candidate.before
+            self.next = if link.before > 0 {
+                link.before
             } else {
-                candidate.after
+                link.after
             };
         }
-        self.unlink(candidate);
+        self.unlink(link);
         self.append(var);
     }
 
     /// Takes note that a variable was seen in a conflict.
     pub(crate) fn see(&mut self, packed: PackedLit) -> Result<(), AllocError> {
         let var = packed.variable();
-        if let Some(candidate) = self.candidate(var) {
-            let moved = candidate.moved;
+        if var < self.moved.len() {
+            let moved = self.moved(var);
             self.seen.push(Seen { var, moved })?;
         }
         Ok(())
@@ -139,12 +147,13 @@ impl VariableQueue {
 
     /// Takes note of literals that are taken off the trail, whose variables have no value again.
     pub(crate) fn release(&mut self, entries: &[Assigned]) {
+        let mut latest = self.moved(self.next);
         for entry in entries {
             let var = entry.literal().variable();
-            let latest = self.candidate(self.next).map_or(0, |c| c.moved);
-            let moved = self.candidate(var).map_or(0, |c| c.moved);
+            let moved = self.moved(var);
             if moved > latest {
                 self.next = var;
+                latest = moved;
             }
         }
     }
@@ -153,32 +162,38 @@ impl VariableQueue {
     /// at once (van der Tak, Ramos and Heule, 2011).
     pub(crate) fn restart_place(&mut self, trail: &AssignmentTrail) -> usize {
         let next = match self.propose(trail) {
-            Some(var) => self.candidate(var as usize).map_or(0, |c| c.moved),
+            Some(var) => self.moved(var as usize),
             None => 0,
         };
         let entries = trail.as_slice();
-        for (place, entry) in entries.iter().enumerate() {
-            let var = entry.literal().variable();
-            let moved = self.candidate(var).map_or(0, |c| c.moved);
-            if entry.reason().is_none() && moved <= next {
-                return place;
+        let mut place = 0;
+        for _ in 0..entries.len() {
+            let Some(start) = trail.start_from(place) else {
+                break;
+            };
+            let var = entries
+                .get(start)
+                .map_or(0, |entry| entry.literal().variable());
+            if self.moved(var) <= next {
+                return start;
             }
+            place = start.saturating_add(1);
         }
         entries.len()
     }
 
     /// A variable that may have no value.
     pub(crate) fn propose(&mut self, trail: &AssignmentTrail) -> Option<u64> {
-        for _ in 0..self.candidates.len() {
-            let candidate = self.candidate(self.next)?;
+        for _ in 0..self.links.len() {
+            let link = self.neighbours(self.next)?;
             let var = self.next as u64;
             if var > 0 && var < trail.limit() && trail.is_free(var) {
                 return Some(var);
             }
-            if candidate.before == 0 {
+            if link.before == 0 {
                 return None;
             }
-            self.next = candidate.before;
+            self.next = link.before;
         }
         None
     }

@@ -15,11 +15,12 @@ pub record Removes (old : List Watcher) (place : ℕ) (new : List Watcher) : Typ
   pub moved : (d : Watcher) → place + 1 < length old → slice_index_or new place d ≡ slice_index_or old (length old - 1) d
   pub kept : (k : ℕ) (d : Watcher) → k ≢ place → k + 1 < length old → slice_index_or new k d ≡ slice_index_or old k d
 
--- one was given another blocker
+-- one was given another blocker, and says nothing of the rest of its clause
 pub record HasBlocker (old : List Watcher) (place : ℕ) (blocker : Literal) (new : List Watcher) : Type 0 where
   pub watcher : Watcher
   pub was : (d : Watcher) → (slice_index_or old place d).clause ≡ watcher.clause
   pub blocker_is : watcher.blocker ≡ blocker
+  pub rest_is : watcher.rest ≡ blocker
   pub set : new ≡ slice_set old place watcher
 
 -- the literal has one watcher more

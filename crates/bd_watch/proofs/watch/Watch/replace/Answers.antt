@@ -12,4 +12,4 @@ index_mut-requires c =
 
 pub returns : goal.returns
 returns c l apart =
-    visits_replaced c.args.self.now _ _ c.args.clause c.index.result c.args.pair c.index_mut.result.now c.push.new.self (record { clause = c.args.clause; blocker = c.args.pair.second }) c.requires.watching c.requires.long c.requires.pair c.index.ensures c.index_mut.ensures.value c.in_ok-push.ensures.ok refl refl refl refl l apart
+    visits_replaced c.args.self.now _ _ c.args.clause c.index.result c.args.pair c.index_mut.result.now c.push.new.self c.watcher-watcher.result c.requires.watching c.requires.long c.requires.pair c.index.ensures c.index_mut.ensures.value c.in_ok-push.ensures.ok c.watcher-watcher.ensures.clause c.watcher-watcher.ensures.blocker (c.watcher-watcher.ensures.rest _ c.requires.pair.two) refl refl l apart
