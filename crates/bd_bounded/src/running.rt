@@ -1,5 +1,5 @@
 //! Whether a pipeline is right for so many cycles.
-ghost use Rattle.std.specs.Prelude.{◌≡◌, ◌≤◌, ℕ, [], IfOk};
+ghost use Rattle.std.specs.Prelude.{◌≡◌, ◌≤◌, ℕ, [], IfOk, length};
 ghost use Rattle.bd_model.specs.DesignView.{design_view};
 ghost use Rattle.bd_model.specs.Lawful.{IsLawful};
 ghost use Rattle.bd_model.specs.TrailJudged.{IsTrailJudged};
@@ -62,7 +62,8 @@ fn run_root(
 
 // The first cycle that breaks, of a trail of which one does.
 fn broken_cycle(alloc: Global, design: &Design, trail: &Trail) -> Result<u32, AllocError>
-    requires { IsBroken (design_view design.now) trail.now }
+    requires broken { IsBroken (design_view design.now) trail.now }
+    requires short { length trail.now.inputs ≤ 16 }
     ensures { IfOk result (λ cycle.
         IsTrailJudged (design_view design.now) trail.now (TrailJudged.Broken cycle)) }
 {

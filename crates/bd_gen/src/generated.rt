@@ -2,7 +2,7 @@
 //! operand is read from the registers as the last stage leaves them, and each younger stage that is to write
 //! the same register puts its own result before that. So the youngest writer decides, as it does
 //! where instructions run one after the other. A path that is left out lets an older value through.
-ghost use Rattle.std.specs.Prelude.{◌≡◌, ◌++◌, ◌+◌, ◌≤◌, OnOk, IfOk, string_bytes};
+ghost use Rattle.std.specs.Prelude.{◌≡◌, ◌++◌, ◌+◌, ◌≤◌, OnOk, IfOk, length, string_bytes};
 ghost use Rattle.std.specs.List.{flat_map};
 ghost use Rattle.bd_gen.specs.Pipeline.{stages, pipeline_text, declarations, latch_lines};
 ghost use Rattle.bd_gen.specs.Pipeline.{lets, result_line, operand_line, operand_lines, nexts, passing_lines};
@@ -55,6 +55,8 @@ pub fn design_text(alloc: Global, depth: u32, drop: u32) -> Result<(Vec<u8>, Vec
     requires bounded { depth ≤ 12 }
     ensures pipeline { IfOk result (λ texts. texts.0.items ≡ pipeline_text depth drop) }
     ensures specification { IfOk result (λ texts. texts.1.items ≡ specification_text) }
+    ensures short { IfOk result (λ texts. length texts.0.items ≤ 65536) }
+    ensures short_specification { IfOk result (λ texts. length texts.1.items ≤ 65536) }
 {
     let mut pipeline = String::new(alloc);
     push_declarations(&mut pipeline, depth)?;

@@ -3,36 +3,39 @@
 //! The name is copied before the file is touched, so that a call that failed can be blamed without
 //! taking memory. A file is read piece by piece, one byte past the limit at most, so that a longer
 //! one is known as such and never read whole. Over a reader that tells what it has left, the
-//! clauses say that the bytes are its first ones.
-ghost use Rattle.std.specs.Prelude.{◌≡◌, ◌≢◌, ℕ, ◌+◌, ◌<◌, ◌≤◌, ◌++◌, List, length, take, vec_len, None, IfSome, IfOk};
+//! clauses say that the bytes are its first ones; over a disk that tells what it holds, that a load
+//! gives what is held under its name, and that a save writes its bytes to a file of its name.
+ghost use Rattle.std.specs.Prelude.{◌≡◌, ◌≢◌, ℕ, ◌+◌, ◌<◌, ◌≤◌, ◌++◌, List, length, take, vec_len, None, OnOk, IfSome, IfOk};
 ghost use Rattle.std.specs.Io.{ReadsAtMost};
 ghost use Rattle.std.specs.Io.KnownBytes.{Consumes, IsAtEnd, ReadConsumes};
 ghost use Rattle.std.specs.IoError.{error_kind};
+ghost use Rattle.bd_files.specs.Devices.{IsLoaded};
+ghost use Rattle.bd_host.specs.Disk.{IsWritten};
 
+use crate::disk::Disk;
 use crate::stream::write_whole;
 use bd_files::{FaultLog, FileCall, Files, LoadError, SaveError};
 use std::alloc::Global;
+use std::io;
 use std::io::{Error, ErrorKind, Read};
-use std::rt::Files as FileSystem;
-use std::{fs, io};
 
-/// The files of a file system, under the names that they have there. Each call that fails is
-/// counted, and blamed with its name. It tells nothing of what the files hold.
+/// The files of a disk, under the names that they have there. Each call that fails is counted, and
+/// blamed with its name. It tells nothing of what the files hold.
 #[derive(Debug, Drop)]
-pub struct RealFiles<'a, S> {
+pub struct RealFiles<'a, D> {
     alloc: Global,
-    system: &'a S,
+    disk: &'a D,
     faults: FaultLog,
 }
 
-impl<'a, S: FileSystem> RealFiles<'a, S> {
-    /// The files of that system, with no fault yet.
-    pub fn new(alloc: Global, system: &'a S) -> RealFiles<'a, S>
+impl<'a, D: Disk> RealFiles<'a, D> {
+    /// The files of that disk, with no fault yet.
+    pub fn new(alloc: Global, disk: &'a D) -> RealFiles<'a, D>
         ensures { result.faults ≡ record { count = 0; blame = None } }
     {
         RealFiles {
             alloc,
-            system,
+            disk,
             faults: FaultLog::new(),
         }
     }
@@ -45,7 +48,7 @@ impl<'a, S: FileSystem> RealFiles<'a, S> {
     }
 }
 
-impl<'a, S: FileSystem> Files for RealFiles<'a, S> {
+impl<'a, D: Disk> Files for RealFiles<'a, D> {
     ghost held = { λ _. None };
 
     ghost faults = { λ files. files.faults.count };
@@ -56,7 +59,7 @@ impl<'a, S: FileSystem> Files for RealFiles<'a, S> {
 
     fn load(&mut self, name: &str, most: usize) -> Result<Vec<u8>, LoadError> {
         let blamed = String::from_str(self.alloc, name).map_err(|_| LoadError::Memory)?;
-        let result = load_file(self.alloc, self.system, name, most);
+        let result = load_file(self.alloc, self.disk, name, most);
         if let Err(LoadError::Failed) = result {
             self.faults.add(FileCall::Load, blamed);
         }
@@ -65,7 +68,7 @@ impl<'a, S: FileSystem> Files for RealFiles<'a, S> {
 
     fn save(&mut self, name: &str, bytes: &[u8]) -> Result<(), SaveError> {
         let blamed = String::from_str(self.alloc, name).map_err(|_| SaveError::Memory)?;
-        let result = save_file(self.system, name, bytes);
+        let result = save_file(self.disk, name, bytes);
         if let Err(SaveError::Failed) = result {
             self.faults.add(FileCall::Save, blamed);
         }
@@ -74,15 +77,17 @@ impl<'a, S: FileSystem> Files for RealFiles<'a, S> {
 }
 
 /// Opens the file and reads it, of more than `most` bytes the first `most + 1`.
-fn load_file<S: FileSystem>(
+fn load_file<D: Disk>(
     alloc: Global,
-    system: &S,
+    disk: &D,
     name: &str,
     most: usize,
 ) -> Result<Vec<u8>, LoadError>
     ensures bounded { IfOk result (λ bytes. vec_len bytes ≤ most + 1) }
+    ensures loaded { IfOk result (λ bytes.
+        IsLoaded (D.held disk.now) name.now most bytes.items) }
 {
-    let mut file = match fs::open(system, name) {
+    let mut file = match disk.open(name) {
         Ok(file) => file,
         Err(e) => return Err(load_error(&e)),
     };
@@ -90,8 +95,11 @@ fn load_file<S: FileSystem>(
 }
 
 /// Writes the file anew.
-fn save_file<S: FileSystem>(system: &S, name: &str, bytes: &[u8]) -> Result<(), SaveError> {
-    let mut file = match fs::create(system, name) {
+fn save_file<D: Disk>(disk: &D, name: &str, bytes: &[u8]) -> Result<(), SaveError>
+    ensures saved { OnOk result
+        (IsWritten (D.made disk.now name.now) D.Created.contents bytes.now) }
+{
+    let mut file = match disk.create(name) {
         Ok(file) => file,
         Err(e) => return Err(save_error(&e)),
     };

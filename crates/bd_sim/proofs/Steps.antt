@@ -1,5 +1,5 @@
 -- Numbers of steps that lead the specification where the pipeline stands.
-use Rattle.std.proofs.Common.{◌≡◌, ◌↔◌, ⊎_elim, ℕ, ◌+◌, ◌<◌, ◌≤◌, Bool, List, [], Vec, Global, Result, IsTrue, IfOk, subst, add-one, arith}
+use Rattle.std.proofs.Common.{◌≡◌, ◌↔◌, ⊎_elim, ℕ, ◌+◌, ◌<◌, ◌≤◌, Bool, List, [], Vec, Global, Result, Ok, Err, IsTrue, IfOk, subst, add-one, arith}
 use Rattle.std.proofs.lemmas.Bool.{cases_lt}
 use Rattle.std.specs.declared.alloc.AllocError.{AllocError}
 use Rattle.std.specs.List.{AllByRecursion}
@@ -10,8 +10,10 @@ use Rattle.bd_model.specs.Same.{Same}
 use Rattle.bd_model.specs.declared.table.Scalar.{Scalar}
 use Rattle.bd_model.specs.declared.table.Table.{Table}
 use Rattle.bd_model.specs.declared.table.Value.{Value}
-use Rattle.bd_model.specs.Conditions.{AllowsCount, IsAllowed}
+use Rattle.bd_model.specs.Conditions.{IsAllowed}
+use Rattle.bd_sim.specs.ExactCounts.{counts_in, counts_of}
 use Rattle.bd_sim.specs.StepsJoin.{StepsJoinAt}
+use Rattle.bd_sim.proofs.ExactItems.{counts_allow}
 
 -- what the comparison of the states reached tells
 pub stands_iff : (d : DesignView) (interp : List Table) (state : List Value) (inputs : List Scalar) (before after : List Value) (counts items : List ℕ) (reached : List Value) (j : ℕ) (b : Bool)
@@ -31,8 +33,12 @@ pub last_stands : (P : ℕ → Type 0) (count steps : ℕ) → steps ≤ count �
 last_stands P count steps past within none x le p =
     ⊎_elim (λ (lt : x < steps). absurd (none x (omega arith) p)) (λ (ge : steps ≤ x). let same : x ≡ steps = omega arith in subst P same p) (cases_lt x steps)
 
--- the counts of the true items decide which numbers are allowed
-pub exact_allowed : (d : DesignView) (env : Env) (items : List ExactView) (interp : List Table) (state : List Value) (inputs : List Scalar) → env ≡ env_of d.pipe.locals interp state inputs → items ≡ d.exact
-    → (r : Result (Vec ℕ Global) AllocError) → IfOk r (λ v. (j : ℕ) → AllByRecursion (λ n. n ≡ j) v.items ↔ AllByRecursion (AllowsCount env j) items)
-    → IfOk r (λ v. (j : ℕ) → AllByRecursion (λ n. n ≡ j) v.items ↔ IsAllowed d interp state inputs j)
-exact_allowed d env items interp state inputs e f r h = rw (e, f) at h
+-- the counts of the true items are those of the design, and decide which numbers are allowed
+pub exact_counted : (d : DesignView) (env : Env) (items : List ExactView) (interp : List Table) (state : List Value) (inputs : List Scalar) → env ≡ env_of d.pipe.locals interp state inputs → items ≡ d.exact
+    → (r : Result (Vec ℕ Global) AllocError) → IfOk r (λ v. v.items ≡ counts_in env items) → IfOk r (λ v. v.items ≡ counts_of d interp state inputs)
+exact_counted d env items interp state inputs e f r h = rw (e, f) at h
+
+pub exact_allowed : (d : DesignView) (interp : List Table) (state : List Value) (inputs : List Scalar) (r : Result (Vec ℕ Global) AllocError)
+    → IfOk r (λ v. v.items ≡ counts_of d interp state inputs) → IfOk r (λ v. (j : ℕ) → AllByRecursion (λ n. n ≡ j) v.items ↔ IsAllowed d interp state inputs j)
+exact_allowed d interp state inputs (Ok v) h = λ j. rw h (counts_allow (env_of d.pipe.locals interp state inputs) d.exact j)
+exact_allowed d interp state inputs (Err e) h = tt

@@ -1,6 +1,6 @@
 -- Trails, judged one cycle after another.
-use Rattle.std.proofs.Common.{◌≡◌, ◌↔◌, ℕ, zero, suc, ◌+◌, ◌<◌, Bool, List, [], ◌∷◌, length, get_or, take, IsTrue, Option, Some, refl, sym, ap, subst, ◌∙◌, arith, add-one, below_more}
-use Rattle.std.specs.Prelude.{slice_index_or, SomeIff}
+use Rattle.std.proofs.Common.{◌≡◌, ◌↔◌, ℕ, zero, suc, ◌+◌, ◌<◌, Bool, List, [], ◌∷◌, length, get_or, take, IsTrue, refl, sym, ap, ◌∙◌, arith, add-one, below_more}
+use Rattle.std.specs.Prelude.{slice_index_or}
 use Rattle.std.proofs.lemmas.List.{get_or_read}
 use Rattle.bd_model.specs.DesignView.{DesignView}
 use Rattle.bd_model.specs.Cycle.{step, after, flushed, state_after, inputs_at}
@@ -62,7 +62,3 @@ pub breaks_first : (d : DesignView) (t : Trail) (n cycle more : ℕ) (state befo
     → (m : ℕ) × (more ≡ m + 1) × BreaksFirst d t m
 breaks_first d t n cycle more state before so within counted broken =
     let count = so.count in (n, omega (arith, counted, count), record { within = within; broken = broken; earlier = so.commute })
-
--- a sum that fits is the sum
-pub checked : (o : Option ℕ) (P : Type 0) (v x : ℕ) → SomeIff o P v → o ≡ Some x → x ≡ v
-checked o P v x h e = (subst (λ r. SomeIff r P v) e h).1

@@ -1,3 +1,4 @@
+pub mod ExactCounts
 pub mod StepsJoin
 pub mod Trace
 pub mod inner

@@ -10,7 +10,8 @@ ghost use Rattle.std.specs.List.{AllZip, AllByRecursion};
 ghost use Rattle.bd_model.specs.DesignView.{design_view, exact_view};
 ghost use Rattle.bd_model.specs.Cycle.{step, invariant};
 ghost use Rattle.bd_model.specs.Same.{SameValue, Same};
-ghost use Rattle.bd_model.specs.Conditions.{AllowsCount, IsAllowed, Commutes, IsJudged};
+ghost use Rattle.bd_model.specs.Conditions.{IsAllowed, Commutes, IsJudged};
+ghost use Rattle.bd_sim.specs.ExactCounts.{counts_in, counts_of};
 ghost use Rattle.bd_sim.specs.StepsJoin.{StepsJoin};
 ghost use Rattle.bd_sim.specs.inner.Env.{env_view};
 
@@ -91,9 +92,12 @@ pub fn steps_join(
     Ok(stands(counts.as_slice(), design.steps, after, &reached))
 }
 
-/// The counts of the exact items whose condition is true in the case's cycle: each must be the number of steps.
+/// The counts of the exact items whose condition is true in the case's cycle, in the design's order: each must be the
+/// number of steps.
 pub fn exact_counts(alloc: Global, design: &Design, case: &Case) -> Result<Vec<u32>, AllocError>
-    ensures { IfOk result (λ v. (j : ℕ) → AllByRecursion (λ n. n ≡ j) v.items
+    ensures counts { IfOk result (λ v. v.items
+        ≡ counts_of (design_view design.now) case.now.interp case.now.state case.now.inputs) }
+    ensures allow { IfOk result (λ v. (j : ℕ) → AllByRecursion (λ n. n ≡ j) v.items
         ↔ IsAllowed (design_view design.now) case.now.interp case.now.state case.now.inputs j) }
 {
     counts_of_cycle(alloc, design, &case.interp, &case.state, &case.inputs)
@@ -106,7 +110,9 @@ fn counts_of_cycle(
     state: &State,
     inputs: &Inputs,
 ) -> Result<Vec<u32>, AllocError>
-    ensures { IfOk result (λ v. (j : ℕ) → AllByRecursion (λ n. n ≡ j) v.items
+    ensures counts { IfOk result (λ v. v.items
+        ≡ counts_of (design_view design.now) interp.now state.now inputs.now) }
+    ensures allow { IfOk result (λ v. (j : ℕ) → AllByRecursion (λ n. n ≡ j) v.items
         ↔ IsAllowed (design_view design.now) interp.now state.now inputs.now j) }
 {
     let (interp, state, inputs) = (interp.as_slice(), state.as_slice(), inputs.as_slice());
@@ -115,8 +121,7 @@ fn counts_of_cycle(
 }
 
 fn true_counts(env: &Env, items: &[Exact]) -> Result<Vec<u32>, AllocError>
-    ensures { IfOk result (λ v. (j : ℕ) → AllByRecursion (λ n. n ≡ j) v.items
-        ↔ AllByRecursion (AllowsCount (env_view env.now) j) (map exact_view items.now)) }
+    ensures { IfOk result (λ v. v.items ≡ counts_in (env_view env.now) (map exact_view items.now)) }
 {
     let mut counts = Vec::new(env.alloc);
     for item in items {

@@ -1,6 +1,6 @@
 //! What a trail shows: the first of its cycles that doesn't commute. Each state is flushed once, since what stands
 //! after a cycle stands before the next.
-ghost use Rattle.std.specs.Prelude.{IfOk};
+ghost use Rattle.std.specs.Prelude.{◌≤◌, IfOk, length};
 ghost use Rattle.bd_model.specs.DesignView.{design_view};
 ghost use Rattle.bd_model.specs.TrailJudged.{IsTrailJudged};
 
@@ -9,9 +9,9 @@ use crate::judgement::{meets_invariant, steps_join};
 use bd_model::{Design, Trail, TrailJudged};
 use std::alloc::{AllocError, Global};
 
-/// What the trail shows of the design, whose invariant counts in the first state alone. That a cycle is broken whose
-/// number passes 32 bits can't be said, and ends as want of memory.
+/// What the trail shows of the design, whose invariant counts in the first state alone. A cycle's number counts from 1.
 pub fn judge_trail(alloc: Global, design: &Design, trail: &Trail) -> Result<TrailJudged, AllocError>
+    requires short { length trail.now.inputs ≤ 16 }
     ensures { IfOk result (λ j. IsTrailJudged (design_view design.now) trail.now j) }
 {
     if !meets_invariant(alloc, design, &trail.interp, &trail.state)? {
@@ -21,7 +21,7 @@ pub fn judge_trail(alloc: Global, design: &Design, trail: &Trail) -> Result<Trai
     let mut state = trail.state.clone()?;
     let mut before = flushed(alloc, design, &trail.interp, &state)?;
     for inputs in trail.inputs.as_slice() {
-        cycle = cycle.checked_add(1).ok_or(AllocError)?;
+        cycle += 1;
         let next = step(alloc, design, &trail.interp, &state, inputs)?;
         let after = flushed(alloc, design, &trail.interp, &next)?;
         if !steps_join(alloc, design, &trail.interp, &state, inputs, before, &after)? {

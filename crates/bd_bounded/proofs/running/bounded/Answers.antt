@@ -1,4 +1,4 @@
-use Rattle.std.proofs.Common.{subst}
+use Rattle.std.proofs.Common.{◌≤◌, sym, subst}
 use Rattle.bd_model.specs.DesignView.{design_view}
 use Rattle.bd_cdcl.specs.declared.solver.Found.TheVariants.{Model, Refuted, Spent}
 use Rattle.bd_symbolic.proofs.Widening.{lawful-symbols}
@@ -27,11 +27,17 @@ returns-in-Valid-clause-work g c =
     let h = subst (IsDecided d c.args.cycles c.run_root.new.graph c.in_ok-root.root Plain c.args.budget) c.in-Valid.is c.in_ok-work.ensures.decided in
     run-work d c.requires.lawful c.args.cycles c.run_root.new.graph c.in_ok-root.root (subst IsGraph c.graph.view_is c.graph.invariant.graph) c.in_ok-root.ensures c.args.budget Refuted c.in-Valid.work h.1
 
-pub broken_cycle-requires : goal.broken_cycle-requires
-broken_cycle-requires g c =
+pub broken_cycle-requires-clause-broken : goal.broken_cycle-requires-clause-broken
+broken_cycle-requires-clause-broken g c =
     let d = design_view c.args.design.now in
     let h = subst (IsDecided d c.args.cycles c.run_root.new.graph c.in_ok-root.root Plain c.args.budget) c.in-False.is c.in_ok-work.ensures.decided in
     (false-broken d c.requires.lawful c.args.cycles c.run_root.new.graph c.in_ok-root.root (subst IsGraph c.graph.view_is c.graph.invariant.graph) c.in_ok-root.ensures c.in-False.trail h.0).1
+
+pub broken_cycle-requires-clause-short : goal.broken_cycle-requires-clause-short
+broken_cycle-requires-clause-short g c =
+    let d = design_view c.args.design.now in
+    let h = subst (IsDecided d c.args.cycles c.run_root.new.graph c.in_ok-root.root Plain c.args.budget) c.in-False.is c.in_ok-work.ensures.decided in
+    subst (λ count. count ≤ 16) (sym h.0.counted) c.requires.few
 
 pub returns-in-False-clause-says : goal.returns-in-False-clause-says
 returns-in-False-clause-says g c =
