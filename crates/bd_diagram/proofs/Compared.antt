@@ -47,7 +47,7 @@ compared_more d c xs new y j before count here put =
     subst (λ zs. AreComparisons d c zs) (sym put) all
 
 -- there is an item at each place
-item_at : {X : Type 0} (xs : List X) (j : ℕ) → j < length xs → (x : X) × (slice_get xs j ≡ Some x)
+pub item_at : {X : Type 0} (xs : List X) (j : ℕ) → j < length xs → (x : X) × (slice_get xs j ≡ Some x)
 item_at [] j h = absurd (omega (arith, h))
 item_at (x ∷ xs) zero h = (x, refl)
 item_at (x ∷ xs) (suc j) h = item_at xs j (omega (arith, h))

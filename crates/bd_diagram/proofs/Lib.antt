@@ -1,3 +1,5 @@
 mod Flushed
 mod Compared
 mod Differing
+mod Found
+mod AlikeDiagrams
