@@ -3,10 +3,10 @@ use Held::{Bit, Memory, Word};
 use bd_examples::build::{case, design, expr, is_state, locals, state, value};
 use bd_examples::cases::{GOING, PENDING, SEVEN_AT_FIVE};
 use bd_examples::designs::{STALLING_BIT, TWO_STAGE, WRITE_BACK};
-use bd_examples::draft::{CaseDraft, DesignDraft, Held};
-use bd_examples::forms::{FORMS, LETS, SEVENS};
-use bd_model::{Case, Design, Exprs, State, States};
-use bd_sim::{flush, look, spec_step, step, trace, values_after};
+use bd_examples::draft::{CaseDraft, DesignDraft, Draft, Held};
+use bd_examples::forms::{EACH_FORM, FORMS, LET_VALUES, LETS, SEVENS};
+use bd_model::{Case, Design, Exprs, State, States, Value};
+use bd_sim::{eval, flush, look, spec_step, step, trace, values_after};
 use std::alloc::{AllocError, Global};
 use std::process::Abort;
 use std::test::Fail;
@@ -30,6 +30,58 @@ fn on_sevens(rt: &impl Abort, alloc: Global) -> Result<(), AllocError> {
 #[test]
 fn forms_are_valued(rt: HostRuntime) -> Result<(), Fail> {
     on_sevens(&rt, rt.alloc())?;
+    Ok(())
+}
+
+/// Whether a form has this value in the case, where the lets have these values.
+fn has_value(
+    alloc: Global,
+    (draft, held): &(Draft, Held),
+    design: &Design,
+    at: &Case,
+    lets: &State,
+) -> Result<bool, AllocError> {
+    let expr = expr(alloc, draft)?;
+    let found = eval(
+        alloc, design, &expr, &at.interp, &at.state, &at.inputs, lets,
+    )?;
+    is_value(alloc, &found, held)
+}
+
+fn is_value(alloc: Global, found: &Value, held: &Held) -> Result<bool, AllocError> {
+    let wanted = value(alloc, held)?;
+    Ok(*found == wanted)
+}
+
+/// The first form that has another value than the one that is wanted.
+fn differs(
+    alloc: Global,
+    design: &Design,
+    at: &Case,
+    lets: &State,
+) -> Result<Option<usize>, AllocError> {
+    for (form, row) in FORMS.iter().enumerate() {
+        if !has_value(alloc, row, design, at, lets)? {
+            return Ok(Some(form));
+        }
+    }
+    Ok(None)
+}
+
+fn differs_on_sevens(alloc: Global, lets: &State) -> Result<Option<usize>, AllocError> {
+    let at = case(alloc, &SEVENS)?;
+    differs_in(alloc, &at, lets)
+}
+
+fn differs_in(alloc: Global, at: &Case, lets: &State) -> Result<Option<usize>, AllocError> {
+    let design = design(alloc, &EACH_FORM)?;
+    differs(alloc, &design, at, lets)
+}
+
+#[test]
+fn forms_are_valued_under_lets(rt: HostRuntime) -> Result<(), Fail> {
+    let lets = state(rt.alloc(), &LET_VALUES)?;
+    assert_eq!(rt; differs_on_sevens(rt.alloc(), &lets)?, None);
     Ok(())
 }
 

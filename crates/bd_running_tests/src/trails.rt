@@ -1,4 +1,6 @@
 //! What trails show of designs.
+ghost use Rattle.std.specs.Prelude.{◌≤◌, length};
+
 use TrailJudged::{Broken, Holds, Outside};
 use bd_examples::build::{design, trail};
 use bd_examples::designs::{
@@ -17,10 +19,15 @@ use std::test::Fail;
 
 fn shown(alloc: Global, of: &DesignDraft, by: &TrailDraft) -> Result<TrailJudged, AllocError> {
     let trail = trail(alloc, by)?;
+    if trail.inputs.len() > 16 {
+        return Err(AllocError);
+    }
     shown_by(alloc, of, &trail)
 }
 
-fn shown_by(alloc: Global, of: &DesignDraft, trail: &Trail) -> Result<TrailJudged, AllocError> {
+fn shown_by(alloc: Global, of: &DesignDraft, trail: &Trail) -> Result<TrailJudged, AllocError>
+    requires { length trail.now.inputs ≤ 16 }
+{
     let design = design(alloc, of)?;
     judge_trail(alloc, &design, trail)
 }

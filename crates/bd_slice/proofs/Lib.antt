@@ -1,3 +1,4 @@
 mod Following
 mod Cycles
-mod Slices
+mod Marked
+mod Followings

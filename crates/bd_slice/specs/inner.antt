@@ -1,3 +1,4 @@
 pub mod Followed
 pub mod Env
 pub mod Runs
+pub mod Lines

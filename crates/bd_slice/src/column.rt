@@ -12,70 +12,102 @@ use crate::place::{Column, Place};
 use bd_model::{Case, Design, Sequence, Value};
 use std::alloc::{AllocError, Global};
 
-/// A state of the diagram, and what its values rest on.
-#[derive(Drop)]
-pub struct Run {
-    pub graph: Graph,
-    pub state: Vec<Kept>,
-}
-
-/// The run of a case up to a state of its diagram.
+/// The state of a case's diagram, with what its values rest on.
 pub fn run_of(
     alloc: Global,
+    graph: &mut Graph,
     design: &Design,
     case: &Case,
     column: Column,
-) -> Result<Run, AllocError>
-    ensures { IfOk result (λ r. IsRun (design_view design.now) case.now column r) }
+) -> Result<Vec<Kept>, AllocError>
+    ensures grows { IfOk result (λ ks. Grows graph.old.nodes graph.new.nodes) }
+    ensures run { IfOk result (λ ks.
+        IsRun (design_view design.now) case.now column graph.new.nodes ks.items) }
 {
     match column {
-        Column::Before(cycles) => run_before(alloc, design, case, cycles),
-        Column::After(cycles) => run_after(alloc, design, case, cycles),
-        Column::Steps(steps) => run_steps(alloc, design, case, steps),
+        Column::Before(cycles) => run_before(alloc, graph, design, case, cycles),
+        Column::After(cycles) => run_after(alloc, graph, design, case, cycles),
+        Column::Steps(steps) => run_steps(alloc, graph, design, case, steps),
     }
 }
 
-fn run_before(alloc: Global, design: &Design, case: &Case, cycles: u32) -> Result<Run, AllocError>
-    ensures { IfOk result (λ r. IsRun (design_view design.now) case.now (Column.Before cycles) r) }
+fn run_before(
+    alloc: Global,
+    graph: &mut Graph,
+    design: &Design,
+    case: &Case,
+    cycles: u32,
+) -> Result<Vec<Kept>, AllocError>
+    ensures grows { IfOk result (λ ks. Grows graph.old.nodes graph.new.nodes) }
+    ensures run { IfOk result (λ ks.
+        IsRun (design_view design.now) case.now (Column.Before cycles) graph.new.nodes ks.items) }
 {
-    let mut graph = Graph::new(alloc)?;
     let first = graph.state_of(alloc, case)?;
-    let state = flush(alloc, &mut graph, case, &design.pipe, first, cycles)?;
-    Ok(Run { graph, state })
+    let line = flush(alloc, graph, case, &design.pipe, first, cycles)?;
+    Ok(line.end)
 }
 
-fn run_after(alloc: Global, design: &Design, case: &Case, cycles: u32) -> Result<Run, AllocError>
-    ensures { IfOk result (λ r. IsRun (design_view design.now) case.now (Column.After cycles) r) }
+fn run_after(
+    alloc: Global,
+    graph: &mut Graph,
+    design: &Design,
+    case: &Case,
+    cycles: u32,
+) -> Result<Vec<Kept>, AllocError>
+    ensures grows { IfOk result (λ ks. Grows graph.old.nodes graph.new.nodes) }
+    ensures run { IfOk result (λ ks.
+        IsRun (design_view design.now) case.now (Column.After cycles) graph.new.nodes ks.items) }
 {
-    let mut graph = Graph::new(alloc)?;
-    let first = graph.state_of(alloc, case)?;
-    let inputs = graph.inputs_of(alloc, case)?;
-    let next = cycle(
-        alloc,
-        &mut graph,
-        case,
-        &design.pipe,
-        first.as_slice(),
-        inputs.as_slice(),
-    )?;
-    let state = flush(alloc, &mut graph, case, &design.pipe, next, cycles)?;
-    Ok(Run { graph, state })
+    let next = graph.after_cycle(alloc, design, case)?;
+    let line = flush(alloc, graph, case, &design.pipe, next, cycles)?;
+    Ok(line.end)
 }
 
-fn run_steps(alloc: Global, design: &Design, case: &Case, steps: u32) -> Result<Run, AllocError>
-    ensures { IfOk result (λ r. IsRun (design_view design.now) case.now (Column.Steps steps) r) }
+fn run_steps(
+    alloc: Global,
+    graph: &mut Graph,
+    design: &Design,
+    case: &Case,
+    steps: u32,
+) -> Result<Vec<Kept>, AllocError>
+    ensures grows { IfOk result (λ ks. Grows graph.old.nodes graph.new.nodes) }
+    ensures run { IfOk result (λ ks.
+        IsRun (design_view design.now) case.now (Column.Steps steps) graph.new.nodes ks.items) }
 {
-    let mut graph = Graph::new(alloc)?;
     let first = graph.state_of(alloc, case)?;
-    let end = flush(alloc, &mut graph, case, &design.pipe, first, design.flush)?;
-    let visible = look(alloc, &design.visible, end.as_slice())?;
-    let state = spec_steps(alloc, &mut graph, case, design, visible, steps)?;
-    Ok(Run { graph, state })
+    let flushed = flush(alloc, graph, case, &design.pipe, first, design.flush)?;
+    let visible = look(alloc, &design.visible, flushed.end.as_slice())?;
+    let line = spec_steps(alloc, graph, case, design, visible, steps)?;
+    Ok(line.end)
 }
 
 impl Graph {
+    /// The state after the case's cycle.
+    pub fn after_cycle(
+        &mut self,
+        alloc: Global,
+        design: &Design,
+        case: &Case,
+    ) -> Result<Vec<Kept>, AllocError>
+        ensures grows { IfOk result (λ ks. Grows self.old.nodes self.new.nodes) }
+        ensures run { IfOk result (λ ks.
+            IsRun (design_view design.now) case.now (Column.After 0) self.new.nodes ks.items) }
+    {
+        let first = self.state_of(alloc, case)?;
+        let inputs = self.inputs_of(alloc, case)?;
+        let next = cycle(
+            alloc,
+            self,
+            case,
+            &design.pipe,
+            first.as_slice(),
+            inputs.as_slice(),
+        )?;
+        Ok(next)
+    }
+
     /// The case's state: each latch is a place, and each memory is one of the case's.
-    fn state_of(&mut self, alloc: Global, case: &Case) -> Result<Vec<Kept>, AllocError>
+    pub fn state_of(&mut self, alloc: Global, case: &Case) -> Result<Vec<Kept>, AllocError>
         ensures grows { IfOk result (λ ks. Grows self.old.nodes self.new.nodes) }
         ensures follows { IfOk result (λ ks. (d : DesignView) (o : Other) →
             Holds case.now self.new.nodes o → Fits d case.now → Fits d o.case →

@@ -7,12 +7,14 @@ ghost use Rattle.bd_model.specs.Value.{env_of, truth, value_of};
 ghost use Rattle.bd_model.specs.declared.table.Scalar.{Scalar};
 ghost use Rattle.bd_model.specs.declared.table.Value.{Value};
 ghost use Rattle.bd_slice.specs.inner.Followed.{Other, Holds, Grows, FollowsState, FollowsInputs};
+ghost use Rattle.bd_slice.specs.inner.Lines.{FollowsLine};
 ghost use Rattle.bd_slice.specs.inner.Env.{FollowsNames, InOthers};
 
 use crate::expression::{Names, trace, trace_scalar};
 use crate::graph::Graph;
 use crate::kept::{Kept, Traced, kept_at};
-use bd_model::{Case, Design, Exprs, Local, Machine, Places};
+use crate::line::Line;
+use bd_model::{Case, Design, Exprs, Local, Machine, Places, Sequence};
 use std::alloc::{AllocError, Global};
 
 impl<'a> Names<'a> {
@@ -101,7 +103,7 @@ fn idle(
     Ok(inputs)
 }
 
-/// The state after so many flush cycles.
+/// The states from this one through so many flush cycles.
 pub fn flush(
     alloc: Global,
     graph: &mut Graph,
@@ -109,16 +111,17 @@ pub fn flush(
     machine: &Machine,
     state: Vec<Kept>,
     cycles: u32,
-) -> Result<Vec<Kept>, AllocError>
-    ensures grows { IfOk result (λ ks. Grows graph.old.nodes graph.new.nodes) }
-    ensures follows { IfOk result (λ ks. (o : Other) (values : List Value) →
-        Holds case.now graph.new.nodes o → FollowsState o state.items values → FollowsState o ks.items
-        (flush_cycles cycles (machine_view machine.now) o.case.interp values)) }
+) -> Result<Line, AllocError>
+    ensures grows { IfOk result (λ l. Grows graph.old.nodes graph.new.nodes) }
+    ensures follows { IfOk result (λ l. (o : Other) (values : List Value) →
+        Holds case.now graph.new.nodes o → FollowsState o state.items values →
+        FollowsLine o l cycles (λ n. flush_cycles n (machine_view machine.now) o.case.interp values)) }
 {
+    let mut passed = Sequence::new(alloc);
     let mut reached = state;
     for _cycle in 0..cycles {
         let inputs = idle(alloc, graph, case, machine, reached.as_slice())?;
-        reached = cycle(
+        let next = cycle(
             alloc,
             graph,
             case,
@@ -126,8 +129,13 @@ pub fn flush(
             reached.as_slice(),
             inputs.as_slice(),
         )?;
+        passed.push(Sequence::from_vec(reached))?;
+        reached = next;
     }
-    Ok(reached)
+    Ok(Line {
+        passed,
+        end: reached,
+    })
 }
 
 /// The visible entries, in the specification's order.
@@ -142,7 +150,7 @@ pub fn look(alloc: Global, visible: &Places, state: &[Kept]) -> Result<Vec<Kept>
     Ok(seen)
 }
 
-/// What is visible after so many steps of the specification.
+/// What is visible from here through so many steps of the specification.
 pub fn spec_steps(
     alloc: Global,
     graph: &mut Graph,
@@ -150,15 +158,21 @@ pub fn spec_steps(
     design: &Design,
     visible: Vec<Kept>,
     steps: u32,
-) -> Result<Vec<Kept>, AllocError>
-    ensures grows { IfOk result (λ ks. Grows graph.old.nodes graph.new.nodes) }
-    ensures follows { IfOk result (λ ks. (o : Other) (values : List Value) →
+) -> Result<Line, AllocError>
+    ensures grows { IfOk result (λ l. Grows graph.old.nodes graph.new.nodes) }
+    ensures follows { IfOk result (λ l. (o : Other) (values : List Value) →
         Holds case.now graph.new.nodes o → FollowsState o visible.items values →
-        FollowsState o ks.items (spec_steps steps (design_view design.now) o.case.interp values)) }
+        FollowsLine o l steps (λ n. spec_steps n (design_view design.now) o.case.interp values)) }
 {
+    let mut passed = Sequence::new(alloc);
     let mut reached = visible;
     for _step in 0..steps {
-        reached = cycle(alloc, graph, case, &design.spec, reached.as_slice(), &[])?;
+        let next = cycle(alloc, graph, case, &design.spec, reached.as_slice(), &[])?;
+        passed.push(Sequence::from_vec(reached))?;
+        reached = next;
     }
-    Ok(reached)
+    Ok(Line {
+        passed,
+        end: reached,
+    })
 }

@@ -4,10 +4,21 @@
 mod column;
 mod cycle;
 mod expression;
+mod finding;
 mod graph;
 mod kept;
+mod line;
+mod moment;
 mod place;
+mod reason;
 mod slice;
+mod slices;
+mod subject;
+mod whole;
 
-pub use place::{Column, Place, Places, Spot};
+pub use moment::{History, Moment, Moments, history_of};
+pub use place::{Column, Place, Places, Spot, Want};
+pub use reason::{Reason, Reasons, reasons_of};
 pub use slice::slice_of;
+pub use slices::{Slices, slices_of};
+pub use subject::{Cycle, Fact, Finding, Subject};

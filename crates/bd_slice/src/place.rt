@@ -33,7 +33,7 @@ pub type Places = Sequence<Place>;
 /// A state of the diagram: the pipeline after so many flush cycles from the case's state, the pipeline after so many
 /// flush cycles from the state after the case's cycle, or what is visible after so many steps of the specification from
 /// where the pipeline is flushed before the cycle.
-#[derive(Clone, Copy, Debug, PartialEq, Eq)]
+#[derive(Clone, Copy, Debug, PartialEq, Eq, Hash)]
 pub enum Column {
     Before(u32),
     After(u32),
@@ -45,4 +45,11 @@ pub enum Column {
 pub enum Spot {
     Latch(u32),
     Cell(u32, u64),
+}
+
+/// A value that is asked for: one of a state of the diagram.
+#[derive(Clone, Copy, Debug, PartialEq, Eq)]
+pub struct Want {
+    pub column: Column,
+    pub spot: Spot,
 }

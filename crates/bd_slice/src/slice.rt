@@ -13,7 +13,7 @@ ghost use Rattle.bd_slice.specs.Places.{AgreesOn};
 ghost use Rattle.bd_model.specs.declared.case.Case.{Case};
 ghost use Rattle.bd_slice.specs.inner.Runs.{StandsAt, StandsMarked, HasPlaceAt, HasPlaces};
 
-use crate::column::{Run, run_of};
+use crate::column::run_of;
 use crate::graph::{Graph, Node};
 use crate::kept::{Kept, Traced, TracedWord, kept_at};
 use crate::place::{Column, Place, Places, Spot};
@@ -32,7 +32,8 @@ pub fn slice_of(
     ensures { IfOk result (λ places.
         Decides (design_view design.now) case.now column spot places) }
 {
-    let Run { mut graph, state } = run_of(alloc, design, case, column)?;
+    let mut graph = Graph::new(alloc)?;
+    let state = run_of(alloc, &mut graph, design, case, column)?;
     let traced = spot_of(alloc, &mut graph, case, state.as_slice(), spot)?;
     let nodes = graph.nodes.as_slice();
     let marks = marks_of(alloc, nodes, traced.node)?;
@@ -41,7 +42,7 @@ pub fn slice_of(
 }
 
 /// A value of a state, with what it rests on.
-fn spot_of(
+pub fn spot_of(
     alloc: Global,
     graph: &mut Graph,
     case: &Case,
@@ -68,7 +69,7 @@ fn spot_of(
 }
 
 /// Marks of what a node stands on, where a node past the last counts as marked.
-fn marks_of(alloc: Global, nodes: &[Node], node: usize) -> Result<Vec<bool>, AllocError>
+pub fn marks_of(alloc: Global, nodes: &[Node], node: usize) -> Result<Vec<bool>, AllocError>
     ensures first { IfOk result (λ ms. IsTrue (slice_index_or ms.items 0 true)) }
     ensures node { IfOk result (λ ms. IsTrue (slice_index_or ms.items node true)) }
     ensures stands { IfOk result (λ ms. StandsMarked nodes.now ms.items) }
@@ -139,7 +140,7 @@ fn node_stands(node: &Node, marks: &[bool], i: usize) -> bool
 }
 
 /// The places of the marked nodes.
-fn places_of(alloc: Global, nodes: &[Node], marks: &[bool]) -> Result<Places, AllocError>
+pub fn places_of(alloc: Global, nodes: &[Node], marks: &[bool]) -> Result<Places, AllocError>
     ensures { IfOk result (λ ps. HasPlaces nodes.now marks.now ps) }
 {
     let mut places = Vec::new(alloc);

@@ -4,22 +4,48 @@ use Rattle.bd_model.specs.DesignView.{DesignView}
 use Rattle.bd_model.specs.Fits.{Fits, value_sort}
 use Rattle.bd_model.specs.Value.{truth}
 use Rattle.bd_model.specs.declared.case.Case.{Case}
+use Rattle.bd_model.specs.declared.table.Scalar.{Scalar}
 use Rattle.bd_model.specs.declared.table.Value.{Value}
-use Rattle.bd_slice.specs.Columns.{column_state}
+use Rattle.bd_slice.specs.Columns.{column_state, shown}
 use Rattle.bd_slice.specs.Places.{AgreesAt, AgreesOn}
-use Rattle.bd_slice.specs.inner.Followed.{Other, Holds, FollowsKept, FollowsState}
-use Rattle.bd_slice.specs.declared.column.Run.{Run}
+use Rattle.bd_slice.specs.inner.Followed.{Other, Holds, Follows, FollowsKept, FollowsState}
+use Rattle.bd_slice.specs.inner.Lines.{FollowsLine}
+use Rattle.bd_slice.specs.declared.whole.Whole.{Whole}
 use Rattle.bd_slice.specs.declared.graph.Node.{Node}
 use Rattle.bd_slice.specs.declared.graph.Node.TheVariants as node
 use Rattle.bd_slice.specs.declared.kept.Kept.{Kept}
+use Rattle.bd_slice.specs.declared.kept.Traced.{Traced}
 use Rattle.bd_slice.specs.declared.place.Column.{Column}
+use Rattle.bd_slice.specs.declared.place.Column.TheVariants as column
+use Rattle.bd_slice.specs.declared.place.Want.{Want}
 use Rattle.bd_slice.specs.declared.place.Place.{Place}
 
--- the state of the run is followed in each other case that fits
-abbrev pub IsRun : DesignView → Case → Column → Run → Type 0
-IsRun d c which r =
-    (o : Other) → Holds c r.graph.nodes o → Fits d c → Fits d o.case →
-    FollowsState o r.state.items (column_state d o.case which)
+-- the state of a run is followed in each other case that fits
+abbrev pub IsRun : DesignView → Case → Column → List Node → List Kept → Type 0
+IsRun d c which nodes state =
+    (o : Other) → Holds c nodes o → Fits d c → Fits d o.case →
+    FollowsState o state (column_state d o.case which)
+
+-- the states of the diagram are followed in each other case that fits
+pub record FollowsWhole (d : DesignView) (o : Other) (w : Whole) : Type 0 where
+  pub before : FollowsLine o w.before d.flush (λ n. column_state d o.case (column.Before n))
+  pub after : FollowsLine o w.after d.flush (λ n. column_state d o.case (column.After n))
+  pub steps : FollowsLine o w.steps d.steps (λ n. column_state d o.case (column.Steps n))
+
+abbrev pub IsWhole : DesignView → Case → List Node → Whole → Type 0
+IsWhole d c nodes w =
+    (o : Other) → Holds c nodes o → Fits d c → Fits d o.case → FollowsWhole d o w
+
+-- a value is the same in each other case that fits, if the slice has this node
+abbrev pub Pins : DesignView → Case → List Node → Want → Traced → Type 0
+Pins d c nodes want t =
+    (o : Other) → Holds c nodes o → Fits d c → Fits d o.case →
+    Follows o t (shown d o.case want.column want.spot)
+
+-- a node pins a value
+abbrev pub Pinned : DesignView → Case → List Node → ℕ → Want → Type 0
+Pinned d c nodes n want =
+    (x : Scalar) × Pins d c nodes want (record { value = x; node = n })
 
 -- an entry of the case's state is followed, where the other case has one of the same sort there
 abbrev pub FollowsEntry : Case → Other → Value → ℕ → Kept → Type 0

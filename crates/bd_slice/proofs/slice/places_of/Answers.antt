@@ -2,7 +2,7 @@ use Rattle.std.proofs.Common.{subst, below_more, arith}
 use Rattle.std.proofs.lemmas.Option.{slice_get_within}
 use Rattle.bd_slice.specs.declared.graph.Node.{Node}
 use Rattle.bd_slice.specs.inner.Runs.{HasPlaceAt}
-use Rattle.bd_slice.proofs.Slices.{item_is}
+use Rattle.bd_slice.proofs.Marked.{item_is}
 use Rattle.bd_slice.proofs.slice.places_of.Goals as goal
 
 pub loop-i-preserved : goal.loop-i-preserved

@@ -1,5 +1,5 @@
 use Rattle.bd_model.specs.DesignView.{design_view}
-use Rattle.bd_slice.proofs.Slices.{decides}
+use Rattle.bd_slice.proofs.Marked.{decides}
 use Rattle.bd_slice.proofs.slice.slice_of.Goals as goal
 
 pub returns : goal.returns
@@ -11,6 +11,6 @@ returns c =
     decides (design_view c.args.design.now) case c.args.column c.args.spot c.spot_of.new.graph.nodes c.in_ok-marks.marks.items c.in_ok-places.places c.in_ok-traced.traced c.requires
     (λ o h other.
     let before = traced.grows case o h in
-    let state = c.in_ok-graph.ensures o before c.requires other in
+    let state = c.in_ok-state.ensures.run o before c.requires other in
     traced.follows o _ h (rw c.as_slice.ensures.value state))
     c.in_ok-marks.ensures.first c.in_ok-marks.ensures.node stands places

@@ -2,7 +2,7 @@ use Rattle.std.proofs.Common.{IsTrue, subst, below_more, arith, rules}
 use Rattle.std.proofs.lemmas.Option.{slice_get_within}
 use Rattle.bd_slice.specs.declared.graph.Node.{Node}
 use Rattle.bd_slice.specs.inner.Runs.{StandsAt}
-use Rattle.bd_slice.proofs.Slices.{item_is}
+use Rattle.bd_slice.proofs.Marked.{item_is}
 use Rattle.bd_slice.proofs.slice.stands.Goals as goal
 
 pub loop-i-preserved : goal.loop-i-preserved

@@ -1,0 +1,168 @@
+//! The values of a run, state by state and cycle by cycle.
+use crate::place::Column;
+use crate::subject::Cycle;
+use bd_model::{Case, Design, Expr, Exprs, Inputs, LetValues, Locals, Sequence, State, Value};
+use bd_sim::{idle_inputs, let_values, look, spec_step, step, values_after};
+use std::alloc::{AllocError, Global};
+
+/// A cycle's values: the state in which it begins, its inputs, and its lets.
+#[derive(Drop)]
+pub struct Moment {
+    pub state: State,
+    pub inputs: Inputs,
+    pub lets: LetValues,
+}
+
+/// A list of moments.
+pub type Moments = Sequence<Moment>;
+
+/// All of a run: the case's cycle, the flush cycles before and after it, and the steps of the specification. The last
+/// of each list has no cycle after it. Last the invariant after the cycle.
+#[derive(Drop)]
+pub struct History {
+    pub first: Moment,
+    pub before: Moments,
+    pub after: Moments,
+    pub steps: Moments,
+    pub kept: Moment,
+}
+
+/// A cycle of the pipeline from this state.
+fn moment_of(
+    alloc: Global,
+    design: &Design,
+    case: &Case,
+    state: State,
+    inputs: Inputs,
+) -> Result<Moment, AllocError> {
+    let lets = let_values(alloc, design, &case.interp, &state, &inputs)?;
+    Ok(Moment {
+        state,
+        inputs,
+        lets,
+    })
+}
+
+/// The flush cycles from this state, and the state in which they end.
+fn flushing(
+    alloc: Global,
+    design: &Design,
+    case: &Case,
+    state: State,
+) -> Result<Moments, AllocError> {
+    let mut moments = Sequence::new(alloc);
+    let mut reached = state;
+    for _cycle in 0..design.flush {
+        let inputs = idle_inputs(alloc, design, &case.interp, &reached)?;
+        let next = step(alloc, design, &case.interp, &reached, &inputs)?;
+        moments.push(moment_of(alloc, design, case, reached, inputs)?)?;
+        reached = next;
+    }
+    moments.push(moment_of(alloc, design, case, reached, Sequence::new(alloc))?)?;
+    Ok(moments)
+}
+
+/// The names of all of these lets, as expressions.
+fn all_lets(alloc: Global, lets: &Locals) -> Result<Exprs, AllocError> {
+    let mut items = Vec::new(alloc);
+    let mut number = 0u32;
+    for _local in lets.as_slice() {
+        items.push(Expr::Local(number))?;
+        number = number.checked_add(1).ok_or(AllocError)?;
+    }
+    Ok(Exprs { items })
+}
+
+/// These lets in this state, without inputs.
+fn plain_moment(
+    alloc: Global,
+    case: &Case,
+    lets: &Locals,
+    state: State,
+) -> Result<Moment, AllocError> {
+    let inputs = Sequence::new(alloc);
+    let all = all_lets(alloc, lets)?;
+    let lets = values_after(alloc, lets, &all, &case.interp, &state, &inputs)?;
+    Ok(Moment {
+        state,
+        inputs,
+        lets,
+    })
+}
+
+/// The steps of the specification from this state.
+fn stepping(
+    alloc: Global,
+    design: &Design,
+    case: &Case,
+    visible: State,
+) -> Result<Moments, AllocError> {
+    let lets = &design.spec.locals;
+    let mut moments = Sequence::new(alloc);
+    let mut reached = visible;
+    for _step in 0..design.steps {
+        let next = spec_step(alloc, design, &case.interp, &reached)?;
+        moments.push(plain_moment(alloc, case, lets, reached)?)?;
+        reached = next;
+    }
+    moments.push(plain_moment(alloc, case, lets, reached)?)?;
+    Ok(moments)
+}
+
+/// All of the run of a case.
+pub fn history_of(alloc: Global, design: &Design, case: &Case) -> Result<History, AllocError> {
+    let next = step(alloc, design, &case.interp, &case.state, &case.inputs)?;
+    let before = flushing(alloc, design, case, case.state.clone()?)?;
+    let kept = plain_moment(alloc, case, &design.inv_locals, next.clone()?)?;
+    let after = flushing(alloc, design, case, next)?;
+    let visible = match before.as_slice().last() {
+        Some(moment) => look(alloc, design, &moment.state)?,
+        None => Sequence::new(alloc),
+    };
+    Ok(History {
+        first: moment_of(
+            alloc,
+            design,
+            case,
+            case.state.clone()?,
+            case.inputs.clone()?,
+        )?,
+        before,
+        after,
+        steps: stepping(alloc, design, case, visible)?,
+        kept,
+    })
+}
+
+impl History {
+    /// A cycle's values.
+    pub fn cycle(&self, cycle: Cycle) -> Option<&Moment> {
+        match cycle {
+            Cycle::Case => Some(&self.first),
+            Cycle::FlushBefore(n) => self.before.as_slice().get(n as usize),
+            Cycle::FlushAfter(n) => self.after.as_slice().get(n as usize),
+            Cycle::Step(n) => self.steps.as_slice().get(n as usize),
+            Cycle::Invariant => Some(&self.kept),
+        }
+    }
+
+    /// The value of an entry in a column.
+    pub fn entry(&self, column: Column, entry: u32) -> Option<&Value> {
+        let moments = match column {
+            Column::Before(_) => &self.before,
+            Column::After(_) => &self.after,
+            Column::Steps(_) => &self.steps,
+        };
+        let moment = moments.as_slice().get(column.number() as usize)?;
+        moment.state.as_slice().get(entry as usize)
+    }
+}
+
+impl Column {
+    /// Its number of flush cycles or steps.
+    pub fn number(self) -> u32 {
+        match self {
+            Column::Before(n) | Column::After(n) | Column::Steps(n) => n,
+        }
+    }
+}
