@@ -9,3 +9,6 @@ pub mod Effects
 pub mod Sources
 pub mod Completions
 pub mod Answered
+pub mod SomeAnswer
+pub mod SomeReading
+pub mod SomeDesign

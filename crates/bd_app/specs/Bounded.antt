@@ -1,9 +1,9 @@
 -- `bounded`: whether a pipeline is right for so many cycles, from each state in which the start is
 -- true.
-use Rattle.std.specs.Prelude.{◌≡◌, ◌≤◌, ℕ, List, [], ◌∷◌, ◌++◌, codes, Option, Some, None, nat_le, if◌then◌else◌}
+use Rattle.std.specs.Prelude.{◌≡◌, ◌≤◌, ℕ, List, [], ◌∷◌, ◌++◌, codes, min, Option, Some, None}
 use Rattle.std.specs.Fmt.{decimal}
 use Rattle.clap.specs.Simple.{Shape}
-use Rattle.clap.specs.Walk.{Row, first_of}
+use Rattle.clap.specs.Walk.{Row}
 use Rattle.bd_model.specs.DesignView.{DesignView}
 use Rattle.bd_model.specs.declared.case.Trail.{Trail}
 use Rattle.bd_bounded.specs.Answer.{HasWork, Says}
@@ -13,7 +13,7 @@ use Rattle.bd_app.specs.Files.{DesignNames, with_start}
 use Rattle.bd_app.specs.Meaning.{Meaning}
 use Rattle.bd_app.specs.Questions.{design_meaning}
 use Rattle.bd_app.specs.Texts.{IsTextOfIf, trail_kind}
-use Rattle.bd_app.specs.Words.{Name, budget_option, in_range, machines_command, number_at, required, ◌>>=◌}
+use Rattle.bd_app.specs.Words.{Name, budget_option, in_range, machines_command, number_of, required, text_of_required}
 use Rattle.bd_app.specs.declared.answer.Ended.{Ended}
 use Rattle.bd_app.specs.declared.answer.Ended.TheVariants as endings
 use Rattle.bd_app.specs.declared.command.bounded.BoundedOptions.{BoundedOptions}
@@ -28,28 +28,26 @@ pub record BoundedRun : Type 0 where
 
 -- ---- its words
 
+-- the most cycles of a bounded run
+abbrev pub most_cycles : ℕ
+most_cycles = 16
+
 -- bounded PIPE SPEC START C [--budget N]
 abbrev pub bounded_command : Shape
 bounded_command = machines_command (codes "bounded") (
     required (codes "START")
-    ∷ in_range 0 16 (required (codes "C"))
+    ∷ in_range 0 most_cycles (required (codes "C"))
     ∷ budget_option
     ∷ [])
 
-unfoldable pub bounded_question : List Row → Option BoundedRun
-bounded_question rows = do
-  pipe ← first_of (codes "PIPE") rows
-  spec ← first_of (codes "SPEC") rows
-  start ← first_of (codes "START") rows
-  cycles ← number_at (codes "C") rows
-  budget ← number_at (codes "budget") rows
-  if nat_le cycles 16 then Some (record {
-    pipe = pipe;
-    spec = spec;
-    start = start;
-    cycles = cycles;
-    budget = budget;
-  }) else None
+abbrev pub bounded_question : List Row → BoundedRun
+bounded_question rows = record {
+  pipe = text_of_required (codes "PIPE") rows;
+  spec = text_of_required (codes "SPEC") rows;
+  start = text_of_required (codes "START") rows;
+  cycles = min (number_of (codes "C") rows) most_cycles;
+  budget = number_of (codes "budget") rows;
+}
 
 -- the question of these options
 abbrev pub bounded_of : BoundedOptions → BoundedRun
@@ -63,7 +61,7 @@ bounded_of options = record {
 
 -- there are at most 16 cycles
 abbrev pub HasFewCycles : BoundedOptions → Type 0
-HasFewCycles options = options.cycles ≤ 16
+HasFewCycles options = options.cycles ≤ most_cycles
 
 -- ---- its answers
 

@@ -8,7 +8,7 @@ use Rattle.bd_app.specs.Files.{DesignNames, design_files, with_invariant}
 use Rattle.bd_app.specs.Meaning.{IsDesignAnswer, Meaning, no_proof}
 use Rattle.bd_app.specs.Sources.{HoldSources, IsDesign, IsDesignFault, Sources}
 use Rattle.bd_app.specs.Verdicts.{IsVerdictReport}
-use Rattle.bd_app.specs.Words.{Name, budget_option, flag, given, machines_command, mode_at, number_at, option, ◌>>=◌}
+use Rattle.bd_app.specs.Words.{Name, budget_option, flag, given, machines_command, mode_at, number_of, option, text_of_required}
 use Rattle.bd_app.specs.declared.verdict.Asked.{Asked}
 use Rattle.bd_app.specs.declared.command.check.CheckOptions.{CheckOptions}
 
@@ -35,20 +35,16 @@ check_command = machines_command (codes "check") (
     ∷ flag (codes "diverse")
     ∷ [])
 
-unfoldable pub check_question : List Row → Option Check
-check_question rows = do
-  pipe ← first_of (codes "PIPE") rows
-  spec ← first_of (codes "SPEC") rows
-  budget ← number_at (codes "budget") rows
-  Some (record {
-    pipe = pipe;
-    spec = spec;
-    inv = first_of (codes "INV") rows;
-    budget = budget;
-    cnf = first_of (codes "cnf") rows;
-    lrat = first_of (codes "lrat") rows;
-    mode = mode_at (codes "diverse") rows;
-  })
+abbrev pub check_question : List Row → Check
+check_question rows = record {
+  pipe = text_of_required (codes "PIPE") rows;
+  spec = text_of_required (codes "SPEC") rows;
+  inv = first_of (codes "INV") rows;
+  budget = number_of (codes "budget") rows;
+  cnf = first_of (codes "cnf") rows;
+  lrat = first_of (codes "lrat") rows;
+  mode = mode_at (codes "diverse") rows;
+}
 
 -- the question of these options
 abbrev pub check_of : CheckOptions → Check

@@ -1,7 +1,6 @@
 -- The command line: which words are taken, what they ask for, and what it means.
 -- Source: what `clap` makes of the words of a simple command, as the crate states it.
-use Rattle.std.specs.Prelude.{ℕ, false, List, [], ◌∷◌, map, codes, Option, None, if◌then◌else◌}
-use Rattle.std.specs.Option.{option_map}
+use Rattle.std.specs.Prelude.{ℕ, false, List, [], ◌∷◌, map, codes, Option, Some, None, if◌then◌else◌}
 use Rattle.std.specs.Str.{bytes_eq}
 use Rattle.clap.specs.Walk.{Row}
 use Rattle.clap.specs.Simple.{App, Shape, new_shape, subcommand_of}
@@ -43,19 +42,19 @@ meaning_of (complete q) = complete_meaning q
 -- a command: its words, and the question of their values
 pub record Command : Type 0 where
   pub shape : Shape
-  pub question : List Row → Option Question
+  pub question : List Row → Question
 
 -- the command table
 unfoldable pub commands : List Command
 commands =
-    record { shape = check_command; question = λ rows. option_map check (check_question rows) }
-    ∷ record { shape = replay_command; question = λ rows. option_map replay (replay_question rows) }
-    ∷ record { shape = run_command; question = λ rows. option_map run (run_question rows) }
-    ∷ record { shape = gen_command; question = λ rows. option_map gen (gen_question rows) }
-    ∷ record { shape = recheck_command; question = λ rows. option_map recheck (recheck_question rows) }
-    ∷ record { shape = bounded_command; question = λ rows. option_map bounded (bounded_question rows) }
-    ∷ record { shape = retrace_command; question = λ rows. option_map retrace (retrace_question rows) }
-    ∷ record { shape = complete_command; question = λ rows. option_map complete (complete_question rows) }
+    record { shape = check_command; question = λ rows. check (check_question rows) }
+    ∷ record { shape = replay_command; question = λ rows. replay (replay_question rows) }
+    ∷ record { shape = run_command; question = λ rows. run (run_question rows) }
+    ∷ record { shape = gen_command; question = λ rows. gen (gen_question rows) }
+    ∷ record { shape = recheck_command; question = λ rows. recheck (recheck_question rows) }
+    ∷ record { shape = bounded_command; question = λ rows. bounded (bounded_question rows) }
+    ∷ record { shape = retrace_command; question = λ rows. retrace (retrace_question rows) }
+    ∷ record { shape = complete_command; question = λ rows. complete (complete_question rows) }
     ∷ []
 
 unfoldable pub command_line : App
@@ -69,7 +68,7 @@ command_line = record {
 abbrev pub question_among : List Command → List ℕ → List Row → Option Question
 question_among [] name rows = None
 question_among (c ∷ cs) name rows =
-    if bytes_eq name c.shape.name then c.question rows else question_among cs name rows
+    if bytes_eq name c.shape.name then Some (c.question rows) else question_among cs name rows
 
 unfoldable pub question_of : List ℕ → List Row → Option Question
 question_of name rows = question_among commands name rows
@@ -79,7 +78,8 @@ abbrev pub if_faultless : {A : Type 0} → Kinds → Option A → Option A
 if_faultless [] found = found
 if_faultless (kind ∷ kinds) found = None
 
--- what the words ask for, where they are taken: clap finds no fault in them, and they name a command
+-- what the words ask for. They are taken just where clap finds no fault in them and they name a command of the table:
+-- the ranges of numbers, and what has to be given, are clap's own, and stand in the shapes alone
 unfoldable pub taken : List (List ℕ) → Option Question
 taken words = if_faultless (fault_of command_line words) (do
   named ← subcommand_of command_line words

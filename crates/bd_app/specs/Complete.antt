@@ -18,7 +18,7 @@ use Rattle.bd_app.specs.Completions.{CompletesTo, IsCompletionFault, abstraction
 use Rattle.bd_app.specs.Files.{TextNames, text_files, text_names, with_invariant}
 use Rattle.bd_app.specs.Meaning.{Meaning, no_proof}
 use Rattle.bd_app.specs.Texts.{IsTextOfIf, case_kind}
-use Rattle.bd_app.specs.Words.{budget_option, flag, flag_at, machines_command, number_at, required, ◌>>=◌}
+use Rattle.bd_app.specs.Words.{budget_option, flag, flag_at, machines_command, number_of, required, text_of_required}
 use Rattle.bd_app.specs.declared.answer.Ended.{Ended}
 use Rattle.bd_app.specs.declared.answer.Ended.TheVariants.{Completed}
 use Rattle.bd_app.specs.declared.command.complete.CompleteOptions.{CompleteOptions}
@@ -41,20 +41,16 @@ complete_command = machines_command (codes "complete") (
     ∷ budget_option
     ∷ [])
 
-unfoldable pub complete_question : List Row → Option Completion
-complete_question rows = do
-  pipe ← first_of (codes "PIPE") rows
-  spec ← first_of (codes "SPEC") rows
-  comp ← first_of (codes "COMP") rows
-  budget ← number_at (codes "budget") rows
-  Some (record {
-    names = record {
-      design = with_invariant pipe spec (first_of (codes "INV") rows);
-      text = comp;
-    };
-    agree = flag_at (codes "agree") rows;
-    budget = budget;
-  })
+abbrev pub complete_question : List Row → Completion
+complete_question rows = record {
+  names = record {
+    design = with_invariant (text_of_required (codes "PIPE") rows)
+        (text_of_required (codes "SPEC") rows) (first_of (codes "INV") rows);
+    text = text_of_required (codes "COMP") rows;
+  };
+  agree = flag_at (codes "agree") rows;
+  budget = number_of (codes "budget") rows;
+}
 
 -- the question of these options
 abbrev pub complete_of : CompleteOptions → Completion

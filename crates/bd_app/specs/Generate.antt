@@ -1,5 +1,5 @@
 -- `gen`: the verdict on a generated pipeline.
-use Rattle.std.specs.Prelude.{◌≡◌, ◌*◌, ◌-◌, ◌&&◌, ◌≤◌, false, ℕ, List, [], ◌∷◌, ◌++◌, codes, Option, Some, None, nat_le, if◌then◌else◌}
+use Rattle.std.specs.Prelude.{◌≡◌, ◌*◌, ◌-◌, ◌≤◌, false, ℕ, List, [], ◌∷◌, ◌++◌, codes, max, min, Some, None}
 use Rattle.std.specs.Fmt.{decimal}
 use Rattle.clap.specs.Simple.{Shape}
 use Rattle.clap.specs.Walk.{Row}
@@ -10,7 +10,7 @@ use Rattle.bd_verify.specs.declared.verdict.Mode.TheVariants.{Plain}
 use Rattle.bd_app.specs.Meaning.{IsDesignAnswer, Meaning, no_proof}
 use Rattle.bd_app.specs.Sources.{IsDesign, IsDesignFault, Sources}
 use Rattle.bd_app.specs.Verdicts.{IsVerdictReport}
-use Rattle.bd_app.specs.Words.{command, in_range, number_at, required, ◌>>=◌}
+use Rattle.bd_app.specs.Words.{command, in_range, number_of, required}
 use Rattle.bd_app.specs.declared.verdict.Asked.{Asked}
 use Rattle.bd_app.specs.declared.command.generate.GenOptions.{GenOptions}
 
@@ -21,26 +21,33 @@ pub record Gen : Type 0 where
 
 -- ---- its words
 
+-- the least and the most stages of a generated pipeline
+abbrev pub least_depth : ℕ
+least_depth = 2
+
+abbrev pub most_depth : ℕ
+most_depth = 12
+
 -- gen DEPTH DROP
 abbrev pub gen_command : Shape
 gen_command = command (codes "gen") (
-    in_range 2 12 (required (codes "DEPTH"))
+    in_range least_depth most_depth (required (codes "DEPTH"))
     ∷ in_range 0 11 (required (codes "DROP"))
     ∷ [])
 
-unfoldable pub gen_question : List Row → Option Gen
-gen_question rows = do
-  depth ← number_at (codes "DEPTH") rows
-  drop ← number_at (codes "DROP") rows
-  if nat_le 2 depth && nat_le depth 12 then Some (record { depth = depth; drop = drop }) else None
+abbrev pub gen_question : List Row → Gen
+gen_question rows = record {
+  depth = max least_depth (min (number_of (codes "DEPTH") rows) most_depth);
+  drop = number_of (codes "DROP") rows;
+}
 
 -- the question of these options
 abbrev pub gen_of : GenOptions → Gen
 gen_of options = record { depth = options.depth; drop = options.drop }
 
--- the depth of a generated pipeline is from 2 to 12
+-- the depth of a generated pipeline is in its range
 abbrev pub HasDepth : GenOptions → Type 0
-HasDepth options = (2 ≤ options.depth) × (options.depth ≤ 12)
+HasDepth options = (least_depth ≤ options.depth) × (options.depth ≤ most_depth)
 
 -- ---- its answers
 

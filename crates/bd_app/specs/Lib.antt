@@ -18,4 +18,5 @@ pub mod Retrace
 pub mod Run
 pub mod Commands
 pub mod Program
+pub mod Laws
 pub mod inner

@@ -1,5 +1,5 @@
 -- `recheck`: whether a text proves that a pipeline is right.
-use Rattle.std.specs.Prelude.{◌≡◌, ℕ, List, [], ◌∷◌, ◌++◌, codes, Option, Some, None, IfSome}
+use Rattle.std.specs.Prelude.{◌≡◌, ℕ, List, [], ◌∷◌, ◌++◌, codes, Option, None, IfSome}
 use Rattle.clap.specs.Simple.{Shape, new_rule}
 use Rattle.clap.specs.Walk.{Row, first_of}
 use Rattle.bd_files.specs.Devices.{Held}
@@ -14,7 +14,7 @@ use Rattle.bd_proof_text.specs.Tokens.{place}
 use Rattle.bd_app.specs.Files.{HoldsShort, TextNames, text_files, text_names, with_invariant}
 use Rattle.bd_app.specs.Meaning.{Meaning}
 use Rattle.bd_app.specs.Sources.{IsDesign, IsDesignFault, TextSources}
-use Rattle.bd_app.specs.Words.{machines_command, required, ◌>>=◌}
+use Rattle.bd_app.specs.Words.{machines_command, required, text_of_required}
 use Rattle.bd_app.specs.declared.answer.Ended.{Ended}
 use Rattle.bd_app.specs.declared.answer.Ended.TheVariants.{Proved}
 use Rattle.bd_app.specs.declared.load.TextFiles.{TextFiles}
@@ -30,15 +30,12 @@ abbrev pub recheck_command : Shape
 recheck_command =
     machines_command (codes "recheck") (required (codes "PROOF") ∷ new_rule (codes "INV") ∷ [])
 
-unfoldable pub recheck_question : List Row → Option Recheck
-recheck_question rows = do
-  pipe ← first_of (codes "PIPE") rows
-  spec ← first_of (codes "SPEC") rows
-  proof ← first_of (codes "PROOF") rows
-  Some (record {
-    design = with_invariant pipe spec (first_of (codes "INV") rows);
-    text = proof;
-  })
+abbrev pub recheck_question : List Row → Recheck
+recheck_question rows = record {
+  design = with_invariant (text_of_required (codes "PIPE") rows)
+      (text_of_required (codes "SPEC") rows) (first_of (codes "INV") rows);
+  text = text_of_required (codes "PROOF") rows;
+}
 
 -- the question of these options
 abbrev pub recheck_of : TextFiles → Recheck

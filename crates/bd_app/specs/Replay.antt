@@ -1,5 +1,5 @@
 -- `replay`: what a case shows.
-use Rattle.std.specs.Prelude.{◌≡◌, ℕ, List, [], ◌∷◌, ◌++◌, codes, Option, Some}
+use Rattle.std.specs.Prelude.{◌≡◌, ℕ, List, [], ◌∷◌, ◌++◌, codes}
 use Rattle.clap.specs.Simple.{Shape, new_rule}
 use Rattle.clap.specs.Walk.{Row, first_of}
 use Rattle.bd_model.specs.DesignView.{DesignView}
@@ -12,7 +12,7 @@ use Rattle.bd_app.specs.Files.{TextNames, text_names, with_invariant}
 use Rattle.bd_app.specs.Meaning.{Meaning}
 use Rattle.bd_app.specs.Questions.{text_meaning}
 use Rattle.bd_app.specs.Texts.{case_kind}
-use Rattle.bd_app.specs.Words.{machines_command, required, ◌>>=◌}
+use Rattle.bd_app.specs.Words.{machines_command, required, text_of_required}
 use Rattle.bd_app.specs.declared.answer.Ended.{Ended}
 use Rattle.bd_app.specs.declared.answer.Ended.TheVariants.{Replayed}
 use Rattle.bd_app.specs.declared.load.TextFiles.{TextFiles}
@@ -28,15 +28,12 @@ abbrev pub replay_command : Shape
 replay_command =
     machines_command (codes "replay") (required (codes "CASE") ∷ new_rule (codes "INV") ∷ [])
 
-unfoldable pub replay_question : List Row → Option Replay
-replay_question rows = do
-  pipe ← first_of (codes "PIPE") rows
-  spec ← first_of (codes "SPEC") rows
-  case ← first_of (codes "CASE") rows
-  Some (record {
-    design = with_invariant pipe spec (first_of (codes "INV") rows);
-    text = case;
-  })
+abbrev pub replay_question : List Row → Replay
+replay_question rows = record {
+  design = with_invariant (text_of_required (codes "PIPE") rows)
+      (text_of_required (codes "SPEC") rows) (first_of (codes "INV") rows);
+  text = text_of_required (codes "CASE") rows;
+}
 
 -- the question of these options
 abbrev pub replay_of : TextFiles → Replay

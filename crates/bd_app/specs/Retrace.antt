@@ -1,8 +1,8 @@
 -- `retrace`: what a trail shows.
-use Rattle.std.specs.Prelude.{◌≡◌, ℕ, List, [], ◌∷◌, ◌++◌, codes, Option, Some}
+use Rattle.std.specs.Prelude.{◌≡◌, ℕ, List, [], ◌∷◌, ◌++◌, codes}
 use Rattle.std.specs.Fmt.{decimal}
 use Rattle.clap.specs.Simple.{Shape}
-use Rattle.clap.specs.Walk.{Row, first_of}
+use Rattle.clap.specs.Walk.{Row}
 use Rattle.bd_model.specs.DesignView.{DesignView}
 use Rattle.bd_model.specs.TrailJudged.{IsTrailJudged}
 use Rattle.bd_model.specs.declared.case.Trail.{Trail}
@@ -12,7 +12,7 @@ use Rattle.bd_app.specs.Files.{TextNames, text_names, with_start}
 use Rattle.bd_app.specs.Meaning.{Meaning}
 use Rattle.bd_app.specs.Questions.{text_meaning}
 use Rattle.bd_app.specs.Texts.{trail_kind}
-use Rattle.bd_app.specs.Words.{machines_command, required, ◌>>=◌}
+use Rattle.bd_app.specs.Words.{machines_command, required, text_of_required}
 use Rattle.bd_app.specs.declared.answer.Ended.{Ended}
 use Rattle.bd_app.specs.declared.answer.Ended.TheVariants.{Retraced}
 use Rattle.bd_app.specs.declared.load.TextFiles.{TextFiles}
@@ -28,13 +28,12 @@ abbrev pub retrace_command : Shape
 retrace_command = machines_command (codes "retrace")
     (required (codes "TRAIL") ∷ required (codes "START") ∷ [])
 
-unfoldable pub retrace_question : List Row → Option Retrace
-retrace_question rows = do
-  pipe ← first_of (codes "PIPE") rows
-  spec ← first_of (codes "SPEC") rows
-  trail ← first_of (codes "TRAIL") rows
-  start ← first_of (codes "START") rows
-  Some (record { design = with_start pipe spec start; text = trail })
+abbrev pub retrace_question : List Row → Retrace
+retrace_question rows = record {
+  design = with_start (text_of_required (codes "PIPE") rows)
+      (text_of_required (codes "SPEC") rows) (text_of_required (codes "START") rows);
+  text = text_of_required (codes "TRAIL") rows;
+}
 
 -- the question of these options
 abbrev pub retrace_of : TextFiles → Retrace

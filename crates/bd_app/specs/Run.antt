@@ -1,8 +1,8 @@
 -- `run`: the states of a case's run.
-use Rattle.std.specs.Prelude.{◌≡◌, ℕ, ◌+◌, List, [], ◌∷◌, ◌++◌, codes, Option, Some, None}
+use Rattle.std.specs.Prelude.{◌≡◌, ℕ, ◌+◌, List, [], ◌∷◌, ◌++◌, codes, None}
 use Rattle.std.specs.Fmt.{decimal}
 use Rattle.clap.specs.Simple.{Shape}
-use Rattle.clap.specs.Walk.{Row, first_of}
+use Rattle.clap.specs.Walk.{Row}
 use Rattle.bd_model.specs.DesignView.{DesignView}
 use Rattle.bd_model.specs.declared.table.Value.{Value}
 use Rattle.bd_model.specs.declared.case.Case.{Case}
@@ -12,7 +12,7 @@ use Rattle.bd_app.specs.Files.{TextNames, with_invariant}
 use Rattle.bd_app.specs.Meaning.{Meaning}
 use Rattle.bd_app.specs.Questions.{text_meaning}
 use Rattle.bd_app.specs.Texts.{case_kind}
-use Rattle.bd_app.specs.Words.{Name, in_range, machines_command, number_at, required, ◌>>=◌}
+use Rattle.bd_app.specs.Words.{Name, in_range, machines_command, number_of, required, text_of_required}
 use Rattle.bd_app.specs.declared.answer.Ended.{Ended}
 use Rattle.bd_app.specs.declared.answer.Ended.TheVariants.{Ran}
 use Rattle.bd_app.specs.declared.command.run.RunOptions.{RunOptions}
@@ -33,13 +33,13 @@ run_command = machines_command (codes "run") (
     ∷ in_range 0 1000 (required (codes "CYCLES"))
     ∷ [])
 
-unfoldable pub run_question : List Row → Option Run
-run_question rows = do
-  pipe ← first_of (codes "PIPE") rows
-  spec ← first_of (codes "SPEC") rows
-  case ← first_of (codes "CASE") rows
-  cycles ← number_at (codes "CYCLES") rows
-  Some (record { pipe = pipe; spec = spec; case = case; cycles = cycles })
+abbrev pub run_question : List Row → Run
+run_question rows = record {
+  pipe = text_of_required (codes "PIPE") rows;
+  spec = text_of_required (codes "SPEC") rows;
+  case = text_of_required (codes "CASE") rows;
+  cycles = number_of (codes "CYCLES") rows;
+}
 
 -- the question of these options
 abbrev pub run_of : RunOptions → Run

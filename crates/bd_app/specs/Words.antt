@@ -1,12 +1,12 @@
 -- The words of a command line: the arguments of commands, and the values that clap reads of them.
 -- Source: what `clap` makes of the words of a simple command, as the crate states it.
-use Rattle.std.specs.Prelude.{ℕ, ◌^◌, ◌&&◌, Bool, true, false, List, [], ◌∷◌, map, codes, pos, Option, Some, None, nat_lt, if◌then◌else◌, String, string_bytes}
+use Rattle.std.specs.Prelude.{ℕ, ◌^◌, ◌&&◌, Bool, true, false, List, [], ◌∷◌, map, codes, pos, Option, Some, None, nat_lt, if◌then◌else◌, unwrap_or, String, string_bytes}
 use Rattle.std.specs.declared.alloc.Global.{Global}
 use Rattle.std.specs.Borrow.{Bor}
 use Rattle.std.specs.Option.{option_map, option_map_or}
 use Rattle.std.specs.Str.{bytes_eq}
 use Rattle.std.specs.Str.Parse.{digits_value, without_leading_plus}
-use Rattle.clap.specs.Walk.{Row, Rule, one_of}
+use Rattle.clap.specs.Walk.{Row, Rule, first_of, one_of}
 use Rattle.clap.specs.Simple.{Shape, new_rule, new_shape}
 use Rattle.clap.specs.ValueTests.{is_numeral}
 use Rattle.clap.specs.declared.builder.action.ArgAction.TheVariants.{SetTrue}
@@ -77,6 +77,14 @@ abbrev pub number_at : List ℕ → List Row → Option ℕ
 number_at id rows = do
   text ← one_of id rows
   digits_number (without_leading_plus text)
+
+-- the text of an argument that clap lets no words be without
+abbrev pub text_of_required : List ℕ → List Row → List ℕ
+text_of_required id rows = unwrap_or (first_of id rows) []
+
+-- the number of one that has to be given, or has a default
+abbrev pub number_of : List ℕ → List Row → ℕ
+number_of id rows = unwrap_or (number_at id rows) 0
 
 -- whether the text of a flag is `true`, as it is where the flag is given
 abbrev pub flag_at : List ℕ → List Row → Bool

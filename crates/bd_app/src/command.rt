@@ -93,21 +93,21 @@ fn question<'a>(name: &str, matches: &ArgMatches<'a>) -> Option<Command<'a>>
     ensures bounded { IfSome result IsInRange }
 {
     if name == "check" {
-        Some(Command::Check(check::options(matches)?))
+        Some(Command::Check(check::options(matches)))
     } else if name == "replay" {
-        Some(Command::Replay(replay::options(matches)?))
+        Some(Command::Replay(replay::options(matches)))
     } else if name == "run" {
-        Some(Command::Run(run::options(matches)?))
+        Some(Command::Run(run::options(matches)))
     } else if name == "gen" {
-        Some(Command::Gen(generate::options(matches)?))
+        Some(Command::Gen(generate::options(matches)))
     } else if name == "recheck" {
-        Some(Command::Recheck(recheck::options(matches)?))
+        Some(Command::Recheck(recheck::options(matches)))
     } else if name == "bounded" {
-        Some(Command::Bounded(bounded::options(matches)?))
+        Some(Command::Bounded(bounded::options(matches)))
     } else if name == "retrace" {
-        Some(Command::Retrace(retrace::options(matches)?))
+        Some(Command::Retrace(retrace::options(matches)))
     } else if name == "complete" {
-        Some(Command::Complete(complete::options(matches)?))
+        Some(Command::Complete(complete::options(matches)))
     } else {
         None
     }

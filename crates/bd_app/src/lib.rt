@@ -3,6 +3,7 @@
 
 mod answer;
 mod command;
+mod laws;
 mod load;
 mod program;
 mod proof_fault;
@@ -13,5 +14,8 @@ pub mod words;
 
 pub use answer::{Ended, Which};
 pub use bd_typer::Text;
+pub use laws::{
+    cases_read, completions_denote, completions_denote_once, runs_answer, some_design, trails_read,
+};
 pub use program::run;
 pub use proof_fault::cause_text;

@@ -12,7 +12,7 @@ use bd_text::Code;
 use bd_typer::{Premise, Text};
 
 /// The most bytes of a file that is no proof.
-pub const MAX_FILE: usize = 1_048_576;
+const MAX_FILE: usize = 1_048_576;
 
 /// The most bytes of a proof.
 const MAX_PROOF: usize = 67_108_864;

@@ -3,7 +3,7 @@ ghost use Rattle.std.specs.Prelude.{◌≡◌, false, [], IfOk, codes};
 ghost use Rattle.std.specs.Option.{option_map};
 ghost use Rattle.clap.specs.declared.builder.command.Command.TheViews.{out-Command as fields_of};
 ghost use Rattle.clap.specs.Words.{first_of, found_of, rows_of, rule_of, shape_of};
-ghost use Rattle.bd_app.specs.Words.{required, option, budget_option, machines_command, number_at, flag, flag_at, mode_at};
+ghost use Rattle.bd_app.specs.Words.{required, option, budget_option, machines_command, number_at, number_of, flag, flag_at, mode_at, text_of_required};
 ghost use Rattle.bd_app.specs.inner.Asked.{and_rule};
 
 use bd_verify::Mode;
@@ -71,6 +71,23 @@ pub fn word_at<'a>(matches: &ArgMatches<'a>, id: &str) -> Option<&'a str>
         ≡ first_of id.now (rows_of (found_of matches.now)) }
 {
     matches.get_str(id)
+}
+
+/// The word given for an argument that clap lets no words be without.
+pub fn required_word<'a>(matches: &ArgMatches<'a>, id: &str) -> &'a str
+    ensures { result.now ≡ text_of_required id.now (rows_of (found_of matches.now)) }
+{
+    match word_at(matches, id) {
+        Some(word) => word,
+        None => "",
+    }
+}
+
+/// The number of an argument that has to be given, or has a default.
+pub fn required_number(matches: &ArgMatches<'_>, id: &str) -> u32
+    ensures { result ≡ number_of id.now (rows_of (found_of matches.now)) }
+{
+    number_at(matches, id).unwrap_or(0)
 }
 
 /// The number given for an argument.

@@ -19,7 +19,7 @@ mod twist;
 use crate::report::Counts;
 use crate::table::run_table;
 use bd_files::{Files, Sink};
-use bd_host::{RealFiles, Stream, command_line};
+use bd_host::{RealFiles, Stream, WordsError, command_line};
 use std::alloc::{AllocError, Global};
 use std::process::ExitCode;
 
@@ -41,14 +41,18 @@ fn run_tables<F: Files, O: Sink>(
     Ok(counts)
 }
 
-/// The program on any files and any output.
+/// The program on any files and any output. Words that aren't text name no tables.
 fn program<F: Files, O: Sink>(
     alloc: Global,
-    words: Result<Vec<String>, AllocError>,
+    words: Result<Vec<String>, WordsError>,
     data: &mut F,
     out: &mut O,
 ) -> Result<Counts, AllocError> {
-    let words = words?;
+    let words = match words {
+        Ok(words) => words,
+        Err(WordsError::NotText) => Vec::new(alloc),
+        Err(WordsError::Memory) => return Err(AllocError),
+    };
     match words.as_slice().split_first() {
         Some((_, names)) => run_tables(alloc, names, data, out),
         None => Ok(Counts::default()),
@@ -58,7 +62,7 @@ fn program<F: Files, O: Sink>(
 fn main(rt: HostRuntime) -> ExitCode {
     let counts = program(
         rt.alloc(),
-        command_line(&rt),
+        command_line(rt.alloc(), &rt),
         &mut RealFiles::new(rt.alloc(), &rt),
         &mut Stream::new(rt.stdout()),
     );

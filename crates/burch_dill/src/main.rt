@@ -6,19 +6,19 @@
 //! run of the built program whose words, output and status are stored.
 #![tactic(auto)]
 
-ghost use Rattle.std.specs.Prelude.{◌≡◌, IfOk, OnErr};
+ghost use Rattle.std.specs.Prelude.{◌≡◌, IfErr, IfOk, OnErr};
 ghost use Rattle.std.specs.Process.{exit_status};
 ghost use Rattle.bd_files.specs.Devices.{PutsOrFaults};
 ghost use Rattle.bd_app.specs.Answer.{fault_line_of, status_of};
 ghost use Rattle.bd_app.specs.Meaning.{files_seen};
 ghost use Rattle.bd_app.specs.Program.{sink_seen};
 ghost use Rattle.bd_app.specs.Words.{texts_of};
-ghost use Rattle.burch_dill.specs.Program.{EndsWith};
+ghost use Rattle.burch_dill.specs.Program.{EndsWith, ended_without};
 
 use bd_app::{Ended, run};
 use bd_files::{Files, Sink};
-use bd_host::{RealFiles, Stream, command_line};
-use std::alloc::{AllocError, Global};
+use bd_host::{RealFiles, Stream, WordsError, command_line};
+use std::alloc::Global;
 use std::process::ExitCode;
 
 /// The status of an answer, as the system takes it.
@@ -45,10 +45,31 @@ fn run_on<F: Files, O: Sink, E: Sink>(
     exit_code(&run(alloc, words, files, out, err))
 }
 
-/// The program on any files and sinks. `words` are the command line, unless memory ran out.
+/// The answer where there are no words: words that aren't text aren't taken.
+fn ended_without(fault: WordsError) -> Ended
+    ensures { result ≡ ended_without fault }
+{
+    match fault {
+        WordsError::NotText => Ended::Usage,
+        WordsError::Memory => Ended::Memory,
+    }
+}
+
+/// Puts the line of the answer where there are no words, and gives its status.
+fn end_without<E: Sink>(fault: WordsError, err: &mut E) -> ExitCode
+    ensures status { exit_status result ≡ status_of (ended_without fault) }
+    ensures line { PutsOrFaults E.written E.faults err.old err.new
+        (fault_line_of (ended_without fault)) }
+{
+    let ended = ended_without(fault);
+    ended.put_line(err);
+    exit_code(&ended)
+}
+
+/// The program on any files and sinks. `words` are the command line, unless one of them isn't text or memory ran out.
 fn program<F: Files, O: Sink, E: Sink>(
     alloc: Global,
-    words: Result<Vec<String>, AllocError>,
+    words: Result<Vec<String>, WordsError>,
     files: &mut F,
     out: &mut O,
     err: &mut E,
@@ -59,27 +80,23 @@ fn program<F: Files, O: Sink, E: Sink>(
         (sink_seen O.written O.faults O.puts out.old) (sink_seen O.written O.faults O.puts out.new)
         (sink_seen E.written E.faults E.puts err.old) (sink_seen E.written E.faults E.puts err.new)) }
 
-    // Where there is no memory for the words, only the line of that is put.
-    ensures no_words { OnErr words (exit_status result ≡ status_of Ended.Memory) }
-    ensures no_words_line { OnErr words
-        (PutsOrFaults E.written E.faults err.old err.new (fault_line_of Ended.Memory)) }
+    // Where there are no words, only the line of that is put.
+    ensures no_words { IfErr words (λ fault. exit_status result ≡ status_of (ended_without fault)) }
+    ensures no_words_line { IfErr words (λ fault.
+        PutsOrFaults E.written E.faults err.old err.new (fault_line_of (ended_without fault))) }
     ensures no_words_files { OnErr words (files.new ≡ files.old) }
     ensures no_words_out { OnErr words (out.new ≡ out.old) }
 {
     match words {
         Ok(words) => run_on(alloc, words.as_slice(), files, out, err),
-        Err(_) => {
-            let ended = Ended::Memory;
-            ended.put_line(err);
-            exit_code(&ended)
-        }
+        Err(fault) => end_without(fault, err),
     }
 }
 
 fn main(rt: HostRuntime) -> ExitCode {
     program(
         rt.alloc(),
-        command_line(&rt),
+        command_line(rt.alloc(), &rt),
         &mut RealFiles::new(rt.alloc(), &rt),
         &mut Stream::new(rt.stdout()),
         &mut Stream::new(rt.stderr()),

@@ -2,6 +2,7 @@
 
 use crate::program;
 use bd_files::{Page, Shelf};
+use bd_host::WordsError;
 use std::alloc::{AllocError, Global};
 use std::process::ExitCode;
 use std::test::Fail;
@@ -16,11 +17,18 @@ const RISES: &str = "(pipeline (latch a bool) (next a true) (flush 0) (steps 0))
 /// A machine that turns its bit.
 const TURNS: &str = "(specification (latch a bool) (next a (not a)))";
 
+/// The line of words that aren't taken.
+const USAGE: &str =
+    "usage: burch_dill check PIPE SPEC [INV] [--budget N] [--cnf FILE] [--lrat FILE] [--diverse] \
+| replay PIPE SPEC CASE [INV] | run PIPE SPEC CASE CYCLES | gen DEPTH DROP \
+| recheck PIPE SPEC PROOF [INV] | bounded PIPE SPEC START C [--budget N] \
+| retrace PIPE SPEC TRAIL START | complete PIPE SPEC COMP [INV] [--agree] [--budget N]\n";
+
 /// What a program is given, and what it ends with and prints.
 #[derive(Clone, Copy)]
 struct Row {
-    /// The names of the two files, or none where there is no memory for the words.
-    names: Option<(&'static str, &'static str)>,
+    /// The names of the two files, or why there are no words.
+    names: Result<(&'static str, &'static str), WordsError>,
     pipe: &'static str,
     spec: &'static str,
     status: u8,
@@ -28,9 +36,9 @@ struct Row {
     err: &'static str,
 }
 
-static ROWS: [Row; 5] = [
+static ROWS: [Row; 6] = [
     Row {
-        names: Some(("p", "s")),
+        names: Ok(("p", "s")),
         pipe: STALLS,
         spec: TURNS,
         status: 0,
@@ -38,7 +46,7 @@ static ROWS: [Row; 5] = [
         err: "",
     },
     Row {
-        names: Some(("p", "s")),
+        names: Ok(("p", "s")),
         pipe: RISES,
         spec: TURNS,
         status: 1,
@@ -46,7 +54,7 @@ static ROWS: [Row; 5] = [
         err: "",
     },
     Row {
-        names: Some(("p", "s")),
+        names: Ok(("p", "s")),
         pipe: STALLS,
         spec: "",
         status: 3,
@@ -54,7 +62,7 @@ static ROWS: [Row; 5] = [
         err: "spec:0: E04 wrong or missing head\n",
     },
     Row {
-        names: Some(("p", "none")),
+        names: Ok(("p", "none")),
         pipe: STALLS,
         spec: TURNS,
         status: 5,
@@ -62,21 +70,30 @@ static ROWS: [Row; 5] = [
         err: "cannot read\n",
     },
     Row {
-        names: None,
+        names: Err(WordsError::Memory),
         pipe: STALLS,
         spec: TURNS,
         status: 6,
         out: "",
         err: "out of memory\n",
     },
+    Row {
+        names: Err(WordsError::NotText),
+        pipe: STALLS,
+        spec: TURNS,
+        status: 2,
+        out: "",
+        err: USAGE,
+    },
 ];
 
 fn words_of(
     alloc: Global,
-    names: Option<(&str, &str)>,
-) -> Result<Result<Vec<String>, AllocError>, AllocError> {
-    let Some((pipe, spec)) = names else {
-        return Ok(Err(AllocError));
+    names: Result<(&str, &str), WordsError>,
+) -> Result<Result<Vec<String>, WordsError>, AllocError> {
+    let (pipe, spec) = match names {
+        Ok(names) => names,
+        Err(fault) => return Ok(Err(fault)),
     };
     let mut words = Vec::new(alloc);
     for word in ["burch_dill", "check", pipe, spec] {
@@ -115,7 +132,7 @@ fn holds_on(
     files: &mut Shelf,
     out: &mut Page,
 ) -> Result<bool, AllocError> {
-    let mut err = Page::new(alloc, 80, Vec::new(alloc))?;
+    let mut err = Page::new(alloc, 400, Vec::new(alloc))?;
     let words = words_of(alloc, row.names)?;
     let code = program(alloc, words, files, out, &mut err);
     Ok(

@@ -7,7 +7,7 @@ ghost use Rattle.clap.specs.declared.builder.command.Command.TheViews.{out-Comma
 ghost use Rattle.bd_model.specs.DesignView.{design_view};
 ghost use Rattle.bd_model.specs.Lawful.{IsLawful};
 ghost use Rattle.bd_bounded.specs.Answer.{HasWork, Says};
-ghost use Rattle.bd_app.specs.Bounded.{bounded_command, bounded_meaning, bounded_of, bounded_question, bounded_words, shown_trail, HasFewCycles, IsBoundedReport};
+ghost use Rattle.bd_app.specs.Bounded.{bounded_command, bounded_meaning, bounded_of, bounded_question, bounded_words, most_cycles, shown_trail, HasFewCycles, IsBoundedReport};
 ghost use Rattle.bd_app.specs.Meaning.{files_seen};
 ghost use Rattle.bd_app.specs.Texts.{IsTextOfIf, TrailFitsShort, trail_kind};
 ghost use Rattle.bd_app.specs.Words.{in_range, required};
@@ -17,7 +17,7 @@ ghost use Rattle.bd_app.specs.inner.Done.{IsDone, IsShownRun, OnDesign};
 use crate::answer::{Answer, Ended};
 use crate::load::{DesignFiles, Sources, load_sources};
 use crate::read::design;
-use crate::words::{budget, machines_command, number_at, required, with, word_at};
+use crate::words::{budget, machines_command, required, required_number, required_word, with};
 use bd_bounded::{Bounded, bounded};
 use bd_case::trail_text;
 use bd_cdcl::Cdcl;
@@ -37,9 +37,12 @@ pub struct BoundedOptions<'a> {
     pub budget: u32,
 }
 
+/// The most cycles of a bounded run.
+const MOST_CYCLES: u32 = 16;
+
 /// The number of cycles.
 fn cycles<'a>(alloc: Global) -> Arg<'a>
-    ensures rule { rule_of result ≡ in_range 0 16 (required (codes "C")) }
+    ensures rule { rule_of result ≡ in_range 0 most_cycles (required (codes "C")) }
     ensures local { result.global ≡ false }
 {
     Arg::new(alloc, "C")
@@ -59,27 +62,16 @@ pub fn command<'a>(alloc: Global) -> Result<Command<'a>, AllocError>
 }
 
 /// The options that its words give.
-#[tactic(auto, unfolding(crate::specs::Bounded::bounded_question))]
-pub fn options<'a>(matches: &ArgMatches<'a>) -> Option<BoundedOptions<'a>>
-    ensures asked { option_map bounded_of result
-        ≡ bounded_question (rows_of (found_of matches.now)) }
-    ensures bounded { IfSome result HasFewCycles }
+pub fn options<'a>(matches: &ArgMatches<'a>) -> BoundedOptions<'a>
+    ensures asked { bounded_of result ≡ bounded_question (rows_of (found_of matches.now)) }
+    ensures bounded { HasFewCycles result }
 {
-    let pipe = word_at(matches, "PIPE")?;
-    let spec = word_at(matches, "SPEC")?;
-    let start = word_at(matches, "START")?;
-    let cycles = number_at(matches, "C")?;
-    let budget = number_at(matches, "budget")?;
-    if cycles <= 16 {
-        Some(BoundedOptions {
-            pipe,
-            spec,
-            start,
-            cycles,
-            budget,
-        })
-    } else {
-        None
+    BoundedOptions {
+        pipe: required_word(matches, "PIPE"),
+        spec: required_word(matches, "SPEC"),
+        start: required_word(matches, "START"),
+        cycles: required_number(matches, "C").min(MOST_CYCLES),
+        budget: required_number(matches, "budget"),
     }
 }
 

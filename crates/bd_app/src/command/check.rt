@@ -2,7 +2,6 @@
 //!
 //! The verdict's formula and proof are saved, in this order, before anything is printed.
 ghost use Rattle.std.specs.Prelude.{◌≡◌, false, IfOk};
-ghost use Rattle.std.specs.Option.{option_map};
 ghost use Rattle.clap.specs.Words.{found_of, rows_of, shape_of};
 ghost use Rattle.clap.specs.declared.builder.command.Command.TheViews.{out-Command as fields_of};
 ghost use Rattle.bd_app.specs.Check.{check_asked, check_command, check_meaning, check_of, check_question};
@@ -13,7 +12,9 @@ use crate::answer::{Answer, Ended};
 use crate::load::{DesignFiles, load_sources};
 use crate::save::save_work;
 use crate::verdict::{Asked, verdict_answer, verdict_on, work};
-use crate::words::{budget, flag, machines_command, mode_at, number_at, option, with, word_at};
+use crate::words::{
+    budget, flag, machines_command, mode_at, option, required_number, required_word, with, word_at,
+};
 use bd_files::Files;
 use bd_typer::Premise;
 use bd_verify::Mode;
@@ -46,19 +47,18 @@ pub fn command<'a>(alloc: Global) -> Result<Command<'a>, AllocError>
 }
 
 /// The options that its words give.
-#[tactic(auto, unfolding(crate::specs::Check::check_question))]
-pub fn options<'a>(matches: &ArgMatches<'a>) -> Option<CheckOptions<'a>>
-    ensures { option_map check_of result ≡ check_question (rows_of (found_of matches.now)) }
+pub fn options<'a>(matches: &ArgMatches<'a>) -> CheckOptions<'a>
+    ensures { check_of result ≡ check_question (rows_of (found_of matches.now)) }
 {
-    Some(CheckOptions {
-        pipe: word_at(matches, "PIPE")?,
-        spec: word_at(matches, "SPEC")?,
-        budget: number_at(matches, "budget")?,
+    CheckOptions {
+        pipe: required_word(matches, "PIPE"),
+        spec: required_word(matches, "SPEC"),
+        budget: required_number(matches, "budget"),
         inv: word_at(matches, "INV"),
         cnf: word_at(matches, "cnf"),
         lrat: word_at(matches, "lrat"),
         mode: mode_at(matches, "diverse"),
-    })
+    }
 }
 
 /// What is asked of the design.

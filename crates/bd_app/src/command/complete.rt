@@ -19,7 +19,10 @@ use crate::answer::{Answer, Ended};
 use crate::load::{DesignFiles, TextBytes, TextFiles, load_text};
 use crate::read::completion;
 use crate::verdict::text_of;
-use crate::words::{budget, flag, flag_at, machines_command, number_at, required, with, word_at};
+use crate::words::{
+    budget, flag, flag_at, machines_command, required, required_number, required_word, with,
+    word_at,
+};
 use bd_abstraction::Abstraction;
 use bd_cdcl::Cdcl;
 use bd_completion::{Complete, complete};
@@ -50,25 +53,21 @@ pub fn command<'a>(alloc: Global) -> Result<Command<'a>, AllocError>
 }
 
 /// The options that its words give.
-#[tactic(auto, unfolding(crate::specs::Complete::complete_question))]
-pub fn options<'a>(matches: &ArgMatches<'a>) -> Option<CompleteOptions<'a>>
-    ensures { option_map complete_of result ≡ complete_question (rows_of (found_of matches.now)) }
+pub fn options<'a>(matches: &ArgMatches<'a>) -> CompleteOptions<'a>
+    ensures { complete_of result ≡ complete_question (rows_of (found_of matches.now)) }
 {
-    let pipe = word_at(matches, "PIPE")?;
-    let spec = word_at(matches, "SPEC")?;
-    let text = word_at(matches, "COMP")?;
-    let budget = number_at(matches, "budget")?;
     let design = DesignFiles {
-        pipe,
-        spec,
+        pipe: required_word(matches, "PIPE"),
+        spec: required_word(matches, "SPEC"),
         premise: Premise::Invariant,
         third: word_at(matches, "INV"),
     };
-    Some(CompleteOptions {
+    let text = required_word(matches, "COMP");
+    CompleteOptions {
         files: TextFiles { design, text },
         agree: flag_at(matches, "agree"),
-        budget,
-    })
+        budget: required_number(matches, "budget"),
+    }
 }
 
 /// What is found, and the text of the case that is shown with it.

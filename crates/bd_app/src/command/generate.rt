@@ -1,6 +1,5 @@
 //! `gen`: the verdict on a generated pipeline.
-ghost use Rattle.std.specs.Prelude.{◌≡◌, ◌≤◌, false, IfSome, IfOk, string_bytes};
-ghost use Rattle.std.specs.Option.{option_map};
+ghost use Rattle.std.specs.Prelude.{◌≡◌, ◌≤◌, false, IfOk, string_bytes};
 ghost use Rattle.clap.specs.Words.{found_of, rows_of, shape_of};
 ghost use Rattle.clap.specs.declared.builder.command.Command.TheViews.{out-Command as fields_of};
 ghost use Rattle.bd_app.specs.Generate.{gen_asked, gen_command, gen_lead, gen_meaning, gen_of, gen_question, generated, HasDepth};
@@ -10,9 +9,9 @@ ghost use Rattle.bd_app.specs.inner.Loaded.{AreFew, sources_view};
 ghost use Rattle.bd_app.specs.inner.Done.{IsDone, OnDesign};
 
 use crate::answer::{Answer, Ended};
-use crate::load::{MAX_FILE, Sources};
+use crate::load::Sources;
 use crate::verdict::{Asked, verdict_answer, verdict_on};
-use crate::words::number_at;
+use crate::words::required_number;
 use bd_gen::design_text;
 use bd_typer::Premise;
 use bd_verify::Mode;
@@ -41,17 +40,13 @@ pub fn command<'a>(alloc: Global) -> Result<Command<'a>, AllocError>
 }
 
 /// The options that its words give.
-#[tactic(auto, unfolding(crate::specs::Generate::gen_question))]
-pub fn options(matches: &ArgMatches<'_>) -> Option<GenOptions>
-    ensures asked { option_map gen_of result ≡ gen_question (rows_of (found_of matches.now)) }
-    ensures bounded { IfSome result HasDepth }
+pub fn options(matches: &ArgMatches<'_>) -> GenOptions
+    ensures asked { gen_of result ≡ gen_question (rows_of (found_of matches.now)) }
+    ensures bounded { HasDepth result }
 {
-    let depth = number_at(matches, "DEPTH")?;
-    let drop = number_at(matches, "DROP")?;
-    if 2 <= depth && depth <= 12 {
-        Some(GenOptions { depth, drop })
-    } else {
-        None
+    GenOptions {
+        depth: required_number(matches, "DEPTH").clamp(2, 12),
+        drop: required_number(matches, "DROP"),
     }
 }
 
@@ -69,10 +64,6 @@ fn sources(alloc: Global, options: GenOptions) -> Result<Sources, AllocError>
     ensures few { IfOk result (λ s. AreFew (sources_view s)) }
 {
     let (pipe, spec) = design_text(alloc, options.depth, options.drop)?;
-    // Neither is ever so long: the longest pipeline has some 2,100 bytes.
-    if pipe.as_slice().len() > MAX_FILE || spec.as_slice().len() > MAX_FILE {
-        return Err(AllocError);
-    }
     Ok(Sources {
         pipe,
         spec,

@@ -1,6 +1,5 @@
 //! `recheck`: whether a text proves that a pipeline is right.
 ghost use Rattle.std.specs.Prelude.{◌≡◌, ◌++◌, [], ◌∷◌, false, IfOk, IfErr, codes};
-ghost use Rattle.std.specs.Option.{option_map};
 ghost use Rattle.clap.specs.Words.{found_of, rows_of, shape_of};
 ghost use Rattle.clap.specs.declared.builder.command.Command.TheViews.{out-Command as fields_of};
 ghost use Rattle.bd_model.specs.DesignView.{design_view};
@@ -13,7 +12,7 @@ ghost use Rattle.bd_app.specs.inner.Done.{IsBadProof, IsDone, IsProvedBy, OnSour
 use crate::answer::{Answer, Ended};
 use crate::load::{DesignFiles, TextBytes, TextFiles, load_text};
 use crate::read::design;
-use crate::words::{machines_command, required, with, word_at};
+use crate::words::{machines_command, required, required_word, with, word_at};
 use bd_files::Files;
 use bd_foreign::{ProofFault, recheck};
 use bd_model::Design;
@@ -33,20 +32,19 @@ pub fn command<'a>(alloc: Global) -> Result<Command<'a>, AllocError>
 }
 
 /// Its options, the names of the files of a proof.
-#[tactic(auto, unfolding(crate::specs::Recheck::recheck_question))]
-pub fn options<'a>(matches: &ArgMatches<'a>) -> Option<TextFiles<'a>>
-    ensures { option_map recheck_of result ≡ recheck_question (rows_of (found_of matches.now)) }
+pub fn options<'a>(matches: &ArgMatches<'a>) -> TextFiles<'a>
+    ensures { recheck_of result ≡ recheck_question (rows_of (found_of matches.now)) }
 {
-    let pipe = word_at(matches, "PIPE")?;
-    let spec = word_at(matches, "SPEC")?;
-    let text = word_at(matches, "PROOF")?;
     let design = DesignFiles {
-        pipe,
-        spec,
+        pipe: required_word(matches, "PIPE"),
+        spec: required_word(matches, "SPEC"),
         premise: Premise::Invariant,
         third: word_at(matches, "INV"),
     };
-    Some(TextFiles { design, text })
+    TextFiles {
+        design,
+        text: required_word(matches, "PROOF"),
+    }
 }
 
 /// The answer that a proof is.

@@ -1,6 +1,5 @@
 //! `retrace`: what a trail shows.
 ghost use Rattle.std.specs.Prelude.{◌≡◌, ◌++◌, [], ◌∷◌, false, OnOk, IfOk, IfErr, string_bytes};
-ghost use Rattle.std.specs.Option.{option_map};
 ghost use Rattle.clap.specs.Words.{found_of, rows_of, shape_of};
 ghost use Rattle.clap.specs.declared.builder.command.Command.TheViews.{out-Command as fields_of};
 ghost use Rattle.bd_model.specs.DesignView.{design_view};
@@ -14,7 +13,7 @@ ghost use Rattle.bd_app.specs.inner.Done.{IsDone, IsSaidOf, IsTextRefused, OnSou
 use crate::answer::{Answer, Ended};
 use crate::load::{DesignFiles, TextBytes, TextFiles, load_text};
 use crate::read::{design, trail};
-use crate::words::{machines_command, required, with, word_at};
+use crate::words::{machines_command, required, required_word, with};
 use bd_files::Files;
 use bd_model::{Design, TrailJudged};
 use bd_sim::judge_trail;
@@ -33,21 +32,19 @@ pub fn command<'a>(alloc: Global) -> Result<Command<'a>, AllocError>
 }
 
 /// Its options, the names of the files of a trail.
-#[tactic(auto, unfolding(crate::specs::Retrace::retrace_question))]
-pub fn options<'a>(matches: &ArgMatches<'a>) -> Option<TextFiles<'a>>
-    ensures { option_map retrace_of result ≡ retrace_question (rows_of (found_of matches.now)) }
+pub fn options<'a>(matches: &ArgMatches<'a>) -> TextFiles<'a>
+    ensures { retrace_of result ≡ retrace_question (rows_of (found_of matches.now)) }
 {
-    let pipe = word_at(matches, "PIPE")?;
-    let spec = word_at(matches, "SPEC")?;
-    let text = word_at(matches, "TRAIL")?;
-    let start = word_at(matches, "START")?;
     let design = DesignFiles {
-        pipe,
-        spec,
+        pipe: required_word(matches, "PIPE"),
+        spec: required_word(matches, "SPEC"),
         premise: Premise::Start,
-        third: Some(start),
+        third: Some(required_word(matches, "START")),
     };
-    Some(TextFiles { design, text })
+    TextFiles {
+        design,
+        text: required_word(matches, "TRAIL"),
+    }
 }
 
 /// Puts a judgement in words after a text.

@@ -1,6 +1,5 @@
 //! `run`: the states of a case's run.
 ghost use Rattle.std.specs.Prelude.{◌≡◌, ◌++◌, false, IfOk, OnOk, codes};
-ghost use Rattle.std.specs.Option.{option_map};
 ghost use Rattle.clap.specs.Words.{found_of, rows_of, rule_of, shape_of};
 ghost use Rattle.clap.specs.declared.builder.command.Command.TheViews.{out-Command as fields_of};
 ghost use Rattle.bd_model.specs.DesignView.{design_view};
@@ -15,7 +14,7 @@ ghost use Rattle.bd_app.specs.inner.Done.{IsDone, IsSaidOf, IsTextRefused, OnSou
 use crate::answer::{Answer, Ended};
 use crate::load::{DesignFiles, TextBytes, TextFiles, load_text};
 use crate::read::{case, design};
-use crate::words::{machines_command, number_at, required, with, word_at};
+use crate::words::{machines_command, required, required_number, required_word, with};
 use bd_case::state_text;
 use bd_files::Files;
 use bd_model::{Case, Design, State};
@@ -55,16 +54,15 @@ pub fn command<'a>(alloc: Global) -> Result<Command<'a>, AllocError>
 }
 
 /// The options that its words give.
-#[tactic(auto, unfolding(crate::specs::Run::run_question))]
-pub fn options<'a>(matches: &ArgMatches<'a>) -> Option<RunOptions<'a>>
-    ensures { option_map run_of result ≡ run_question (rows_of (found_of matches.now)) }
+pub fn options<'a>(matches: &ArgMatches<'a>) -> RunOptions<'a>
+    ensures { run_of result ≡ run_question (rows_of (found_of matches.now)) }
 {
-    Some(RunOptions {
-        pipe: word_at(matches, "PIPE")?,
-        spec: word_at(matches, "SPEC")?,
-        case: word_at(matches, "CASE")?,
-        cycles: number_at(matches, "CYCLES")?,
-    })
+    RunOptions {
+        pipe: required_word(matches, "PIPE"),
+        spec: required_word(matches, "SPEC"),
+        case: required_word(matches, "CASE"),
+        cycles: required_number(matches, "CYCLES"),
+    }
 }
 
 /// Puts the text of a state after those before.
