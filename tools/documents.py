@@ -1,18 +1,19 @@
 #!/usr/bin/env python3
 """Makes the parts of docs/ that follow from the code.
 
-    tools/documents.py            writes them
-    tools/documents.py --check    says what is stale, and exits with 1 if anything is
+    tools/documents.py                    writes them
+    tools/documents.py --check            says what is stale, and exits with 1 if anything is
+    tools/documents.py --print [NAME ..]  prints each public definition with its comment, and a table of every call;
+                                          or those of the crates, modules, definitions and calls of these names
 
 - docs/MAP.md: the last column of the table of crates, who uses each, follows from crates.txt.
 - docs/PROVED.md: the list of what `correct` rests on, by following the definitions that the promise of that name cites;
-  the table of every call, with what it needs, whether it wants memory, what it promises and what an error leaves, by
-  the names of its contract's clauses; and the calls that can't want memory.
-- docs/DEFINITIONS.md: each public definition of crates/*/specs with the comment above it, under its module and what the
-  head of the module's file says, its source among that; modules of specs/inner, which no public contract cites, are
-  left out.
+  and the calls that can't want memory.
+- docs/DEFINITIONS.md: each definition that a public contract cites, with its module and its source. Contracts are those
+  of public calls and of the methods of public traits; how a public type is seen counts too.
 
-A file that a document names by a path from a crate's folder on has to be there. So has each call of tools/surface.txt,
+A file that a document names by a path from a crate's folder on has to be there, and so has what a link of a document
+leads to, with its heading. So has each call of tools/surface.txt,
 the calls that other programs rely on, with the signature that stands there: a line is a crate and a signature.
 """
 
@@ -36,7 +37,6 @@ CORRECT = [
 COMMANDS = ("Bounded", "Cases", "Complete", "Completions", "Generate", "Recheck", "Replay", "Retrace", "Run", "Verdicts")
 LEFT_OUT = {("bd_app", name) for name in COMMANDS}
 LIST = ("<!-- correct: made by tools/documents.py -->", "<!-- correct: to here -->")
-CALLS = ("<!-- calls: made by tools/documents.py -->", "<!-- calls: to here -->")
 USE = re.compile(r"(?:pub )?use Rattle\.(bd_\w+)\.specs\.([\w.]+?)(?:\.\{(.*)\})?(?: as (\w+))?$")
 NAMED = re.compile(r"`((?:crates/)?(?:bd_\w+|burch_dill)/[\w/.]+|(?:bench|tools|docs)/[\w.]+)`")
 MEMORY = ("<!-- without memory: made by tools/documents.py -->", "<!-- without memory: to here -->")
@@ -51,12 +51,12 @@ WITHOUT_MEMORY = (
 
 HEAD = """# Definitions
 
-What public contracts cite, crate by crate and module by module: a module's line says what it is about and which source
-it has, and each definition has the comment that stands above it. A module is a file of `crates/NAME/specs/`. What no
-public contract cites stands in `specs/inner/` and isn't listed. Where a head names no source, the definition is this
-project's own. [PROVED.md](PROVED.md) says in which order to read those behind `correct`.
+The definitions that public contracts cite, crate by crate: a line each, with its module, which is a file of
+`crates/NAME/specs/`, and the public source that is named there. Where none is named the definition is this project's
+own. [PROVED.md](PROVED.md) says in which order to read those behind `correct`.
 
-`tools/documents.py` makes this page from the code.
+`tools/documents.py` makes this page from the code. `tools/documents.py --print IsRight` prints what is said of a
+definition, a module, a crate or a call; without a name, of all public definitions, and a table of every call.
 """
 
 
@@ -170,26 +170,95 @@ def sentence(text):
     return text if text.endswith((".", ":")) else text + "."
 
 
+SOURCE = re.compile(r"\(([^()]*\b(?:19|20)\d\d\b[^()]*)\)")
+
+
+def source_of(text):
+    """The public source that a comment names in parentheses, or nothing."""
+    found = SOURCE.search(text)
+    return re.sub(r"^[^:]*: ", "", found.group(1)) if found else ""
+
+
+GHOST_USE = re.compile(r"ghost use Rattle\.(bd_\w+)\.specs\.([\w.]+?)\.\{([^}]*)\};")
+
+
+def imported(text):
+    """What the names that a source file takes from definitions mean: crate, module and name."""
+    found = {}
+    for crate, module, names in GHOST_USE.findall(text):
+        for part in [] if module.startswith(("declared", "contracts", "inner")) else names.split(","):
+            first, _, other = part.strip().partition(" as ")
+            if first:
+                found[other or first] = (crate, module, first)
+    return found
+
+
+def said_in_public(file, given):
+    """The contracts of a file's public calls, its public traits, and how its public types are seen."""
+    text = file.read_text()
+    blocks = re.findall(r"^(?:pub trait|impl(?:<[^>]*>)? Model for) (\w+).*?\{\n(.*?)^\}", text, re.M | re.S)
+    return [said for _, said in signatures_of(file, given)] + [said for name, said in blocks if name in given]
+
+
+def cited_by_contracts():
+    """The definitions that public contracts cite, as crates, modules and names."""
+    found = set()
+    for crate in crates()[0]:
+        sources = ROOT / "crates" / crate / "src"
+        given = exported(crate) if (sources / "lib.rt").exists() else {"program"}
+        for file in sorted(sources.rglob("*.rt")):
+            names = imported(file.read_text())
+            for said in said_in_public(file, given) if names else []:
+                words = set(re.findall(r"[^\s()\[\]{},;]+", said))
+                words |= {word.split(".")[0] for word in words}
+                found |= {names[word] for word in words if word in names}
+    return found
+
+
+def owner_of(lines, name):
+    """The definition that a name stands in: itself, or the data type that it makes values of."""
+    names = {word for word, _ in definitions(lines)}
+    owner = name
+    for line in lines if name not in names else []:
+        top = re.match(r"(?:abbrev |unfoldable )?pub (?:record |data )?(\S+)", line)
+        owner = top.group(1) if top and top.group(1) in names else owner
+        if re.match(rf"\s+(?:pub )?{re.escape(name)} :", line):
+            return owner
+    return name
+
+
 def definitions_text():
-    programs, tests = crates()
+    """What public contracts cite, a line each."""
+    files = {(crate, name): file.read_text().splitlines() for crate in crates()[0] for name, file in modules(crate)}
+    cited = {(crate, name, owner_of(files[crate, name], word)) for crate, name, word in cited_by_contracts()}
     out = [HEAD]
-    for crate in programs:
-        parts = []
+    for crate in crates()[0]:
+        rows = []
         for name, file in modules(crate):
             lines = file.read_text().splitlines()
-            told = [(word, said) for word, said in definitions(lines) if said]
-            plain = [word for word, said in definitions(lines) if not said]
-            if not told and not plain:
-                continue
-            part = [folded(f"**`{name}`** {sentence(head_of(lines))}" if head_of(lines) else f"**`{name}`**", rest="")]
-            part.append("")
-            part += [folded(f"- `{word}`: {sentence(said)}") for word, said in told]
-            if plain:
-                part.append(folded("- " + ", ".join(f"`{word}`" for word in plain) + "."))
-            parts.append("\n".join(part))
-        if parts:
-            out.append(f"## `{crate}`\n\n" + "\n\n".join(parts) + "\n")
+            head = head_of(lines)
+            for word, said in definitions(lines):
+                if (crate, name, word) in cited:
+                    source = source_of(said) or source_of(head)
+                    rows.append(folded(f"- `{word}`, in `{name}`" + (f", {source}" if source else "") + "."))
+        if rows:
+            out.append(f"## `{crate}`\n\n" + "\n".join(rows) + "\n")
     return "\n".join(out)
+
+
+def printed_definitions(wanted):
+    """Each public definition with the comment above it, or those of crates, modules and names that are wanted."""
+    out = []
+    for crate in crates()[0]:
+        for name, file in modules(crate):
+            lines = file.read_text().splitlines()
+            whole = not wanted or crate in wanted or name in wanted
+            found = [(word, said) for word, said in definitions(lines) if whole or word in wanted]
+            if found:
+                head = f"{crate}/specs/{name.replace('.', '/')}.antt"
+                out.append(folded(f"{head}: {sentence(head_of(lines))}" if head_of(lines) else head, rest=""))
+                out += [folded(f"{word}: {sentence(said)}" if said else f"{word}.", "  ", "    ") for word, said in found]
+    return out
 
 
 # ---- PROVED.md
@@ -312,7 +381,7 @@ def proved_text():
     text, faults = (ROOT / "docs/PROVED.md").read_text(), []
     without, could = without_memory()
     faults += could
-    for marks, made in ((LIST, correct_list()), (CALLS, calls_table()), (MEMORY, without)):
+    for marks, made in ((LIST, correct_list()), (MEMORY, without)):
         changed = between(text, marks, made)
         if changed is None:
             faults.append(f"docs/PROVED.md has no place {marks[0]}")
@@ -441,15 +510,28 @@ def calls():
     return [(crate, name, call_cells(text, errors)) for crate in crates()[0] for name, text in signatures(crate)]
 
 
-def calls_table():
+CALLS_HEAD = """
+Calls: what each needs of its caller (its `requires`); whether it wants memory, by the answer that says so, where `never`
+means that no answer of its type could; its promises (its `ensures`), by name, "one" where a single one has none; and
+which of them say what an error leaves of what was handed in by `&mut`. Each is proved safe and to end.
+"""
+
+
+def printed_calls(wanted):
+    """A table of each public call, or of those of crates and names that are wanted."""
     rows, found = ["| Call | Needs | Wants memory | Promises | An error leaves |", "|---|---|---|---|---|"], calls()
     for crate in crates()[0]:
-        made = [f"| `{name}` | " + " | ".join(cells) + " |" for other, name, cells in found if other == crate]
-        alike = [] if crate == "bd_examples" else sequences(crate)
+        whole = not wanted or crate in wanted
+        made = [
+            f"| `{name}` | " + " | ".join(cells) + " |"
+            for other, name, cells in found
+            if other == crate and (whole or name in wanted or name.split("::")[-1] in wanted)
+        ]
+        alike = sequences(crate) if whole and crate != "bd_examples" else []
         if alike:
             made.append("| " + ", ".join(f"`{name}`" for name in alike) + " | as `Sequence` | | | |")
         rows += [f"| **{crate}** | | | | |", *made] if made else []
-    return "\n".join(rows)
+    return [CALLS_HEAD, *rows] if len(rows) > 2 else []
 
 
 def without_memory():
@@ -508,14 +590,51 @@ def missing_files():
     return faults
 
 
+def slug(heading):
+    """What a link to a heading names it by."""
+    return re.sub(r"[^\w\- ]", "", heading.strip().lower()).replace(" ", "-")
+
+
+def without_blocks(text):
+    """A document without its blocks of code."""
+    return re.sub(r"^    .*$", "", re.sub(r"^```.*?^```", "", text, flags=re.M | re.S), flags=re.M)
+
+
+def broken_links():
+    """The links of documents that lead to no file, or to no heading of it."""
+    documents = [file for file in ROOT.rglob("*.md") if ".git" not in file.parts and "out" not in file.parts]
+    headings = {
+        file.resolve(): {slug(line) for line in re.findall(r"^#+ (.*)$", without_blocks(file.read_text()), re.M)}
+        for file in documents
+    }
+    faults = []
+    for document in sorted(documents):
+        for target in re.findall(r"\]\(([^)\s]+)\)", without_blocks(document.read_text())):
+            path, _, place = target.partition("#")
+            file = (document.parent / path).resolve() if path else document.resolve()
+            if re.match(r"https?:", target) or file.exists() and (not place or place in headings.get(file, ())):
+                continue
+            faults.append(f"{document.relative_to(ROOT)} has a link to {target}, which isn't there")
+    return faults
+
+
+def printed(names):
+    """What is said of these names, or of all; 1 if nothing has one of them."""
+    lines = printed_definitions(set(names)) + printed_calls(set(names))
+    print("\n".join(lines) if lines else "nothing public has this name")
+    return 0 if lines else 1
+
+
 def main(words):
+    if words[:1] == ["--print"]:
+        return printed(words[1:])
     if words not in ([], ["--check"]):
         print(__doc__)
         return 2
     proved, proved_faults = proved_text()
     mapped, mapped_faults = map_text()
     made = {"docs/MAP.md": mapped, "docs/PROVED.md": proved, "docs/DEFINITIONS.md": definitions_text()}
-    faults = mapped_faults + proved_faults + missing_files() + missing_calls()
+    faults = mapped_faults + proved_faults + missing_files() + broken_links() + missing_calls()
     for path, text in made.items():
         file = ROOT / path
         old = file.read_text() if file.exists() else ""

@@ -110,6 +110,7 @@ def table(children, minutes, total, processors):
 
 
 def main():
+    """Runs `rt ci` and prints the table."""
     asked = argparse.ArgumentParser(description=__doc__, formatter_class=argparse.RawDescriptionHelpFormatter)
     asked.add_argument("--processors", type=int, help="run on this many processors alone")
     asked.add_argument("--log", help="keep what rt ci prints in this file")

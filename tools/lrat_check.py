@@ -7,6 +7,7 @@ import sys
 
 
 def clauses(name):
+    """The clauses of a formula, by their numbers from 1."""
     with open(name, encoding="ascii") as file:
         lines = [line for line in file if line[0] not in "pc"]
     return {number: [int(word) for word in line.split()[:-1]] for number, line in enumerate(lines, 1)}
@@ -26,6 +27,7 @@ def is_accepted(clause, hints, standing):
 
 
 def check(formula, proof):
+    """What is found of a proof: the first line that isn't accepted, or whether it refutes the formula."""
     standing, is_refuted = clauses(formula), False
     with open(proof, encoding="ascii") as file:
         for line in file:

@@ -78,6 +78,7 @@ def scale(values: Sequence[float], low: float, high: float, least: float, most: 
 
 
 def text(x: float, y: float, words: str, anchor: str = "middle") -> str:
+    """A text at a place, as an element of SVG."""
     return f'<text x="{x:.1f}" y="{y:.1f}" text-anchor="{anchor}">{html.escape(words)}</text>'
 
 

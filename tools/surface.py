@@ -122,6 +122,7 @@ def valued() -> List[Tuple[str, str]]:
 
 
 def bash_reply(place: str) -> str:
+    """What completes a place for bash: files of its ending, or nothing."""
     return f"_burch_dill_files '{pattern(place)}' \"$current\"" if pattern(place) else "true"
 
 
@@ -153,10 +154,12 @@ def bash() -> str:
 
 
 def zsh_quoted(text: str) -> str:
+    """A text inside quotes of a zsh completion."""
     return text.replace("'", "'\\''").replace(":", "\\:")
 
 
 def zsh_value(place: str) -> str:
+    """A place with what completes it for zsh."""
     files = f"_files -g '\\''{pattern(place)}'\\''" if pattern(place) not in ("", "*") else "_files"
     return f"{place}:{files if pattern(place) else ' '}"
 

@@ -1,0 +1,56 @@
+#!/usr/bin/env python3
+"""Lists the wrong bodies that say nothing of a contract.
+
+usage: tools/edits.py [LOG..]
+
+A wrong body (`crates/NAME/must-fail/*.edit`) tells something where it is refused at the clause in its name. It tells
+nothing where only a proof file refuses it, since the edit took away a name that the file cites, where the prover
+couldn't read it, or where it isn't refused. LOG is what `rt ci` or `rt must-fail` printed; without one, at the top of
+the repository, `rt must-fail` is run. The status is 1 where some wrong body is listed, and 0 where none is.
+"""
+import re
+import subprocess
+import sys
+from pathlib import Path
+
+TRIED = re.compile(r"^must-fail (?P<edit>\S+?\.edit|\S+): (?P<told>.*)$")
+SILENT = (
+    ("only because a proof file names what the edit took away", "refused by a proof file alone"),
+    ("BAD EDIT", "can't be read"),
+    ("NOT REFUSED", "isn't refused"),
+    ("NOT TRIED", "wasn't tried"),
+)
+
+
+def silent(lines):
+    """The wrong bodies that tell nothing, each with the reason, in the order of their last lines."""
+    found = {}
+    for line in lines:
+        tried = TRIED.match(line.strip())
+        if tried:
+            found.pop(tried["edit"], None)
+            for words, reason in SILENT:
+                if words in tried["told"]:
+                    found[tried["edit"]] = reason
+                    break
+    return found
+
+
+def lines_of(names):
+    """The lines of these logs, or of a run of `rt must-fail`."""
+    if names:
+        return [line for name in names for line in Path(name).read_text(encoding="utf-8").splitlines()]
+    ran = subprocess.run(["rt", "must-fail"], stdout=subprocess.PIPE, text=True, check=False)
+    return ran.stdout.splitlines()
+
+
+def main(names):
+    """Prints what is found, and gives the status."""
+    found = silent(lines_of(names))
+    for edit, reason in found.items():
+        print(f"{edit}: {reason}")
+    return 1 if found else 0
+
+
+if __name__ == "__main__":
+    sys.exit(main(sys.argv[1:]))
