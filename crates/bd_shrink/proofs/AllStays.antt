@@ -7,7 +7,6 @@ use Rattle.bd_model.specs.declared.table.Scalar.{Scalar}
 use Rattle.bd_model.specs.declared.table.Row.{Row}
 use Rattle.bd_model.specs.declared.table.Table.{Table}
 use Rattle.bd_model.specs.declared.table.Slot.{Slot}
-use Rattle.bd_model.specs.declared.table.Memory.{Memory}
 use Rattle.bd_model.specs.declared.table.Value.{Value}
 use Rattle.bd_model.specs.declared.table.Value.TheVariants as value
 use Rattle.bd_model.specs.declared.case.Case.{Case}

@@ -1,3 +1,4 @@
 mod Left
 mod AllStays
+mod Differing
 mod Lowered

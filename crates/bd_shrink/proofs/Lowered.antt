@@ -1,31 +1,35 @@
 -- Less at one place.
-use Rattle.std.proofs.Common.{Vec, Global, Result, Ok, Err, Option, None, IfOk, MatchOption, ◌≡◌, ◌↔◌, ℕ, ◌+◌, ◌<◌, ◌≤◌, Bool, List, IsTrue, length, get_or, sum_by, sym, ◌∙◌, ap, subst, arith}
+use Rattle.std.proofs.Common.{Vec, Global, Result, Ok, Err, Option, None, IfOk, MatchOption, ◌≡◌, ◌↔◌, ℕ, ◌<◌, ◌≤◌, Bool, List, IsTrue, length, get_or, sum_by, sym, ◌∙◌, ap, subst, arith}
 use Rattle.std.specs.Prelude.{Some, slice_get, slice_set}
 use Rattle.std.specs.declared.alloc.AllocError.{AllocError}
 use Rattle.std.proofs.lemmas.Option.{slice_get_within, slice_get-get_or, get_or_from_slice_get}
 use Rattle.std.proofs.lemmas.List.Sums.{sum_by-set}
 use Rattle.bd_model.specs.DesignView.{DesignView, design_view}
-use Rattle.bd_model.specs.Cycle.{flushed}
 use Rattle.bd_model.specs.Fits.{Fits}
 use Rattle.bd_model.specs.Conditions.{IsJudged}
-use Rattle.bd_model.specs.Laws.{JudgedOnce}
 use Rattle.bd_model.specs.declared.case.Case.{Case}
 use Rattle.bd_model.specs.declared.case.Condition.{Condition}
 use Rattle.bd_model.specs.declared.case.Judged.{Judged}
 use Rattle.bd_model.specs.declared.case.Judged.TheVariants as judged
 use Rattle.bd_shrink.specs.Remnant.{remnant}
-use Rattle.bd_shrink.specs.Shrunk.{Shows, leaves, IsSmall, IsShrunk}
+use Rattle.bd_shrink.specs.Shrunk.{Shows, Keeps, leaves, IsSmall, IsShrunk}
 use Rattle.bd_shrink.specs.inner.Asked.{ShowsBy, IsLeast, IsLowered}
 use Rattle.bd_shrink.specs.declared.fate.Fate.{Fate}
 use Rattle.bd_shrink.specs.declared.fate.Fate.TheVariants.{Stays, Zero, Gone}
 use Rattle.bd_shrink.specs.declared.search.Question.{Question}
 
 -- what a judgement tells of a case that fits
-pub shown : (d : DesignView) (c : Case) (j : Judged) (which : Condition) (b : Bool) → JudgedOnce → Fits d c → IsJudged d c j → (IsTrue b ↔ (j ≡ judged.Broken which)) → IsTrue b ↔ Shows d c which
-shown d c j which b once fits is answer = (
-  λ t. record { fits = fits; judged = subst (λ k. IsJudged d c k) (answer.0 t) is },
-  λ h. answer.1 (once d (flushed d) c j (judged.Broken which) is h.judged),
+shown : (d : DesignView) (whole c : Case) (j : Judged) (which : Condition) (b k : Bool) → Fits d c → IsJudged d c j → (IsTrue b ↔ (j ≡ judged.Broken which)) → IsTrue b
+    → (IsTrue k ↔ Keeps d whole c which) → IsTrue k ↔ Shows d whole c which
+shown d whole c j which b k fits is answer broken keeps = (
+  λ t. record { fits = fits; judged = subst (λ x. IsJudged d c x) (answer.0 broken) is; keeps = keeps.0 t },
+  λ h. keeps.1 h.keeps,
 )
+
+pub shown_by : (d : DesignView) (whole c : Case) (j : Judged) (which : Condition) (b : Bool) (r : Result Bool AllocError) → Fits d c → IsJudged d c j → (IsTrue b ↔ (j ≡ judged.Broken which)) → IsTrue b
+    → IfOk r (λ k. IsTrue k ↔ Keeps d whole c which) → IfOk r (λ k. IsTrue k ↔ Shows d whole c which)
+shown_by d whole c j which b (Ok k) fits is answer broken h = shown d whole c j which b k fits is answer broken h
+shown_by d whole c j which b (Err e) fits is answer broken h = h
 
 most : (f : Fate) → leaves f ≤ 2
 most Stays = omega arith
@@ -89,11 +93,11 @@ pub read_as : (fates : List Fate) (i : ℕ) (r x : Fate) → r ≡ get_or fates 
 read_as fates i r x read is = sym (subst (λ (y : Fate). y ≡ get_or fates i y) is read)
 
 -- what is left is a small case
-pub shrunk : (d : DesignView) (c : Case) (which : Condition) (fates items : List Fate) (r : Result Case AllocError) → items ≡ fates → Shows d (remnant fates c) which → IsSmall d c which fates
+pub shrunk : (d : DesignView) (c : Case) (which : Condition) (fates items : List Fate) (r : Result Case AllocError) → items ≡ fates → Shows d c (remnant fates c) which → IsSmall d c which fates
     → IfOk r (λ s. s ≡ remnant items c) → IfOk r (λ s. IsShrunk d c which s)
 shrunk d c which fates items (Ok s) same shows small h =
     let left : s ≡ remnant fates c = h ∙ ap (λ (fs : List Fate). remnant fs c) same in
-    record { fates = fates; left = left; shows = subst (λ (k : Case). Shows d k which) (sym left) shows; small = small }
+    record { fates = fates; left = left; shows = subst (λ (k : Case). Shows d c k which) (sym left) shows; small = small }
 shrunk d c which fates items (Err e) same shows small h = h
 
 -- ---- what a try of less tells

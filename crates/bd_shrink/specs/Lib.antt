@@ -1,3 +1,4 @@
 pub mod Remnant
+pub mod Apart
 pub mod Shrunk
 pub mod inner

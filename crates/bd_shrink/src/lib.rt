@@ -1,9 +1,10 @@
 //! A case that breaks a condition, made small: rows are left out and values set to 0 as long as it breaks the same
-//! condition.
+//! condition and the same differs.
 #![tactic(auto)]
 
-mod chunks;
+mod apart;
 mod fate;
+mod pass;
 mod remnant;
 mod search;
 mod shrinking;

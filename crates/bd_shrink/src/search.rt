@@ -2,35 +2,65 @@
 ghost use Rattle.std.specs.Prelude.{◌≡◌, ◌<◌, ◌↔◌, length, slice_get, slice_set, Some, IfOk, IfSome, IfNone, IsTrue, MatchOption};
 ghost use Rattle.bd_model.specs.DesignView.{design_view};
 ghost use Rattle.bd_shrink.specs.Remnant.{remnant};
-ghost use Rattle.bd_shrink.specs.Shrunk.{Shows, IsSmall};
-ghost use Rattle.bd_shrink.specs.inner.Asked.{ShowsBy, IsLowered, IsLeast};
+ghost use Rattle.bd_shrink.specs.Shrunk.{Shows, Keeps, KeepsDifferences, IsSmall};
+ghost use Rattle.bd_shrink.specs.inner.Asked.{IsKnown, ShowsBy, IsLowered, IsLeast};
 
+use crate::apart::{Apart, apart_of, is_same};
 use crate::fate::Fate;
 use crate::remnant::remnant_of;
+use bd_diagram::alike_where_compared;
 use bd_model::{Case, Condition, Design, Judged, judged_once};
 use bd_sim::judge;
 use std::alloc::{AllocError, Global};
 
-/// What is asked of less and less of a case: whether it breaks this condition of the design.
+/// What is asked of less and less of a case: whether it breaks this condition of the design, with what is known to
+/// differ in the case.
 #[derive(Drop)]
 pub struct Question<'a> {
     pub alloc: Global,
     pub design: &'a Design,
     pub case: &'a Case,
     pub which: Condition,
+    pub apart: &'a Apart,
 }
 
-/// Whether a case fits and is judged to break the condition.
+/// Whether a case fits, is judged to break the condition, and differs as the whole case does.
 fn shows(question: &Question, case: &Case) -> Result<bool, AllocError>
-    ensures { IfOk result (λ b. IsTrue b
-        ↔ Shows (design_view question.now.design.now) case.now question.now.which) }
+    requires { IsKnown question.now }
+    ensures { IfOk result (λ b. IsTrue b ↔ Shows (design_view question.now.design.now)
+        question.now.case.now case.now question.now.which) }
 {
     judged_once();
     if !question.design.fits(case) {
         return Ok(false);
     }
     let judged = judge(question.alloc, question.design, case)?;
-    Ok(is_broken(judged, question.which))
+    if !is_broken(judged, question.which) {
+        return Ok(false);
+    }
+    keeps(question, case)
+}
+
+/// Whether the same differs in a case as in the whole one, where the diagram is what they break.
+fn keeps(question: &Question, case: &Case) -> Result<bool, AllocError>
+    requires { IsKnown question.now }
+    ensures { IfOk result (λ b. IsTrue b ↔ Keeps (design_view question.now.design.now)
+        question.now.case.now case.now question.now.which) }
+{
+    match question.which {
+        Condition::Invariant => Ok(true),
+        Condition::Commute => keeps_differences(question, case),
+    }
+}
+
+fn keeps_differences(question: &Question, case: &Case) -> Result<bool, AllocError>
+    requires { IsKnown question.now }
+    ensures { IfOk result (λ b. IsTrue b ↔ KeepsDifferences (design_view question.now.design.now)
+        question.now.case.now case.now) }
+{
+    alike_where_compared();
+    let apart = apart_of(question.alloc, question.design, case)?;
+    Ok(is_same(question.apart, &apart))
 }
 
 fn is_broken(judged: Judged, which: Condition) -> bool
@@ -45,6 +75,7 @@ fn is_broken(judged: Judged, which: Condition) -> bool
 
 /// Whether what these fates leave of the case shows it.
 pub fn shows_by(question: &Question, fates: &[Fate]) -> Result<bool, AllocError>
+    requires { IsKnown question.now }
     ensures { IfOk result (λ b. IsTrue b ↔ ShowsBy question.now fates.now) }
 {
     let left = remnant_of(question.alloc, question.case, fates)?;
@@ -53,6 +84,7 @@ pub fn shows_by(question: &Question, fates: &[Fate]) -> Result<bool, AllocError>
 
 /// Fates that leave less at one place, if there are such by which it is still shown.
 pub fn lowered(question: &Question, fates: &Vec<Fate>) -> Result<Option<Vec<Fate>>, AllocError>
+    requires { IsKnown question.now }
     ensures { IfOk result (λ found. MatchOption found
         (IsSmall (design_view question.now.design.now) question.now.case.now question.now.which
         fates.now.items)
@@ -67,12 +99,14 @@ pub fn lowered(question: &Question, fates: &Vec<Fate>) -> Result<Option<Vec<Fate
     Ok(None)
 }
 
-fn lowered_at(
+/// Fates that leave less at this place, if there are such by which it is still shown.
+pub fn lowered_at(
     question: &Question,
     fates: &Vec<Fate>,
     place: usize,
 ) -> Result<Option<Vec<Fate>>, AllocError>
-    requires { place < length fates.now.items }
+    requires known { IsKnown question.now }
+    requires within { place < length fates.now.items }
     ensures { IfOk result (λ found. MatchOption found
         (IsLeast question.now fates.now.items place)
         (λ less. IsLowered question.now fates.now.items less.items)) }
@@ -93,7 +127,8 @@ fn tried(
     place: usize,
     fate: Fate,
 ) -> Result<Option<Vec<Fate>>, AllocError>
-    requires { place < length fates.now.items }
+    requires known { IsKnown question.now }
+    requires within { place < length fates.now.items }
     ensures { IfOk result (λ found. MatchOption found
         (¬ ShowsBy question.now (slice_set fates.now.items place fate))
         (λ less. (less.items ≡ slice_set fates.now.items place fate)

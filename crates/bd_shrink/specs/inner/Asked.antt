@@ -3,12 +3,17 @@ use Rattle.std.specs.Prelude.{◌≡◌, ◌<◌, ℕ, List, slice_get, slice_se
 use Rattle.bd_model.specs.DesignView.{design_view}
 use Rattle.bd_shrink.specs.Remnant.{remnant}
 use Rattle.bd_shrink.specs.Shrunk.{Shows, leaves}
+use Rattle.bd_shrink.specs.inner.Found.{IsApart}
 use Rattle.bd_shrink.specs.declared.fate.Fate.{Fate}
 use Rattle.bd_shrink.specs.declared.search.Question.{Question}
 
--- what the fates leave of the case shows it
+-- what is known to differ in the case is what differs in it
+abbrev pub IsKnown : Question → Type 0
+IsKnown q = IsApart (design_view q.design.now) q.case.now q.apart.now
+
+-- what the fates leave of the case shows what the case does
 abbrev pub ShowsBy : Question → List Fate → Type 0
-ShowsBy q fates = Shows (design_view q.design.now) (remnant fates q.case.now) q.which
+ShowsBy q fates = Shows (design_view q.design.now) q.case.now (remnant fates q.case.now) q.which
 
 -- with less at this place it isn't shown
 pub record IsLeast (q : Question) (fates : List Fate) (i : ℕ) : Type 0 where
