@@ -1,12 +1,16 @@
 //! Cases that break a condition, made small.
+use Draft::{Apply, Entry};
 use Held::{Bit, Word};
 use bd_examples::build::{case, design, is_case};
 use bd_examples::cases::{GOING, ONE_PLACE, PENDING, RAISED, REPLAYED, SUNK};
 use bd_examples::designs::{
     DOUBLE_INCREMENT, NO_STEP_A_TURN, NO_STEP_ALLOWED, SINKING_BIT, STALE_OPERAND, SWAPPED_WRITES,
 };
-use bd_examples::draft::{CaseDraft, DesignDraft, Held, NO_CASE, TableDraft};
-use bd_model::{Case, Design, Judged, Scalar};
+use bd_examples::draft::{
+    CaseDraft, DesignDraft, Draft, Held, MachineDraft, NO_CASE, NO_MACHINE, PLAIN, SymbolDraft,
+    TableDraft,
+};
+use bd_model::{Case, Design, Judged, Scalar, Sort};
 use bd_shrink::shrink;
 use bd_sim::judge;
 use std::alloc::{AllocError, Global};
@@ -23,27 +27,20 @@ fn left_of(alloc: Global, design: &Design, case: &Case) -> Result<Option<Case>, 
     }
 }
 
-/// Of the increments only the first counts.
-static ONE_INCREMENT: CaseDraft = CaseDraft {
-    interp: &[TableDraft::Words(0, &[(&[1], 2)])],
+/// Both increments stay: the second is what differs.
+static TWO_INCREMENTS: CaseDraft = CaseDraft {
+    interp: &[TableDraft::Words(0, &[(&[1], 2), (&[2], 3)])],
     state: &[Word(1)],
     ..NO_CASE
 };
 
-/// The word that is written first may be 0. Were the second 0 too, no step would fit, and an address that is 0 is no
-/// longer the other's.
-static ONE_WORD_WRITTEN: CaseDraft = CaseDraft {
-    state: &[Held::Memory(0, &[]), Word(7), Word(7), Word(0), Word(2)],
-    ..NO_CASE
-};
-
-/// What is pending, where it is read, and the result that the right operand has. Where the result goes, the old
-/// content of the register and the next counter may be 0.
+/// What is pending, where it is read, the result that the right operand has, and the register that it goes to. The old
+/// content of the register is never read.
 static STALE_READ: CaseDraft = CaseDraft {
     interp: &[
-        TableDraft::Words(0, &[]),
+        TableDraft::Words(0, &[(&[1], 2)]),
         TableDraft::Words(0, &[(&[1], 7)]),
-        TableDraft::Words(0, &[]),
+        TableDraft::Words(0, &[(&[1], 8)]),
         TableDraft::Words(0, &[(&[1], 9)]),
         TableDraft::Words(0, &[(&[3, 4], 50), (&[9, 50], 60)]),
     ],
@@ -56,6 +53,31 @@ static STALE_READ: CaseDraft = CaseDraft {
         Word(4),
     ],
     inputs: &[Scalar::Bool(false)],
+    ..NO_CASE
+};
+
+const TWO_COUNTERS: MachineDraft = MachineDraft {
+    entries: &[("p", Sort::Word), ("q", Sort::Word)],
+    nexts: &[Entry(0), Entry(1)],
+    ..NO_MACHINE
+};
+
+/// Two counters that count, where both should stay.
+static BOTH_COUNT: DesignDraft = DesignDraft {
+    symbols: &[SymbolDraft::Function("inc", 1)],
+    pipe: MachineDraft {
+        nexts: &[Apply(0, &[Entry(0)]), Apply(0, &[Entry(1)])],
+        ..TWO_COUNTERS
+    },
+    spec: TWO_COUNTERS,
+    visible: &[0, 1],
+    ..PLAIN
+};
+
+/// Either counter alone breaks the condition, and both differ.
+static BOTH_COUNTED: CaseDraft = CaseDraft {
+    interp: &[TableDraft::Words(0, &[(&[1], 2), (&[3], 4)])],
+    state: &[Word(1), Word(3)],
     ..NO_CASE
 };
 
@@ -79,15 +101,11 @@ fn cases_are_made_small(rt: HostRuntime) -> Result<(), Fail> {
             "double_increment",
             &DOUBLE_INCREMENT,
             &REPLAYED,
-            &ONE_INCREMENT,
+            &TWO_INCREMENTS,
         ),
-        (
-            "swapped_writes",
-            &SWAPPED_WRITES,
-            &ONE_PLACE,
-            &ONE_WORD_WRITTEN,
-        ),
+        ("swapped_writes", &SWAPPED_WRITES, &ONE_PLACE, &ONE_PLACE),
         ("stale_operand", &STALE_OPERAND, &PENDING, &STALE_READ),
+        ("both_count", &BOTH_COUNT, &BOTH_COUNTED, &BOTH_COUNTED),
         ("sinking_bit", &SINKING_BIT, &RAISED, &RAISED),
         ("no_step_allowed", &NO_STEP_ALLOWED, &SUNK, &SUNK),
         ("forced_counts", &NO_STEP_A_TURN, &GOING, &GOING),

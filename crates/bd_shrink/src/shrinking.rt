@@ -23,9 +23,10 @@ use crate::whole::whole;
 use bd_model::{Case, Condition, Design};
 use std::alloc::{AllocError, Global};
 
-/// What is left of a case that breaks a condition. It breaks the same one, and what differs stays: after each number of
-/// steps the same entries and addresses differ, with the same values. Its rows are some of the old ones in their order,
-/// each value is the old one or 0 or false, and with any one row or value less not all of this is so.
+/// What is left of a case that breaks a condition. It breaks the same one, and where that is `commute`, what differs
+/// stays: after each number of steps the same entries and addresses differ, with the same values. Its rows are some of
+/// the old ones in their order, each value is the old one or 0 or false, and with any one row or value less not all of
+/// this is so.
 pub fn shrink(
     alloc: Global,
     design: &Design,
