@@ -3,6 +3,7 @@ pub mod Marked
 pub mod Reached
 pub mod Unread
 pub mod Changed
+pub mod Reset
 pub mod Findings
 pub mod PartLines
 pub mod UnreadLines

@@ -38,19 +38,28 @@ less_flushed_line own None = []
 less_flushed_line own (Some found) = finding_line (codes "one flush less   ") found
     (if same_verdict own found then codes ", the same verdict" else [])
 
-abbrev pub no_invariant_line : Option Finding → List ℕ
-no_invariant_line None = []
-no_invariant_line (Some found) = finding_line (codes "no invariant     ") found
-    (if is_right found then codes ", so the invariant can be left out" else [])
+-- the line of a question that was asked or not; where the answer is `right`, with what that means
+abbrev pub asked_line : (question : List ℕ) → Option Finding → (meaning : List ℕ) → List ℕ
+asked_line question None meaning = []
+asked_line question (Some found) meaning =
+    finding_line question found (if is_right found then meaning else [])
 
-abbrev pub without_steps_line : Finding → List ℕ
-without_steps_line found = finding_line (codes "(exact 0 true)   ") found
-    (if is_right found then codes ", so this pipeline may never fetch" else [])
+abbrev pub reset_line : Option Bool → List ℕ
+reset_line None = []
+reset_line (Some meets) =
+    codes "reset (all 0)    " ++ (if meets then codes "meets" else codes "doesn't meet")
+    ++ codes " the invariant, where functions give 0 and predicates false" ++ codes "\n"
 
 abbrev pub finding_lines : Findings → List ℕ
 finding_lines r =
     finding_line (codes "as it is         ") r.own [] ++ less_flushed_line r.own r.less_flushed
-    ++ no_invariant_line r.without_invariant ++ without_steps_line r.without_steps
+    ++ asked_line (codes "one flush more   ") r.more_flushed (codes ", so the flush is too short")
+    ++ asked_line (codes "one step more    ") r.more_steps (codes ", so the steps are too few")
+    ++ asked_line (codes "no invariant     ") r.without_invariant
+    (codes ", so the invariant can be left out")
+    ++ reset_line r.reset
+    ++ asked_line (codes "(exact 0 true)   ") r.without_steps
+    (codes ", so this pipeline may never fetch")
 
 -- all lines
 abbrev pub about_lines : DesignView → LetNames → Unread → Findings → List ℕ

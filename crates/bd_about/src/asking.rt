@@ -1,12 +1,13 @@
 //! What is found of a design, and of designs with one thing changed.
-ghost use Rattle.std.specs.Prelude.{◌≡◌, ◌<◌, ◌≤◌, false, Ok, IfOk, length, map};
+ghost use Rattle.std.specs.Prelude.{◌≡◌, IfOk, map};
 ghost use Rattle.bd_model.specs.DesignView.{design_view, local_view};
 ghost use Rattle.bd_model.specs.ExprView.{expr_view};
 ghost use Rattle.bd_model.specs.Lawful.{IsLawful};
-ghost use Rattle.bd_about.specs.Changed.{less_flushed, without_invariant, without_steps};
-ghost use Rattle.bd_about.specs.Findings.{AreFindings, IsFinding, finding_of};
-ghost use Rattle.bd_about.specs.inner.Asked.{IsLessFlushed, IsWithoutInvariant, IsWithoutSteps};
+ghost use Rattle.bd_about.specs.Changed.{without_steps};
+ghost use Rattle.bd_about.specs.Findings.{AreFindings, IsFinding, finding_of, is_wrong};
+ghost use Rattle.bd_about.specs.inner.Asked.{IsLessFlushed, IsMoreFlushed, IsMoreSteps, IsReset, IsWithoutInvariant, IsWithoutSteps, with_counts};
 
+use crate::reset::reset_meets;
 use bd_cdcl::Cdcl;
 use bd_model::{Condition, Design, Exact, Expr, Locals, Sequence};
 use bd_verify::{Mode, Verdict, verify};
@@ -32,17 +33,29 @@ pub struct Findings {
     pub own: Finding,
     /// With one flush cycle less, where it has any.
     pub less_flushed: Option<Finding>,
+    /// Where it is wrong, with one flush cycle more, if it may have that many.
+    pub more_flushed: Option<Finding>,
+    /// Where it is wrong, with one step more, if it may have that many.
+    pub more_steps: Option<Finding>,
     /// Without its invariant, where one is given.
     pub without_invariant: Option<Finding>,
-    /// Where each cycle has to stand for 0 steps.
-    pub without_steps: Finding,
+    /// Whether the state of all false and 0 meets the invariant, where one is given, if functions give 0.
+    pub reset: Option<bool>,
+    /// Where each cycle has to stand for 0 steps, unless it has as many exact items as a list can have.
+    pub without_steps: Option<Finding>,
 }
 
 /// How many clauses the solver may add for each question.
 const BUDGET: u32 = 200_000;
 
 /// The most items of a list.
-const MOST: usize = 2_097_152;
+const MOST_ITEMS: usize = 2_097_152;
+
+/// The most flush cycles of a design.
+const MOST_FLUSH: u32 = 64;
+
+/// The most steps of a design.
+const MOST_STEPS: u32 = 8;
 
 fn finding_of(verdict: &Verdict) -> Finding
     ensures { result ≡ finding_of verdict.now }
@@ -65,11 +78,22 @@ fn found(alloc: Global, design: &Design, given: bool) -> Result<Finding, AllocEr
     Ok(finding_of(&verdict))
 }
 
-/// The design with another number of flush cycles.
-fn with_flush(design: Design, flush: u32) -> Design
-    ensures { design_view result ≡ record (design_view design) { flush = flush } }
+/// Whether a case was found that breaks a condition.
+fn is_wrong(found: Finding) -> bool
+    ensures { result ≡ is_wrong found }
 {
-    Design { flush, ..design }
+    matches!(found, Finding::Wrong(_))
+}
+
+/// The design with so many flush cycles and steps.
+fn with_counts(design: Design, flush: u32, steps: u32) -> Design
+    ensures { design_view result ≡ with_counts (design_view design) flush steps }
+{
+    Design {
+        flush,
+        steps,
+        ..design
+    }
 }
 
 /// The design with another invariant, and its own.
@@ -106,20 +130,35 @@ fn with_invariant(design: Design, lets: Locals, inv: Expr) -> (Design, Locals, E
     (changed, inv_locals, own)
 }
 
-/// The design in which each cycle has to stand for 0 steps. A list that is full is want of memory.
+/// The design in which each cycle has to stand for 0 steps.
 fn without_steps(design: Design) -> Result<Design, AllocError>
-    ensures changed { IfOk result (λ d. design_view d ≡ without_steps (design_view design)) }
-    ensures room { IfOk result (λ d. length design.exact < 2097152) }
+    ensures { IfOk result (λ d. design_view d ≡ without_steps (design_view design)) }
 {
-    if design.exact.len() >= MOST {
-        return Err(AllocError);
-    }
     let mut design = design;
     design.exact.push(Exact {
         count: 0,
         when: Expr::Bool(true),
     })?;
     Ok(design)
+}
+
+/// What is found with so many flush cycles and steps, and the design again.
+fn on_counts(
+    alloc: Global,
+    design: Design,
+    flush: u32,
+    steps: u32,
+    given: bool,
+) -> Result<(Finding, Design), AllocError>
+    requires { IsLawful (with_counts (design_view design) flush steps) }
+    ensures found { IfOk result (λ r.
+        IsFinding (with_counts (design_view design) flush steps) given r.0) }
+    ensures again { IfOk result (λ r. design_view r.1 ≡ design_view design) }
+{
+    let (own_flush, own_steps) = (design.flush, design.steps);
+    let changed = with_counts(design, flush, steps);
+    let answer = found(alloc, &changed, given)?;
+    Ok((answer, with_counts(changed, own_flush, own_steps)))
 }
 
 /// What is found with one flush cycle less, and the design again.
@@ -132,13 +171,50 @@ fn on_less_flushed(
     ensures found { IfOk result (λ r. IsLessFlushed (design_view design) given r.0) }
     ensures again { IfOk result (λ r. design_view r.1 ≡ design_view design) }
 {
-    let flush = design.flush;
+    let (flush, steps) = (design.flush, design.steps);
     if flush == 0 {
         return Ok((None, design));
     }
-    let changed = with_flush(design, flush - 1);
-    let answer = found(alloc, &changed, given)?;
-    Ok((Some(answer), with_flush(changed, flush)))
+    let (answer, design) = on_counts(alloc, design, flush - 1, steps, given)?;
+    Ok((Some(answer), design))
+}
+
+/// What is found with one flush cycle more, where the design is wrong, and the design again.
+fn on_more_flushed(
+    alloc: Global,
+    design: Design,
+    own: Finding,
+    given: bool,
+) -> Result<(Option<Finding>, Design), AllocError>
+    requires { IsLawful (design_view design) }
+    ensures found { IfOk result (λ r. IsMoreFlushed (design_view design) given own r.0) }
+    ensures again { IfOk result (λ r. design_view r.1 ≡ design_view design) }
+{
+    let (flush, steps) = (design.flush, design.steps);
+    if !is_wrong(own) || flush >= MOST_FLUSH {
+        return Ok((None, design));
+    }
+    let (answer, design) = on_counts(alloc, design, flush + 1, steps, given)?;
+    Ok((Some(answer), design))
+}
+
+/// What is found with one step more, where the design is wrong, and the design again.
+fn on_more_steps(
+    alloc: Global,
+    design: Design,
+    own: Finding,
+    given: bool,
+) -> Result<(Option<Finding>, Design), AllocError>
+    requires { IsLawful (design_view design) }
+    ensures found { IfOk result (λ r. IsMoreSteps (design_view design) given own r.0) }
+    ensures again { IfOk result (λ r. design_view r.1 ≡ design_view design) }
+{
+    let (flush, steps) = (design.flush, design.steps);
+    if !is_wrong(own) || steps >= MOST_STEPS {
+        return Ok((None, design));
+    }
+    let (answer, design) = on_counts(alloc, design, flush, steps + 1, given)?;
+    Ok((Some(answer), design))
 }
 
 /// What is found without the invariant, and the design again.
@@ -160,13 +236,27 @@ fn on_no_invariant(
     Ok((Some(answer), design))
 }
 
+/// Whether the state of all false and 0 meets the invariant, where one is given.
+fn on_reset(alloc: Global, design: &Design, given: bool) -> Result<Option<bool>, AllocError>
+    ensures { IfOk result (IsReset (design_view design.now) given) }
+{
+    if given {
+        Ok(Some(reset_meets(alloc, design)?))
+    } else {
+        Ok(None)
+    }
+}
+
 /// What is found where each cycle has to stand for 0 steps.
-fn on_no_steps(alloc: Global, design: Design, given: bool) -> Result<Finding, AllocError>
+fn on_no_steps(alloc: Global, design: Design, given: bool) -> Result<Option<Finding>, AllocError>
     requires { IsLawful (design_view design) }
     ensures { IfOk result (IsWithoutSteps (design_view design) given) }
 {
+    if design.exact.len() >= MOST_ITEMS {
+        return Ok(None);
+    }
     let changed = without_steps(design)?;
-    found(alloc, &changed, given)
+    Ok(Some(found(alloc, &changed, given)?))
 }
 
 /// What is found of a lawful design, with an invariant or without one.
@@ -176,12 +266,18 @@ pub fn findings_of(alloc: Global, design: Design, given: bool) -> Result<Finding
 {
     let own = found(alloc, &design, given)?;
     let (less_flushed, design) = on_less_flushed(alloc, design, given)?;
+    let (more_flushed, design) = on_more_flushed(alloc, design, own, given)?;
+    let (more_steps, design) = on_more_steps(alloc, design, own, given)?;
     let (without_invariant, design) = on_no_invariant(alloc, design, given)?;
+    let reset = on_reset(alloc, &design, given)?;
     let without_steps = on_no_steps(alloc, design, given)?;
     Ok(Findings {
         own,
         less_flushed,
+        more_flushed,
+        more_steps,
         without_invariant,
+        reset,
         without_steps,
     })
 }

@@ -7,6 +7,7 @@ mod lines;
 mod marks;
 mod named;
 mod part_lines;
+mod reset;
 mod unread;
 mod unread_lines;
 

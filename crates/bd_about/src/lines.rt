@@ -1,6 +1,6 @@
 //! What is found, as lines that a designer reads.
 ghost use Rattle.std.specs.Prelude.{◌≡◌, ◌++◌, OnOk};
-ghost use Rattle.bd_about.specs.Lines.{finding_line, finding_lines, finding_words, is_right, less_flushed_line, no_invariant_line, same_verdict, without_steps_line};
+ghost use Rattle.bd_about.specs.Lines.{asked_line, finding_line, finding_lines, finding_words, is_right, less_flushed_line, reset_line, same_verdict};
 
 use crate::asking::{Finding, Findings};
 use crate::unread_lines::push_parts;
@@ -70,33 +70,32 @@ fn push_less_flushed(
     push_line(out, "one flush less   ", found, meaning)
 }
 
-fn push_no_invariant(
+/// Puts the line of a question that was asked or not; where the answer is `right`, with what that means.
+fn push_asked(
     out: &mut Vec<u8>,
-    without_invariant: Option<Finding>,
+    question: &str,
+    found: Option<Finding>,
+    meaning: &str,
 ) -> Result<(), AllocError>
     ensures { OnOk result (out.new.items
-        ≡ out.old.items ++ no_invariant_line without_invariant) }
+        ≡ out.old.items ++ asked_line question.now found meaning.now) }
 {
-    let Some(found) = without_invariant else {
+    let Some(found) = found else {
         return Ok(());
     };
-    let meaning = if is_right(found) {
-        ", so the invariant can be left out"
-    } else {
-        ""
-    };
-    push_line(out, "no invariant     ", found, meaning)
+    let meaning = if is_right(found) { meaning } else { "" };
+    push_line(out, question, found, meaning)
 }
 
-fn push_without_steps(out: &mut Vec<u8>, found: Finding) -> Result<(), AllocError>
-    ensures { OnOk result (out.new.items ≡ out.old.items ++ without_steps_line found) }
+fn push_reset(out: &mut Vec<u8>, reset: Option<bool>) -> Result<(), AllocError>
+    ensures { OnOk result (out.new.items ≡ out.old.items ++ reset_line reset) }
 {
-    let meaning = if is_right(found) {
-        ", so this pipeline may never fetch"
-    } else {
-        ""
+    let Some(meets) = reset else {
+        return Ok(());
     };
-    push_line(out, "(exact 0 true)   ", found, meaning)
+    let verb = if meets { "meets" } else { "doesn't meet" };
+    let what = b" the invariant, where functions give 0 and predicates false";
+    push_parts(out, "reset (all 0)    ", verb, what)
 }
 
 /// Puts the lines of what is found after a text.
@@ -105,6 +104,18 @@ pub fn push_findings(out: &mut Vec<u8>, findings: &Findings) -> Result<(), Alloc
 {
     push_line(out, "as it is         ", findings.own, "")?;
     push_less_flushed(out, findings.own, findings.less_flushed)?;
-    push_no_invariant(out, findings.without_invariant)?;
-    push_without_steps(out, findings.without_steps)
+    let meaning = ", so the flush is too short";
+    push_asked(out, "one flush more   ", findings.more_flushed, meaning)?;
+    let meaning = ", so the steps are too few";
+    push_asked(out, "one step more    ", findings.more_steps, meaning)?;
+    let meaning = ", so the invariant can be left out";
+    push_asked(
+        out,
+        "no invariant     ",
+        findings.without_invariant,
+        meaning,
+    )?;
+    push_reset(out, findings.reset)?;
+    let meaning = ", so this pipeline may never fetch";
+    push_asked(out, "(exact 0 true)   ", findings.without_steps, meaning)
 }

@@ -2,5 +2,5 @@ use Rattle.bd_model.specs.DesignView.{design_view}
 use Rattle.bd_about.proofs.Changed.{less_flushed_lawful}
 use Rattle.bd_about.proofs.asking.on_less_flushed.Goals as goal
 
-pub found-requires : goal.found-requires
-found-requires c = rw c.with_flush-changed.ensures (less_flushed_lawful (design_view c.args.design) c.requires)
+pub on_counts-requires : goal.on_counts-requires
+on_counts-requires c = less_flushed_lawful (design_view c.args.design) c.requires
