@@ -96,7 +96,7 @@ class About:
 
     `compared` are the visible latches and memories, `not_compared` the pipeline's others, and `unread` what nothing
     reads, as it is printed (`latch v2`). `findings` has a verdict in words for the design as it is, and for it with one
-    thing changed. `text` is all of it, which printing gives.
+    thing changed; with an invariant also whether reset meets it. `text` is all of it, which printing gives.
     """
 
     compared: Tuple[str, ...]

@@ -166,7 +166,8 @@ def about(pipe: Source, spec: Source, inv: Optional[Source] = None, *,
                  tuple(what for head, what in pairs if head == "read by nothing"), findings, text)
 
 
-FINDINGS = ("as it is", "one flush less", "no invariant", "(exact 0 true)")
+FINDINGS = ("as it is", "one flush less", "one flush more", "one step more", "no invariant", "reset (all 0)",
+            "(exact 0 true)")
 
 
 def _names(listed: str) -> Tuple[str, ...]:
