@@ -1,0 +1,24 @@
+//! Why a value of a case's run is what it is, line by line of the texts of its design.
+//!
+//! Each value comes from an item of a text: the next value of an entry, a let, the flush value of an input, or the
+//! invariant. From the value that is asked for these are told one by one, with the names that they rest on, down to the
+//! case; nothing is proved of them but that telling them is safe.
+#![tactic(auto)]
+
+mod asked;
+mod decided;
+mod flushed;
+mod listing;
+mod missing;
+mod order;
+mod part;
+mod parting;
+mod report;
+mod source;
+mod telling;
+mod view;
+mod why;
+mod words;
+
+pub use source::{Source, Sources, Why};
+pub use why::why_of;

@@ -1,0 +1,162 @@
+//! The items of a text: its lets, inputs and next values, each with its tree.
+
+use crate::source::Source;
+use bd_text::{TextFault, Tree, Trees, read_trees};
+use std::alloc::{AllocError, Global};
+
+/// An item: where its list begins, its name, and its expression.
+#[derive(Clone, Copy)]
+pub struct Item<'a> {
+    pub offset: usize,
+    pub name: &'a [u8],
+    pub expression: &'a Tree,
+}
+
+/// The trees of a text, and which parts of its list are lets, inputs and next values, each in the text's order.
+#[derive(Drop)]
+pub struct Listing<'a> {
+    pub source: Source<'a>,
+    trees: Trees,
+    lets: Vec<usize>,
+    inputs: Vec<usize>,
+    nexts: Vec<usize>,
+}
+
+/// The trees of a text, none where it has a fault.
+fn trees_of(alloc: Global, text: &[u8]) -> Result<Trees, AllocError> {
+    match read_trees(alloc, text) {
+        Ok(trees) => Ok(trees),
+        Err(TextFault::Bad { .. }) => Ok(Trees::from_vec(Vec::new(alloc))),
+        Err(TextFault::Memory) => Err(AllocError),
+    }
+}
+
+/// Where a tree begins.
+pub fn offset_of(tree: &Tree) -> usize {
+    match tree {
+        Tree::Atom { offset, .. } | Tree::List { offset, .. } => *offset,
+    }
+}
+
+/// The parts of a list.
+pub fn parts_of(tree: &Tree) -> Option<&[Tree]> {
+    match tree {
+        Tree::Atom { .. } => None,
+        Tree::List { parts, .. } => Some(parts.as_slice()),
+    }
+}
+
+/// The bytes of an atom.
+fn atom_of(tree: &Tree) -> Option<&[u8]> {
+    match tree {
+        Tree::Atom { text, .. } => Some(text.as_slice()),
+        Tree::List { .. } => None,
+    }
+}
+
+/// The atom at a place of a list.
+fn atom_at(tree: &Tree, place: usize) -> Option<&[u8]> {
+    atom_of(parts_of(tree)?.get(place)?)
+}
+
+/// Whether a tree is a list that begins with this atom.
+fn is_headed(tree: &Tree, head: &[u8]) -> bool {
+    match atom_at(tree, 0) {
+        Some(atom) => atom == head,
+        None => false,
+    }
+}
+
+/// The item that a list is, where its name comes second and its expression last.
+fn item_of(tree: &Tree) -> Option<Item<'_>> {
+    let name = atom_at(tree, 1)?;
+    let expression = parts_of(tree)?.last()?;
+    Some(Item {
+        offset: offset_of(tree),
+        name,
+        expression,
+    })
+}
+
+/// The parts of the list that a text is.
+fn list_of(trees: &Trees) -> &[Tree] {
+    match trees.get(0) {
+        Some(tree) => parts_of(tree).unwrap_or(&[]),
+        None => &[],
+    }
+}
+
+/// The places of the lists that begin with this atom.
+fn headed(alloc: Global, parts: &[Tree], head: &[u8]) -> Result<Vec<usize>, AllocError> {
+    let mut places = Vec::new(alloc);
+    for (place, part) in parts.iter().enumerate() {
+        if is_headed(part, head) {
+            places.push(place)?;
+        }
+    }
+    Ok(places)
+}
+
+impl<'a> Listing<'a> {
+    /// The items of a text.
+    pub fn new(alloc: Global, source: Source<'a>) -> Result<Listing<'a>, AllocError> {
+        let trees = trees_of(alloc, source.text)?;
+        let parts = list_of(&trees);
+        let lets = headed(alloc, parts, b"let")?;
+        let inputs = headed(alloc, parts, b"input")?;
+        let nexts = headed(alloc, parts, b"next")?;
+        Ok(Listing {
+            source,
+            trees,
+            lets,
+            inputs,
+            nexts,
+        })
+    }
+
+    fn item(&self, place: Option<&usize>) -> Option<Item<'_>> {
+        item_of(list_of(&self.trees).get(*place?)?)
+    }
+
+    /// The let of this number, from 0.
+    pub fn local(&self, number: u32) -> Option<Item<'_>> {
+        self.item(self.lets.get(number as usize))
+    }
+
+    /// The input of this number, from 0.
+    pub fn input(&self, number: u32) -> Option<Item<'_>> {
+        self.item(self.inputs.get(number as usize))
+    }
+
+    /// The next value of the entry of this name.
+    pub fn next_of(&self, name: &[u8]) -> Option<Item<'_>> {
+        for place in &self.nexts {
+            if let Some(item) = self.item(Some(place)) {
+                if item.name == name {
+                    return Some(item);
+                }
+            }
+        }
+        None
+    }
+
+    /// The number of flush cycles.
+    pub fn flush(&self) -> Option<Item<'_>> {
+        for part in list_of(&self.trees) {
+            if is_headed(part, b"flush") {
+                return item_of(part);
+            }
+        }
+        None
+    }
+
+    /// The last part, which is the expression of an invariant.
+    pub fn last(&self) -> Option<Item<'_>> {
+        let expression = list_of(&self.trees).last()?;
+        Some(Item {
+            offset: offset_of(expression),
+            name: b"invariant",
+            expression,
+        })
+    }
+}

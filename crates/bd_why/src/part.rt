@@ -1,0 +1,80 @@
+//! Parts of an expression in its text.
+
+use crate::listing::parts_of;
+use bd_text::Tree;
+
+/// The part at the end of a way down: a list's parts count from 0 after its head.
+pub fn part_at<'a>(tree: &'a Tree, path: &[u64]) -> Option<&'a Tree> {
+    let mut part = tree;
+    for number in path {
+        let place = usize::try_from(*number).ok()?.checked_add(1)?;
+        part = parts_of(part)?.get(place)?;
+    }
+    Some(part)
+}
+
+/// Where a tree of a text ends.
+pub fn end_of(text: &[u8], tree: &Tree) -> usize {
+    match tree {
+        Tree::Atom { offset, text } => offset.saturating_add(text.len()),
+        Tree::List { offset, .. } => list_end(text, *offset),
+    }
+}
+
+/// Where the list that begins at an offset ends.
+fn list_end(text: &[u8], offset: usize) -> usize {
+    let mut open = 0usize;
+    let mut in_comment = false;
+    for (at, byte) in text.iter().enumerate().skip(offset) {
+        if in_comment {
+            in_comment = *byte != b'\n';
+            continue;
+        }
+        match byte {
+            b';' => in_comment = true,
+            b'(' => open = open.saturating_add(1),
+            b')' => open = open.saturating_sub(1),
+            _ => {}
+        }
+        if open == 0 {
+            return at.saturating_add(1);
+        }
+    }
+    text.len()
+}
+
+/// A line of a text: its number, from 1, where it begins, and where it ends.
+#[derive(Clone, Copy)]
+pub struct Line {
+    pub number: u64,
+    pub start: usize,
+    pub end: usize,
+}
+
+impl Line {
+    /// The line in which an offset of a text stands.
+    pub fn at(text: &[u8], offset: usize) -> Line {
+        let mut line = Line {
+            number: 1,
+            start: 0,
+            end: text.len(),
+        };
+        for (at, byte) in text.iter().enumerate() {
+            if *byte != b'\n' {
+                continue;
+            }
+            if at >= offset {
+                line.end = at;
+                return line;
+            }
+            line.number = line.number.saturating_add(1);
+            line.start = at.saturating_add(1);
+        }
+        line
+    }
+
+    /// Its bytes.
+    pub fn bytes(self, text: &[u8]) -> &[u8] {
+        text.get(self.start..self.end).unwrap_or(&[])
+    }
+}

@@ -1,0 +1,25 @@
+//! What is asked with, and what is found.
+
+/// A text of a design, and the name under which its lines are told.
+#[derive(Clone, Copy, Debug)]
+pub struct Source<'a> {
+    pub name: &'a str,
+    pub text: &'a [u8],
+}
+
+/// The texts of a design.
+#[derive(Clone, Copy, Debug)]
+pub struct Sources<'a> {
+    pub pipe: Source<'a>,
+    pub spec: Source<'a>,
+    pub inv: Option<Source<'a>>,
+}
+
+/// What is found for what is asked.
+#[derive(Debug, Drop)]
+pub enum Why {
+    /// The lines that explain the value.
+    Explained(Vec<u8>),
+    /// No entry, address or column of this name is there; the text says which there are.
+    Unknown(Vec<u8>),
+}
