@@ -1,0 +1,284 @@
+"""Tests of the web page, in headless Chromium: its answers against the programs', and clicks through it.
+
+    tools/web.sh && cd tools && BURCH_DILL=PROGRAM BD_VIEW=VIEW python3 -m unittest test_web
+
+They are skipped where the page isn't built, or where Chromium and its driver (Debian's `chromium` and `chromium-driver`)
+or the programs are missing. WEB_DESIGNS says how many random designs are asked about, 500 where it isn't set.
+"""
+import json
+import os
+import random
+import re
+import shutil
+import socket
+import subprocess
+import tempfile
+import time
+import unittest
+import urllib.request
+from pathlib import Path
+from typing import Any, Dict, List, NamedTuple, Tuple
+
+import web_page
+
+PAGE = web_page.ROOT / "build" / "web" / "index.html"
+CHROMIUM, DRIVER = shutil.which("chromium"), shutil.which("chromedriver")
+PROGRAM, VIEW = (shutil.which(os.environ.get(variable, name)) for variable, name in
+                 (("BURCH_DILL", "burch_dill"), ("BD_VIEW", "bd_view")))
+RANDOM_DESIGNS = int(os.environ.get("WEB_DESIGNS", "500"))
+ELEMENT = "element-6066-11e4-a52e-4f735466cecf"
+MISSING = "the page isn't built, or Chromium or its driver is missing"
+
+# A run of the page's worker. A file that it saves comes back as a text.
+RUN = """
+const [words, files, done] = arguments;
+runner.run(words, files).then((came) => done({status: came.status, out: came.out, err: came.err,
+  files: Object.fromEntries(Object.entries(came.files).map(([name, bytes]) => [name, textOf(bytes)]))}),
+  (error) => done({status: -1, out: "", err: String(error), files: {}}));
+"""
+TEXT_OF = "window.textOf = (bytes) => new TextDecoder().decode(bytes);"
+
+
+class Ran(NamedTuple):
+    """How a run ended."""
+    status: int
+    out: str
+    err: str
+    files: Dict[str, str]
+
+
+class Browser:
+    """A session of Chromium, by the commands of its driver (the W3C's WebDriver)."""
+
+    def __init__(self) -> None:
+        with socket.socket() as free:
+            free.bind(("127.0.0.1", 0))
+            port = free.getsockname()[1]
+        self.driver = subprocess.Popen([str(DRIVER), f"--port={port}"], stdout=subprocess.DEVNULL,
+                                       stderr=subprocess.DEVNULL)
+        self.root = f"http://127.0.0.1:{port}"
+        options = {"binary": CHROMIUM, "args": ["--headless=new", "--no-sandbox", "--disable-gpu",
+                                                "--disable-dev-shm-usage", "--window-size=1400,1600"]}
+        wanted = {"capabilities": {"alwaysMatch": {"goog:chromeOptions": options,
+                                                   "timeouts": {"script": 600_000}}}}
+        self._wait_for_driver()
+        self.session = "/session/" + self.call("POST", "/session", wanted)["sessionId"]
+
+    def _wait_for_driver(self) -> None:
+        for _ in range(100):
+            try:
+                if self.call("GET", "/status")["ready"]:
+                    return
+            except OSError:
+                time.sleep(0.1)
+        raise OSError("the driver doesn't answer")
+
+    def call(self, method: str, path: str, body: Any = None) -> Any:
+        data = None if body is None else json.dumps(body).encode()
+        request = urllib.request.Request(self.root + path, data, {"Content-Type": "application/json"}, method=method)
+        with urllib.request.urlopen(request, timeout=700) as answer:
+            return json.load(answer)["value"]
+
+    def close(self) -> None:
+        self.call("DELETE", self.session)
+        self.driver.terminate()
+        self.driver.wait()
+
+    def go(self, url: str) -> None:
+        self.call("POST", f"{self.session}/url", {"url": "about:blank"})
+        self.call("POST", f"{self.session}/url", {"url": url})
+        self.script(TEXT_OF)
+
+    def script(self, text: str, *arguments: Any) -> Any:
+        return self.call("POST", f"{self.session}/execute/sync", {"script": text, "args": list(arguments)})
+
+    def later(self, text: str, *arguments: Any) -> Any:
+        return self.call("POST", f"{self.session}/execute/async", {"script": text, "args": list(arguments)})
+
+    def find(self, selector: str) -> str:
+        found = self.call("POST", f"{self.session}/element", {"using": "css selector", "value": selector})
+        return str(found[ELEMENT])
+
+    def click(self, selector: str) -> None:
+        self.call("POST", f"{self.session}/element/{self.find(selector)}/click", {})
+
+    def text(self, selector: str) -> str:
+        return str(self.script("return document.querySelector(arguments[0]).textContent", selector))
+
+    def type(self, selector: str, text: str) -> None:
+        element = self.find(selector)
+        self.call("POST", f"{self.session}/element/{element}/clear", {})
+        self.call("POST", f"{self.session}/element/{element}/value", {"text": text})
+
+    def choose(self, name: str) -> None:
+        self.script("const list = document.getElementById('design'); list.value = arguments[0];"
+                    "list.dispatchEvent(new Event('change'));", name)
+
+    def run(self, words: List[str], files: List[Tuple[str, str]]) -> Ran:
+        return Ran(**self.later(RUN, words, files))
+
+
+def natively(words: List[str], files: List[Tuple[str, str]], folder: Path) -> Ran:
+    """The same run of the program itself, in a folder that holds the files."""
+    for name, text in files:
+        (folder / name).write_text(text)
+    program = VIEW if words[0] == "bd_view" else PROGRAM
+    done = subprocess.run([words[0], *words[1:]], executable=program, cwd=folder, capture_output=True, check=False,
+                          stdin=subprocess.DEVNULL)
+    left = {path.name: path.read_text() for path in folder.iterdir()}
+    for path in folder.iterdir():
+        path.unlink()
+    return Ran(done.returncode, done.stdout.decode(), done.stderr.decode(), left)
+
+
+def texts_of(design: web_page.Design) -> List[Tuple[str, str]]:
+    paths = [("pipe", design.pipe), ("spec", design.spec), ("inv", design.inv)]
+    return [(name, (web_page.GALLERY / path).read_text()) for name, path in paths if path]
+
+
+def changed(source: random.Random, files: List[Tuple[str, str]]) -> List[Tuple[str, str]]:
+    """The files, in one of which some words are others of the same file."""
+    place = source.randrange(len(files))
+    name, text = files[place]
+    words = list(re.finditer(r"[^\s()]+", text))
+    for _ in range(source.randint(1, 2)):
+        old, new = source.choice(words), source.choice(words)
+        text = text[:old.start()] + new[0] + text[old.end():]
+        words = list(re.finditer(r"[^\s()]+", text))
+    return [*files[:place], (name, text), *files[place + 1:]]
+
+
+class Joined(unittest.TestCase):
+    """The page as it is joined."""
+
+    def test_parts(self) -> None:
+        page = web_page.page(b"module")
+        self.assertEqual(re.findall(r"/\*[A-Z]+\*/", page), [])
+        self.assertNotIn("http", re.sub(r"<!--.*?-->", "", page.split("<script")[0]))
+
+    def test_designs(self) -> None:
+        listed = web_page.gallery()["machines"]
+        assert isinstance(listed, list)
+        names = {design["name"] for machine in listed for design in machine["designs"]}
+        self.assertEqual(names, {design.pipe for design in web_page.designs()})
+
+
+@unittest.skipUnless(PAGE.exists() and CHROMIUM and DRIVER, MISSING)
+class InBrowser(unittest.TestCase):
+    browser: Browser
+
+    @classmethod
+    def setUpClass(cls) -> None:
+        cls.browser = Browser()
+        cls.browser.go(PAGE.as_uri())
+
+    @classmethod
+    def tearDownClass(cls) -> None:
+        cls.browser.close()
+
+
+@unittest.skipUnless(PROGRAM and VIEW, "no programs are named by BURCH_DILL and BD_VIEW")
+class Answers(InBrowser):
+    """The page's module answers as the programs do, byte for byte, and leaves the same files."""
+
+    def same(self, words: List[str], files: List[Tuple[str, str]]) -> Ran:
+        with tempfile.TemporaryDirectory() as folder:
+            wanted = natively(words, files, Path(folder))
+        came = self.browser.run(words, files)
+        self.assertEqual(came, wanted, (words, files))
+        return came
+
+    def words(self, *command: str, files: List[Tuple[str, str]]) -> List[str]:
+        return [*command, *(["inv"] if any(name == "inv" for name, _ in files) else [])]
+
+    def test_gallery(self) -> None:
+        for design in web_page.designs():
+            files = texts_of(design)
+            checked = self.same([*self.words("burch_dill", "check", "pipe", "spec", files=files), "--cnf", "cnf",
+                                 "--lrat", "lrat"], files)
+            self.same([*self.words("burch_dill", "check", "pipe", "spec", files=files), "--diverse"], files)
+            if checked.status == 1:
+                shown = self.words("bd_view", "show", "pipe", "spec", "case", files=files)
+                self.same([*shown, "--html", "diagram.html"], [*files, ("case", checked.out)])
+
+    def test_random_designs(self) -> None:
+        source = random.Random(1)
+        small = [design for design in web_page.designs() if not design.machine.startswith(("dlx", "everything"))]
+        for _ in range(RANDOM_DESIGNS):
+            files = changed(source, texts_of(source.choice(small)))
+            self.same([*self.words("burch_dill", "check", "pipe", "spec", files=files), "--budget", "1000"], files)
+
+    def test_words(self) -> None:
+        for words in (["burch_dill"], ["bd_view"], ["bd_view", "--help"], ["bd_view", "about", "pipe", "spec"],
+                      ["burch_dill", "gen", "3", "1"], ["burch_dill", "check", "nowhere", "spec"]):
+            self.same(words, texts_of(web_page.designs()[0]))
+
+    def test_words_that_are_not_text(self) -> None:
+        came = self.browser.later("const done = arguments[0];"
+                                  "runner.run([new Uint8Array([255])], []).then((came) => done(came.status));")
+        self.assertEqual(came, 257)
+
+
+class Clicks(InBrowser):
+    """What a visitor does."""
+
+    def wait(self, selector: str, wanted: str, seconds: float = 60) -> None:
+        end = time.monotonic() + seconds
+        while not re.match(wanted, self.browser.text(selector)):
+            self.assertLess(time.monotonic(), end, self.browser.text("body"))
+            time.sleep(0.1)
+
+    def setUp(self) -> None:
+        self.browser.go(PAGE.as_uri())
+
+    def test_right_design(self) -> None:
+        self.browser.choose("accumulator/accumulator.pipe")
+        self.browser.click("#check")
+        self.wait("#verdict", "correct$")
+
+    def test_wrong_design(self) -> None:
+        self.browser.choose("accumulator/store_computes.pipe")
+        self.browser.click("#check")
+        self.wait("#verdict", "wrong commute$")
+        self.assertIn("flushed", self.browser.text("#text"))
+        self.assertFalse(self.browser.script("return document.getElementById('diagram').hidden"))
+        self.browser.click("#why")
+        self.wait("#note", "$")
+        self.assertIn("broken commute", self.browser.text("#text"))
+
+    def test_about(self) -> None:
+        self.browser.choose("accumulator/accumulator.pipe")
+        self.browser.click("#about")
+        self.wait("#text", ".*\n")
+
+    def test_fault_at_its_place(self) -> None:
+        self.browser.type("#pipe textarea", "(pipeline\n (latch a bool)\n (next a b)\n (flush 0) (steps 1))")
+        self.browser.type("#spec textarea", "(specification (latch a bool) (next a a))")
+        self.browser.click("#check")
+        self.wait("#pipe .says", "3:10: E08 unknown name")
+        self.assertEqual(self.browser.text("#pipe .fault"), "3")
+        chosen = "const area = document.querySelector('#pipe textarea');" \
+                 "return area.value.slice(area.selectionStart, area.selectionEnd)"
+        self.assertEqual(self.browser.script(chosen), "b")
+
+    def test_link(self) -> None:
+        self.browser.type("#pipe textarea", "(pipeline) ; my own \u2192")
+        self.browser.click("#link")
+        self.wait("#note", "the link")
+        self.browser.go(self.browser.script("return location.href"))
+        time.sleep(0.5)
+        value = self.browser.script("return document.querySelector('#pipe textarea').value")
+        self.assertEqual(value, "(pipeline) ; my own \u2192")
+
+    def test_stop(self) -> None:
+        self.browser.choose("dlx/dlx.pipe")
+        self.browser.click("#check")
+        self.browser.click("#stop")
+        self.wait("#note", "stopped$")
+        self.browser.choose("accumulator/accumulator.pipe")
+        self.browser.click("#check")
+        self.wait("#verdict", "correct$")
+
+
+if __name__ == "__main__":
+    unittest.main()

@@ -1,0 +1,66 @@
+#!/usr/bin/env bash
+# Makes the web page: build/web/index.html, one file with the program, its companion and the gallery in it.
+#
+#     tools/web.sh [MODULE.bc]
+#
+# The kit builds crates/bd_web for x86-64, proved, and its LLVM module is compiled once more, for WebAssembly with 64-bit
+# memory, with the heap of web/heap.c; no proof covers that. With a module handed in, only that is compiled.
+set -euo pipefail
+
+top=$(cd "$(dirname "$0")/.." && pwd)
+kit=$(dirname "$(dirname "$(readlink -f "$(command -v rt)")")")
+clang=$kit/toolchain/bin/clang
+build=$top/build/web
+work=$(mktemp -d)
+trap 'rm -rf "$work"' EXIT
+mkdir -p "$build"
+
+# The module of bd_web. The toolchain's compiler gets it as a file and leaves nothing of it, so the kit is shadowed by one
+# whose compiler copies what it is given.
+module_of_crate() {
+    local shadow=$work/kit
+    mkdir -p "$shadow/bin" "$shadow/toolchain/bin"
+    ln -s "$kit"/* "$shadow" 2> /dev/null || true
+    ln -s "$kit"/toolchain/* "$shadow/toolchain" 2> /dev/null || true
+    ln -s "$kit"/bin/* "$shadow/bin"
+    ln -s "$kit"/toolchain/bin/* "$shadow/toolchain/bin"
+    rm "$shadow"/bin/rt "$shadow"/bin/rtlib.py "$shadow/toolchain/bin/clang"
+    cp "$kit"/bin/rt "$kit"/bin/rtlib.py "$shadow/bin"
+    cat > "$shadow/toolchain/bin/clang" << EOF
+#!/usr/bin/env bash
+for word in "\$@"; do case \$word in *.bc) cp "\$word" "$work/module.bc" ;; esac; done
+exec -a "\$0" "$clang" "\$@"
+EOF
+    chmod +x "$shadow/toolchain/bin/clang"
+    (cd "$top/crates/bd_web" && rm -f out/libbd_web.a && "$shadow/bin/rt" lib)
+}
+
+if [ $# -gt 0 ]; then cp "$1" "$work/module.bc"; else module_of_crate; fi
+
+wasm=(--no-default-config --target=wasm64-unknown-unknown -mcpu=lime1)
+
+# The module as a text for the other target: its layout of data, its triple and its processor in the place of x86-64's, no
+# probes of the stack, and the page's call exported.
+"$clang" --no-default-config --target=x86_64-unknown-linux-gnu -x ir "$work/module.bc" -S -emit-llvm \
+    -Xclang -disable-llvm-passes -o "$work/module.ll" 2> "$work/text.log" || { cat "$work/text.log"; exit 1; }
+echo 'int none(void) { return 0; }' > "$work/none.c"
+"$clang" "${wasm[@]}" -S -emit-llvm -O0 "$work/none.c" -o "$work/none.ll"
+layout=$(grep '^target datalayout' "$work/none.ll")
+triple=$(grep '^target triple' "$work/none.ll")
+sed -i -E "s|^target datalayout.*|$layout|; s|^target triple.*|$triple|
+    s/ \"probe-stack\"=\"[^\"]*\"//g; s/ \"stack-probe-size\"=\"[^\"]*\"//g
+    s/ \"target-cpu\"=\"[^\"]*\"/ \"target-cpu\"=\"lime1\"/g; s/ \"target-features\"=\"[^\"]*\"//g
+    s/^(define [^@]*@)(bd_web_run)(\(.*\)) (#[0-9]+) \{/\1\2\3 \4 \"wasm-export-name\"=\"\2\" {/" "$work/module.ll"
+if grep -o '@llvm\.x86[a-z0-9._]*' "$work/module.ll" | sort -u | grep .; then
+    echo "the module uses what only x86-64 has" >&2
+    exit 1
+fi
+
+"$clang" "${wasm[@]}" -mllvm -expand-div-rem-bits=64 -mllvm -trap-unreachable -ffunction-sections -fdata-sections -O3 \
+    -c -x ir "$work/module.ll" -o "$work/module.o" 2> "$work/object.log" || { cat "$work/object.log"; exit 1; }
+"$clang" "${wasm[@]}" -ffreestanding -nostdinc -O2 -c "$top/web/heap.c" -o "$work/heap.o"
+"$kit/toolchain/bin/llvm-ar" rcs "$work/bd_web.a" "$work/module.o" "$work/heap.o"
+"$kit/bin/rattle-link" --target wasm64-unknown-unknown --toolchain "$kit/toolchain" --stack 16777216 \
+    -o "$build/bd_web.wasm" "$work/bd_web.a"
+python3 "$top/tools/web_page.py" "$build/bd_web.wasm" "$build/index.html"
+ls -l "$build"
