@@ -11,11 +11,11 @@ from __future__ import annotations
 import sys
 from typing import Dict, List, NamedTuple, Optional, Sequence, Tuple
 
-# what a place or an option's value is, with the endings of its files; None: a number
+# what a place or an option's value is, with the endings of its files; None: no file
 ENDINGS: Dict[str, Optional[Tuple[str, ...]]] = {
     "PIPE": ("pipe",), "SPEC": ("spec",), "INV": ("inv",), "START": ("start",), "COMP": ("comp",), "CASE": ("case",),
     "TRAIL": ("trail",), "PROOF": ("lrat",), "FILE": (), "N": None, "C": None, "CYCLES": None, "DEPTH": None,
-    "DROP": None,
+    "DROP": None, "VALUE": None,
 }
 
 
@@ -51,9 +51,13 @@ PROGRAMS: Dict[str, Tuple[Command, ...]] = {
                 (("--agree", ""), BUDGET)),
     ),
     "bd_view": (
+        Command("check", "whether a pipeline is right, and where it isn't, what a case shows", ("PIPE", "SPEC"),
+                ("INV",), (("--diverse", ""), BUDGET)),
         Command("show", "both ways round a case's diagram", ("PIPE", "SPEC", "CASE"), ("INV",),
                 (("--whole", ""), ("--html", "FILE"))),
         Command("shrink", "a small case that breaks the same condition", ("PIPE", "SPEC", "CASE"), ("INV",)),
+        Command("why", "why a value of a case is what it is", ("PIPE", "SPEC", "CASE"), ("INV",),
+                (("--of", "VALUE"), ("--whole", ""))),
         Command("about", "what can be said of a design without a case", ("PIPE", "SPEC"), ("INV",)),
         Command("recheck", "whether a proof from elsewhere shows that a pipeline is right, by positive equality too",
                 ("PIPE", "SPEC", "PROOF"), ("INV",), (("--diverse", ""),)),

@@ -18,3 +18,4 @@ mod words;
 pub use page::page_of;
 pub use picture::{Picture, View, picture_of};
 pub use table::text_of;
+pub use words::sentence;

@@ -1,4 +1,6 @@
 //! A picture as a page that stands alone. Names have no byte that HTML would read otherwise.
+ghost use Rattle.std.specs.Prelude.{IfOk};
+ghost use Rattle.bd_picture.specs.Page.{IsPage};
 
 use crate::drawing::put_drawing;
 use crate::grid::{Cell, Grid, Look, Row, sign_of};
@@ -84,12 +86,9 @@ fn put_list(out: &mut Vec<u8>, list: &Items, legend: &str) -> Result<(), AllocEr
     out.extend_from_slice(b"</p>\n")
 }
 
-/// The page of a picture.
-pub fn page_of(alloc: Global, picture: &Picture) -> Result<Vec<u8>, AllocError> {
-    let mut out = Vec::from_slice(alloc, HEAD)?;
-    out.extend_from_slice(b"<title>")?;
-    out.extend_from_slice(picture.sentence.as_slice())?;
-    out.extend_from_slice(b"</title>\n<h1>")?;
+/// What a page shows under its head.
+fn body(alloc: Global, picture: &Picture) -> Result<Vec<u8>, AllocError> {
+    let mut out = Vec::from_slice(alloc, b"<h1>")?;
     out.extend_from_slice(picture.sentence.as_slice())?;
     out.extend_from_slice(b"</h1>\n")?;
     put_drawing(&mut out, picture)?;
@@ -101,6 +100,20 @@ pub fn page_of(alloc: Global, picture: &Picture) -> Result<Vec<u8>, AllocError> 
     Ok(out)
 }
 
+/// The page of a picture, whose title is its sentence.
+pub fn page_of(alloc: Global, picture: &Picture) -> Result<Vec<u8>, AllocError>
+    ensures { IfOk result (λ page. IsPage picture.now.sentence.items page.items) }
+{
+    let body = body(alloc, picture)?;
+    let mut page = Vec::from_slice(alloc, b"<!DOCTYPE html>\n")?;
+    page.extend_from_slice(HEAD)?;
+    page.extend_from_slice(b"<title>")?;
+    page.extend_from_slice(picture.sentence.as_slice())?;
+    page.extend_from_slice(b"</title>\n")?;
+    page.extend_from_slice(body.as_slice())?;
+    Ok(page)
+}
+
 const STATES: &str =
     "The states before the cycle and after it, and after each flush cycle (f1, f2, ..) \
 from there. * is visible to the specification, an empty cell is unchanged, and an input stands under \
@@ -110,7 +123,7 @@ const STEPS: &str =
     "Where the flushed pipeline stands after the cycle, and the specification after j \
 steps from where it stands before: = is the same, # differs.";
 
-const HEAD: &[u8] = b"<!DOCTYPE html>\n<html lang=\"en\">\n<meta charset=\"utf-8\">\n\
+const HEAD: &[u8] = b"<html lang=\"en\">\n<meta charset=\"utf-8\">\n\
 <meta name=\"viewport\" content=\"width=device-width\">\n<style>\n\
 body{font:16px/1.4 sans-serif;margin:1em auto;max-width:60em;padding:0 1em;color:#111;background:#fff}\n\
 h1{font-size:1.3em}\n\

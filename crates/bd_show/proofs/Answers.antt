@@ -6,16 +6,18 @@ use Rattle.std.specs.declared.alloc.Global.{Global}
 use Rattle.bd_files.specs.Devices.{Held}
 use Rattle.bd_app.specs.Files.{KeepsAllBut}
 use Rattle.bd_app.specs.Meaning.{FilesSeen}
+use Rattle.bd_app.specs.Words.{Name}
+use Rattle.bd_model.specs.declared.case.Judged.{Judged}
 use Rattle.bd_app.proofs.Results.{IfSome-weaker, rose_after}
 use Rattle.bd_app.proofs.Saves.{keeps_same}
-use Rattle.bd_show.specs.Files.{HoldTexts, Texts}
-use Rattle.bd_show.specs.Meaning.{Blames, Means, Question, Says, SaysHeld, Show, asked_names, asked_page, show, shrink, about, recheck}
+use Rattle.bd_show.specs.Files.{HoldTexts, Names, Texts}
+use Rattle.bd_show.specs.Meaning.{Blames, HoldsPage, MayHaveSaved, Means, Question, Saves, Says, SaysHeld, Show, asked_names, asked_page, show}
 use Rattle.bd_show.specs.declared.answer.Answer.{Answer}
 use Rattle.bd_show.specs.declared.answer.Ended.{Ended}
 use Rattle.bd_show.specs.declared.answer.Ended.TheVariants as ended
 use Rattle.bd_show.specs.declared.load.LoadFault.{LoadFault}
 use Rattle.bd_show.specs.declared.load.LoadFault.TheVariants.{Failed, TooLong, Memory}
-use Rattle.bd_show.specs.inner.Answered.{IsDoneOn, IsKept, IsSaved, IsUnloaded}
+use Rattle.bd_show.specs.inner.Answered.{HoldsDrawn, IsDoneOn, IsDrawn, IsKept, IsSaved, IsUnloaded}
 use Rattle.bd_show.specs.inner.Loaded.{IsFault, Leaves, bytes_of}
 
 -- bytes are given where a file is
@@ -34,7 +36,7 @@ loaded_stands l = record { blame = l.blame; held = l.held; never_falls = l.never
 
 -- where memory ran out after files were loaded
 pub no_memory : (q : Question) (a b : FilesSeen) (e : AllocError) → b.held ≡ a.held → a.faults ≤ b.faults → IsDoneOn q a b (Err e)
-no_memory q a b e held rises = record { means = refl; blames = tt; others = keeps_same a.held b.held (λ name. asked_page q ≡ Some name) held; never_falls = rises }
+no_memory q a b e held rises = record { means = refl; blames = tt; saves = inl held; others = keeps_same a.held b.held (λ name. asked_page q ≡ Some name) held; never_falls = rises }
 
 -- ---- what is said of texts that are held
 
@@ -43,134 +45,183 @@ held_says q held t e text texts says = IfSome-weaker _ _ held (λ h holds. recor
 
 pub said_means : (q : Question) (held : Option Held) (t : Texts) (e : Ended) (text : List ℕ) → IfSome held (λ h. HoldTexts h (asked_names q) t) → Says q t e text → Means q held e text
 said_means q held t (ended.Refused file offset code) text texts says = held_says q held t (ended.Refused file offset code) text texts says
-said_means (show q) held t (ended.Shown j) text texts says = held_says (show q) held t (ended.Shown j) text texts says
-said_means (shrink names) held t (ended.Shown j) text texts says = absurd says
-said_means (about names) held t (ended.Shown j) text texts says = absurd says
-said_means (recheck q) held t (ended.Shown j) text texts says = absurd says
-said_means (show q) held t (ended.Shrunk k) text texts says = absurd says
-said_means (shrink names) held t (ended.Shrunk k) text texts says = held_says (shrink names) held t (ended.Shrunk k) text texts says
-said_means (about names) held t (ended.Shrunk k) text texts says = absurd says
-said_means (recheck q) held t (ended.Shrunk k) text texts says = absurd says
-said_means (show q) held t (ended.Unbroken j) text texts says = absurd says
-said_means (shrink names) held t (ended.Unbroken j) text texts says = held_says (shrink names) held t (ended.Unbroken j) text texts says
-said_means (about names) held t (ended.Unbroken j) text texts says = absurd says
-said_means (recheck q) held t (ended.Unbroken j) text texts says = absurd says
-said_means (show q) held t (ended.Described found) text texts says = absurd says
-said_means (shrink names) held t (ended.Described found) text texts says = absurd says
-said_means (about names) held t (ended.Described found) text texts says = held_says (about names) held t (ended.Described found) text texts says
-said_means (recheck q) held t (ended.Described found) text texts says = absurd says
-said_means (show q) held t ended.Proved text texts says = absurd says
-said_means (shrink names) held t ended.Proved text texts says = absurd says
-said_means (about names) held t ended.Proved text texts says = absurd says
-said_means (recheck q) held t ended.Proved text texts says = held_says (recheck q) held t ended.Proved text texts says
-said_means (show q) held t (ended.BadProof line column why) text texts says = absurd says
-said_means (shrink names) held t (ended.BadProof line column why) text texts says = absurd says
-said_means (about names) held t (ended.BadProof line column why) text texts says = absurd says
-said_means (recheck q) held t (ended.BadProof line column why) text texts says = held_says (recheck q) held t (ended.BadProof line column why) text texts says
-said_means (show q) held t ended.Told text texts says = absurd says
-said_means (shrink names) held t ended.Told text texts says = absurd says
-said_means (about names) held t ended.Told text texts says = absurd says
-said_means (recheck q) held t ended.Told text texts says = absurd says
-said_means (show q) held t ended.Usage text texts says = absurd says
-said_means (shrink names) held t ended.Usage text texts says = absurd says
-said_means (about names) held t ended.Usage text texts says = absurd says
-said_means (recheck q) held t ended.Usage text texts says = absurd says
-said_means (show q) held t (ended.TooLong file) text texts says = absurd says
-said_means (shrink names) held t (ended.TooLong file) text texts says = absurd says
-said_means (about names) held t (ended.TooLong file) text texts says = absurd says
-said_means (recheck q) held t (ended.TooLong file) text texts says = absurd says
-said_means (show q) held t (ended.Unread file) text texts says = absurd says
-said_means (shrink names) held t (ended.Unread file) text texts says = absurd says
-said_means (about names) held t (ended.Unread file) text texts says = absurd says
-said_means (recheck q) held t (ended.Unread file) text texts says = absurd says
-said_means (show q) held t ended.Unsaved text texts says = absurd says
-said_means (shrink names) held t ended.Unsaved text texts says = absurd says
-said_means (about names) held t ended.Unsaved text texts says = absurd says
-said_means (recheck q) held t ended.Unsaved text texts says = absurd says
-said_means (show q) held t ended.Unwritten text texts says = absurd says
-said_means (shrink names) held t ended.Unwritten text texts says = absurd says
-said_means (about names) held t ended.Unwritten text texts says = absurd says
-said_means (recheck q) held t ended.Unwritten text texts says = absurd says
-said_means (show q) held t ended.Memory text texts says = absurd says
-said_means (shrink names) held t ended.Memory text texts says = absurd says
-said_means (about names) held t ended.Memory text texts says = absurd says
-said_means (recheck q) held t ended.Memory text texts says = absurd says
+said_means q held t (ended.Checked found) text texts says = held_says q held t (ended.Checked found) text texts says
+said_means q held t (ended.Shown j) text texts says = held_says q held t (ended.Shown j) text texts says
+said_means q held t (ended.Shrunk k) text texts says = held_says q held t (ended.Shrunk k) text texts says
+said_means q held t (ended.Explained j) text texts says = held_says q held t (ended.Explained j) text texts says
+said_means q held t ended.Unknown text texts says = held_says q held t ended.Unknown text texts says
+said_means q held t (ended.Unbroken j) text texts says = held_says q held t (ended.Unbroken j) text texts says
+said_means q held t (ended.Described found) text texts says = held_says q held t (ended.Described found) text texts says
+said_means q held t ended.Proved text texts says = held_says q held t ended.Proved text texts says
+said_means q held t (ended.BadProof line column why) text texts says = held_says q held t (ended.BadProof line column why) text texts says
+said_means q held t ended.Told text texts says = held_says q held t ended.Told text texts says
+said_means q held t ended.Usage text texts says = held_says q held t ended.Usage text texts says
+said_means q held t ended.Unwritten text texts says = held_says q held t ended.Unwritten text texts says
+said_means q held t (ended.TooLong file) text texts says = absurd says
+said_means q held t (ended.Unread file) text texts says = absurd says
+said_means q held t ended.Unsaved text texts says = absurd says
+said_means q held t ended.Memory text texts says = absurd says
 
 pub said_blames : (q : Question) (a b : FilesSeen) (t : Texts) (e : Ended) (text : List ℕ) → b.blame ≡ a.blame → Says q t e text → Blames q a b e
 said_blames q a b t (ended.Refused file offset code) text blame says = blame
+said_blames q a b t (ended.Checked found) text blame says = blame
 said_blames q a b t (ended.Shown j) text blame says = blame
 said_blames q a b t (ended.Shrunk k) text blame says = blame
+said_blames q a b t (ended.Explained j) text blame says = blame
+said_blames q a b t ended.Unknown text blame says = blame
 said_blames q a b t (ended.Unbroken j) text blame says = blame
 said_blames q a b t (ended.Described found) text blame says = blame
 said_blames q a b t ended.Proved text blame says = blame
 said_blames q a b t (ended.BadProof line column why) text blame says = blame
 said_blames q a b t ended.Told text blame says = blame
 said_blames q a b t ended.Usage text blame says = blame
-said_blames q a b t (ended.TooLong file) text blame says = blame
-said_blames (show q) a b t (ended.Unread file) text blame says = absurd says
-said_blames (shrink names) a b t (ended.Unread file) text blame says = absurd says
-said_blames (about names) a b t (ended.Unread file) text blame says = absurd says
-said_blames (recheck q) a b t (ended.Unread file) text blame says = absurd says
-said_blames (show q) a b t ended.Unsaved text blame says = absurd says
-said_blames (shrink names) a b t ended.Unsaved text blame says = absurd says
-said_blames (about names) a b t ended.Unsaved text blame says = absurd says
-said_blames (recheck q) a b t ended.Unsaved text blame says = absurd says
 said_blames q a b t ended.Unwritten text blame says = blame
+said_blames q a b t (ended.TooLong file) text blame says = blame
+said_blames q a b t (ended.Unread file) text blame says = absurd says
+said_blames q a b t ended.Unsaved text blame says = absurd says
 said_blames q a b t ended.Memory text blame says = tt
 
--- after a question on texts nothing else is done
-pub said_done : (q : Question) (a b : FilesSeen) (t : Texts) (r : Result Answer AllocError) → Stands a b → IfSome a.held (λ h. HoldTexts h (asked_names q) t) → IfOk r (λ x. Says q t x.ended x.text.items) → IsDoneOn q a b r
-said_done q a b t (Err e) s texts says = no_memory q a b e s.held s.never_falls
-said_done q a b t (Ok x) s texts says = record {
+-- where files stand, and no page is asked for, nothing is saved
+stands_saves : (q : Question) (a b : FilesSeen) (e : Ended) → asked_page q ≡ None → b.held ≡ a.held → Saves q a b e
+stands_saves q a b (ended.Refused file offset code) none held = held
+stands_saves q a b (ended.Checked found) none held = held
+stands_saves q a b (ended.Shown j) none held = λ name is. absurd (cc (none, is))
+stands_saves q a b (ended.Shrunk k) none held = held
+stands_saves q a b (ended.Explained j) none held = held
+stands_saves q a b ended.Unknown none held = held
+stands_saves q a b (ended.Unbroken j) none held = held
+stands_saves q a b (ended.Described found) none held = held
+stands_saves q a b ended.Proved none held = held
+stands_saves q a b (ended.BadProof line column why) none held = held
+stands_saves q a b ended.Told none held = held
+stands_saves q a b ended.Usage none held = held
+stands_saves q a b (ended.TooLong file) none held = held
+stands_saves q a b (ended.Unread file) none held = held
+stands_saves q a b ended.Unsaved none held = inl held
+stands_saves q a b ended.Unwritten none held = held
+stands_saves q a b ended.Memory none held = inl held
+
+-- after a question on texts without a page nothing else is done
+pub said_done : (q : Question) (a b : FilesSeen) (t : Texts) (r : Result Answer AllocError) → asked_page q ≡ None → Stands a b → IfSome a.held (λ h. HoldTexts h (asked_names q) t) → IfOk r (λ x. Says q t x.ended x.text.items) → IsDoneOn q a b r
+said_done q a b t (Err e) none s texts says = no_memory q a b e s.held s.never_falls
+said_done q a b t (Ok x) none s texts says = record {
   means = said_means q a.held t x.ended x.text.items texts says;
   blames = said_blames q a b t x.ended x.text.items s.blame says;
+  saves = stands_saves q a b x.ended none s.held;
   others = keeps_same a.held b.held (λ name. asked_page q ≡ Some name) s.held;
   never_falls = s.never_falls;
 }
 
 -- ---- files that gave no bytes
 
-unloaded_with : (q : Question) (a b : FilesSeen) (fault : LoadFault) (e : Ended) (text : List ℕ) → IsFault (asked_names q) a b fault → IsUnloaded (asked_names q) fault e text → Means q a.held e text × Blames q a b e
-unloaded_with q a b (Failed file) e text fault (is, line) =
-    (subst (λ x. Means q a.held x text) (sym is) line, subst (λ x. Blames q a b x) (sym is) fault)
-unloaded_with q a b (TooLong file) e text fault (is, line) =
-    (subst (λ x. Means q a.held x text) (sym is) (fault.0, line), subst (λ x. Blames q a b x) (sym is) fault.1)
-unloaded_with q a b Memory e text fault never = absurd never
+unloaded_with : (q : Question) (a b : FilesSeen) (fault : LoadFault) (e : Ended) (text : List ℕ) → b.held ≡ a.held → IsFault (asked_names q) a b fault → IsUnloaded (asked_names q) fault e text
+    → Means q a.held e text × Blames q a b e × Saves q a b e
+unloaded_with q a b (Failed file) e text held fault (is, line) =
+    (subst (λ x. Means q a.held x text) (sym is) line, subst (λ x. Blames q a b x) (sym is) fault, subst (λ x. Saves q a b x) (sym is) held)
+unloaded_with q a b (TooLong file) e text held fault (is, line) =
+    (subst (λ x. Means q a.held x text) (sym is) (fault.0, line), subst (λ x. Blames q a b x) (sym is) fault.1, subst (λ x. Saves q a b x) (sym is) held)
+unloaded_with q a b Memory e text held fault never = absurd never
 
 pub unloaded_done : (q : Question) (a b : FilesSeen) (fault : LoadFault) (r : Result Answer AllocError) → b.held ≡ a.held → a.faults ≤ b.faults → IsFault (asked_names q) a b fault
     → IfOk r (λ x. IsUnloaded (asked_names q) fault x.ended x.text.items) → IsDoneOn q a b r
 unloaded_done q a b fault (Err e) held rises is unloaded = no_memory q a b e held rises
 unloaded_done q a b fault (Ok x) held rises is unloaded =
-    let both = unloaded_with q a b fault x.ended x.text.items is unloaded in
-    record { means = both.0; blames = both.1; others = keeps_same a.held b.held (λ name. asked_page q ≡ Some name) held; never_falls = rises }
+    let all = unloaded_with q a b fault x.ended x.text.items held is unloaded in
+    record { means = all.0; blames = all.1; saves = all.2; others = keeps_same a.held b.held (λ name. asked_page q ≡ Some name) held; never_falls = rises }
 
 -- ---- the page
 
-saved_with : (q : Show) (a b c : FilesSeen) (t : Texts) (e : Ended) (text : List ℕ) (x : Answer) → Stands a b → b.faults ≤ c.faults → IfSome a.held (λ h. HoldTexts h q.names t) → Says (show q) t e text
-    → IsKept q.page e text b c x → Means (show q) a.held x.ended x.text.items × Blames (show q) a c x.ended
-saved_with q a b c t e text x s rises texts says kept = elim kept [
+-- where a page was drawn, there is an answer that shows a case; else the files stand
+may_have_saved : (q : Show) (a c : FilesSeen) (t : Texts) (e : Ended) (text : List ℕ) (page : Option (List ℕ)) → IfSome a.held (λ h. HoldTexts h q.names t) → Says (show q) t e text → IsDrawn t e page
+    → (page ≡ None → c.held ≡ a.held) → MayHaveSaved (show q) a c
+may_have_saved q a c t (ended.Refused file offset code) text page texts says drawn stands = inl (stands drawn)
+may_have_saved q a c t (ended.Checked found) text page texts says drawn stands = inl (stands drawn)
+may_have_saved q a c t (ended.Shown j) text page texts says drawn stands = inr (j, text, said_means (show q) a.held t (ended.Shown j) text texts says)
+may_have_saved q a c t (ended.Shrunk k) text page texts says drawn stands = inl (stands drawn)
+may_have_saved q a c t (ended.Explained j) text page texts says drawn stands = inl (stands drawn)
+may_have_saved q a c t ended.Unknown text page texts says drawn stands = inl (stands drawn)
+may_have_saved q a c t (ended.Unbroken j) text page texts says drawn stands = inl (stands drawn)
+may_have_saved q a c t (ended.Described found) text page texts says drawn stands = inl (stands drawn)
+may_have_saved q a c t ended.Proved text page texts says drawn stands = inl (stands drawn)
+may_have_saved q a c t (ended.BadProof line column why) text page texts says drawn stands = inl (stands drawn)
+may_have_saved q a c t ended.Told text page texts says drawn stands = inl (stands drawn)
+may_have_saved q a c t ended.Usage text page texts says drawn stands = inl (stands drawn)
+may_have_saved q a c t (ended.TooLong file) text page texts says drawn stands = inl (stands drawn)
+may_have_saved q a c t (ended.Unread file) text page texts says drawn stands = inl (stands drawn)
+may_have_saved q a c t ended.Unsaved text page texts says drawn stands = inl (stands drawn)
+may_have_saved q a c t ended.Unwritten text page texts says drawn stands = inl (stands drawn)
+may_have_saved q a c t ended.Memory text page texts says drawn stands = inl (stands drawn)
+
+-- a page that was drawn and saved is that of the design
+page_held : (names : Names) (a c : Option Held) (t : Texts) (j : Judged) (name : Name) (page : Option (List ℕ)) → IfSome a (λ h. HoldTexts h names t) → IsDrawn t (ended.Shown j) page
+    → HoldsDrawn c (Some name) page → HoldsPage names a c j name
+page_held names a c t j name None texts (d, is, drawn) held = absurd drawn
+page_held names a c t j name (Some bytes) texts (d, is, drawn) held = record {
+  design = d;
+  is_design = IfSome-weaker _ _ a (λ h holds. (t, holds, is)) texts;
+  bytes = bytes;
+  page = drawn;
+  held = held;
+}
+
+-- what is saved where the answer stands
+kept_saves : (q : Show) (a c : FilesSeen) (t : Texts) (e : Ended) (page : Option (List ℕ)) → IfSome a.held (λ h. HoldTexts h q.names t) → IsDrawn t e page
+    → (page ≡ None → c.held ≡ a.held) → HoldsDrawn c.held q.page page → Saves (show q) a c e
+kept_saves q a c t (ended.Refused file offset code) page texts drawn stands held = stands drawn
+kept_saves q a c t (ended.Checked found) page texts drawn stands held = stands drawn
+kept_saves q a c t (ended.Shown j) page texts drawn stands held = λ name is.
+    page_held q.names a.held c.held t j name page texts drawn (subst (λ n. HoldsDrawn c.held n page) is held)
+kept_saves q a c t (ended.Shrunk k) page texts drawn stands held = stands drawn
+kept_saves q a c t (ended.Explained j) page texts drawn stands held = stands drawn
+kept_saves q a c t ended.Unknown page texts drawn stands held = stands drawn
+kept_saves q a c t (ended.Unbroken j) page texts drawn stands held = stands drawn
+kept_saves q a c t (ended.Described found) page texts drawn stands held = stands drawn
+kept_saves q a c t ended.Proved page texts drawn stands held = stands drawn
+kept_saves q a c t (ended.BadProof line column why) page texts drawn stands held = stands drawn
+kept_saves q a c t ended.Told page texts drawn stands held = stands drawn
+kept_saves q a c t ended.Usage page texts drawn stands held = stands drawn
+kept_saves q a c t (ended.TooLong file) page texts drawn stands held = stands drawn
+kept_saves q a c t (ended.Unread file) page texts drawn stands held = stands drawn
+kept_saves q a c t ended.Unsaved page texts drawn stands held = inl (stands drawn)
+kept_saves q a c t ended.Unwritten page texts drawn stands held = stands drawn
+kept_saves q a c t ended.Memory page texts drawn stands held = inl (stands drawn)
+
+-- what files hold after a save is the same as before the loads where it is the same as after them
+drawn_stands : (a b c : FilesSeen) (page : Option (List ℕ)) → Stands a b → (page ≡ None → c.held ≡ b.held) → page ≡ None → c.held ≡ a.held
+drawn_stands a b c page s undrawn none = undrawn none ∙ s.held
+
+saved_with : (q : Show) (a b c : FilesSeen) (t : Texts) (e : Ended) (text : List ℕ) (page : Option (List ℕ)) (x : Answer) → Stands a b → b.faults ≤ c.faults → IfSome a.held (λ h. HoldTexts h q.names t)
+    → Says (show q) t e text → IsDrawn t e page → (page ≡ None → c.held ≡ b.held) → IsKept q.page page e text b c x
+    → Means (show q) a.held x.ended x.text.items × Blames (show q) a c x.ended × Saves (show q) a c x.ended
+saved_with q a b c t e text page x s rises texts says drawn undrawn kept = elim kept [
   | inl stays ↦
-      let still : Says (show q) t x.ended x.text.items = subst (λ y. Says (show q) t y x.text.items) (sym stays.0) (subst (λ y. Says (show q) t e y) (sym stays.1) says) in
-      (said_means (show q) a.held t x.ended x.text.items texts still, said_blames (show q) a c t x.ended x.text.items (stays.2 ∙ s.blame) still)
+      let still : Says (show q) t x.ended x.text.items = subst (λ y. Says (show q) t y x.text.items) (sym stays.0) (subst (λ y. Says (show q) t e y) (sym stays.1) says) in (
+        said_means (show q) a.held t x.ended x.text.items texts still,
+        said_blames (show q) a c t x.ended x.text.items (stays.2 ∙ s.blame) still,
+        subst (λ y. Saves (show q) a c y) (sym stays.0) (kept_saves q a c t e page texts drawn (drawn_stands a b c page s undrawn) stays.3),
+      )
   | inr fails ↦ (
     subst (λ y. Means (show q) a.held y x.text.items) (sym fails.0) fails.1,
     subst (λ y. Blames (show q) a c y) (sym fails.0) (rose_after a.faults b.faults c.faults s.never_falls rises fails.2, fails.3),
+    subst (λ y. Saves (show q) a c y) (sym fails.0) (may_have_saved q a c t e text page texts says drawn (drawn_stands a b c page s undrawn)),
   )
 ]
 
-pub saved_done : (q : Show) (a b c : FilesSeen) (t : Texts) (e : Ended) (text : List ℕ) (r : Result Answer AllocError) → Stands a b → IfSome a.held (λ h. HoldTexts h q.names t) → Says (show q) t e text
-    → IsSaved q.page e text b c r → IsDoneOn (show q) a c r
-saved_done q a b c t e text (Err x) s texts says saved = record {
+pub saved_done : (q : Show) (a b c : FilesSeen) (t : Texts) (e : Ended) (text : List ℕ) (page : Option (List ℕ)) (r : Result Answer AllocError) → Stands a b → IfSome a.held (λ h. HoldTexts h q.names t)
+    → Says (show q) t e text → IsDrawn t e page → IsSaved q.page page e text b c r → IsDoneOn (show q) a c r
+saved_done q a b c t e text page (Err x) s texts says drawn saved = record {
   means = refl;
   blames = tt;
+  saves = may_have_saved q a c t e text page texts says drawn (drawn_stands a b c page s saved.undrawn);
   others = subst (λ h. KeepsAllBut h c.held (λ name. q.page ≡ Some name)) s.held saved.others;
   never_falls = omega (arith, s.never_falls, saved.never_falls);
 }
-saved_done q a b c t e text (Ok x) s texts says saved =
-    let both = saved_with q a b c t e text x s saved.never_falls texts says saved.kept in
+saved_done q a b c t e text page (Ok x) s texts says drawn saved =
+    let all = saved_with q a b c t e text page x s saved.never_falls texts says drawn saved.undrawn saved.kept in
     record {
-      means = both.0;
-      blames = both.1;
+      means = all.0;
+      blames = all.1;
+      saves = all.2;
       others = subst (λ h. KeepsAllBut h c.held (λ name. q.page ≡ Some name)) s.held saved.others;
       never_falls = omega (arith, s.never_falls, saved.never_falls);
     }

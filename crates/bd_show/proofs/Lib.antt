@@ -2,3 +2,4 @@ pub mod Loads
 pub mod Refusals
 pub mod Answers
 pub mod Asked
+pub mod Found

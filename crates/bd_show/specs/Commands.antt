@@ -8,9 +8,15 @@ use Rattle.clap.specs.Simple.{App, Shape, new_rule, new_shape, subcommand_of}
 use Rattle.clap.specs.Walk.{Row, first_of}
 use Rattle.clap.specs.declared.error.kind.ErrorKind.TheVariants.{DisplayHelp, DisplayVersion}
 use Rattle.bd_app.specs.Commands.{if_faultless}
-use Rattle.bd_app.specs.Words.{flag, flag_at, machines_command, mode_at, option, required, ◌>>=◌}
+use Rattle.bd_app.specs.Words.{budget_option, flag, flag_at, machines_command, mode_at, number_of, option, required, ◌>>=◌}
 use Rattle.bd_show.specs.Files.{Names}
-use Rattle.bd_show.specs.Meaning.{Question, show, shrink, about, recheck}
+use Rattle.bd_show.specs.Meaning.{Question, check, show, shrink, explain, about, recheck}
+
+-- check PIPE SPEC [INV] [--diverse] [--budget N]
+abbrev pub check_command : Shape
+check_command =
+    machines_command (codes "check") (new_rule (codes "INV") ∷ flag (codes "diverse")
+    ∷ budget_option ∷ [])
 
 -- show PIPE SPEC CASE [INV] [--whole] [--html FILE]
 abbrev pub show_command : Shape
@@ -22,6 +28,12 @@ show_command =
 abbrev pub shrink_command : Shape
 shrink_command =
     machines_command (codes "shrink") (required (codes "CASE") ∷ new_rule (codes "INV") ∷ [])
+
+-- why PIPE SPEC CASE [INV] [--of VALUE] [--whole]
+abbrev pub why_command : Shape
+why_command =
+    machines_command (codes "why") (required (codes "CASE") ∷ new_rule (codes "INV")
+    ∷ option (codes "of") ∷ flag (codes "whole") ∷ [])
 
 -- about PIPE SPEC [INV]
 abbrev pub about_command : Shape
@@ -74,6 +86,15 @@ proof_names rows = do
     inv = first_of (codes "INV") rows;
   })
 
+unfoldable pub check_question : List Row → Option Question
+check_question rows = do
+  names ← design_names rows
+  Some (check (record {
+    names = names;
+    mode = mode_at (codes "diverse") rows;
+    budget = number_of (codes "budget") rows;
+  }))
+
 unfoldable pub show_question : List Row → Option Question
 show_question rows = do
   names ← case_names rows
@@ -88,6 +109,15 @@ shrink_question rows = do
   names ← case_names rows
   Some (shrink names)
 
+unfoldable pub why_question : List Row → Option Question
+why_question rows = do
+  names ← case_names rows
+  Some (explain (record {
+    names = names;
+    whole = flag_at (codes "whole") rows;
+    value = first_of (codes "of") rows;
+  }))
+
 unfoldable pub about_question : List Row → Option Question
 about_question rows = do
   names ← design_names rows
@@ -101,16 +131,18 @@ recheck_question rows = do
 unfoldable pub command_line : App
 command_line = record {
   top = record (new_shape (codes "bd_view")) { is_leaf = false; has_version = true };
-  subs = show_command ∷ shrink_command ∷ about_command ∷ recheck_command ∷ [];
+  subs = check_command ∷ show_command ∷ shrink_command ∷ why_command ∷ about_command ∷ recheck_command ∷ [];
 }
 
 -- what the command of this name asks
 unfoldable pub question_of : List ℕ → List Row → Option Question
 question_of name rows =
-    if bytes_eq name (codes "show") then show_question rows
+    if bytes_eq name (codes "check") then check_question rows
+    else (if bytes_eq name (codes "show") then show_question rows
     else (if bytes_eq name (codes "shrink") then shrink_question rows
+    else (if bytes_eq name (codes "why") then why_question rows
     else (if bytes_eq name (codes "about") then about_question rows
-    else (if bytes_eq name (codes "recheck") then recheck_question rows else None)))
+    else (if bytes_eq name (codes "recheck") then recheck_question rows else None)))))
 
 -- what the words ask for, where they are taken: clap finds no fault in them, and they name a command
 unfoldable pub taken : List (List ℕ) → Option Question

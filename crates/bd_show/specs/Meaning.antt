@@ -1,5 +1,5 @@
 -- What the answers to a question say of its texts, and what is left of the files.
-use Rattle.std.specs.Prelude.{◌≡◌, ◌≤◌, ◌++◌, ℕ, Bool, true, false, List, [], codes, Option, None, Some, IfSome, is_some, Ok}
+use Rattle.std.specs.Prelude.{◌≡◌, ◌⊎◌, ◌≤◌, ◌++◌, ℕ, Bool, true, false, List, [], ◌∷◌, codes, Option, None, Some, IfSome, is_some, Ok}
 use Rattle.bd_model.specs.DesignView.{DesignView}
 use Rattle.bd_cnf.specs.Problem.{Problem}
 use Rattle.bd_lrat.specs.Log.{IsRefutation}
@@ -13,55 +13,78 @@ use Rattle.bd_proof_text.specs.ProofText.{fault}
 use Rattle.bd_proof_text.specs.Tokens.{place}
 use Rattle.bd_proof_text.specs.declared.fault.Why.{Why}
 use Rattle.bd_verify.specs.declared.verdict.Mode.{Mode}
+use Rattle.bd_verify.specs.declared.verdict.Verdict.{Verdict}
+use Rattle.bd_verify.specs.declared.verdict.Verdict.TheVariants as verdict
 use Rattle.bd_verify.specs.declared.verdict.Work.{Work}
 use Rattle.bd_foreign.specs.Rechecked.{HasFaultIn, IsReadIn}
 use Rattle.bd_shrink.specs.Shrunk.{IsShrunk}
-use Rattle.bd_about.specs.Findings.{AreFindings}
+use Rattle.bd_about.specs.Findings.{AreFindings, finding_of}
 use Rattle.bd_about.specs.Lines.{about_lines}
 use Rattle.bd_about.specs.Unread.{IsUnread}
+use Rattle.bd_about.specs.declared.asking.Finding.{Finding}
 use Rattle.bd_about.specs.declared.asking.Findings.{Findings}
 use Rattle.bd_about.specs.declared.unread.Unread.{Unread as AllUnread}
 use Rattle.bd_about.specs.declared.unread_lines.LetNames.{LetNames}
 use Rattle.bd_case.specs.Text as case
-use Rattle.bd_files.specs.Devices.{Held, Rose}
+use Rattle.bd_files.specs.Devices.{Held, Holds as IsHeld, Rose}
+use Rattle.bd_picture.specs.Page.{IsPage}
 use Rattle.bd_picture.specs.Sentence.{sentence}
 use Rattle.bd_app.specs.Files.{IsFirstLong, KeepsAllBut}
 use Rattle.bd_app.specs.Meaning.{FilesSeen}
 use Rattle.bd_app.specs.ProofFaults.{cause_text}
+use Rattle.bd_app.specs.Verdicts.{IsVerdict, verdict_words}
 use Rattle.bd_app.specs.Words.{Name}
+use Rattle.bd_app.specs.declared.verdict.Asked.{Asked}
 use Rattle.bd_show.specs.Place.{fault_text, placed}
 use Rattle.bd_show.specs.Files.{AreCase, AreDesign, BlamesLoad, BlamesSave, HoldTexts, IsTextFault, Names, Texts, bytes_in, files_of, name_in, or_none}
 use Rattle.bd_show.specs.LetNames.{AreLetNames}
 use Rattle.bd_show.specs.declared.answer.Ended.{Ended}
-use Rattle.bd_show.specs.declared.answer.Ended.TheVariants.{Shown, Shrunk, Unbroken, Described, Proved, BadProof, Refused, TooLong, Unread, Unsaved, Memory}
+use Rattle.bd_show.specs.declared.answer.Ended.TheVariants.{Checked, Shown, Shrunk, Explained, Unknown, Unbroken, Described, Proved, BadProof, Refused, TooLong, Unread, Unsaved, Memory}
 
--- what is asked: what a case shows, all of it or what is left of it, maybe with a page; what is left of a case;
--- what can be said of a design without a case; or whether a text over the formula that is kept in a mode proves a
+-- what is asked: whether a design is right, in a mode and with a budget; what a case shows, all of it or what is left
+-- of it, maybe with a page; what is left of a case; why a value of a case, all of it or what is left of it, is what it
+-- is; what can be said of a design without a case; or whether a text over the formula that is kept in a mode proves a
 -- design right
+pub record Check : Type 0 where
+  pub names : Names
+  pub mode : Mode
+  pub budget : ℕ
+
 pub record Show : Type 0 where
   pub names : Names
   pub whole : Bool
   pub page : Option Name
+
+pub record Explain : Type 0 where
+  pub names : Names
+  pub whole : Bool
+  pub value : Option Name
 
 pub record Recheck : Type 0 where
   pub names : Names
   pub mode : Mode
 
 pub data Question : Type 0 where
+  check : Check → Question
   show : Show → Question
   shrink : Names → Question
+  explain : Explain → Question
   about : Names → Question
   recheck : Recheck → Question
 
 abbrev pub asked_names : Question → Names
+asked_names (check q) = q.names
 asked_names (show q) = q.names
 asked_names (shrink names) = names
+asked_names (explain q) = q.names
 asked_names (about names) = names
 asked_names (recheck q) = q.names
 
 abbrev pub asked_page : Question → Option Name
+asked_page (check q) = None
 asked_page (show q) = q.page
 asked_page (shrink names) = None
+asked_page (explain q) = None
 asked_page (about names) = None
 asked_page (recheck q) = None
 
@@ -84,6 +107,26 @@ pub record IsShown (whole : Bool) (d : DesignView) (c : Case) (judged : Judged) 
   pub rest : List ℕ
   pub begins : text ≡ sentence d judged ++ rest
 
+-- what is asked of the design
+abbrev pub asked_of : Check → Asked
+asked_of q = record { budget = q.budget; mode = q.mode; given = is_some q.names.inv }
+
+-- what is shown of the case of `wrong`, made small; nothing of another verdict
+abbrev pub IsShownOf : DesignView → Verdict → List ℕ → Type 0
+IsShownOf d (verdict.Wrong k c work) text = IsShown false d c (Broken k) text
+IsShownOf d v text = text ≡ []
+
+-- what was found is a verdict that may come and is true of the design, with its work; the text is its line, and what
+-- is shown of its case
+pub record IsChecked (asked : Asked) (d : DesignView) (found : Finding) (text : List ℕ) :
+    Type 0 where
+  pub verdict : Verdict
+  pub is_verdict : IsVerdict d asked verdict
+  pub finding : found ≡ finding_of verdict
+  pub shown : List ℕ
+  pub is_shown : IsShownOf d verdict shown
+  pub lines : text ≡ (verdict_words asked.budget verdict ++ 10 ∷ []) ++ shown
+
 -- the text is a small case that breaks the same condition
 pub record IsSmaller (d : DesignView) (c : Case) (k : Condition) (text : List ℕ) : Type 0 where
   pub is_judged : IsJudged d c (Broken k)
@@ -91,16 +134,22 @@ pub record IsSmaller (d : DesignView) (c : Case) (k : Condition) (text : List �
   pub shrunk : IsShrunk d c k left
   pub printed : text ≡ case.text_of d left
 
-abbrev pub unbroken_line : Judged → List ℕ
-unbroken_line Holds = codes "nothing to shrink: the case holds\n"
-unbroken_line Outside = codes "nothing to shrink: the case is outside the invariant\n"
-unbroken_line (Broken k) = []
+abbrev pub nothing_to_shrink : Judged → List ℕ
+nothing_to_shrink Holds = codes "nothing to shrink: the case holds\n"
+nothing_to_shrink Outside = codes "nothing to shrink: the case is outside the invariant\n"
+nothing_to_shrink (Broken k) = []
 
--- the case breaks nothing
-pub record IsUnbroken (d : DesignView) (c : Case) (judged : Judged) (text : List ℕ) : Type 0 where
+abbrev pub nothing_to_explain : Judged → List ℕ
+nothing_to_explain Holds = codes "nothing to explain: the case holds\n"
+nothing_to_explain Outside = codes "nothing to explain: the case is outside the invariant\n"
+nothing_to_explain (Broken k) = []
+
+-- the case breaks nothing, and the text is the line of its judgement
+pub record IsUnbroken (line_of : Judged → List ℕ) (d : DesignView) (c : Case) (judged : Judged)
+    (text : List ℕ) : Type 0 where
   pub is_judged : IsJudged d c judged
   pub unbroken : (k : Condition) → ¬ (judged ≡ Broken k)
-  pub line : text ≡ unbroken_line judged
+  pub line : text ≡ line_of judged
 
 -- what was found of the design, with an invariant exactly where a text is one, is true, and the text is the lines of
 -- what is compared, of sizes, of what nothing reads, where lets have the names that the texts give them, and of what
@@ -141,9 +190,16 @@ abbrev pub Says : Question → Texts → Ended → List ℕ → Type 0
 Says q texts (Refused file offset code) text =
     IsTextFault texts file offset code
     × (text ≡ fault_text (name_in (asked_names q) file) (bytes_in texts file) offset code)
+Says (check q) texts (Checked found) text =
+    OfDesign texts (λ d. IsChecked (asked_of q) d found text)
 Says (show q) texts (Shown j) text = OfCase texts (λ d c. IsShown q.whole d c j text)
 Says (shrink names) texts (Shrunk k) text = OfCase texts (λ d c. IsSmaller d c k text)
-Says (shrink names) texts (Unbroken j) text = OfCase texts (λ d c. IsUnbroken d c j text)
+Says (shrink names) texts (Unbroken j) text =
+    OfCase texts (λ d c. IsUnbroken nothing_to_shrink d c j text)
+Says (explain q) texts (Explained j) text = OfCase texts (λ d c. IsShown q.whole d c j text)
+Says (explain q) texts (Unbroken j) text =
+    (q.value ≡ None) × OfCase texts (λ d c. IsUnbroken nothing_to_explain d c j text)
+Says (explain q) texts Unknown text = (is_some q.value ≡ true) × OfCase texts (λ d c. Unit {0})
 Says (about names) texts (Described found) text =
     OfDesign texts (λ d. IsDescribed texts d found text)
 Says (recheck q) texts Proved text =
@@ -181,11 +237,38 @@ Blames q before after Unsaved =
 Blames q before after Memory = Unit {0}
 Blames q before after e = after.blame ≡ before.blame
 
+-- the page of what is shown of a case is held under this name: its title is the sentence of the case's judgement
+pub record HoldsPage (names : Names) (before after : Option Held) (j : Judged) (name : Name) :
+    Type 0 where
+  pub design : DesignView
+  pub is_design : IfSome before (λ h. (texts : Texts) × HoldTexts h names texts
+      × AreDesign texts (Ok design))
+  pub bytes : List ℕ
+  pub page : IsPage (sentence design j) bytes
+  pub held : IsHeld after name bytes
+
+-- the files stand as they were, or there was a page to be saved
+abbrev pub MayHaveSaved : Question → FilesSeen → FilesSeen → Type 0
+MayHaveSaved q before after =
+    (after.held ≡ before.held)
+    ⊎ ((j : Judged) × (text : List ℕ) × Means q before.held (Shown j) text)
+
+-- what is saved: the page of what is shown, where one is asked for; nothing before another answer, unless the save of
+-- such a page failed or wanted memory
+abbrev pub Saves : Question → FilesSeen → FilesSeen → Ended → Type 0
+Saves q before after (Shown j) =
+    (name : Name) → asked_page q ≡ Some name →
+    HoldsPage (asked_names q) before.held after.held j name
+Saves q before after Unsaved = MayHaveSaved q before after
+Saves q before after Memory = MayHaveSaved q before after
+Saves q before after e = after.held ≡ before.held
+
 -- the answer to a question, with its text
 pub record IsAnswered (q : Question) (before after : FilesSeen) (e : Ended) (text : List ℕ) :
     Type 0 where
   pub means : Means q before.held e text
   pub blames : Blames q before after e
+  pub saves : Saves q before after e
   -- nothing is saved under another name than the page's
   pub others : KeepsAllBut before.held after.held (λ name. asked_page q ≡ Some name)
   pub never_falls : before.faults ≤ after.faults

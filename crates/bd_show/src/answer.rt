@@ -2,7 +2,7 @@
 ghost use Rattle.std.specs.Prelude.{◌≡◌, ◌↔◌, IsTrue};
 ghost use Rattle.bd_show.specs.Answer.{HasReport, status_of};
 
-use bd_about::Findings;
+use bd_about::{Finding, Findings};
 use bd_foreign::Why;
 use bd_model::{Condition, Judged};
 use bd_text::Code;
@@ -11,11 +11,17 @@ use bd_typer::Text;
 /// The answer of a run.
 #[derive(Clone, Copy, Debug, PartialEq, Eq)]
 pub enum Ended {
+    /// The verdict on the design was printed, and where it is `wrong` what its case shows.
+    Checked(Finding),
     /// What the case shows was shown.
     Shown(Judged),
     /// A small case that breaks the same condition was printed.
     Shrunk(Condition),
-    /// The case breaks nothing, so nothing was made small.
+    /// Why a value of the case is what it is was explained.
+    Explained(Judged),
+    /// The case has no such value as was asked for.
+    Unknown,
+    /// The case breaks nothing, so nothing was made small or explained.
     Unbroken(Judged),
     /// What can be said of a design without a case was printed, and this was found.
     Described(Findings),
@@ -62,17 +68,23 @@ impl Ended {
         ensures { result ≡ status_of self }
     {
         match self {
-            Ended::Shown(Judged::Holds)
+            Ended::Checked(Finding::Right)
+            | Ended::Shown(Judged::Holds)
+            | Ended::Explained(Judged::Holds)
             | Ended::Shrunk(_)
             | Ended::Described(_)
             | Ended::Proved
             | Ended::Told => 0,
-            Ended::Shown(Judged::Broken(_)) => 1,
-            Ended::Usage => 2,
+            Ended::Checked(Finding::Wrong(_))
+            | Ended::Shown(Judged::Broken(_))
+            | Ended::Explained(Judged::Broken(_)) => 1,
+            Ended::Usage | Ended::Unknown => 2,
             Ended::Refused { .. } | Ended::BadProof { .. } | Ended::TooLong(_) => 3,
+            Ended::Checked(Finding::Undecided) => 4,
             Ended::Unread(_) | Ended::Unsaved | Ended::Unwritten => 5,
             Ended::Memory => 6,
-            Ended::Shown(Judged::Outside) => 8,
+            Ended::Checked(Finding::Void) => 7,
+            Ended::Shown(Judged::Outside) | Ended::Explained(Judged::Outside) => 8,
             Ended::Unbroken(_) => 9,
         }
     }
@@ -83,7 +95,13 @@ impl Ended {
     {
         matches!(
             self,
-            Ended::Shown(_) | Ended::Shrunk(_) | Ended::Described(_) | Ended::Proved | Ended::Told
+            Ended::Checked(_)
+                | Ended::Shown(_)
+                | Ended::Explained(_)
+                | Ended::Shrunk(_)
+                | Ended::Described(_)
+                | Ended::Proved
+                | Ended::Told
         )
     }
 }

@@ -6,13 +6,18 @@ ghost use Rattle.clap.specs.Words.{app_of, found_of, rows_of, shape_of};
 ghost use Rattle.clap.specs.declared.builder.command.Command.TheViews.{out-Command as fields_of};
 ghost use Rattle.bd_app.specs.Words.{texts_of};
 ghost use Rattle.bd_show.specs.Files.{names_of};
-ghost use Rattle.bd_show.specs.Commands.{about_command, about_question, case_names, command_line, design_names, proof_names, question_of, recheck_command, recheck_question, show_command, show_question, shrink_command, shrink_question, taken};
+ghost use Rattle.bd_show.specs.Commands.{about_command, about_question, case_names, check_command, check_question, command_line, design_names, proof_names, question_of, recheck_command, recheck_question, show_command, show_question, shrink_command, shrink_question, taken, why_command, why_question};
 ghost use Rattle.bd_show.specs.inner.Asked.{IsParsed, IsToldBy, IsWordsFault, asked};
 
+use crate::checking::CheckOptions;
 use crate::load::FileNames;
 use crate::rechecking::RecheckOptions;
 use crate::show::ShowOptions;
-use bd_app::words::{flag, flag_at, machines_command, mode_at, option, required, with, word_at};
+use crate::why::WhyOptions;
+use bd_app::words::{
+    budget, flag, flag_at, machines_command, mode_at, option, required, required_number, with,
+    word_at,
+};
 use clap::error::ErrorKind;
 use clap::{Arg, ArgMatches};
 use std::alloc::{AllocError, Global};
@@ -20,10 +25,14 @@ use std::alloc::{AllocError, Global};
 /// What the words ask for.
 #[derive(Clone, Copy, Debug)]
 pub enum Command<'a> {
+    /// Whether a pipeline is right, and else what a case shows.
+    Check(CheckOptions<'a>),
     /// What a case shows.
     Show(ShowOptions<'a>),
     /// What is left of a case.
     Shrink(FileNames<'a>),
+    /// Why a value of a case is what it is.
+    Why(WhyOptions<'a>),
     /// What can be said of a design without a case.
     About(FileNames<'a>),
     /// Whether a text proves that a design is right.
@@ -51,6 +60,17 @@ impl From<AllocError> for WordsFault {
     }
 }
 
+/// The words of `check`.
+fn check_command<'a>(alloc: Global) -> Result<clap::Command<'a>, AllocError>
+    ensures shape { IfOk result (λ c. shape_of c ≡ check_command) }
+    ensures local { IfOk result (λ c. (fields_of c).has_globals ≡ false) }
+{
+    let command = machines_command(alloc, "check")?;
+    let command = with(command, Arg::new(alloc, "INV"))?;
+    let command = with(command, flag(alloc, "diverse"))?;
+    with(command, budget(alloc))
+}
+
 /// The words of `show`.
 fn show_command<'a>(alloc: Global) -> Result<clap::Command<'a>, AllocError>
     ensures shape { IfOk result (λ c. shape_of c ≡ show_command) }
@@ -71,6 +91,18 @@ fn shrink_command<'a>(alloc: Global) -> Result<clap::Command<'a>, AllocError>
     let command = machines_command(alloc, "shrink")?;
     let command = with(command, required(alloc, "CASE"))?;
     with(command, Arg::new(alloc, "INV"))
+}
+
+/// The words of `why`.
+fn why_command<'a>(alloc: Global) -> Result<clap::Command<'a>, AllocError>
+    ensures shape { IfOk result (λ c. shape_of c ≡ why_command) }
+    ensures local { IfOk result (λ c. (fields_of c).has_globals ≡ false) }
+{
+    let command = machines_command(alloc, "why")?;
+    let command = with(command, required(alloc, "CASE"))?;
+    let command = with(command, Arg::new(alloc, "INV"))?;
+    let command = with(command, option(alloc, "of"))?;
+    with(command, flag(alloc, "whole"))
 }
 
 /// The words of `about`.
@@ -97,8 +129,12 @@ fn recheck_command<'a>(alloc: Global) -> Result<clap::Command<'a>, AllocError>
 fn command_line<'a>(alloc: Global) -> Result<clap::Command<'a>, AllocError>
     ensures { IfOk result (λ c. app_of c ≡ command_line) }
 {
+    let check = check_command(alloc)?.about(
+        "Says whether a pipeline is right, and where it isn't, what a case shows",
+    );
     let show = show_command(alloc)?.about("Shows what a case shows: both ways round its diagram");
     let shrink = shrink_command(alloc)?.about("Prints a small case that breaks the same condition");
+    let why = why_command(alloc)?.about("Explains why a value of a case is what it is");
     let about = about_command(alloc)?.about(
         "Says what nothing reads and what the verdict rests on",
     );
@@ -107,8 +143,10 @@ fn command_line<'a>(alloc: Global) -> Result<clap::Command<'a>, AllocError>
     );
     clap::Command::new(alloc, "bd_view")
         .version("1.0.0")
+        .subcommand(check)?
         .subcommand(show)?
         .subcommand(shrink)?
+        .subcommand(why)?
         .subcommand(about)?
         .subcommand(recheck)
 }
@@ -156,11 +194,17 @@ fn proof_names<'a>(matches: &ArgMatches<'a>) -> Option<FileNames<'a>>
 }
 
 /// What the command of this name with these arguments asks for.
-#[tactic(auto, unfolding(crate::specs::Commands::question_of, crate::specs::Commands::show_question, crate::specs::Commands::shrink_question, crate::specs::Commands::about_question, crate::specs::Commands::recheck_question))]
+#[tactic(auto, unfolding(crate::specs::Commands::question_of, crate::specs::Commands::check_question, crate::specs::Commands::show_question, crate::specs::Commands::shrink_question, crate::specs::Commands::why_question, crate::specs::Commands::about_question, crate::specs::Commands::recheck_question))]
 fn question<'a>(name: &str, matches: &ArgMatches<'a>) -> Option<Command<'a>>
     ensures { option_map asked result ≡ question_of name.now (rows_of (found_of matches.now)) }
 {
-    if name == "show" {
+    if name == "check" {
+        Some(Command::Check(CheckOptions {
+            names: design_names(matches)?,
+            mode: mode_at(matches, "diverse"),
+            budget: required_number(matches, "budget"),
+        }))
+    } else if name == "show" {
         Some(Command::Show(ShowOptions {
             names: case_names(matches)?,
             whole: flag_at(matches, "whole"),
@@ -168,6 +212,12 @@ fn question<'a>(name: &str, matches: &ArgMatches<'a>) -> Option<Command<'a>>
         }))
     } else if name == "shrink" {
         Some(Command::Shrink(case_names(matches)?))
+    } else if name == "why" {
+        Some(Command::Why(WhyOptions {
+            names: case_names(matches)?,
+            whole: flag_at(matches, "whole"),
+            value: word_at(matches, "of"),
+        }))
     } else if name == "about" {
         Some(Command::About(design_names(matches)?))
     } else if name == "recheck" {
@@ -219,5 +269,5 @@ pub fn command_of<'a>(alloc: Global, words: &'a [String]) -> Result<Command<'a>,
 }
 
 const NONE: &[u8] =
-    b"usage: bd_view show|shrink PIPE SPEC CASE [INV], about PIPE SPEC [INV], or recheck PIPE SPEC \
-PROOF [INV] [--diverse]; --help says more\n";
+    b"usage: bd_view check PIPE SPEC [INV] [--diverse], show|shrink|why PIPE SPEC CASE [INV], \
+about PIPE SPEC [INV], or recheck PIPE SPEC PROOF [INV] [--diverse]; --help says more\n";

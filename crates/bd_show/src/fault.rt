@@ -4,7 +4,7 @@ ghost use Rattle.bd_show.specs.Files.{bytes_in, name_in, names_of, or_none};
 ghost use Rattle.bd_show.specs.Meaning.{Question, Says, asked_names};
 ghost use Rattle.bd_show.specs.inner.Loaded.{bytes_of, texts_view};
 ghost use Rattle.bd_show.specs.inner.Read.{AreRefused};
-ghost use Rattle.bd_show.specs.inner.Answered.{IsUnloaded};
+ghost use Rattle.bd_show.specs.inner.Answered.{IsRefusal, IsUnloaded};
 
 use crate::answer::{Answer, Ended};
 use crate::load::{FileNames, LoadFault, Texts};
@@ -56,7 +56,8 @@ pub fn refused(
     fault: DesignFault,
 ) -> Result<Answer, AllocError>
     requires { AreRefused (texts_view texts.now) fault }
-    ensures { IfOk result (λ a. (q : Question) → asked_names q ≡ names_of names.entry →
+    ensures ended { IfOk result (λ a. IsRefusal a.ended) }
+    ensures says { IfOk result (λ a. (q : Question) → asked_names q ≡ names_of names.entry →
         Says q (texts_view texts.now) a.ended a.text.items) }
 {
     match fault {

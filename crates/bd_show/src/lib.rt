@@ -3,6 +3,7 @@
 
 mod about;
 mod answer;
+mod checking;
 mod command;
 mod fault;
 mod load;
@@ -14,6 +15,7 @@ mod read;
 mod rechecking;
 mod show;
 mod shrinking;
+mod why;
 
 pub use answer::Ended;
 pub use program::{put_text, run};

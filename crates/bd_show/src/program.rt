@@ -8,7 +8,7 @@ ghost use Rattle.bd_show.specs.inner.Answered.{ended_of, text_of};
 
 use crate::answer::{Answer, Ended};
 use crate::command::{Command, WordsFault, command_of};
-use crate::{about, rechecking, show, shrinking};
+use crate::{about, checking, rechecking, show, shrinking, why};
 use bd_files::{Files, Sink};
 use std::alloc::{AllocError, Global};
 
@@ -18,8 +18,10 @@ fn answer_of<F: Files>(alloc: Global, words: &[String], files: &mut F) -> Result
         (files_seen F.held F.faults F.blame F.calls files.new) (ended_of result) (text_of result) }
 {
     match command_of(alloc, words) {
+        Ok(Command::Check(options)) => checking::answer(alloc, files, options),
         Ok(Command::Show(options)) => show::answer(alloc, files, options),
         Ok(Command::Shrink(names)) => shrinking::answer(alloc, files, names),
+        Ok(Command::Why(options)) => why::answer(alloc, files, options),
         Ok(Command::About(names)) => about::answer(alloc, files, names),
         Ok(Command::Recheck(options)) => rechecking::answer(alloc, files, options),
         Err(WordsFault::Told(text)) => Ok(Answer {
@@ -65,8 +67,8 @@ fn put<O: Sink, E: Sink>(answer: Result<Answer, AllocError>, out: &mut O, err: &
 }
 
 /// All that the program does. `words` are the command line, the program's name first. The answer says how the program
-/// ends: with what a case shows, what is left of it, what a design is or that it is right by a proof, on `out`, or with a fault,
-/// whose line is put on `err`.
+/// ends: with a verdict, with what a case shows, what is left of it or why a value of it is what it is, with what a design
+/// is or that it is right by a proof, on `out`, or with a fault, whose line is put on `err`.
 pub fn run<F: Files, O: Sink, E: Sink>(
     alloc: Global,
     words: &[String],

@@ -1,16 +1,17 @@
 //! `show`: what a case shows, as tables, and as a page.
-ghost use Rattle.std.specs.Prelude.{◌≡◌, Ok, IfOk};
+ghost use Rattle.std.specs.Prelude.{◌≡◌, Ok, IfOk, MatchOption, None};
 ghost use Rattle.bd_model.specs.Conditions.{IsJudged};
 ghost use Rattle.bd_model.specs.DesignView.{design_view};
 ghost use Rattle.bd_model.specs.Fits.{Fits};
 ghost use Rattle.bd_model.specs.Lawful.{IsLawful};
 ghost use Rattle.bd_app.specs.Meaning.{files_seen};
 ghost use Rattle.bd_app.specs.Words.{given};
+ghost use Rattle.bd_picture.specs.Page.{IsPage};
 ghost use Rattle.bd_picture.specs.Sentence.{sentence};
 ghost use Rattle.bd_show.specs.Files.{AreDesign, names_of};
 ghost use Rattle.bd_show.specs.Meaning.{IsLeft, IsShown, Question, Says};
-ghost use Rattle.bd_show.specs.inner.Answered.{IsDoneOn, IsSaved, show_of};
-ghost use Rattle.bd_show.specs.inner.Loaded.{AreFew, texts_view};
+ghost use Rattle.bd_show.specs.inner.Answered.{IsDoneOn, IsDrawn, IsSaved, show_of};
+ghost use Rattle.bd_show.specs.inner.Loaded.{AreFew, bytes_of, texts_view};
 
 use crate::answer::{Answer, Ended};
 use crate::fault::{joined, refused, unloaded};
@@ -42,7 +43,7 @@ struct Seen {
 }
 
 /// What is shown of a case: all of it, or where it breaks a condition what is left of it.
-fn left(
+pub fn left(
     alloc: Global,
     design: &Design,
     case: &Case,
@@ -82,6 +83,26 @@ fn drawn(
     picture_of(alloc, &view)
 }
 
+/// The picture of a case that is judged so, or of what is left of it.
+pub fn pictured(
+    alloc: Global,
+    design: &Design,
+    case: &Case,
+    judged: Judged,
+    whole: bool,
+    names: &[Vec<u8>],
+) -> Result<Picture, AllocError>
+    requires fits { Fits (design_view design.now) case.now }
+    requires judged { IsJudged (design_view design.now) case.now judged }
+    ensures left { IfOk result (λ p. (s : Case) × IsLeft whole (design_view design.now) case.now judged s
+        × IsJudged (design_view design.now) s judged) }
+    ensures sentence { IfOk result (λ p.
+        p.sentence.items ≡ sentence (design_view design.now) judged) }
+{
+    let left = left(alloc, design, case, judged, whole)?;
+    drawn(alloc, design, &left, judged, names)
+}
+
 /// The answer on a case.
 fn on_case(
     alloc: Global,
@@ -92,11 +113,11 @@ fn on_case(
 ) -> Result<Seen, AllocError>
     requires { Fits (design_view design.now) case.now }
     ensures { IfOk result (λ r. (judged : Judged) × (r.answer.ended ≡ Ended.Shown judged)
-        × IsShown whole (design_view design.now) case.now judged r.answer.text.items) }
+        × IsShown whole (design_view design.now) case.now judged r.answer.text.items
+        × MatchOption (bytes_of r.page) ⊥ (IsPage (sentence (design_view design.now) judged))) }
 {
     let judged = judge(alloc, design, case)?;
-    let left = left(alloc, design, case, judged, whole)?;
-    let picture = drawn(alloc, design, &left, judged, names)?;
+    let picture = pictured(alloc, design, case, judged, whole, names)?;
     let answer = Answer {
         ended: Ended::Shown(judged),
         text: text_of(alloc, &picture)?,
@@ -109,7 +130,8 @@ fn on_case(
 
 /// The answer that texts are refused, without a page.
 fn unseen(answer: Result<Answer, AllocError>) -> Result<Seen, AllocError>
-    ensures { IfOk result (λ r. answer ≡ Ok r.answer) }
+    ensures answer { IfOk result (λ r. answer ≡ Ok r.answer) }
+    ensures page { IfOk result (λ r. r.page ≡ None) }
 {
     Ok(Seen {
         answer: answer?,
@@ -126,8 +148,10 @@ fn on_design(
 ) -> Result<Seen, AllocError>
     requires design { AreDesign (texts_view texts.now) (Ok (design_view design.now)) }
     requires lawful { IsLawful (design_view design.now) }
-    ensures { IfOk result (λ r. Says (Question.show (show_of options.entry)) (texts_view texts.now)
-        r.answer.ended r.answer.text.items) }
+    ensures says { IfOk result (λ r. Says (Question.show (show_of options.entry))
+        (texts_view texts.now) r.answer.ended r.answer.text.items) }
+    ensures drawn { IfOk result (λ r.
+        IsDrawn (texts_view texts.now) r.answer.ended (bytes_of r.page)) }
 {
     let names = machine_lets(alloc, texts.pipe.as_slice(), Kind::Pipeline)?;
     match case(alloc, design, texts) {
@@ -139,8 +163,10 @@ fn on_design(
 /// The answer on texts.
 fn on_texts(alloc: Global, options: ShowOptions<'_>, texts: &Texts) -> Result<Seen, AllocError>
     requires { AreFew (texts_view texts.now) }
-    ensures { IfOk result (λ r. Says (Question.show (show_of options.entry)) (texts_view texts.now)
-        r.answer.ended r.answer.text.items) }
+    ensures says { IfOk result (λ r. Says (Question.show (show_of options.entry))
+        (texts_view texts.now) r.answer.ended r.answer.text.items) }
+    ensures drawn { IfOk result (λ r.
+        IsDrawn (texts_view texts.now) r.answer.ended (bytes_of r.page)) }
 {
     match design(alloc, texts) {
         Ok(design) => on_design(alloc, options, texts, &design),
@@ -155,7 +181,8 @@ fn saved<F: Files>(
     page: Option<&str>,
     drawn: Seen,
 ) -> Result<Answer, AllocError>
-    ensures { IsSaved (given page.entry) drawn.answer.ended drawn.answer.text.items
+    ensures { IsSaved (given page.entry) (bytes_of drawn.page)
+        drawn.answer.ended drawn.answer.text.items
         (files_seen F.held F.faults F.blame F.calls files.old)
         (files_seen F.held F.faults F.blame F.calls files.new) result }
 {
@@ -163,7 +190,10 @@ fn saved<F: Files>(
         answer,
         page: bytes,
     } = drawn;
-    let (Some(name), Some(bytes)) = (page, bytes) else {
+    let Some(bytes) = bytes else {
+        return Ok(answer);
+    };
+    let Some(name) = page else {
         return Ok(answer);
     };
     match files.save(name, bytes.as_slice()) {

@@ -22,7 +22,7 @@ use bd_sim::judge;
 use std::alloc::{AllocError, Global};
 
 /// The answer that a case breaks nothing.
-fn unbroken(alloc: Global, judged: Judged, line: &str) -> Result<Answer, AllocError>
+pub fn unbroken(alloc: Global, judged: Judged, line: &str) -> Result<Answer, AllocError>
     ensures { IfOk result (λ a. (a.ended ≡ Ended.Unbroken judged) × (a.text.items ≡ line.now)) }
 {
     Ok(Answer {

@@ -1,28 +1,45 @@
 -- What the parts of a run say.
-use Rattle.std.specs.Prelude.{◌≡◌, ◌⊎◌, ◌≤◌, ◌++◌, ℕ, List, codes, Option, Some, Result, Ok, Err, IfOk}
+use Rattle.std.specs.Prelude.{◌≡◌, ◌⊎◌, ◌≤◌, ◌++◌, ℕ, List, codes, true, is_some, Option, Some, None, Result, Ok, Err, IfOk, MatchOption}
 use Rattle.std.specs.declared.alloc.AllocError.{AllocError}
+use Rattle.bd_text.specs.declared.code.Code.{Code}
+use Rattle.bd_typer.specs.declared.fault.Text.{Text}
 use Rattle.bd_model.specs.DesignView.{DesignView}
 use Rattle.bd_model.specs.declared.case.Case.{Case}
-use Rattle.bd_files.specs.Devices.{Rose}
+use Rattle.bd_files.specs.Devices.{Held, Holds, Rose}
 use Rattle.bd_app.specs.Files.{KeepsAllBut}
 use Rattle.bd_app.specs.Meaning.{FilesSeen}
 use Rattle.bd_app.specs.Words.{Name, given}
+use Rattle.bd_picture.specs.Page.{IsPage}
+use Rattle.bd_picture.specs.Sentence.{sentence}
 use Rattle.bd_show.specs.Files.{BlamesSave, Names, Texts, name_in, names_of, or_none}
-use Rattle.bd_show.specs.Meaning.{IsAnswered, IsBadProof, IsDescribed, IsProved, IsSmaller, IsUnbroken, Question, Recheck, Show}
+use Rattle.bd_show.specs.Meaning.{Check, Explain, IsAnswered, IsChecked, IsBadProof, IsDescribed, IsProved, IsShown, IsSmaller, IsUnbroken, OfDesign, Question, Recheck, Show, asked_of, nothing_to_explain, nothing_to_shrink}
 use Rattle.bd_show.specs.declared.answer.Answer.{Answer}
 use Rattle.bd_show.specs.declared.answer.Ended.{Ended}
 use Rattle.bd_show.specs.declared.answer.Ended.TheVariants as ended
+use Rattle.bd_show.specs.declared.checking.CheckOptions.{CheckOptions}
 use Rattle.bd_show.specs.declared.load.LoadFault.{LoadFault}
 use Rattle.bd_show.specs.declared.load.LoadFault.TheVariants.{Failed, TooLong, Memory}
 use Rattle.bd_show.specs.declared.rechecking.RecheckOptions.{RecheckOptions}
 use Rattle.bd_show.specs.declared.show.ShowOptions.{ShowOptions}
+use Rattle.bd_show.specs.declared.why.WhyOptions.{WhyOptions}
 
 -- the question of these options
+abbrev pub check_of : CheckOptions → Check
+check_of options =
+    record { names = names_of options.names; mode = options.mode; budget = options.budget }
+
 abbrev pub show_of : ShowOptions → Show
 show_of options = record {
   names = names_of options.names;
   whole = options.whole;
   page = given options.page;
+}
+
+abbrev pub why_of : WhyOptions → Explain
+why_of options = record {
+  names = names_of options.names;
+  whole = options.whole;
+  value = given options.value;
 }
 
 abbrev pub recheck_of : RecheckOptions → Recheck
@@ -41,6 +58,10 @@ text_of (Err e) = codes "out of memory\n"
 abbrev pub IsDoneOn : Question → FilesSeen → FilesSeen → Result Answer AllocError → Type 0
 IsDoneOn q before after r = IsAnswered q before after (ended_of r) (text_of r)
 
+-- the answer that texts are refused
+abbrev pub IsRefusal : Ended → Type 0
+IsRefusal e = (file : Text) × (offset : ℕ) × (code : Code) × (e ≡ ended.Refused file offset code)
+
 -- the answer that a file gave no bytes
 abbrev pub IsUnloaded : Names → LoadFault → Ended → List ℕ → Type 0
 IsUnloaded names (Failed file) e text =
@@ -49,11 +70,24 @@ IsUnloaded names (TooLong file) e text =
     (e ≡ ended.TooLong file) × (text ≡ name_in names file ++ codes ": E00 file too long\n")
 IsUnloaded names Memory e text = ⊥
 
+-- what `check` says of a design
+abbrev pub IsOfVerdict : Check → DesignView → Ended → List ℕ → Type 0
+IsOfVerdict q d (ended.Checked found) text = IsChecked (asked_of q) d found text
+IsOfVerdict q d e text = ⊥
+
 -- what `shrink` says of a case
 abbrev pub IsOfCase : DesignView → Case → Ended → List ℕ → Type 0
 IsOfCase d c (ended.Shrunk k) text = IsSmaller d c k text
-IsOfCase d c (ended.Unbroken j) text = IsUnbroken d c j text
+IsOfCase d c (ended.Unbroken j) text = IsUnbroken nothing_to_shrink d c j text
 IsOfCase d c e text = ⊥
+
+-- what `why` says of a case
+abbrev pub IsOfValue : Explain → DesignView → Case → Ended → List ℕ → Type 0
+IsOfValue q d c (ended.Explained j) text = IsShown q.whole d c j text
+IsOfValue q d c (ended.Unbroken j) text =
+    (q.value ≡ None) × IsUnbroken nothing_to_explain d c j text
+IsOfValue q d c ended.Unknown text = is_some q.value ≡ true
+IsOfValue q d c e text = ⊥
 
 -- what `about` says of a design that texts are
 abbrev pub IsOfDesign : Texts → DesignView → Ended → List ℕ → Type 0
@@ -67,16 +101,30 @@ IsOfProof q d bytes (ended.BadProof line column why) text =
     IsBadProof q.mode (or_none q.names.proof) d bytes line column why text
 IsOfProof q d bytes e text = ⊥
 
--- an answer after its page was saved, where one was asked for: it stands, or the save failed
-abbrev pub IsKept : Option Name → Ended → List ℕ → FilesSeen → FilesSeen → Answer → Type 0
-IsKept page e text a b answer =
-    ((answer.ended ≡ e) × (answer.text.items ≡ text) × (b.blame ≡ a.blame))
-    ⊎ ((answer.ended ≡ ended.Unsaved)
-    × (answer.text.items ≡ codes "cannot save " ++ or_none page ++ codes "\n")
-    × Rose a.faults b.faults × BlamesSave b.blame page)
+-- a page is drawn of what is shown of a case, with the sentence of its judgement as its title, and of nothing else
+abbrev pub IsDrawn : Texts → Ended → Option (List ℕ) → Type 0
+IsDrawn texts (ended.Shown j) page =
+    OfDesign texts (λ d. MatchOption page ⊥ (IsPage (sentence d j)))
+IsDrawn texts e page = page ≡ None
 
-pub record IsSaved (page : Option Name) (e : Ended) (text : List ℕ) (a b : FilesSeen)
-    (r : Result Answer AllocError) : Type 0 where
-  pub kept : IfOk r (IsKept page e text a b)
-  pub others : KeepsAllBut a.held b.held (λ name. page ≡ Some name)
+-- a page that was drawn is held under the name that is given for it
+abbrev pub HoldsDrawn : Option Held → Option Name → Option (List ℕ) → Type 0
+HoldsDrawn held (Some name) (Some bytes) = Holds held name bytes
+HoldsDrawn held _ _ = Unit {0}
+
+-- an answer after its page was saved, where one was asked for: it stands, or the save failed
+abbrev pub IsKept : Option Name → Option (List ℕ) → Ended → List ℕ → FilesSeen → FilesSeen → Answer
+    → Type 0
+IsKept name page e text a b answer =
+    ((answer.ended ≡ e) × (answer.text.items ≡ text) × (b.blame ≡ a.blame)
+    × HoldsDrawn b.held name page)
+    ⊎ ((answer.ended ≡ ended.Unsaved)
+    × (answer.text.items ≡ codes "cannot save " ++ or_none name ++ codes "\n")
+    × Rose a.faults b.faults × BlamesSave b.blame name)
+
+pub record IsSaved (name : Option Name) (page : Option (List ℕ)) (e : Ended) (text : List ℕ)
+    (a b : FilesSeen) (r : Result Answer AllocError) : Type 0 where
+  pub kept : IfOk r (IsKept name page e text a b)
+  pub undrawn : page ≡ None → b.held ≡ a.held
+  pub others : KeepsAllBut a.held b.held (λ n. name ≡ Some n)
   pub never_falls : a.faults ≤ b.faults

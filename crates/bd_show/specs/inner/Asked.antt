@@ -7,17 +7,19 @@ use Rattle.clap.specs.declared.error.kind.ErrorKind.TheVariants as kind
 use Rattle.clap.specs.declared.parser.matches.ArgMatches.{ArgMatches}
 use Rattle.bd_show.specs.Commands.{AskHelp, command_line, taken}
 use Rattle.bd_show.specs.Files.{names_of}
-use Rattle.bd_show.specs.Meaning.{Question, show, shrink, about, recheck}
-use Rattle.bd_show.specs.inner.Answered.{recheck_of, show_of}
+use Rattle.bd_show.specs.Meaning.{Question, check, show, shrink, explain, about, recheck}
+use Rattle.bd_show.specs.inner.Answered.{check_of, recheck_of, show_of, why_of}
 use Rattle.bd_show.specs.declared.command.Command.{Command}
-use Rattle.bd_show.specs.declared.command.Command.TheVariants.{Show, Shrink, About, Recheck}
+use Rattle.bd_show.specs.declared.command.Command.TheVariants.{Check, Show, Shrink, Why, About, Recheck}
 use Rattle.bd_show.specs.declared.command.WordsFault.{WordsFault}
 use Rattle.bd_show.specs.declared.command.WordsFault.TheVariants.{Told, Usage, Memory}
 
 -- the question that a command asks
 abbrev pub asked : Command → Question
+asked (Check options) = check (check_of options)
 asked (Show options) = show (show_of options)
 asked (Shrink names) = shrink (names_of names)
+asked (Why options) = explain (why_of options)
 asked (About names) = about (names_of names)
 asked (Recheck options) = recheck (recheck_of options)
 
