@@ -23,8 +23,8 @@ The commands of a document run one after the other in one new folder, in which t
 of the repository have their names. So paths are those from the top, and a command can save a file that a later one of
 the document reads, without a change to the repository.
 
-Where a tool of OTHERS isn't installed, or a program isn't given, the rest of the block isn't run, and the last line of
-the report says so.
+Where a tool of OTHERS isn't installed, which a script of ASKS wants too, or a program isn't given, the rest of the
+block isn't run, and the last line of the report says so.
 """
 from __future__ import annotations
 
@@ -41,6 +41,7 @@ from typing import Iterator, NamedTuple
 ROOT = Path(__file__).resolve().parent.parent
 DOCUMENTS = ("README.md", "docs/*.md", "docs/commands/*.md", "gallery/riddles/ANSWERS.md")
 OTHERS = ("cadical",)
+ASKS = {"tools/prove.py": "cadical"}
 PROGRAMS = ("burch_dill", "bd_view")
 PROMPT = "$ "
 CUT = "..."
@@ -147,9 +148,10 @@ def run(command: str, folder: Path, environment: dict[str, str]) -> list[str]:
 
 
 def is_missing(command: str, programs: dict[str, Path]) -> bool:
-    """Whether the command begins with another tool that isn't installed, or with a program that isn't given."""
+    """Whether the command is or asks another tool that isn't installed, or begins with a program that isn't given."""
     word = command.split()[0]
-    return (word in OTHERS and shutil.which(word) is None) or (word in PROGRAMS and word not in programs)
+    other = ASKS.get(word, word)
+    return (other in OTHERS and shutil.which(other) is None) or (word in PROGRAMS and word not in programs)
 
 
 def run_document(document: list[Block], programs: dict[str, Path]) -> list[Result]:
