@@ -5,12 +5,14 @@
 pub mod code;
 pub mod fault;
 pub mod laws;
+pub mod line;
 pub mod read;
 pub mod tree;
 pub mod write;
 
 pub use code::Code;
 pub use fault::TextFault;
+pub use line::Line;
 pub use read::read_trees;
 pub use tree::{Bytes, Tree, Trees};
 pub use write::write_tree;
