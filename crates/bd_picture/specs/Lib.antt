@@ -1,3 +1,4 @@
+pub mod Cells
 pub mod Page
 pub mod Seen
 pub mod Sentence

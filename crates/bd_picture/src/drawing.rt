@@ -2,16 +2,16 @@
 //!
 //! On the left stand the states before the cycle and after each flush cycle, one under another, and under them the
 //! specification after each number of steps. On the right stand those after the cycle. The last one is where the
-//! pipeline stands; a line leads to it from each number of steps, with `=` or `#`.
+//! pipeline stands; a line leads to it from each number of steps, with `=` or `#`, or with `not allowed`.
 
-use crate::grid::{Grid, Look, sign_of};
-use crate::picture::Picture;
+use crate::grid::{Cell, Grid, Head, Look, Row, content_text, is_shown, sign_of};
+use crate::picture::Tables;
 use crate::words::push_number;
-use std::alloc::AllocError;
+use std::alloc::{AllocError, Global};
 
 const BOX_WIDTH: u64 = 240;
 
-const BOX_HEIGHT: u64 = 68;
+const BOX_HEIGHT: u64 = 88;
 
 const GAP: u64 = 34;
 
@@ -20,7 +20,7 @@ const LEFT: u64 = 10;
 const RIGHT: u64 = 430;
 
 /// How many entries a box names.
-const NAMED: usize = 3;
+const NAMED: usize = 4;
 
 /// How many bytes a line of a box has.
 const SHORT: usize = 30;
@@ -78,80 +78,119 @@ fn put_line(
     out.extend_from_slice(b"/>\n")
 }
 
-/// Whether a box names a cell: what changed or differs, and in a first box what is there.
-fn is_named(look: Look, first: bool) -> bool {
-    match look {
-        Look::Plain => first,
-        Look::Changed | Look::Different => true,
-        Look::Same => false,
+/// What is named in a box: of the states what is shown there, and of the compared states what differs there.
+#[derive(Clone, Copy, Debug, PartialEq, Eq)]
+enum Named {
+    Shown,
+    Stands,
+    Reached,
+}
+
+impl Named {
+    /// Whether a cell is named.
+    fn has(self, row: &Row, cell: &Cell) -> bool {
+        match self {
+            Named::Shown => is_shown(cell),
+            Named::Stands => row.differs,
+            Named::Reached => cell.look == Look::Different,
+        }
     }
 }
 
-/// Puts the first of the entries that a column of a grid shows, and `..` where there are more.
-fn put_entries(
-    out: &mut Vec<u8>,
-    grid: &Grid,
-    column: usize,
-    first: bool,
+/// A box: its place, the column of a grid that it shows, and what is named of it.
+#[derive(Clone, Copy, Debug)]
+struct Spot {
     x: u64,
     y: u64,
-) -> Result<(), AllocError> {
-    let mut count = 0usize;
+    column: usize,
+    named: Named,
+}
+
+/// `NAME VALUE`.
+fn entry_text(alloc: Global, row: &Row, cell: &Cell) -> Result<Vec<u8>, AllocError> {
+    let mut text = row.name.clone()?;
+    text.push(b' ')?;
+    text.extend_from_slice(content_text(alloc, cell.content)?.as_slice())?;
+    Ok(text)
+}
+
+/// The entries that a box names, those that differ first.
+fn entries(alloc: Global, grid: &Grid, spot: Spot) -> Result<Vec<Vec<u8>>, AllocError> {
+    let mut first = Vec::new(alloc);
+    let mut rest = Vec::new(alloc);
     for row in grid.rows.as_slice() {
-        let Some(cell) = row.cells.get(column) else {
-            continue;
-        };
-        if cell.text.is_empty() || !is_named(cell.look, first) {
-            continue;
+        if let Some(cell) = row.cells.get(spot.column) {
+            if spot.named.has(row, cell) {
+                let text = entry_text(alloc, row, cell)?;
+                if row.differs {
+                    first.push(text)?;
+                } else {
+                    rest.push(text)?;
+                }
+            }
         }
-        if count < NAMED {
-            let down = (count as u64).saturating_mul(15);
-            let y = y.saturating_add(down);
-            let mut text = row.name.clone()?;
-            text.push(b' ')?;
-            text.extend_from_slice(cell.text.as_slice())?;
+    }
+    first.append(&mut rest)?;
+    Ok(first)
+}
+
+/// Puts the first of the entries that a box names, and how many more there are.
+fn put_entries(
+    alloc: Global,
+    out: &mut Vec<u8>,
+    grid: &Grid,
+    spot: Spot,
+) -> Result<(), AllocError> {
+    let entries = entries(alloc, grid, spot)?;
+    let x = spot.x.saturating_add(8);
+    for (number, text) in entries.iter().enumerate() {
+        let down = (number as u64).saturating_mul(15).saturating_add(35);
+        let y = spot.y.saturating_add(down);
+        if number < NAMED {
             put_label(out, "entry", x, y, text.as_slice())?;
         }
-        count = count.saturating_add(1);
     }
-    if count > NAMED {
-        put_label(out, "more", x.saturating_add(180), y, b"..")?;
+    let more = entries.len().saturating_sub(NAMED);
+    if more > 0 {
+        let mut text = Vec::from_slice(alloc, b".. ")?;
+        push_number(&mut text, more as u64)?;
+        text.extend_from_slice(b" more")?;
+        let right = spot.x.saturating_add(160);
+        put_label(
+            out,
+            "more",
+            right,
+            spot.y.saturating_add(17),
+            text.as_slice(),
+        )?;
     }
     Ok(())
 }
 
-/// Puts a box with the entries of a column.
-fn put_box(
-    out: &mut Vec<u8>,
-    grid: &Grid,
-    column: usize,
-    first: bool,
-    x: u64,
-    y: u64,
-) -> Result<(), AllocError> {
+/// Puts the frame of a box, with its heading.
+fn put_frame(out: &mut Vec<u8>, spot: Spot, head: &Head) -> Result<(), AllocError> {
     out.extend_from_slice(b"<rect")?;
-    attribute(out, "x", x)?;
-    attribute(out, "y", y)?;
+    attribute(out, "x", spot.x)?;
+    attribute(out, "y", spot.y)?;
     attribute(out, "width", BOX_WIDTH)?;
     attribute(out, "height", BOX_HEIGHT)?;
     out.extend_from_slice(b" rx=\"6\"/>\n")?;
-    if let Some(head) = grid.heads.get(column) {
-        put_label(
-            out,
-            "head",
-            x.saturating_add(8),
-            y.saturating_add(17),
-            head.as_slice(),
-        )?;
-    }
-    put_entries(
+    let x = spot.x.saturating_add(8);
+    put_label(
         out,
-        grid,
-        column,
-        first,
-        x.saturating_add(8),
-        y.saturating_add(33),
+        "head",
+        x,
+        spot.y.saturating_add(17),
+        head.text.as_slice(),
     )
+}
+
+/// Puts a box with the entries of a column.
+fn put_box(alloc: Global, out: &mut Vec<u8>, grid: &Grid, spot: Spot) -> Result<(), AllocError> {
+    if let Some(head) = grid.heads.get(spot.column) {
+        put_frame(out, spot, head)?;
+    }
+    put_entries(alloc, out, grid, spot)
 }
 
 /// Puts an arrow down into the box at `y`, with what it is.
@@ -172,22 +211,53 @@ fn put_down(out: &mut Vec<u8>, x: u64, y: u64, what: &str) -> Result<(), AllocEr
     )
 }
 
-/// Puts the boxes of the columns of one way, one under another.
-fn put_way(
-    out: &mut Vec<u8>,
-    grid: &Grid,
+/// The columns of one way, and where their boxes stand.
+#[derive(Clone, Copy, Debug)]
+struct Way {
     from: usize,
     to: usize,
     x: u64,
-) -> Result<(), AllocError> {
-    for column in from..to {
-        let y = top(column.saturating_sub(from));
-        if column != from {
-            put_down(out, x, y, "flush")?;
+}
+
+/// Puts the boxes of the columns of one way, one under another. Where the pipeline stands in the end what differs is
+/// named.
+fn put_way(alloc: Global, out: &mut Vec<u8>, tables: &Tables, way: Way) -> Result<(), AllocError> {
+    let states = &tables.states;
+    for column in way.from..way.to {
+        let y = top(column.saturating_sub(way.from));
+        let spot = Spot {
+            x: way.x,
+            y,
+            column,
+            named: Named::Shown,
+        };
+        if column != way.from {
+            put_down(out, way.x, y, "flush")?;
         }
-        put_box(out, grid, column, column == from, x, y)?;
+        match (&tables.steps, states.heads.get(column)) {
+            (Some(steps), Some(head)) if is_last(states, column) && differs(steps) => {
+                put_frame(out, spot, head)?;
+                let stands = Spot {
+                    column: 0,
+                    named: Named::Stands,
+                    ..spot
+                };
+                put_entries(alloc, out, steps, stands)?;
+            }
+            _ => put_box(alloc, out, states, spot)?,
+        }
     }
     Ok(())
+}
+
+/// Whether a column is the last of a grid.
+fn is_last(grid: &Grid, column: usize) -> bool {
+    grid.heads.len().checked_sub(1) == Some(column)
+}
+
+/// Whether some row differs.
+fn differs(grid: &Grid) -> bool {
+    grid.rows.iter().any(|row| row.differs)
 }
 
 /// Whether the rows of a column are all the same as where the pipeline stands.
@@ -198,34 +268,57 @@ fn is_same(grid: &Grid, column: usize) -> bool {
     })
 }
 
+/// How the line from a number of steps looks, and its label.
+fn relation(grid: &Grid, column: usize, allowed: bool) -> (&'static str, Look) {
+    if !allowed {
+        ("ruled-out", Look::Plain)
+    } else if is_same(grid, column) {
+        ("same", Look::Same)
+    } else {
+        ("different", Look::Different)
+    }
+}
+
+/// Puts the line from a number of steps to the box at `stands`, with its label.
+fn put_relation(
+    out: &mut Vec<u8>,
+    middle: u64,
+    stands: u64,
+    relation: (&str, Look),
+) -> Result<(), AllocError> {
+    let (class, look) = relation;
+    put_line(out, class, (LEFT + BOX_WIDTH, middle), (RIGHT, stands))?;
+    let y = middle.saturating_add(6);
+    match sign_of(look) {
+        Some(sign) => put_label(out, "sign", LEFT + BOX_WIDTH + 22, y, &[sign]),
+        None => put_label(out, "label", LEFT + BOX_WIDTH + 10, y, b"not allowed"),
+    }
+}
+
 /// Puts the specification after each number of steps under the way on the left, and a line from each to the box at
 /// `stands`.
-fn put_steps(out: &mut Vec<u8>, grid: &Grid, from: usize, stands: u64) -> Result<(), AllocError> {
-    for column in 1..grid.heads.len() {
+fn put_steps(
+    alloc: Global,
+    out: &mut Vec<u8>,
+    grid: &Grid,
+    from: usize,
+    stands: u64,
+) -> Result<(), AllocError> {
+    for (column, head) in grid.heads.iter().enumerate() {
+        if column == 0 {
+            continue;
+        }
         let y = top(from.saturating_add(column).saturating_sub(1));
         put_down(out, LEFT, y, if column == 1 { "look" } else { "step" })?;
-        put_box(out, grid, column, false, LEFT, y)?;
-        let look = if is_same(grid, column) {
-            Look::Same
-        } else {
-            Look::Different
+        let spot = Spot {
+            x: LEFT,
+            y,
+            column,
+            named: Named::Reached,
         };
-        let class = if look == Look::Same {
-            "same"
-        } else {
-            "different"
-        };
+        put_box(alloc, out, grid, spot)?;
         let middle = y.saturating_add(BOX_HEIGHT / 2);
-        put_line(out, class, (LEFT + BOX_WIDTH, middle), (RIGHT, stands))?;
-        if let Some(sign) = sign_of(look) {
-            put_label(
-                out,
-                "sign",
-                LEFT + BOX_WIDTH + 22,
-                middle.saturating_add(6),
-                &[sign],
-            )?;
-        }
+        put_relation(out, middle, stands, relation(grid, column, head.allowed))?;
     }
     Ok(())
 }
@@ -243,25 +336,43 @@ fn put_cycle(out: &mut Vec<u8>) -> Result<(), AllocError> {
     )
 }
 
-/// Puts the drawing.
-pub fn put_drawing(out: &mut Vec<u8>, picture: &Picture) -> Result<(), AllocError> {
-    let states = &picture.states;
-    let steps = &picture.steps;
+/// How many boxes stand one under another.
+fn height(tables: &Tables) -> usize {
+    let states = &tables.states;
     let right = states.heads.len().saturating_sub(states.bar);
-    let left = states
-        .bar
-        .saturating_add(steps.heads.len())
-        .saturating_sub(1);
-    let height = top(left.max(right));
+    let steps = match &tables.steps {
+        Some(steps) => steps.heads.len().saturating_sub(1),
+        None => 0,
+    };
+    right.max(states.bar.saturating_add(steps))
+}
+
+/// Puts the drawing.
+pub fn put_drawing(alloc: Global, out: &mut Vec<u8>, tables: &Tables) -> Result<(), AllocError> {
+    let states = &tables.states;
+    let all = states.heads.len();
+    let left = Way {
+        from: 0,
+        to: states.bar,
+        x: LEFT,
+    };
+    let right = Way {
+        from: states.bar,
+        to: all,
+        x: RIGHT,
+    };
     out.extend_from_slice(b"<svg role=\"img\" viewBox=\"0 0 680 ")?;
-    push_number(out, height)?;
+    push_number(out, top(height(tables)))?;
     out.extend_from_slice(b"\" xmlns=\"http://www.w3.org/2000/svg\">\n")?;
     out.extend_from_slice(ARROW)?;
     put_cycle(out)?;
-    put_way(out, states, 0, states.bar, LEFT)?;
-    put_way(out, states, states.bar, states.heads.len(), RIGHT)?;
-    let last = top(right.saturating_sub(1));
-    put_steps(out, steps, states.bar, last.saturating_add(BOX_HEIGHT / 2))?;
+    put_way(alloc, out, tables, left)?;
+    put_way(alloc, out, tables, right)?;
+    if let Some(steps) = &tables.steps {
+        let last = top(all.saturating_sub(states.bar).saturating_sub(1));
+        let stands = last.saturating_add(BOX_HEIGHT / 2);
+        put_steps(alloc, out, steps, states.bar, stands)?;
+    }
     out.extend_from_slice(b"</svg>\n")
 }
 

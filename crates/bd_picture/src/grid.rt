@@ -1,5 +1,30 @@
 //! Cells in rows under headings.
 
+use crate::words::push_scalar;
+use bd_model::Scalar;
+use bd_slice::{Column, Spot};
+use std::alloc::{AllocError, Global};
+
+/// What a line is of: a value of a state, or an input of the cycle that led to it.
+#[derive(Clone, Copy, Debug, PartialEq, Eq)]
+pub enum Place {
+    Value(Spot),
+    Input(u32),
+}
+
+/// What a cell shows.
+#[derive(Clone, Copy, Debug, PartialEq, Eq)]
+pub enum Content {
+    /// Nothing: there is no value.
+    Nothing,
+    /// Nothing: the value is still the one on the left.
+    Unchanged,
+    /// That the value doesn't matter.
+    Hidden,
+    /// The value.
+    Value(Scalar),
+}
+
 /// How a cell looks.
 #[derive(Clone, Copy, Debug, PartialEq, Eq)]
 pub enum Look {
@@ -13,10 +38,10 @@ pub enum Look {
     Different,
 }
 
-/// A text, and how it looks. No text stands where nothing changed.
-#[derive(Debug, Drop)]
+/// What a cell shows, and how it looks.
+#[derive(Clone, Copy, Debug, PartialEq, Eq)]
 pub struct Cell {
-    pub text: Vec<u8>,
+    pub content: Content,
     pub look: Look,
 }
 
@@ -24,16 +49,27 @@ pub struct Cell {
 #[derive(Debug, Drop)]
 pub struct Row {
     pub name: Vec<u8>,
+    pub place: Place,
     /// Whether the specification has it too.
     pub visible: bool,
+    /// Whether both sides of the diagram differ in it.
+    pub differs: bool,
     pub cells: Vec<Cell>,
+}
+
+/// A heading, the state that stands under it, and whether the cycle may stand for so many steps.
+#[derive(Debug, Drop)]
+pub struct Head {
+    pub text: Vec<u8>,
+    pub column: Column,
+    pub allowed: bool,
 }
 
 /// Rows under headings. A bar stands before the column of the number `bar`.
 #[derive(Debug, Drop)]
 pub struct Grid {
     pub title: &'static str,
-    pub heads: Vec<Vec<u8>>,
+    pub heads: Vec<Head>,
     pub bar: usize,
     pub rows: Vec<Row>,
 }
@@ -45,4 +81,20 @@ pub fn sign_of(look: Look) -> Option<u8> {
         Look::Same => Some(b'='),
         Look::Different => Some(b'#'),
     }
+}
+
+/// What a cell shows, as a text.
+pub fn content_text(alloc: Global, content: Content) -> Result<Vec<u8>, AllocError> {
+    let mut text = Vec::new(alloc);
+    match content {
+        Content::Nothing | Content::Unchanged => {}
+        Content::Hidden => text.push(b'.')?,
+        Content::Value(scalar) => push_scalar(&mut text, scalar)?,
+    }
+    Ok(text)
+}
+
+/// Whether a cell shows a value.
+pub fn is_shown(cell: &Cell) -> bool {
+    matches!(cell.content, Content::Value(_))
 }

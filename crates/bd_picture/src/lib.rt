@@ -1,13 +1,16 @@
 //! A case's commuting diagram for people: as a text of tables, and as a page that stands alone.
 //!
 //! Both print the same cells. A line is an entry, an address of a memory or an input, with its value in each of the
-//! states; what stays 0 is left out, and columns in which nothing changes are folded into the one before.
+//! states. Where a condition is broken only those values are shown that what is broken rests on, and `.` stands for
+//! each other one. Columns in which no value is new are folded into the one before.
 #![tactic(auto)]
 
+mod differing;
 mod drawing;
 mod grid;
 mod line;
 mod list;
+mod marks;
 mod page;
 mod picture;
 mod states;

@@ -1,141 +1,242 @@
-//! Lines: an entry, an address of a memory or an input, with its value in each state.
+//! Which lines a table has: entries, addresses of memories and inputs.
 //!
-//! A memory has a line for each address that a row of it has in some state, or at which the compared values differ, and
-//! one for the addresses that none has.
+//! Where all is shown a memory has a line for each address that some row of it has, in the order of addresses, and one
+//! for the addresses that none has. Else it has a line for each address at which some word is shown.
 
-use crate::words::{addressed, default_of, elsewhere, is_zero, word_at};
-use bd_model::{Scalar, Value};
-use indexmap::IndexSet;
+use crate::differing::{Spots, compared_addresses, free_address, note_rows};
+use crate::grid::Place;
+use crate::marks::Marks;
+use crate::picture::View;
+use crate::words::{addressed, elsewhere};
+use bd_model::{Design, Sort};
+use bd_slice::Spot;
 use std::alloc::{AllocError, Global};
+use std::collections::BTreeSet;
 
-/// A line. There is no value where an input has none.
+/// A line.
 #[derive(Debug, Drop)]
 pub struct Line {
     pub name: Vec<u8>,
+    pub place: Place,
+    /// Whether the specification has it too.
     pub visible: bool,
-    pub values: Vec<Option<Scalar>>,
+    /// Whether both sides of the diagram differ in it.
+    pub differs: bool,
 }
 
-/// An entry, and whether the specification has it too.
+/// An entry: its name, its number, and its number in the specification if it is visible.
 #[derive(Clone, Copy, Debug)]
-pub struct Entry<'a> {
-    pub name: &'a [u8],
-    pub visible: bool,
+struct Named<'a> {
+    name: &'a [u8],
+    number: u32,
+    seen: Option<u32>,
 }
 
-/// Whether a line is 0 or false in all states.
-fn stays_zero(line: &Line) -> bool {
-    line.values.iter().all(|value| match value {
-        Some(scalar) => is_zero(*scalar),
-        None => true,
+impl Named<'_> {
+    /// Whether both sides differ in it at an address.
+    fn differs(self, spots: &Spots, address: u64) -> bool {
+        match self.seen {
+            Some(number) => spots.contains(&(number, address)),
+            None => false,
+        }
+    }
+}
+
+/// The number that the entry of this number has in the specification.
+fn number_in_spec(design: &Design, number: u32) -> Option<u32> {
+    let mut place = 0u32;
+    for visible in design.visible.as_slice() {
+        if *visible == number {
+            return Some(place);
+        }
+        place = place.saturating_add(1);
+    }
+    None
+}
+
+/// The line of a latch.
+fn latch_line(alloc: Global, entry: Named<'_>, spots: &Spots) -> Result<Line, AllocError> {
+    Ok(Line {
+        name: Vec::from_slice(alloc, entry.name)?,
+        place: Place::Value(Spot::Latch(entry.number)),
+        visible: entry.seen.is_some(),
+        differs: entry.differs(spots, 0),
     })
 }
 
-/// Whether values aren't all the same at an address.
-fn differ_at(values: &[&Value], address: u64) -> bool {
-    match values.split_first() {
-        Some((first, rest)) => {
-            let stands = word_at(first, address);
-            rest.iter().any(|value| word_at(value, address) != stands)
-        }
-        None => false,
-    }
-}
-
-/// Whether scalars aren't all the same, or memories at the addresses that no row has.
-fn differ_elsewhere(values: &[&Value]) -> bool {
-    match values.split_first() {
-        Some((first, rest)) => {
-            let stands = default_of(first);
-            rest.iter().any(|value| default_of(value) != stands)
-        }
-        None => false,
-    }
-}
-
-/// The addresses that a row of these values has, each once, and those at which the compared values differ.
-fn addresses_of(
+/// Puts the lines of a memory at these addresses after the lines before.
+fn push_cells(
     alloc: Global,
-    values: &[&Value],
-    compared: &[&Value],
-) -> Result<IndexSet<u64>, AllocError> {
-    let mut addresses = IndexSet::new(alloc);
-    for value in values {
-        if let Value::Memory(memory) = value {
-            for slot in memory.rows.as_slice() {
-                addresses.insert(slot.address)?;
-            }
-        }
+    lines: &mut Vec<Line>,
+    entry: Named<'_>,
+    spots: &Spots,
+    addresses: &BTreeSet<u64>,
+) -> Result<(), AllocError> {
+    for address in addresses.iter() {
+        lines.push(Line {
+            name: addressed(alloc, entry.name, *address)?,
+            place: Place::Value(Spot::Cell(entry.number, *address)),
+            visible: entry.seen.is_some(),
+            differs: entry.differs(spots, *address),
+        })?;
     }
-    for value in compared {
-        if let Value::Memory(memory) = value {
-            for slot in memory.rows.as_slice() {
-                if differ_at(compared, slot.address) {
-                    addresses.insert(slot.address)?;
-                }
-            }
+    Ok(())
+}
+
+/// Puts the line of a memory at the addresses that no row has after the lines before.
+fn push_elsewhere(
+    alloc: Global,
+    lines: &mut Vec<Line>,
+    entry: Named<'_>,
+    spots: &Spots,
+    address: u64,
+) -> Result<(), AllocError> {
+    lines.push(Line {
+        name: elsewhere(alloc, entry.name)?,
+        place: Place::Value(Spot::Cell(entry.number, address)),
+        visible: entry.seen.is_some(),
+        differs: entry.differs(spots, address),
+    })?;
+    Ok(())
+}
+
+/// The addresses of an entry of the pipeline that a row has, in any state.
+fn row_addresses(
+    alloc: Global,
+    view: &View<'_>,
+    entry: Named<'_>,
+) -> Result<BTreeSet<u64>, AllocError> {
+    let mut addresses = match entry.seen {
+        Some(number) => compared_addresses(alloc, view, number)?,
+        None => BTreeSet::new(alloc),
+    };
+    let before = view.diagram.before.states.as_slice();
+    let after = view.diagram.after.states.as_slice();
+    for state in before.iter().chain(after) {
+        if let Some(value) = state.as_slice().get(entry.number as usize) {
+            note_rows(&mut addresses, value)?;
         }
     }
     Ok(addresses)
 }
 
-/// The line of these values at an address.
-fn line_at(
-    alloc: Global,
-    entry: Entry<'_>,
-    values: &[&Value],
-    address: u64,
-) -> Result<Line, AllocError> {
-    let mut words = Vec::new(alloc);
-    for value in values {
-        words.push(Some(word_at(value, address)))?;
-    }
-    Ok(Line {
-        name: addressed(alloc, entry.name, address)?,
-        visible: entry.visible,
-        values: words,
-    })
-}
-
-/// The line of scalars, or of memories at the addresses that no row has.
-fn default_line(alloc: Global, entry: Entry<'_>, values: &[&Value]) -> Result<Line, AllocError> {
-    let name = match values.first() {
-        Some(Value::Memory(_)) => elsewhere(alloc, entry.name)?,
-        _ => Vec::from_slice(alloc, entry.name)?,
-    };
-    let mut scalars = Vec::new(alloc);
-    for value in values {
-        scalars.push(Some(default_of(value)))?;
-    }
-    Ok(Line {
-        name,
-        visible: entry.visible,
-        values: scalars,
-    })
-}
-
-/// Puts the lines of an entry with these values after the lines before. One that stays 0 is left out, unless the
-/// compared values differ there.
-pub fn push_lines(
+/// Puts the lines of a memory of the pipeline after the lines before.
+fn push_memory(
     alloc: Global,
     lines: &mut Vec<Line>,
-    entry: Entry<'_>,
-    values: &[&Value],
-    compared: &[&Value],
+    view: &View<'_>,
+    marks: &Marks,
+    entry: Named<'_>,
+    spots: &Spots,
 ) -> Result<(), AllocError> {
-    let addresses = addresses_of(alloc, values, compared)?;
-    for address in addresses.iter() {
-        let line = line_at(alloc, entry, values, *address)?;
-        push_if(lines, line, differ_at(compared, *address))?;
+    match marks {
+        Marks::All => {
+            let addresses = row_addresses(alloc, view, entry)?;
+            push_cells(alloc, lines, entry, spots, &addresses)?;
+            let free = free_address(&addresses);
+            push_elsewhere(alloc, lines, entry, spots, free)
+        }
+        Marks::Of(slice) => match slice.addresses(entry.number) {
+            Some(addresses) => push_cells(alloc, lines, entry, spots, addresses),
+            None => Ok(()),
+        },
     }
-    let line = default_line(alloc, entry, values)?;
-    push_if(lines, line, differ_elsewhere(compared))
 }
 
-/// Puts a line after the others if it differs or doesn't stay 0.
-fn push_if(lines: &mut Vec<Line>, line: Line, differs: bool) -> Result<(), AllocError> {
-    if differs || !stays_zero(&line) {
-        lines.push(line)?;
+/// The lines of the pipeline's entries.
+pub fn entry_lines(
+    alloc: Global,
+    view: &View<'_>,
+    marks: &Marks,
+    spots: &Spots,
+) -> Result<Vec<Line>, AllocError> {
+    let mut lines = Vec::new(alloc);
+    let mut number = 0u32;
+    for entry in view.design.pipe.entries.as_slice() {
+        let named = Named {
+            name: entry.name.as_slice(),
+            number,
+            seen: number_in_spec(view.design, number),
+        };
+        match entry.sort {
+            Sort::Memory => push_memory(alloc, &mut lines, view, marks, named, spots)?,
+            Sort::Bool | Sort::Word => lines.push(latch_line(alloc, named, spots)?)?,
+        }
+        number = number.saturating_add(1);
+    }
+    Ok(lines)
+}
+
+/// Puts the lines of the inputs after the lines before.
+pub fn push_inputs(
+    alloc: Global,
+    lines: &mut Vec<Line>,
+    design: &Design,
+) -> Result<(), AllocError> {
+    let mut number = 0u32;
+    for port in design.pipe.ports.as_slice() {
+        let mut name = Vec::from_slice(alloc, b"input ")?;
+        name.extend_from_slice(port.name.as_slice())?;
+        lines.push(Line {
+            name,
+            place: Place::Input(number),
+            visible: false,
+            differs: false,
+        })?;
+        number = number.saturating_add(1);
     }
     Ok(())
+}
+
+/// The addresses at which both sides of an entry of the specification differ.
+fn differing_addresses(
+    alloc: Global,
+    spots: &Spots,
+    number: u32,
+) -> Result<BTreeSet<u64>, AllocError> {
+    let mut addresses = BTreeSet::new(alloc);
+    for (entry, address) in spots.iter() {
+        if *entry == number {
+            addresses.insert(*address)?;
+        }
+    }
+    Ok(addresses)
+}
+
+/// The lines of the specification's entries: all, or those in which both sides differ.
+pub fn visible_lines(
+    alloc: Global,
+    view: &View<'_>,
+    whole: bool,
+    spots: &Spots,
+) -> Result<Vec<Line>, AllocError> {
+    let mut lines = Vec::new(alloc);
+    let mut number = 0u32;
+    for entry in view.design.spec.entries.as_slice() {
+        let named = Named {
+            name: entry.name.as_slice(),
+            number,
+            seen: Some(number),
+        };
+        match entry.sort {
+            Sort::Memory if whole => {
+                let addresses = compared_addresses(alloc, view, number)?;
+                push_cells(alloc, &mut lines, named, spots, &addresses)?;
+                let free = free_address(&addresses);
+                push_elsewhere(alloc, &mut lines, named, spots, free)?;
+            }
+            Sort::Memory => {
+                let addresses = differing_addresses(alloc, spots, number)?;
+                push_cells(alloc, &mut lines, named, spots, &addresses)?;
+            }
+            Sort::Bool | Sort::Word => {
+                let line = latch_line(alloc, named, spots)?;
+                if whole || line.differs {
+                    lines.push(line)?;
+                }
+            }
+        }
+        number = number.saturating_add(1);
+    }
+    Ok(lines)
 }

@@ -1,9 +1,13 @@
 //! Lists of `NAME=VALUE`: the lets of the cycle, and the rows of the functions.
 
+use crate::differing::note_rows;
+use crate::marks::{Marks, Slice};
 use crate::picture::View;
-use crate::words::{is_zero, push_number, push_scalar};
-use bd_model::{Memory, Scalar, Slot, Symbol, Table, Value};
+use crate::words::{addressed, is_zero, push_number, push_scalar};
+use bd_model::{Memory, Scalar, Symbol, Table, Value};
+use bd_slice::{Cycle, Finding, Subject};
 use std::alloc::{AllocError, Global};
+use std::collections::BTreeSet;
 
 /// A title, and the items of a list.
 #[derive(Debug, Drop)]
@@ -12,54 +16,90 @@ pub struct Items {
     pub items: Vec<Vec<u8>>,
 }
 
-/// Whether an earlier row has the address of this one.
-fn is_shadowed(rows: &[Slot], number: usize, address: u64) -> bool {
-    rows.iter().take(number).any(|slot| slot.address == address)
-}
-
-/// Puts the rows of a memory that are read, in braces.
-fn push_memory(out: &mut Vec<u8>, memory: &Memory) -> Result<(), AllocError> {
-    let rows = memory.rows.as_slice();
+/// Puts the words of a memory in braces: at each address that a row has, and elsewhere.
+fn push_memory(alloc: Global, out: &mut Vec<u8>, value: &Value) -> Result<(), AllocError> {
+    let Value::Memory(memory) = value else {
+        return Ok(());
+    };
+    let mut addresses = BTreeSet::new(alloc);
+    note_rows(&mut addresses, value)?;
     out.extend_from_slice(b"{")?;
-    for (number, slot) in rows.iter().enumerate() {
-        if !is_shadowed(rows, number, slot.address) {
-            push_number(out, slot.address)?;
-            out.push(b':')?;
-            push_number(out, slot.value)?;
-            out.push(b' ')?;
-        }
+    for address in addresses.iter() {
+        push_number(out, *address)?;
+        out.push(b':')?;
+        push_number(out, memory.at(*address))?;
+        out.push(b' ')?;
     }
     out.extend_from_slice(b"else:")?;
     push_number(out, memory.default)?;
     out.extend_from_slice(b"}")
 }
 
-/// Puts a value.
-fn push_value(out: &mut Vec<u8>, value: &Value) -> Result<(), AllocError> {
+/// `NAME=VALUE`.
+fn let_item(alloc: Global, name: &[u8], value: &Value) -> Result<Vec<u8>, AllocError> {
+    let mut item = Vec::from_slice(alloc, name)?;
+    item.push(b'=')?;
     match value {
-        Value::Scalar(scalar) => push_scalar(out, *scalar),
-        Value::Memory(memory) => push_memory(out, memory),
+        Value::Scalar(scalar) => push_scalar(&mut item, *scalar)?,
+        Value::Memory(_) => push_memory(alloc, &mut item, value)?,
     }
+    Ok(item)
 }
 
-/// Whether a value is 0, false, or the memory of zeros that has no rows.
-fn is_nothing(value: &Value) -> bool {
-    match value {
-        Value::Scalar(scalar) => is_zero(*scalar),
-        Value::Memory(memory) => memory.default == 0 && memory.rows.is_empty(),
+/// Puts `NAME[ADDRESS]=VALUE` for each address at which the word of a let is in a slice.
+fn push_let_words(
+    alloc: Global,
+    items: &mut Vec<Vec<u8>>,
+    slice: &Slice,
+    number: u32,
+    name: &[u8],
+    memory: &Memory,
+) -> Result<(), AllocError> {
+    let Some(addresses) = slice.let_addresses(number) else {
+        return Ok(());
+    };
+    for address in addresses.iter() {
+        let mut item = addressed(alloc, name, *address)?;
+        item.push(b'=')?;
+        push_number(&mut item, memory.at(*address))?;
+        items.push(item)?;
     }
+    Ok(())
 }
 
-/// The lets that have another value than 0, false, or the memory of zeros.
-pub fn lets(alloc: Global, view: &View<'_>) -> Result<Items, AllocError> {
-    let mut items = Vec::new(alloc);
-    for (name, value) in view.names.iter().zip(view.diagram.lets.as_slice()) {
-        if !is_nothing(value) {
-            let mut item = Vec::from_slice(alloc, name.as_slice())?;
-            item.push(b'=')?;
-            push_value(&mut item, value)?;
-            items.push(item)?;
+/// Puts a let, if it is shown.
+fn push_let(
+    alloc: Global,
+    items: &mut Vec<Vec<u8>>,
+    marks: &Marks,
+    number: u32,
+    name: &[u8],
+    value: &Value,
+) -> Result<(), AllocError> {
+    match (marks, value) {
+        (Marks::All, _) => {
+            items.push(let_item(alloc, name, value)?)?;
+            Ok(())
         }
+        (Marks::Of(slice), Value::Memory(memory)) => {
+            push_let_words(alloc, items, slice, number, name, memory)
+        }
+        (Marks::Of(slice), Value::Scalar(_)) => {
+            if slice.reasons.has(Subject::Let(Cycle::Case, number)) {
+                items.push(let_item(alloc, name, value)?)?;
+            }
+            Ok(())
+        }
+    }
+}
+
+/// The lets of the case's cycle that are shown.
+pub fn lets(alloc: Global, view: &View<'_>, marks: &Marks) -> Result<Items, AllocError> {
+    let mut items = Vec::new(alloc);
+    let mut number = 0u32;
+    for (name, value) in view.names.iter().zip(view.diagram.lets.as_slice()) {
+        push_let(alloc, &mut items, marks, number, name.as_slice(), value)?;
+        number = number.saturating_add(1);
     }
     Ok(Items {
         title: "lets",
@@ -120,15 +160,53 @@ fn push_table(
     Ok(())
 }
 
-/// The rows of the functions and predicates.
-pub fn rows(alloc: Global, view: &View<'_>) -> Result<Items, AllocError> {
+/// The rows of the functions and predicates, and their values elsewhere.
+fn all_rows(alloc: Global, view: &View<'_>) -> Result<Vec<Vec<u8>>, AllocError> {
     let mut items = Vec::new(alloc);
     let symbols = view.design.symbols.as_slice();
     for (symbol, table) in symbols.iter().zip(view.case.interp.as_slice()) {
         push_table(alloc, &mut items, symbol, table)?;
     }
+    Ok(items)
+}
+
+/// The arguments to which each function or predicate is applied in a slice, where its value isn't 0 or false.
+fn applied(alloc: Global, slice: &Slice) -> Result<BTreeSet<(u32, Vec<u64>)>, AllocError> {
+    let mut rows = BTreeSet::new(alloc);
+    for reason in slice.reasons.as_slice() {
+        for fact in &reason.facts {
+            if let Finding::Applied(symbol, args, value) = &fact.finding {
+                if !is_zero(*value) {
+                    rows.insert((*symbol, Vec::from_slice(alloc, args.as_slice())?))?;
+                }
+            }
+        }
+    }
+    Ok(rows)
+}
+
+/// The rows that are read in a slice.
+fn read_rows(alloc: Global, view: &View<'_>, slice: &Slice) -> Result<Vec<Vec<u8>>, AllocError> {
+    let mut items = Vec::new(alloc);
+    for (number, args) in applied(alloc, slice)?.iter() {
+        let symbol = view.design.symbols.as_slice().get(*number as usize);
+        let table = view.case.interp.as_slice().get(*number as usize);
+        if let (Some(symbol), Some(table)) = (symbol, table) {
+            let value = table.at(args.as_slice());
+            let name = symbol.name.as_slice();
+            items.push(row_item(alloc, name, args.as_slice(), value)?)?;
+        }
+    }
+    Ok(items)
+}
+
+/// The rows of the functions and predicates that are shown.
+pub fn rows(alloc: Global, view: &View<'_>, marks: &Marks) -> Result<Items, AllocError> {
     Ok(Items {
         title: "functions",
-        items,
+        items: match marks {
+            Marks::All => all_rows(alloc, view)?,
+            Marks::Of(slice) => read_rows(alloc, view, slice)?,
+        },
     })
 }

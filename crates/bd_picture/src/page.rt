@@ -3,18 +3,20 @@ ghost use Rattle.std.specs.Prelude.{IfOk};
 ghost use Rattle.bd_picture.specs.Page.{IsPage};
 
 use crate::drawing::put_drawing;
-use crate::grid::{Cell, Grid, Look, Row, sign_of};
+use crate::grid::{Cell, Content, Grid, Head, Look, Row, content_text, sign_of};
 use crate::list::Items;
-use crate::picture::Picture;
+use crate::picture::{Picture, Tables};
 use std::alloc::{AllocError, Global};
 
-/// The class of a cell.
-fn class_of(look: Look) -> &'static str {
-    match look {
-        Look::Plain => "plain",
-        Look::Changed => "changed",
-        Look::Same => "same",
-        Look::Different => "different",
+/// The class of a cell under a heading. What a cycle may not stand for never looks right.
+fn class_of(cell: &Cell, head: &Head) -> &'static str {
+    match (cell.content, cell.look) {
+        (Content::Hidden, _) => "hidden",
+        _ if !head.allowed => "ruled-out",
+        (_, Look::Plain) => "plain",
+        (_, Look::Changed) => "changed",
+        (_, Look::Same) => "same",
+        (_, Look::Different) => "different",
     }
 }
 
@@ -24,49 +26,73 @@ fn has_bar(grid: &Grid, column: usize) -> bool {
 }
 
 /// Puts a cell.
-fn put_cell(out: &mut Vec<u8>, cell: &Cell, bar: bool) -> Result<(), AllocError> {
+fn put_cell(
+    alloc: Global,
+    out: &mut Vec<u8>,
+    cell: &Cell,
+    head: &Head,
+    bar: bool,
+) -> Result<(), AllocError> {
     out.extend_from_slice(if bar {
         b"<td class=\"bar "
     } else {
         b"<td class=\""
     })?;
-    out.extend_from_slice(class_of(cell.look).as_bytes())?;
+    out.extend_from_slice(class_of(cell, head).as_bytes())?;
     out.extend_from_slice(b"\">")?;
     if let Some(sign) = sign_of(cell.look) {
         out.extend_from_slice(&[sign, b' '])?;
     }
-    out.extend_from_slice(cell.text.as_slice())?;
+    out.extend_from_slice(content_text(alloc, cell.content)?.as_slice())?;
     out.extend_from_slice(b"</td>")
 }
 
-/// Puts a row.
-fn put_row(out: &mut Vec<u8>, grid: &Grid, row: &Row) -> Result<(), AllocError> {
-    out.extend_from_slice(b"<tr><th scope=\"row\">")?;
+/// Puts the name of a row, with its marks.
+fn put_name(out: &mut Vec<u8>, row: &Row) -> Result<(), AllocError> {
+    out.extend_from_slice(if row.differs {
+        b"<tr class=\"differs\"><th scope=\"row\">"
+    } else {
+        b"<tr><th scope=\"row\">"
+    })?;
     out.extend_from_slice(row.name.as_slice())?;
     if row.visible {
         out.push(b'*')?;
     }
-    out.extend_from_slice(b"</th>")?;
-    for (column, cell) in row.cells.iter().enumerate() {
-        put_cell(out, cell, has_bar(grid, column))?;
+    if row.differs {
+        out.extend_from_slice(b" #")?;
+    }
+    out.extend_from_slice(b"</th>")
+}
+
+/// Puts a row.
+fn put_row(alloc: Global, out: &mut Vec<u8>, grid: &Grid, row: &Row) -> Result<(), AllocError> {
+    put_name(out, row)?;
+    for (column, (cell, head)) in row.cells.iter().zip(&grid.heads).enumerate() {
+        put_cell(alloc, out, cell, head, has_bar(grid, column))?;
+    }
+    out.extend_from_slice(b"</tr>\n")
+}
+
+/// Puts the headings of a grid.
+fn put_heads(out: &mut Vec<u8>, grid: &Grid) -> Result<(), AllocError> {
+    out.extend_from_slice(b"<tr><th></th>")?;
+    for (column, head) in grid.heads.iter().enumerate() {
+        let bar = has_bar(grid, column);
+        out.extend_from_slice(if bar { b"<th class=\"bar\">" } else { b"<th>" })?;
+        out.extend_from_slice(head.text.as_slice())?;
+        out.extend_from_slice(b"</th>")?;
     }
     out.extend_from_slice(b"</tr>\n")
 }
 
 /// Puts a grid as a table.
-fn put_grid(out: &mut Vec<u8>, grid: &Grid, legend: &str) -> Result<(), AllocError> {
+fn put_grid(alloc: Global, out: &mut Vec<u8>, grid: &Grid, legend: &str) -> Result<(), AllocError> {
     out.extend_from_slice(b"<p>")?;
     out.extend_from_slice(legend.as_bytes())?;
-    out.extend_from_slice(b"</p>\n<div><table>\n<tr><th></th>")?;
-    for (column, head) in grid.heads.iter().enumerate() {
-        let bar = has_bar(grid, column);
-        out.extend_from_slice(if bar { b"<th class=\"bar\">" } else { b"<th>" })?;
-        out.extend_from_slice(head.as_slice())?;
-        out.extend_from_slice(b"</th>")?;
-    }
-    out.extend_from_slice(b"</tr>\n")?;
+    out.extend_from_slice(b"</p>\n<div><table>\n")?;
+    put_heads(out, grid)?;
     for row in grid.rows.as_slice() {
-        put_row(out, grid, row)?;
+        put_row(alloc, out, grid, row)?;
     }
     out.extend_from_slice(b"</table></div>\n")
 }
@@ -86,16 +112,70 @@ fn put_list(out: &mut Vec<u8>, list: &Items, legend: &str) -> Result<(), AllocEr
     out.extend_from_slice(b"</p>\n")
 }
 
+/// Puts where both sides end.
+fn put_ends(alloc: Global, out: &mut Vec<u8>, tables: &Tables) -> Result<(), AllocError> {
+    match &tables.steps {
+        Some(steps) => put_grid(alloc, out, steps, STEPS),
+        None => Ok(()),
+    }
+}
+
+/// Puts the states, and the lists.
+fn put_states(alloc: Global, out: &mut Vec<u8>, tables: &Tables) -> Result<(), AllocError> {
+    let legend = match tables.steps {
+        Some(_) => STATES,
+        None => BOTH,
+    };
+    put_grid(alloc, out, &tables.states, legend)?;
+    put_list(out, &tables.lets, "Lets in the cycle:")?;
+    put_list(out, &tables.rows, "Functions, 0 or false elsewhere:")
+}
+
+/// Puts what only some of the values show, or all of them.
+fn put_section(out: &mut Vec<u8>, class: &str, inner: &[u8]) -> Result<(), AllocError> {
+    out.extend_from_slice(b"<section class=\"")?;
+    out.extend_from_slice(class.as_bytes())?;
+    out.extend_from_slice(b"\">\n")?;
+    out.extend_from_slice(inner)?;
+    out.extend_from_slice(b"</section>\n")
+}
+
+/// Where both sides end, the drawing and the states.
+fn plain(alloc: Global, tables: &Tables) -> Result<Vec<u8>, AllocError> {
+    let mut out = Vec::new(alloc);
+    put_ends(alloc, &mut out, tables)?;
+    put_drawing(alloc, &mut out, tables)?;
+    put_states(alloc, &mut out, tables)?;
+    Ok(out)
+}
+
+/// The same, with a switch between some values and all.
+fn switched(alloc: Global, some: &Tables, all: &Tables) -> Result<Vec<u8>, AllocError> {
+    let mut out = Vec::from_slice(alloc, SWITCH)?;
+    for (class, tables) in [("some", some), ("all", all)] {
+        let mut ends = Vec::new(alloc);
+        put_ends(alloc, &mut ends, tables)?;
+        put_section(&mut out, class, ends.as_slice())?;
+    }
+    put_drawing(alloc, &mut out, some)?;
+    for (class, tables) in [("some", some), ("all", all)] {
+        let mut states = Vec::new(alloc);
+        put_states(alloc, &mut states, tables)?;
+        put_section(&mut out, class, states.as_slice())?;
+    }
+    Ok(out)
+}
+
 /// What a page shows under its head.
 fn body(alloc: Global, picture: &Picture) -> Result<Vec<u8>, AllocError> {
     let mut out = Vec::from_slice(alloc, b"<h1>")?;
     out.extend_from_slice(picture.sentence.as_slice())?;
     out.extend_from_slice(b"</h1>\n")?;
-    put_drawing(&mut out, picture)?;
-    put_grid(&mut out, &picture.states, STATES)?;
-    put_grid(&mut out, &picture.steps, STEPS)?;
-    put_list(&mut out, &picture.lets, "Lets in the cycle that aren't 0:")?;
-    put_list(&mut out, &picture.rows, "Functions, 0 or false elsewhere:")?;
+    let tables = match &picture.whole {
+        Some(whole) => switched(alloc, &picture.tables, whole)?,
+        None => plain(alloc, &picture.tables)?,
+    };
+    out.extend_from_slice(tables.as_slice())?;
     out.extend_from_slice(b"</html>\n")?;
     Ok(out)
 }
@@ -114,10 +194,17 @@ pub fn page_of(alloc: Global, picture: &Picture) -> Result<Vec<u8>, AllocError>
     Ok(page)
 }
 
+const SWITCH: &[u8] =
+    b"<input type=\"checkbox\" id=\"switch\"><label for=\"switch\"> show all values, \
+also those that don't matter</label>\n";
+
 const STATES: &str =
     "The states before the cycle and after it, and after each flush cycle (f1, f2, ..) \
-from there. * is visible to the specification, an empty cell is unchanged, and an input stands under \
-the state that its cycle led to.";
+from there. * is visible to the specification, and # differs there; an empty cell is what stands on its left, \
+. is a value that doesn't matter, and an input stands under the state that its cycle led to.";
+
+const BOTH: &str = "The states before the cycle and after it. * is visible to the specification, \
+. is a value that doesn't matter, and an input stands under the state that its cycle led to.";
 
 const STEPS: &str =
     "Where the flushed pipeline stands after the cycle, and the specification after j \
@@ -134,6 +221,12 @@ tr:first-child th,.changed{font-weight:bold}\n\
 .bar{border-left:3px double #555}\n\
 td.different{color:#a00;font-weight:bold}\n\
 td.same{color:#060}\n\
+.hidden{color:#999}\n\
+.ruled-out{color:#666;font-style:italic}\n\
+.differs th,.differs td{background:#fdf1ef}\n\
+.differs th{font-weight:bold;box-shadow:inset 4px 0 #a00}\n\
+.all,#switch:checked~.some{display:none}\n\
+#switch:checked~.all{display:block}\n\
 code{font-size:14px;white-space:nowrap;margin-right:.5em}\n\
 svg{display:block;width:100%;max-width:680px;margin:1em 0}\n\
 rect{fill:#fff;stroke:#555}\n\
@@ -145,5 +238,6 @@ line{stroke:#555;stroke-width:1.5}\n\
 line.arrow{marker-end:url(#tip)}\n\
 line.same{stroke:#060}\n\
 line.different{stroke:#a00;stroke-dasharray:6 4}\n\
-@media print{body{max-width:none;margin:0}div{overflow:visible}svg,tr{break-inside:avoid}}\n\
+line.ruled-out{stroke:#999;stroke-dasharray:2 4}\n\
+@media print{#switch,label{display:none}body{max-width:none;margin:0}div{overflow:visible}svg,tr{break-inside:avoid}}\n\
 </style>\n";

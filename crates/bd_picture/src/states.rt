@@ -1,239 +1,348 @@
-//! The states of both ways, side by side. What differs where they end has a line, also where it stays 0 here.
+//! The states of both ways, side by side.
 //!
 //! The columns are the states before the cycle and after each flush cycle from there, and those after the cycle and
-//! after each flush cycle from there. An input stands under the state that its cycle led to.
+//! after each flush cycle from there. An input stands under the state that its cycle led to. Where the invariant is
+//! broken only the states before the cycle and after it are shown.
+ghost use Rattle.std.specs.Prelude.{◌≡◌, IfOk, IsTrue};
+ghost use Rattle.std.specs.List.{All, AllZip};
+ghost use Rattle.bd_picture.specs.Cells.{IsContent, IsStatesCell, IsStatesRow, Stays, earlier, flush_input, input_in, state_value, value_in};
 
-use crate::grid::{Cell, Grid, Look, Row};
-use crate::line::{Entry, Line, push_lines};
+use crate::differing::Spots;
+use crate::grid::{Cell, Content, Grid, Head, Look, Place, Row, is_shown};
+use crate::line::{Line, entry_lines, push_inputs};
+use crate::marks::Marks;
 use crate::picture::View;
-use crate::steps::compared_at;
-use crate::words::{push_number, scalar_text};
+use crate::words::{push_number, value_of};
 use bd_diagram::Flushing;
-use bd_model::{Design, Inputs, Scalar, State, Value};
+use bd_model::{Condition, Judged, Scalar, State};
+use bd_slice::{Column, Spot};
 use std::alloc::{AllocError, Global};
 
-/// The place that the entry at this place has in the specification.
-fn place_in_spec(design: &Design, place: usize) -> Option<usize> {
-    design
-        .visible
-        .as_slice()
-        .iter()
-        .position(|visible| *visible as usize == place)
-}
-
-/// The values that states have at a place, those of the first way and then those of the second.
-fn values_at<'a>(
-    alloc: Global,
-    first: &'a [State],
-    second: &'a [State],
-    place: usize,
-) -> Result<Vec<&'a Value>, AllocError> {
-    let mut values = Vec::new(alloc);
-    for state in first.iter().chain(second) {
-        if let Some(value) = state.as_slice().get(place) {
-            values.push(value)?;
+/// The state before this one on the same way.
+fn earlier(column: Column) -> Option<Column>
+    ensures { result ≡ earlier column }
+{
+    match column {
+        Column::Before(n) => {
+            if n == 0 {
+                None
+            } else {
+                Some(Column::Before(n - 1))
+            }
+        }
+        Column::After(n) => {
+            if n == 0 {
+                None
+            } else {
+                Some(Column::After(n - 1))
+            }
+        }
+        Column::Steps(n) => {
+            if n == 0 {
+                None
+            } else {
+                Some(Column::Steps(n - 1))
+            }
         }
     }
-    Ok(values)
 }
 
-/// The lines of the entries.
-fn entry_lines(alloc: Global, view: &View<'_>) -> Result<Vec<Line>, AllocError> {
-    let mut lines = Vec::new(alloc);
-    let first = view.diagram.before.states.as_slice();
-    let second = view.diagram.after.states.as_slice();
-    for (place, entry) in view.design.pipe.entries.as_slice().iter().enumerate() {
-        let seen = place_in_spec(view.design, place);
-        let compared = match seen {
-            Some(place) => compared_at(alloc, view, place)?,
-            None => Vec::new(alloc),
-        };
-        let entry = Entry {
-            name: entry.name.as_slice(),
-            visible: seen.is_some(),
-        };
-        let values = values_at(alloc, first, second, place)?;
-        push_lines(
-            alloc,
-            &mut lines,
-            entry,
-            values.as_slice(),
-            compared.as_slice(),
-        )?;
+/// The value of an input in the flush cycle that ends in the state of this number.
+fn flush_input(flushing: &Flushing, state: u32, number: u32) -> Option<Scalar>
+    ensures { result ≡ flush_input flushing.now state number }
+{
+    if state == 0 {
+        return None;
     }
-    Ok(lines)
-}
-
-/// The input at a place, if it is there.
-fn input_at(inputs: &Inputs, place: usize) -> Option<Scalar> {
-    inputs.as_slice().get(place).copied()
-}
-
-/// Puts the values of an input in flush cycles after those before.
-fn push_flush_inputs(
-    values: &mut Vec<Option<Scalar>>,
-    flushing: &Flushing,
-    place: usize,
-) -> Result<(), AllocError> {
-    for inputs in flushing.inputs.as_slice() {
-        values.push(input_at(inputs, place))?;
-    }
-    Ok(())
-}
-
-/// The lines of the inputs.
-fn input_lines(alloc: Global, view: &View<'_>) -> Result<Vec<Line>, AllocError> {
-    let mut lines = Vec::new(alloc);
-    for (place, port) in view.design.pipe.ports.as_slice().iter().enumerate() {
-        let mut values = Vec::new(alloc);
-        values.push(None)?;
-        push_flush_inputs(&mut values, &view.diagram.before, place)?;
-        values.push(input_at(&view.case.inputs, place))?;
-        push_flush_inputs(&mut values, &view.diagram.after, place)?;
-        let mut name = Vec::from_slice(alloc, b"input ")?;
-        name.extend_from_slice(port.name.as_slice())?;
-        lines.push(Line {
-            name,
-            visible: false,
-            values,
-        })?;
-    }
-    Ok(lines)
-}
-
-/// Whether some line has another value in this column than in the one before.
-fn changes(lines: &[Line], column: usize) -> bool {
-    lines.iter().any(|line| changes_at(line, column))
-}
-
-/// Whether a line has another value in this column than in the one before.
-fn changes_at(line: &Line, column: usize) -> bool {
-    match column.checked_sub(1) {
-        None => true,
-        Some(before) => line.values.get(before) != line.values.get(column),
+    match flushing.inputs.as_slice().get((state - 1) as usize) {
+        Some(inputs) => inputs.as_slice().get(number as usize).copied(),
+        None => None,
     }
 }
 
-/// A column that is printed: its number, from 0, and that of the last one that is folded into it.
+/// The value of an input in the cycle that leads to a state.
+fn input_at(view: &View<'_>, number: u32, column: Column) -> Option<Scalar>
+    ensures { result ≡ input_in view.now.case.now view.now.diagram.now number column }
+{
+    match column {
+        Column::Before(n) => flush_input(&view.diagram.before, n, number),
+        Column::After(n) => {
+            if n == 0 {
+                view.case.inputs.as_slice().get(number as usize).copied()
+            } else {
+                flush_input(&view.diagram.after, n, number)
+            }
+        }
+        Column::Steps(_) => None,
+    }
+}
+
+/// A value of the state of this number.
+fn state_value(states: &[State], number: u32, spot: Spot) -> Option<Scalar>
+    ensures { result ≡ state_value states.now number spot }
+{
+    match states.get(number as usize) {
+        Some(state) => Some(value_of(state.as_slice(), spot)),
+        None => None,
+    }
+}
+
+/// The value that a line has in a column.
+fn value_at(view: &View<'_>, place: Place, column: Column) -> Option<Scalar>
+    ensures { result ≡ value_in view.now.case.now view.now.diagram.now place column }
+{
+    match place {
+        Place::Input(number) => input_at(view, number, column),
+        Place::Value(spot) => match column {
+            Column::Before(n) => state_value(view.diagram.before.states.as_slice(), n, spot),
+            Column::After(n) => state_value(view.diagram.after.states.as_slice(), n, spot),
+            Column::Steps(_) => None,
+        },
+    }
+}
+
+/// Whether the value of a line in a column is shown, and still the one that is shown in the state before.
+fn stays(view: &View<'_>, marks: &Marks, place: Place, column: Column) -> bool
+    ensures { IsTrue result → Stays view.now.case.now view.now.diagram.now place column }
+{
+    match earlier(column) {
+        Some(before) => {
+            marks.has(place, before)
+                && value_at(view, place, column) == value_at(view, place, before)
+        }
+        None => false,
+    }
+}
+
+/// What the cell of a line shows in a column.
+fn content_of(view: &View<'_>, marks: &Marks, place: Place, column: Column) -> Content
+    ensures { IsContent view.now.case.now view.now.diagram.now place column result }
+{
+    match value_at(view, place, column) {
+        None => Content::Nothing,
+        Some(value) => {
+            if !marks.has(place, column) {
+                Content::Hidden
+            } else if stays(view, marks, place, column) {
+                Content::Unchanged
+            } else {
+                Content::Value(value)
+            }
+        }
+    }
+}
+
+/// The cell of a line in a column.
+fn cell_of(view: &View<'_>, marks: &Marks, place: Place, column: Column) -> Cell
+    ensures { IsContent view.now.case.now view.now.diagram.now place column result.content }
+{
+    let content = content_of(view, marks, place, column);
+    let look = match content {
+        Content::Value(_) if earlier(column).is_some() => Look::Changed,
+        _ => Look::Plain,
+    };
+    Cell { content, look }
+}
+
+/// The states of the diagram, or those before the cycle and after it.
+fn states(alloc: Global, view: &View<'_>) -> Result<Vec<Column>, AllocError> {
+    let flush = match view.judged {
+        Judged::Broken(Condition::Invariant) => 0,
+        _ => view.design.flush,
+    };
+    let mut columns = Vec::new(alloc);
+    for number in 0..flush {
+        columns.push(Column::Before(number))?;
+    }
+    columns.push(Column::Before(flush))?;
+    for number in 0..flush {
+        columns.push(Column::After(number))?;
+    }
+    columns.push(Column::After(flush))?;
+    Ok(columns)
+}
+
+/// Whether some line shows a value in a column.
+fn shows(view: &View<'_>, marks: &Marks, lines: &[Line], column: Column) -> bool {
+    lines
+        .iter()
+        .any(|line| is_shown(&cell_of(view, marks, line.place, column)))
+}
+
+/// A column that is printed, and the last one that is folded into it.
 #[derive(Clone, Copy, Debug)]
-struct Column {
-    first: usize,
-    last: usize,
+struct Folded {
+    first: Column,
+    last: Column,
 }
 
-/// The columns that are printed: those in which something changes, and the first of each way.
+/// The columns that are printed: the first of each way, and those in which a value is shown.
 fn columns(
     alloc: Global,
-    entries: &[Line],
-    inputs: &[Line],
-    ways: Ways,
-) -> Result<Vec<Column>, AllocError> {
-    let mut columns: Vec<Column> = Vec::new(alloc);
-    for number in 0..ways.all {
-        let stays = number != 0
-            && number != ways.first
-            && !changes(entries, number)
-            && !changes(inputs, number);
+    view: &View<'_>,
+    marks: &Marks,
+    lines: &[Line],
+) -> Result<Vec<Folded>, AllocError> {
+    let mut columns: Vec<Folded> = Vec::new(alloc);
+    for column in states(alloc, view)? {
+        let stays = earlier(column).is_some() && !shows(view, marks, lines, column);
         match columns.last_mut() {
-            Some(column) if stays => column.last = number,
-            _ => columns.push(Column {
-                first: number,
-                last: number,
+            Some(folded) if stays => folded.last = column,
+            _ => columns.push(Folded {
+                first: column,
+                last: column,
             })?,
         }
     }
     Ok(columns)
 }
 
-/// How many states the first way has, and how many both have.
-#[derive(Clone, Copy, Debug)]
-struct Ways {
-    first: usize,
-    all: usize,
-}
-
 /// Puts the heading of a state, so many flush cycles from the first of its way.
-fn push_state(out: &mut Vec<u8>, start: &[u8], cycles: usize) -> Result<(), AllocError> {
+fn push_state(out: &mut Vec<u8>, start: &[u8], cycles: u32) -> Result<(), AllocError> {
     if cycles == 0 {
         return out.extend_from_slice(start);
     }
     out.push(b'f')?;
-    push_number(out, cycles as u64)
+    push_number(out, u64::from(cycles))
+}
+
+/// Whether a column is on the way before the cycle.
+fn is_before(column: Column) -> bool {
+    matches!(column, Column::Before(_))
 }
 
 /// The heading of a column, `before`, `after`, `f2` or `f2-f5`.
-fn heading(alloc: Global, column: Column, ways: Ways) -> Result<Vec<u8>, AllocError> {
+fn heading(alloc: Global, folded: Folded) -> Result<Head, AllocError> {
     let mut text = Vec::new(alloc);
-    let (start, from): (&[u8], usize) = if column.first < ways.first {
-        (b"before", 0)
+    let start: &[u8] = if is_before(folded.first) {
+        b"before"
     } else {
-        (b"after", ways.first)
+        b"after"
     };
-    push_state(&mut text, start, column.first.saturating_sub(from))?;
-    if column.first < column.last {
+    push_state(&mut text, start, folded.first.number())?;
+    if folded.first != folded.last {
         text.push(b'-')?;
-        push_state(&mut text, start, column.last.saturating_sub(from))?;
+        push_state(&mut text, start, folded.last.number())?;
     }
-    Ok(text)
+    Ok(Head {
+        text,
+        column: folded.first,
+        allowed: true,
+    })
 }
 
-/// The cell of a line in a column. It has a text at the first column of a way, and where it changes.
-fn cell(alloc: Global, line: &Line, column: usize, ways: Ways) -> Result<Cell, AllocError> {
-    let changed = column != 0 && changes_at(line, column);
-    let starts = column == 0 || column == ways.first;
-    let text = match line.values.get(column) {
-        Some(Some(scalar)) if changed || starts => scalar_text(alloc, *scalar)?,
-        _ => Vec::new(alloc),
-    };
-    let look = if changed && column != ways.first {
-        Look::Changed
-    } else {
-        Look::Plain
-    };
-    Ok(Cell { text, look })
+/// The headings of these columns.
+fn headings(alloc: Global, columns: &[Folded]) -> Result<Vec<Head>, AllocError> {
+    let mut heads = Vec::new(alloc);
+    for folded in columns {
+        heads.push(heading(alloc, *folded)?)?;
+    }
+    Ok(heads)
+}
+
+/// The cells of a line under these headings.
+fn cells_of(
+    alloc: Global,
+    view: &View<'_>,
+    marks: &Marks,
+    place: Place,
+    heads: &[Head],
+) -> Result<Vec<Cell>, AllocError>
+    ensures { IfOk result (λ cells. AllZip
+        (IsStatesCell view.now.case.now view.now.diagram.now place) heads.now cells.items) }
+{
+    let mut cells = Vec::new(alloc);
+    for head in heads {
+        cells.push(cell_of(view, marks, place, head.column))?;
+    }
+    Ok(cells)
 }
 
 /// The row of a line.
-fn row(alloc: Global, line: Line, columns: &[Column], ways: Ways) -> Result<Row, AllocError> {
-    let mut cells = Vec::new(alloc);
-    for column in columns {
-        cells.push(cell(alloc, &line, column.first, ways)?)?;
-    }
-    let Line { name, visible, .. } = line;
+fn row(
+    alloc: Global,
+    view: &View<'_>,
+    marks: &Marks,
+    line: &Line,
+    heads: &[Head],
+) -> Result<Row, AllocError>
+    ensures { IfOk result
+        (IsStatesRow view.now.case.now view.now.diagram.now heads.now) }
+{
+    let cells = cells_of(alloc, view, marks, line.place, heads)?;
     Ok(Row {
-        name,
-        visible,
+        name: line.name.clone()?,
+        place: line.place,
+        visible: line.visible,
+        differs: line.differs,
         cells,
     })
 }
 
-/// The states under their headings, and the inputs.
-pub fn states_grid(alloc: Global, view: &View<'_>) -> Result<Grid, AllocError> {
-    let first = view.diagram.before.states.len();
-    let second = view.diagram.after.states.len();
-    let ways = Ways {
-        first,
-        all: first.saturating_add(second),
-    };
-    let entries = entry_lines(alloc, view)?;
-    let inputs = input_lines(alloc, view)?;
-    let columns = columns(alloc, entries.as_slice(), inputs.as_slice(), ways)?;
-    let mut heads = Vec::new(alloc);
-    for column in columns.as_slice() {
-        heads.push(heading(alloc, *column, ways)?)?;
+/// The lines that show a value in some column.
+fn shown_lines(
+    alloc: Global,
+    view: &View<'_>,
+    marks: &Marks,
+    lines: Vec<Line>,
+    columns: &[Folded],
+) -> Result<Vec<Line>, AllocError> {
+    let mut shown = Vec::new(alloc);
+    for line in lines {
+        let place = line.place;
+        if columns.iter().any(|folded| is_shown(&cell_of(view, marks, place, folded.first))) {
+            shown.push(line)?;
+        }
     }
-    let bar = columns
-        .iter()
-        .filter(|column| column.first < ways.first)
-        .count();
+    Ok(shown)
+}
+
+/// The rows of these lines.
+fn rows(
+    alloc: Global,
+    view: &View<'_>,
+    marks: &Marks,
+    lines: &[Line],
+    heads: &[Head],
+) -> Result<Vec<Row>, AllocError>
+    ensures { IfOk result (λ rows.
+        All (IsStatesRow view.now.case.now view.now.diagram.now heads.now) rows.items) }
+{
     let mut rows = Vec::new(alloc);
-    for line in entries.into_iter().chain(inputs) {
-        rows.push(row(alloc, line, columns.as_slice(), ways)?)?;
+    for line in lines {
+        rows.push(row(alloc, view, marks, line, heads)?)?;
     }
+    Ok(rows)
+}
+
+/// The number of columns on the way before the cycle.
+fn bar_of(columns: &[Folded]) -> usize {
+    columns
+        .iter()
+        .filter(|folded| is_before(folded.first))
+        .count()
+}
+
+/// The states under their headings, and the inputs. A line that shows no value is left out.
+pub fn states_grid(
+    alloc: Global,
+    view: &View<'_>,
+    marks: &Marks,
+    spots: &Spots,
+) -> Result<Grid, AllocError>
+    ensures { IfOk result (λ g.
+        All (IsStatesRow view.now.case.now view.now.diagram.now g.heads.items) g.rows.items) }
+{
+    let mut lines = entry_lines(alloc, view, marks, spots)?;
+    push_inputs(alloc, &mut lines, view.design)?;
+    let columns = columns(alloc, view, marks, lines.as_slice())?;
+    let lines = shown_lines(alloc, view, marks, lines, columns.as_slice())?;
+    let heads = headings(alloc, columns.as_slice())?;
+    let rows = rows(alloc, view, marks, lines.as_slice(), heads.as_slice())?;
     Ok(Grid {
         title: "states",
+        bar: bar_of(columns.as_slice()),
         heads,
-        bar,
         rows,
     })
 }

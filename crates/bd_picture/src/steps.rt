@@ -1,109 +1,176 @@
 //! The specification after each number of steps, beside where the pipeline stands.
+ghost use Rattle.std.specs.Prelude.{◌≡◌, IfOk};
+ghost use Rattle.std.specs.List.{All, AllZip};
+ghost use Rattle.bd_picture.specs.Cells.{IsCompared, IsSigned, IsStepsCell, IsStepsRow, compared_in};
+ghost use Rattle.bd_picture.specs.declared.grid.Content.TheVariants as content;
 
-use crate::grid::{Cell, Grid, Look, Row};
-use crate::line::{Entry, Line, push_lines};
+use crate::differing::Spots;
+use crate::grid::{Cell, Content, Grid, Head, Look, Place, Row};
+use crate::line::{Line, visible_lines};
 use crate::picture::View;
-use crate::words::{numbered, scalar_text};
+use crate::words::{numbered, value_of};
 use bd_diagram::Comparison;
-use bd_model::{Scalar, Value};
+use bd_model::Scalar;
+use bd_slice::{Column, Spot};
 use std::alloc::{AllocError, Global};
 
-/// The values of a visible entry: where the pipeline stands, and after each number of steps.
-pub fn compared_at<'a>(
-    alloc: Global,
-    view: &View<'a>,
-    place: usize,
-) -> Result<Vec<&'a Value>, AllocError> {
-    let mut values = Vec::new(alloc);
-    if let Some(value) = view.diagram.visible.as_slice().get(place) {
-        values.push(value)?;
-    }
-    for comparison in view.diagram.comparisons.as_slice() {
-        if let Some(value) = comparison.visible.as_slice().get(place) {
-            values.push(value)?;
-        }
-    }
-    Ok(values)
-}
-
-/// The lines of the visible entries.
-fn visible_lines(alloc: Global, view: &View<'_>) -> Result<Vec<Line>, AllocError> {
-    let mut lines = Vec::new(alloc);
-    for (place, entry) in view.design.spec.entries.as_slice().iter().enumerate() {
-        let entry = Entry {
-            name: entry.name.as_slice(),
-            visible: true,
-        };
-        let values = compared_at(alloc, view, place)?;
-        push_lines(alloc, &mut lines, entry, values.as_slice(), &[])?;
-    }
-    Ok(lines)
-}
-
 /// The heading of a number of steps.
-fn heading(alloc: Global, count: usize, comparison: &Comparison) -> Result<Vec<u8>, AllocError> {
-    let mut text = numbered(alloc, b"j=", count as u64)?;
+fn heading(alloc: Global, count: u32, comparison: &Comparison) -> Result<Head, AllocError> {
+    let mut text = numbered(alloc, b"j=", u64::from(count))?;
     if !comparison.allowed {
         text.extend_from_slice(b" (not allowed)")?;
     }
-    Ok(text)
+    Ok(Head {
+        text,
+        column: Column::Steps(count),
+        allowed: comparison.allowed,
+    })
 }
 
 /// The headings.
-fn headings(alloc: Global, view: &View<'_>) -> Result<Vec<Vec<u8>>, AllocError> {
+fn headings(alloc: Global, view: &View<'_>) -> Result<Vec<Head>, AllocError> {
     let mut heads = Vec::new(alloc);
-    heads.push(Vec::from_slice(alloc, b"pipeline")?)?;
-    for (count, comparison) in view.diagram.comparisons.as_slice().iter().enumerate() {
+    heads.push(Head {
+        text: Vec::from_slice(alloc, b"pipeline")?,
+        column: Column::After(view.design.flush),
+        allowed: true,
+    })?;
+    let mut count = 0u32;
+    for comparison in view.diagram.comparisons.as_slice() {
         heads.push(heading(alloc, count, comparison)?)?;
+        count = count.saturating_add(1);
     }
     Ok(heads)
 }
 
-/// How a value looks beside where the pipeline stands.
-fn look_of(number: usize, value: Option<Scalar>, stands: Option<Scalar>) -> Look {
-    if number == 0 {
-        Look::Plain
-    } else if value == stands {
-        Look::Same
-    } else {
-        Look::Different
+/// The value of an entry of the specification in a state that is compared.
+fn compared_at(view: &View<'_>, spot: Spot, column: Column) -> Option<Scalar>
+    ensures { result ≡ compared_in view.now.diagram.now spot column }
+{
+    match column {
+        Column::Steps(count) => {
+            match view.diagram.comparisons.as_slice().get(count as usize) {
+                Some(comparison) => Some(value_of(comparison.visible.as_slice(), spot)),
+                None => None,
+            }
+        }
+        Column::Before(_) | Column::After(_) => {
+            Some(value_of(view.diagram.visible.as_slice(), spot))
+        }
     }
 }
 
-/// The row of a line.
-fn row(alloc: Global, line: Line) -> Result<Row, AllocError> {
-    let Line {
-        name,
-        visible,
-        values,
-    } = line;
-    let stands = values.first().copied().unwrap_or(None);
-    let mut cells = Vec::new(alloc);
-    for (number, value) in values.iter().enumerate() {
-        let text = match value {
-            Some(scalar) => scalar_text(alloc, *scalar)?,
-            None => Vec::new(alloc),
-        };
-        let look = look_of(number, *value, stands);
-        cells.push(Cell { text, look })?;
+/// How a value looks beside where the pipeline stands.
+fn look_of(view: &View<'_>, spot: Spot, column: Column, value: Scalar) -> Look
+    ensures { IsSigned view.now.diagram.now spot result (content.Value value) }
+{
+    match column {
+        Column::Before(_) | Column::After(_) => Look::Plain,
+        Column::Steps(_) => {
+            if value == value_of(view.diagram.visible.as_slice(), spot) {
+                Look::Same
+            } else {
+                Look::Different
+            }
+        }
     }
+}
+
+/// The cell of an entry of the specification in a state that is compared.
+fn compared_cell(view: &View<'_>, spot: Spot, column: Column) -> Cell
+    ensures shown { IsCompared view.now.diagram.now spot column result.content }
+    ensures signed { IsSigned view.now.diagram.now spot result.look result.content }
+{
+    match compared_at(view, spot, column) {
+        Some(value) => Cell {
+            content: Content::Value(value),
+            look: look_of(view, spot, column, value),
+        },
+        None => Cell {
+            content: Content::Nothing,
+            look: Look::Plain,
+        },
+    }
+}
+
+/// The cell of a line under a heading.
+fn cell_of(view: &View<'_>, place: Place, head: &Head) -> Cell
+    ensures { IsStepsCell view.now.diagram.now place head.now result }
+{
+    match place {
+        Place::Value(spot) => compared_cell(view, spot, head.column),
+        Place::Input(_) => Cell {
+            content: Content::Nothing,
+            look: Look::Plain,
+        },
+    }
+}
+
+/// The cells of a line under these headings.
+fn cells_of(
+    alloc: Global,
+    view: &View<'_>,
+    place: Place,
+    heads: &[Head],
+) -> Result<Vec<Cell>, AllocError>
+    ensures { IfOk result (λ cells.
+        AllZip (IsStepsCell view.now.diagram.now place) heads.now cells.items) }
+{
+    let mut cells = Vec::new(alloc);
+    for head in heads {
+        cells.push(cell_of(view, place, head))?;
+    }
+    Ok(cells)
+}
+
+/// The row of a line.
+fn row(alloc: Global, view: &View<'_>, line: &Line, heads: &[Head]) -> Result<Row, AllocError>
+    ensures { IfOk result (IsStepsRow view.now.diagram.now heads.now) }
+{
+    let cells = cells_of(alloc, view, line.place, heads)?;
     Ok(Row {
-        name,
-        visible,
+        name: line.name.clone()?,
+        place: line.place,
+        visible: line.visible,
+        differs: line.differs,
         cells,
     })
 }
 
-/// The visible entries where the pipeline stands after the cycle, and after each number of steps.
-pub fn steps_grid(alloc: Global, view: &View<'_>) -> Result<Grid, AllocError> {
-    let lines = visible_lines(alloc, view)?;
+/// The rows of these lines.
+fn rows(
+    alloc: Global,
+    view: &View<'_>,
+    lines: &[Line],
+    heads: &[Head],
+) -> Result<Vec<Row>, AllocError>
+    ensures { IfOk result (λ rows.
+        All (IsStepsRow view.now.diagram.now heads.now) rows.items) }
+{
     let mut rows = Vec::new(alloc);
     for line in lines {
-        rows.push(row(alloc, line)?)?;
+        rows.push(row(alloc, view, line, heads)?)?;
     }
+    Ok(rows)
+}
+
+/// The visible entries where the pipeline stands after the cycle, and after each number of steps: all, or those that
+/// differ.
+pub fn steps_grid(
+    alloc: Global,
+    view: &View<'_>,
+    whole: bool,
+    spots: &Spots,
+) -> Result<Grid, AllocError>
+    ensures { IfOk result (λ g.
+        All (IsStepsRow view.now.diagram.now g.heads.items) g.rows.items) }
+{
+    let lines = visible_lines(alloc, view, whole, spots)?;
+    let heads = headings(alloc, view)?;
+    let rows = rows(alloc, view, lines.as_slice(), heads.as_slice())?;
     Ok(Grid {
         title: "flushed",
-        heads: headings(alloc, view)?,
+        heads,
         bar: 1,
         rows,
     })

@@ -1,7 +1,7 @@
 //! A picture as a text.
 ghost use Rattle.std.specs.Prelude.{◌≡◌, ◌++◌, ℕ, List, IfOk};
 
-use crate::grid::{Cell, Grid, Row, sign_of};
+use crate::grid::{Cell, Grid, Row, content_text, is_shown, sign_of};
 use crate::list::Items;
 use crate::picture::Picture;
 use std::alloc::{AllocError, Global};
@@ -48,25 +48,26 @@ impl Pen {
 }
 
 /// How many bytes a cell takes.
-fn width_of(cell: &Cell) -> usize {
+fn width_of(alloc: Global, cell: &Cell) -> Result<usize, AllocError> {
+    let width = content_text(alloc, cell.content)?.len();
     match sign_of(cell.look) {
-        Some(_) => cell.text.len().saturating_add(2),
-        None => cell.text.len(),
+        Some(_) => Ok(width.saturating_add(2)),
+        None => Ok(width),
     }
 }
 
 /// How many bytes a column takes.
-fn column_width(grid: &Grid, column: usize) -> usize {
+fn column_width(alloc: Global, grid: &Grid, column: usize) -> Result<usize, AllocError> {
     let mut most = match grid.heads.get(column) {
-        Some(head) => head.len(),
+        Some(head) => head.text.len(),
         None => 0,
     };
     for row in grid.rows.as_slice() {
         if let Some(cell) = row.cells.get(column) {
-            most = most.max(width_of(cell));
+            most = most.max(width_of(alloc, cell)?);
         }
     }
-    most
+    Ok(most)
 }
 
 /// How many bytes the names of rows take, with the mark.
@@ -96,7 +97,7 @@ fn block_from(alloc: Global, grid: &Grid, from: usize) -> Result<Vec<Place>, All
             0
         };
         let start = at.saturating_add(bar);
-        let end = start.saturating_add(column_width(grid, column));
+        let end = start.saturating_add(column_width(alloc, grid, column)?);
         if column != from && end > WIDTH {
             break;
         }
@@ -122,14 +123,20 @@ fn put_heads(pen: &mut Pen, grid: &Grid, block: &[Place]) -> Result<(), AllocErr
     for place in block {
         go_to(pen, grid, *place)?;
         if let Some(head) = grid.heads.get(place.column) {
-            pen.put(head.as_slice())?;
+            pen.put(head.text.as_slice())?;
         }
     }
     pen.end()
 }
 
 /// Puts a row of a block.
-fn put_row(pen: &mut Pen, grid: &Grid, row: &Row, block: &[Place]) -> Result<(), AllocError> {
+fn put_row(
+    alloc: Global,
+    pen: &mut Pen,
+    grid: &Grid,
+    row: &Row,
+    block: &[Place],
+) -> Result<(), AllocError> {
     pen.put(row.name.as_slice())?;
     if row.visible {
         pen.put(b"*")?;
@@ -140,22 +147,22 @@ fn put_row(pen: &mut Pen, grid: &Grid, row: &Row, block: &[Place]) -> Result<(),
             if let Some(sign) = sign_of(cell.look) {
                 pen.put(&[sign, b' '])?;
             }
-            pen.put(cell.text.as_slice())?;
+            pen.put(content_text(alloc, cell.content)?.as_slice())?;
         }
     }
     pen.end()
 }
 
-/// Whether a row has no text in a block.
+/// Whether a row shows no value in a block.
 fn is_blank(row: &Row, block: &[Place]) -> bool {
     block.iter().all(|place| match row.cells.get(place.column) {
-        Some(cell) => cell.text.is_empty(),
+        Some(cell) => !is_shown(cell),
         None => true,
     })
 }
 
-/// Puts a grid, in as many blocks as it has columns for, and an empty line after each. A later block has only the rows
-/// that have a text there.
+/// Puts a grid, in as many blocks as it has columns for, and an empty line before each. A block has only the rows that
+/// show a value there.
 fn put_grid(alloc: Global, pen: &mut Pen, grid: &Grid) -> Result<(), AllocError> {
     let mut next = 0;
     for column in 0..grid.heads.len() {
@@ -164,13 +171,13 @@ fn put_grid(alloc: Global, pen: &mut Pen, grid: &Grid) -> Result<(), AllocError>
         }
         let block = block_from(alloc, grid, column)?;
         next = column.saturating_add(block.len());
+        pen.end()?;
         put_heads(pen, grid, block.as_slice())?;
         for row in grid.rows.as_slice() {
-            if column == 0 || !is_blank(row, block.as_slice()) {
-                put_row(pen, grid, row, block.as_slice())?;
+            if !is_blank(row, block.as_slice()) {
+                put_row(alloc, pen, grid, row, block.as_slice())?;
             }
         }
-        pen.end()?;
     }
     Ok(())
 }
@@ -178,14 +185,13 @@ fn put_grid(alloc: Global, pen: &mut Pen, grid: &Grid) -> Result<(), AllocError>
 /// Where the items of lists begin.
 const INDENT: usize = 11;
 
-/// Puts lists, and an empty line after them unless both are empty.
+/// Puts lists, and an empty line before them unless both are empty.
 fn put_lists(pen: &mut Pen, lets: &Items, rows: &Items) -> Result<(), AllocError> {
-    put_list(pen, lets)?;
-    put_list(pen, rows)?;
-    if lets.items.is_empty() && rows.items.is_empty() {
-        return Ok(());
+    if !lets.items.is_empty() || !rows.items.is_empty() {
+        pen.end()?;
     }
-    pen.end()
+    put_list(pen, lets)?;
+    put_list(pen, rows)
 }
 
 /// Puts a list, as many items a line as it has room for.
@@ -207,16 +213,20 @@ fn put_list(pen: &mut Pen, list: &Items) -> Result<(), AllocError> {
     pen.end()
 }
 
-/// The tables and the lists of a picture.
+/// What is printed under a picture's sentence, an empty line before each table and before the lists.
 fn tables(alloc: Global, picture: &Picture) -> Result<Vec<u8>, AllocError> {
     let mut pen = Pen {
         out: Vec::new(alloc),
         column: 0,
         spaces: 0,
     };
-    put_grid(alloc, &mut pen, &picture.states)?;
-    put_grid(alloc, &mut pen, &picture.steps)?;
-    put_lists(&mut pen, &picture.lets, &picture.rows)?;
+    let tables = &picture.tables;
+    pen.end()?;
+    put_grid(alloc, &mut pen, &tables.states)?;
+    if let Some(steps) = &tables.steps {
+        put_grid(alloc, &mut pen, steps)?;
+    }
+    put_lists(&mut pen, &tables.lets, &tables.rows)?;
     let Pen { out, .. } = pen;
     Ok(out)
 }
@@ -228,21 +238,6 @@ pub fn text_of(alloc: Global, picture: &Picture) -> Result<Vec<u8>, AllocError>
 {
     let mut text = Vec::from_slice(alloc, picture.sentence.as_slice())?;
     let tables = tables(alloc, picture)?;
-    let rest = joined(alloc, b"\n\n", tables.as_slice(), LEGEND)?;
-    text.extend_from_slice(rest.as_slice())?;
+    text.extend_from_slice(tables.as_slice())?;
     Ok(text)
 }
-
-/// Three texts one after another.
-fn joined(alloc: Global, first: &[u8], second: &[u8], third: &[u8]) -> Result<Vec<u8>, AllocError> {
-    let mut text = Vec::from_slice(alloc, first)?;
-    text.extend_from_slice(second)?;
-    text.extend_from_slice(third)?;
-    Ok(text)
-}
-
-/// What the tables' signs mean.
-const LEGEND: &[u8] =
-    b"*: visible to the specification; f2: after 2 flush cycles; an empty cell is unchanged;
-an input stands under the state that its cycle led to; =: the same, #: differs
-";

@@ -1,9 +1,12 @@
 //! Values as they are printed.
 ghost use Rattle.std.specs.Prelude.{◌≡◌, ◌++◌, decimal, IfOk, OnOk};
 ghost use Rattle.bd_model.specs.DesignView.{design_view};
+ghost use Rattle.bd_slice.specs.Columns.{spot_value};
+ghost use Rattle.bd_slice.specs.declared.place.Spot.TheVariants as spot;
 ghost use Rattle.bd_picture.specs.Sentence.{sentence};
 
 use bd_model::{Condition, Design, Judged, Scalar, Value};
+use bd_slice::Spot;
 use itoa::Buffer;
 use std::alloc::{AllocError, Global};
 
@@ -22,13 +25,6 @@ pub fn push_scalar(out: &mut Vec<u8>, scalar: Scalar) -> Result<(), AllocError> 
         Scalar::Bool(false) => out.extend_from_slice(b"false"),
         Scalar::Word(word) => push_number(out, word),
     }
-}
-
-/// A truth value or a word as a text.
-pub fn scalar_text(alloc: Global, scalar: Scalar) -> Result<Vec<u8>, AllocError> {
-    let mut text = Vec::new(alloc);
-    push_scalar(&mut text, scalar)?;
-    Ok(text)
 }
 
 /// Whether a value is 0 or false.
@@ -61,19 +57,35 @@ pub fn elsewhere(alloc: Global, name: &[u8]) -> Result<Vec<u8>, AllocError> {
     Ok(text)
 }
 
-/// The word of a value at an address. A scalar counts as 0.
-pub fn word_at(value: &Value, address: u64) -> Scalar {
-    match value {
-        Value::Scalar(_) => Scalar::Word(0),
-        Value::Memory(memory) => Scalar::Word(memory.at(address)),
+/// The scalar that a state has at a place, false where there is none.
+fn scalar_at(state: &[Value], entry: u32) -> Scalar
+    ensures { result ≡ spot_value state.now (spot.Latch entry) }
+{
+    match state.get(entry as usize) {
+        Some(Value::Scalar(scalar)) => *scalar,
+        Some(Value::Memory(_)) => Scalar::Bool(false),
+        None => Scalar::Bool(false),
     }
 }
 
-/// The word of a value at the addresses that no row has, and a scalar itself.
-pub fn default_of(value: &Value) -> Scalar {
-    match value {
-        Value::Scalar(scalar) => *scalar,
-        Value::Memory(memory) => Scalar::Word(memory.default),
+/// The word at an address of the memory that a state has at a place, 0 where there is none.
+fn word_at(state: &[Value], entry: u32, address: u64) -> Scalar
+    ensures { result ≡ spot_value state.now (spot.Cell entry address) }
+{
+    match state.get(entry as usize) {
+        Some(Value::Memory(memory)) => Scalar::Word(memory.at(address)),
+        Some(Value::Scalar(_)) => Scalar::Word(0),
+        None => Scalar::Word(0),
+    }
+}
+
+/// A value of a state: false where a latch isn't there or is a memory, and 0 where a memory isn't one.
+pub fn value_of(state: &[Value], spot: Spot) -> Scalar
+    ensures { result ≡ spot_value state.now spot }
+{
+    match spot {
+        Spot::Latch(entry) => scalar_at(state, entry),
+        Spot::Cell(entry, address) => word_at(state, entry, address),
     }
 }
 
