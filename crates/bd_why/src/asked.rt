@@ -40,19 +40,39 @@ fn number_of(text: &[u8]) -> Option<u64> {
     Some(number)
 }
 
-/// The column that a text names.
+/// The number of flush cycles that a text is, such as `2`, or `f2` as in the head of a table.
+fn cycles_of(text: &[u8]) -> Option<u32> {
+    let digits = text.strip_prefix(b"f".as_slice()).unwrap_or(text);
+    u32::try_from(number_of(digits)?).ok()
+}
+
+/// The column after a number of steps, if there are so many.
+fn steps_column(design: &Design, number: &[u8]) -> Option<Column> {
+    let steps = u32::try_from(number_of(number)?).ok()?;
+    if steps <= design.steps {
+        Some(Column::Steps(steps))
+    } else {
+        None
+    }
+}
+
+/// The column that a text names: `before`, `after.2`, `after.f2`, `step.1`, or `j=1` as in the head of a table.
 fn column_of(design: &Design, text: &[u8]) -> Option<Column> {
+    if let Some(number) = text.strip_prefix(b"j=".as_slice()) {
+        return steps_column(design, number);
+    }
     let (start, number) = match split_at_byte(text, b'.') {
-        Some((start, number)) => (start, u32::try_from(number_of(number)?).ok()?),
-        None => (text, 0),
+        Some((start, number)) => (start, number),
+        None => (text, b"0".as_slice()),
     };
-    let is_flush = number <= design.flush;
-    if start == b"before".as_slice() && is_flush {
-        Some(Column::Before(number))
-    } else if start == b"after".as_slice() && is_flush {
-        Some(Column::After(number))
-    } else if start == b"step".as_slice() && number <= design.steps {
-        Some(Column::Steps(number))
+    if start == b"step".as_slice() {
+        return steps_column(design, number);
+    }
+    let cycles = cycles_of(number).filter(|cycles| *cycles <= design.flush)?;
+    if start == b"before".as_slice() {
+        Some(Column::Before(cycles))
+    } else if start == b"after".as_slice() {
+        Some(Column::After(cycles))
     } else {
         None
     }

@@ -18,6 +18,23 @@ pub fn decided_path(alloc: Global, reason: &Reason) -> Result<Vec<u64>, AllocErr
     Ok(path)
 }
 
+/// The way down to the part that the value comes from: as to the part that decides, and into a write that is met.
+pub fn value_path(alloc: Global, reason: &Reason) -> Result<Vec<u64>, AllocError> {
+    let mut path = Vec::new(alloc);
+    for fact in &reason.facts {
+        if fact.path.as_slice() == path.as_slice() {
+            let part = match fact.finding {
+                Finding::Met(_) => Some(2),
+                _ => decided_part(&fact.finding),
+            };
+            if let Some(part) = part {
+                path.push(part)?;
+            }
+        }
+    }
+    Ok(path)
+}
+
 /// The part that a finding points to.
 fn decided_part(finding: &Finding) -> Option<u64> {
     match finding {

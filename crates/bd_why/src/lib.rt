@@ -15,6 +15,7 @@ mod part;
 mod parting;
 mod report;
 mod source;
+mod suspect;
 mod telling;
 mod view;
 mod why;

@@ -21,6 +21,11 @@ pub fn missing_text(
         Missing::Column => {
             text.extend_from_slice(b"no such column; there are ")?;
             push_columns(&mut text, design)?;
+            if design.flush != 0 {
+                text.extend_from_slice(
+                    b"; f1 is before.1 on the left of the bar, after.1 on the right",
+                )?;
+            }
             text.push(b'\n')?;
             return Ok(text);
         }

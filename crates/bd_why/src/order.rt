@@ -1,25 +1,37 @@
 //! In which order the items behind a value are told.
 //!
-//! What is nearest to the value comes first. A word that the other side doesn't have is nearer than one that both have.
-//! Each item is told once. Where a value only stays what it was, its item is told of a cycle in which it changes, if
-//! there is one.
+//! The way of the wrong value comes first: what it was copied from, and the arguments in which its function differs from
+//! the other side's. Then comes what is nearest to that. A word that the other side doesn't have is nearer than one that
+//! both have. Each item is told once. Where a value only stays what it was, its item is told of a cycle in which it
+//! changes, if there is one.
 
 use crate::decided::{is_held, rests_of, taken_over};
+use crate::suspect::suspects_of;
 use crate::view::{Spot, View};
 use bd_model::Scalar;
-use bd_slice::{Reason, Reasons, Subject};
+use bd_slice::{Finding, Reason, Reasons, Subject};
 use indexmap::IndexSet;
 use std::alloc::{AllocError, Global};
 
-/// The words of the values that a side rests on.
-pub fn words_of(alloc: Global, reasons: &Reasons) -> Result<IndexSet<u64>, AllocError> {
+/// The words of the values that a side rests on, and of its applications.
+fn words_of(alloc: Global, reasons: &Reasons) -> Result<IndexSet<u64>, AllocError> {
     let mut words = IndexSet::new(alloc);
     for reason in reasons.as_slice() {
-        if let Scalar::Word(word) = reason.value {
-            words.insert(word)?;
+        add_word(&mut words, reason.value)?;
+        for fact in &reason.facts {
+            if let Finding::Applied(_, _, value) = fact.finding {
+                add_word(&mut words, value)?;
+            }
         }
     }
     Ok(words)
+}
+
+fn add_word(words: &mut IndexSet<u64>, value: Scalar) -> Result<(), AllocError> {
+    if let Scalar::Word(word) = value {
+        words.insert(word)?;
+    }
+    Ok(())
 }
 
 /// The items of which some value doesn't only stay what it was.
@@ -47,13 +59,20 @@ fn held_from(alloc: Global, reason: &Reason) -> Result<Option<Subject>, AllocErr
     }
 }
 
-/// A search from a value down to what it rests on: the values met at each distance from it, and how far the search is.
+/// A value that is met, and whether it may be wrong.
+#[derive(Clone, Copy)]
+struct Met {
+    subject: Subject,
+    is_suspect: bool,
+}
+
+/// A search from a value down to what it rests on: the values met at each distance from it and not left yet, and how far
+/// the search is.
 #[derive(Drop)]
 struct Search {
     alloc: Global,
-    levels: Vec<Vec<Subject>>,
+    levels: Vec<Vec<Met>>,
     distance: usize,
-    place: usize,
     seen: IndexSet<Subject>,
 }
 
@@ -63,77 +82,95 @@ impl Search {
             alloc,
             levels: Vec::new(alloc),
             distance: 0,
-            place: 0,
             seen: IndexSet::new(alloc),
+        };
+        let root = Met {
+            subject: root,
+            is_suspect: true,
         };
         search.add(root, 0)?;
         Ok(search)
     }
 
     /// Adds a value that is so much further than where the search is.
-    fn add(&mut self, subject: Subject, further: usize) -> Result<(), AllocError> {
+    fn add(&mut self, met: Met, further: usize) -> Result<(), AllocError> {
         let distance = self.distance.saturating_add(further);
         for _level in self.levels.len()..distance.saturating_add(1) {
             self.levels.push(Vec::new(self.alloc))?;
         }
         if let Some(level) = self.levels.get_mut(distance) {
-            level.push(subject)?;
+            level.push(met)?;
         }
         Ok(())
     }
 
-    /// The nearest value that is left.
-    fn pop(&mut self) -> Option<Subject> {
+    /// The nearest value that is left. Of those that are as near it is the one that was met last.
+    fn pop(&mut self) -> Option<Met> {
         for _level in self.distance..self.levels.len() {
-            let level = self.levels.get(self.distance)?;
-            if let Some(subject) = level.get(self.place).copied() {
-                self.place = self.place.saturating_add(1);
-                return Some(subject);
+            if let Some(met) = self.levels.get_mut(self.distance)?.pop() {
+                return Some(met);
             }
             self.distance = self.distance.saturating_add(1);
-            self.place = 0;
         }
         None
     }
 
     /// The nearest value that is left and wasn't met before.
-    fn pop_new(&mut self) -> Result<Option<Subject>, AllocError> {
+    fn pop_new(&mut self) -> Result<Option<Met>, AllocError> {
         for _value in 0..usize::MAX {
-            let Some(subject) = self.pop() else {
+            let Some(met) = self.pop() else {
                 return Ok(None);
             };
-            if self.seen.insert(subject)? {
-                return Ok(Some(subject));
+            if self.seen.insert(met.subject)? {
+                return Ok(Some(met));
             }
         }
         Ok(None)
     }
 
-    /// Goes on with what a value rests on: where it only stays what it was, with that as near as itself.
+    /// Goes on with what a value rests on. What may be wrong is as near as the value itself, and so is a truth value that
+    /// is copied, and what it was before where it only stays that.
     fn go_on(
         &mut self,
         reason: &Reason,
         held: Option<Subject>,
+        suspects: &IndexSet<Subject>,
         shared: &IndexSet<u64>,
     ) -> Result<(), AllocError> {
-        for (subject, value) in rests_of(self.alloc, reason)? {
+        let copied = copied_bit(self.alloc, reason)?;
+        let rests = rests_of(self.alloc, reason)?;
+        for (subject, value) in rests.iter().rev().copied() {
+            let is_suspect = suspects.contains(&subject);
             let further = match held {
+                _ if is_suspect || copied == Some(subject) => 0,
                 Some(before) if before == subject => 0,
                 Some(_) => HELD,
                 None if is_shared(value, shared) => SHARED,
                 None => 1,
             };
-            self.add(subject, further)?;
+            let met = Met {
+                subject,
+                is_suspect,
+            };
+            self.add(met, further)?;
         }
         Ok(())
     }
 }
 
+/// The value that a truth value is a copy of.
+fn copied_bit(alloc: Global, reason: &Reason) -> Result<Option<Subject>, AllocError> {
+    match reason.value {
+        Scalar::Bool(_) => taken_over(alloc, reason),
+        Scalar::Word(_) => Ok(None),
+    }
+}
+
 /// How far that is by which a value only stays what it was.
-const HELD: usize = 4;
+const HELD: usize = 5;
 
 /// How far a word is that both sides have.
-const SHARED: usize = 3;
+const SHARED: usize = 5;
 
 /// Whether the other side has this word too.
 fn is_shared(value: Scalar, shared: &IndexSet<u64>) -> bool {
@@ -167,7 +204,8 @@ impl Order {
         alloc: Global,
         view: &View<'_, '_>,
         reason: &Reason,
-        shared: &IndexSet<u64>,
+        is_suspect: bool,
+        other: &Other<'_>,
     ) -> Result<(), AllocError> {
         let held = held_from(alloc, reason)?;
         if let Some(spot) = view.spot(reason.subject) {
@@ -175,7 +213,12 @@ impl Order {
                 self.tell(spot, reason.subject)?;
             }
         }
-        self.search.go_on(reason, held, shared)
+        let suspects = if is_suspect {
+            suspects_of(alloc, reason, other.reasons)?
+        } else {
+            IndexSet::new(alloc)
+        };
+        self.search.go_on(reason, held, &suspects, &other.words)
     }
 
     /// Goes on until no value is left.
@@ -184,28 +227,35 @@ impl Order {
         alloc: Global,
         view: &View<'_, '_>,
         reasons: &Reasons,
-        shared: &IndexSet<u64>,
+        other: &Other<'_>,
     ) -> Result<(), AllocError> {
         for _value in 0..usize::MAX {
-            let Some(subject) = self.search.pop_new()? else {
+            let Some(met) = self.search.pop_new()? else {
                 return Ok(());
             };
-            if let Some(reason) = reasons.of(subject) {
-                self.visit(alloc, view, reason, shared)?;
+            if let Some(reason) = reasons.of(met.subject) {
+                self.visit(alloc, view, reason, met.is_suspect, other)?;
             }
         }
         Ok(())
     }
 }
 
-/// The values that are told of what this one rests on, in order, each of an item of its own. `shared` are the words that
-/// the other side has.
+/// The reasons of the other side, and its words.
+#[derive(Drop)]
+struct Other<'a> {
+    reasons: &'a Reasons,
+    words: IndexSet<u64>,
+}
+
+/// The values that are told of what this one rests on, in order, each of an item of its own. `other` are the reasons of
+/// the other side.
 pub fn order_of(
     alloc: Global,
     view: &View<'_, '_>,
     reasons: &Reasons,
     root: Subject,
-    shared: &IndexSet<u64>,
+    other: &Reasons,
 ) -> Result<Vec<Subject>, AllocError> {
     let changing = changing(alloc, view, reasons)?;
     let search = Search::new(alloc, root)?;
@@ -215,7 +265,11 @@ pub fn order_of(
         spots: IndexSet::new(alloc),
         subjects: Vec::new(alloc),
     };
-    order.visit_all(alloc, view, reasons, shared)?;
+    let other = Other {
+        reasons: other,
+        words: words_of(alloc, other)?,
+    };
+    order.visit_all(alloc, view, reasons, &other)?;
     let Order { subjects, .. } = order;
     Ok(subjects)
 }

@@ -3,12 +3,12 @@
 
 use crate::decided::decided_path;
 use crate::listing::{Item, offset_of};
-use crate::part::{Line, end_of, part_at};
+use crate::part::{end_of, part_at};
 use crate::source::Source;
 use crate::view::View;
 use crate::words::{push_application, push_cycle, push_name, push_number, push_scalar};
 use bd_slice::{Fact, Finding, Reason};
-use bd_text::Tree;
+use bd_text::{Line, Tree};
 use std::alloc::{AllocError, Global};
 
 /// The most bytes of what a value is told to rest on.

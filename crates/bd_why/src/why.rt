@@ -4,7 +4,7 @@ use crate::asked::{Asked, Missing, asked_of};
 use crate::flushed::is_short;
 use crate::listing::Listing;
 use crate::missing::missing_text;
-use crate::order::{order_of, words_of};
+use crate::order::order_of;
 use crate::parting::{Parting, both_sides, nearest, parting_of};
 use crate::report::{Report, Room};
 use crate::source::{Sources, Why};
@@ -12,7 +12,6 @@ use crate::view::View;
 use bd_diagram::{Diagram, diagram_of};
 use bd_model::{Case, Condition, Design, Judged};
 use bd_slice::{Column, History, Reasons, Subject, history_of, reasons_of};
-use indexmap::IndexSet;
 use std::alloc::{AllocError, Global};
 
 /// The room of a value by itself: a screen.
@@ -169,7 +168,8 @@ fn one_side(
     subject: Subject,
 ) -> Result<Vec<u8>, AllocError> {
     let reasons = reasons_of(alloc, view.design, case, history, &[subject])?;
-    let order = order_of(alloc, view, &reasons, subject, &IndexSet::new(alloc))?;
+    let nothing = reasons_of(alloc, view.design, case, history, &[])?;
+    let order = order_of(alloc, view, &reasons, subject, &nothing)?;
     let mut report = Report::new(alloc);
     report.side(alloc, view, &reasons, subject, order.as_slice(), ALONE)?;
     Ok(report.into_text())
@@ -205,7 +205,6 @@ fn add_side(
     other: &Reasons,
     room: Room,
 ) -> Result<(), AllocError> {
-    let shared = words_of(alloc, other)?;
-    let order = order_of(alloc, view, reasons, root, &shared)?;
+    let order = order_of(alloc, view, reasons, root, other)?;
     report.side(alloc, view, reasons, root, order.as_slice(), room)
 }
