@@ -1,0 +1,72 @@
+//! Functions that take another number of words, or that the files declare differently: E10, E15, E16 and E18.
+
+use crate::cases::wrong_row;
+use crate::declared::{Declared, Kind};
+use crate::lines::Lines;
+use crate::view::{View, put_arity, put_described};
+use bd_typer::Text;
+use std::alloc::AllocError;
+
+/// What helps at an application with a wrong number of words, or at such a row.
+pub fn wrong_arity(view: &View<'_>, out: &mut Lines) -> Result<(), AllocError> {
+    if matches!(view.fault.file, Text::Case | Text::Trail) {
+        return wrong_row(view, out);
+    }
+    let Some(name) = view.way.atom() else {
+        return Ok(());
+    };
+    let (Some(declared), Some(given)) = (view.usable(name), view.way.applied()) else {
+        return Ok(());
+    };
+    out.put(&[name])?;
+    put_arity(out, b" takes ", declared.kind.arity().unwrap_or(0))?;
+    put_arity(out, b", and is given ", given)?;
+    out.end()?;
+    view.mark(out, &declared, b"declared here")
+}
+
+/// What helps at a latch or memory of the specification that the pipeline hasn't.
+pub fn not_in_pipeline(view: &View<'_>, out: &mut Lines) -> Result<(), AllocError> {
+    let Some(name) = view.way.atom() else {
+        return Ok(());
+    };
+    if view.declared_in(Text::Pipe, name).is_some() {
+        return differs(view, out);
+    }
+    out.say(&[b"each latch and memory of a specification is one of its pipeline"])?;
+    match view.near_entry(Text::Pipe, name)? {
+        Some(found) => view.note(out, b"near: ", &found),
+        None => Ok(()),
+    }
+}
+
+/// What helps at a name that the two files declare differently.
+pub fn differs(view: &View<'_>, out: &mut Lines) -> Result<(), AllocError> {
+    let Some(name) = view.way.atom() else {
+        return Ok(());
+    };
+    if let Some(found) = view.declared_in(Text::Spec, name) {
+        out.put(&[b"in the specification "])?;
+        put_described(out, &found)?;
+        out.end()?;
+    }
+    match view.declared_in(Text::Pipe, name) {
+        Some(found) => view.note(out, b"in the pipeline ", &found),
+        None => Ok(()),
+    }
+}
+
+/// What helps at a name in a group of constants that is none.
+pub fn not_constant(view: &View<'_>, out: &mut Lines) -> Result<(), AllocError> {
+    let Some(name) = view.way.atom() else {
+        return Ok(());
+    };
+    let Some(found) = view.usable(name) else {
+        return Ok(());
+    };
+    view.note(out, b"", &found)?;
+    match found.kind {
+        Kind::Function(_) => out.say(&[b"distinct is of functions of no word"]),
+        _ => out.say(&[b"distinct is of constants, which are declared by (function NAME 0)"]),
+    }
+}

@@ -1,0 +1,139 @@
+//! What the files declare.
+
+use crate::file::{File, Headed, atom_at, list_of};
+use bd_model::Sort;
+use bd_text::Tree;
+use bd_typer::Text;
+use std::alloc::{AllocError, Global};
+
+/// What a name is declared as.
+#[derive(Clone, Copy, Debug, PartialEq, Eq)]
+pub enum Kind {
+    Latch(Sort),
+    Memory,
+    Input(Sort),
+    Let(Sort),
+    Function(u64),
+    Predicate(u64),
+}
+
+/// A declaration: its file, the name and where it stands, and its item.
+#[derive(Clone, Copy)]
+pub struct Declared<'t> {
+    pub file: Text,
+    pub kind: Kind,
+    pub at: usize,
+    pub name: &'t [u8],
+    pub item: Headed<'t>,
+}
+
+/// The sort that a text names.
+pub fn sort_named(text: &[u8]) -> Option<Sort> {
+    match text {
+        b"bool" => Some(Sort::Bool),
+        b"word" => Some(Sort::Word),
+        b"memory" => Some(Sort::Memory),
+        _ => None,
+    }
+}
+
+/// The text of a sort.
+pub fn sort_text(sort: Sort) -> &'static [u8] {
+    match sort {
+        Sort::Bool => b"bool",
+        Sort::Word => b"word",
+        Sort::Memory => b"memory",
+    }
+}
+
+/// The number of words that one digit gives.
+fn arity_of(text: &[u8]) -> Option<u64> {
+    match text {
+        [digit] => Some(u64::from(digit.checked_sub(b'0')?)).filter(|number| *number < 9),
+        _ => None,
+    }
+}
+
+impl Kind {
+    /// The sort of the name as a value.
+    pub fn sort(self) -> Option<Sort> {
+        match self {
+            Kind::Latch(sort) | Kind::Input(sort) | Kind::Let(sort) => Some(sort),
+            Kind::Memory => Some(Sort::Memory),
+            Kind::Function(_) | Kind::Predicate(_) => None,
+        }
+    }
+
+    /// How many words an application of the name takes.
+    pub fn arity(self) -> Option<u64> {
+        match self {
+            Kind::Function(arity) | Kind::Predicate(arity) => Some(arity),
+            _ => None,
+        }
+    }
+
+    /// The sort of an application of the name.
+    pub fn result(self) -> Option<Sort> {
+        match self {
+            Kind::Function(_) => Some(Sort::Word),
+            Kind::Predicate(_) => Some(Sort::Bool),
+            _ => None,
+        }
+    }
+
+    /// Whether it's a latch or a memory.
+    pub fn is_entry(self) -> bool {
+        matches!(self, Kind::Latch(_) | Kind::Memory)
+    }
+
+    /// Whether it's a let.
+    pub fn is_let(self) -> bool {
+        matches!(self, Kind::Let(_))
+    }
+}
+
+/// What an item declares its name as.
+fn kind_of(item: Headed<'_>) -> Option<Kind> {
+    let second = atom_at(item.parts, 2);
+    match item.head {
+        b"latch" => Some(Kind::Latch(sort_named(second?)?)),
+        b"memory" => Some(Kind::Memory),
+        b"input" => Some(Kind::Input(sort_named(second?)?)),
+        b"let" => Some(Kind::Let(sort_named(second?)?)),
+        b"function" => Some(Kind::Function(arity_of(second?)?)),
+        b"predicate" => Some(Kind::Predicate(arity_of(second?)?)),
+        _ => None,
+    }
+}
+
+/// The declaration that an item is.
+fn declaration_of(file: Text, tree: &Tree) -> Option<Declared<'_>> {
+    let item = list_of(tree)?;
+    let (at, name) = item.name()?;
+    Some(Declared {
+        file,
+        kind: kind_of(item)?,
+        at,
+        name,
+        item,
+    })
+}
+
+/// The declarations of files, in their order. The entries of a case declare nothing.
+pub fn declarations<'f>(
+    alloc: Global,
+    files: &'f [File<'f>],
+) -> Result<Vec<Declared<'f>>, AllocError> {
+    let mut found = Vec::new(alloc);
+    for file in files {
+        if matches!(file.source.file, Text::Case | Text::Trail) {
+            continue;
+        }
+        for tree in file.items() {
+            if let Some(declared) = declaration_of(file.source.file, tree) {
+                found.push(declared)?;
+            }
+        }
+    }
+    Ok(found)
+}

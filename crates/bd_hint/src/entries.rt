@@ -1,0 +1,53 @@
+//! Entries of cases and trails: how each is written.
+
+use crate::declared::{Declared, Kind};
+use crate::lines::Lines;
+use crate::view::put_described;
+use bd_model::Sort;
+use std::alloc::AllocError;
+
+/// How an entry is written.
+pub fn entry_form(head: &[u8]) -> Option<&'static [u8]> {
+    match head {
+        b"latch" => Some(b"(latch NAME VALUE)"),
+        b"memory" => Some(b"(memory NAME DEFAULT (ADDRESS WORD) ..)"),
+        b"input" => Some(b"(input NAME VALUE), in a trail with a value for each cycle"),
+        b"function" => Some(b"(function NAME DEFAULT (WORD .. WORD) ..)"),
+        b"predicate" => Some(b"(predicate NAME DEFAULT (WORD .. VALUE) ..)"),
+        b"constant" => Some(b"(constant NAME WORD), in (case 2 ..)"),
+        _ => None,
+    }
+}
+
+/// The word that the entry of a declared name begins with.
+pub fn entry_head(kind: Kind) -> &'static [u8] {
+    match kind {
+        Kind::Latch(_) => b"latch",
+        Kind::Memory => b"memory",
+        Kind::Input(_) => b"input",
+        Kind::Function(_) => b"function",
+        Kind::Predicate(_) => b"predicate",
+        Kind::Let(_) => b"let",
+    }
+}
+
+/// The sort of the values that the entry of a declared name has.
+fn value_sort(kind: Kind) -> Sort {
+    match (kind.sort(), kind.result()) {
+        (Some(Sort::Memory), _) => Sort::Word,
+        (Some(sort), _) => sort,
+        (None, Some(sort)) => sort,
+        (None, None) => Sort::Word,
+    }
+}
+
+/// Adds which values an entry has.
+pub fn say_values(out: &mut Lines, declared: &Declared<'_>) -> Result<(), AllocError> {
+    put_described(out, declared)?;
+    match value_sort(declared.kind) {
+        Sort::Bool => out.say(&[b": its values are true and false"]),
+        _ => out.say(&[
+            b": its values are numbers from 0 to 18446744073709551615, without zeros before them",
+        ]),
+    }
+}

@@ -1,0 +1,256 @@
+//! Forms of items and expressions, and what is wrong with one: E05, E11 and E14.
+
+use crate::declared::sort_named;
+use crate::file::{Headed, atom_at, list_of, parts_of};
+use crate::lines::Lines;
+use crate::near::nearest_word;
+use crate::source::{kind_form, kind_text};
+use crate::view::View;
+use bd_syntax::Operator;
+use bd_syntax::lists::offset_of;
+use bd_text::Tree;
+use bd_typer::Text;
+use std::alloc::AllocError;
+
+/// What items begin with.
+const HEADS: [&[u8]; 12] = [
+    b"latch",
+    b"memory",
+    b"input",
+    b"function",
+    b"predicate",
+    b"let",
+    b"next",
+    b"flush",
+    b"steps",
+    b"exact",
+    b"distinct",
+    b"abstract",
+];
+
+/// What is said of an item inside another list.
+pub const STRAY: &[u8] = b"this item stands inside another: a ) may be missing before it";
+
+/// How an item is written.
+pub fn item_form(head: &[u8]) -> Option<&'static [u8]> {
+    match head {
+        b"latch" => Some(b"(latch NAME word) or (latch NAME bool)"),
+        b"memory" => Some(b"(memory NAME)"),
+        b"input" => Some(
+            b"(input NAME word EXPRESSION) or (input NAME bool EXPRESSION), with its value in flush cycles",
+        ),
+        b"function" => Some(b"(function NAME N), of 0 to 8 words"),
+        b"predicate" => Some(b"(predicate NAME N), of 0 to 8 words"),
+        b"let" => Some(b"(let NAME SORT EXPRESSION), of sort word, bool or memory"),
+        b"next" => Some(b"(next NAME EXPRESSION)"),
+        b"flush" => Some(b"(flush N), with 0 to 64 cycles"),
+        b"steps" => Some(b"(steps N), with 0 to 8 steps"),
+        b"exact" => Some(b"(exact N CONDITION), with 0 to 8 steps"),
+        b"distinct" => Some(b"(distinct NAME NAME ..), with two names or more"),
+        b"abstract" => Some(b"(abstract NAME EXPRESSION)"),
+        _ => None,
+    }
+}
+
+/// How an expression of an operator is written.
+pub fn operator_form(head: &[u8]) -> Option<&'static [u8]> {
+    match head {
+        b"not" => Some(b"(not P)"),
+        b"and" => Some(b"(and P Q ..), with two parts or more"),
+        b"or" => Some(b"(or P Q ..), with two parts or more"),
+        b"implies" => Some(b"(implies P Q)"),
+        b"iff" => Some(b"(iff P Q)"),
+        b"=" => Some(b"(= X Y)"),
+        b"ite" => Some(b"(ite P X Y)"),
+        b"read" => Some(b"(read MEMORY X)"),
+        b"write" => Some(b"(write MEMORY X Y)"),
+        _ => None,
+    }
+}
+
+/// That a form is wanted, and how many parts are given after the head.
+pub fn say_wanted(out: &mut Lines, form: &[u8], list: Headed<'_>) -> Result<(), AllocError> {
+    out.say(&[b"wanted: ", form])?;
+    out.put(&[b"given: (", list.head, b" ..) with "])?;
+    match list.count() {
+        0 => out.put(&[b"no parts"])?,
+        1 => out.put(&[b"1 part"])?,
+        count => {
+            out.put_number(count as u64)?;
+            out.put(&[b" parts"])?;
+        }
+    }
+    out.end()
+}
+
+/// The first part of a list that is an item, where a bracket may be missing.
+fn swallowed<'t>(list: Headed<'t>) -> Option<&'t Tree> {
+    for part in list.parts {
+        if let Some(inner) = list_of(part) {
+            if item_form(inner.head).is_some() && Operator::from_text(inner.head).is_none() {
+                return Some(part);
+            }
+        }
+    }
+    None
+}
+
+/// Where the item begins that the end of the way stands in, if that is inside another item.
+pub fn stray(view: &View<'_>) -> Option<usize> {
+    let last = view.way.last()?;
+    let head = atom_at(last.parts, 0)?;
+    if view.way.depth() > 2 && item_form(head).is_some() {
+        Some(last.offset)
+    } else {
+        None
+    }
+}
+
+/// What helps at a list with a wrong number of parts.
+fn at_form(
+    view: &View<'_>,
+    out: &mut Lines,
+    form: &[u8],
+    list: Headed<'_>,
+) -> Result<(), AllocError> {
+    say_wanted(out, form, list)?;
+    match swallowed(list) {
+        Some(part) => out.note(view.file.source, offset_of(part), &[STRAY]),
+        None => Ok(()),
+    }
+}
+
+/// What helps where an item begins with a word that no item has.
+fn unknown_item(view: &View<'_>, out: &mut Lines, head: &[u8]) -> Result<(), AllocError> {
+    let file = view.fault.file;
+    if matches!(file, Text::Inv | Text::Start) {
+        return out.say(&[
+            kind_text(file),
+            b" has lets and then one expression: join several by (and P Q ..)",
+        ]);
+    }
+    if let Some(word) = nearest_word(view.alloc, head, &HEADS)? {
+        return out.say(&[b"near: ", item_form(word).unwrap_or(word)]);
+    }
+    out.say(&[b"no item begins with ", head])?;
+    out.say(&[
+        b"items: latch, memory, input, function, predicate, let, next, flush, steps, exact, distinct",
+    ])
+}
+
+/// What helps at a list with the wrong parts.
+fn at_list(view: &View<'_>, out: &mut Lines, tree: &Tree) -> Result<(), AllocError> {
+    let is_item = view.way.depth() == 1;
+    let Some(list) = list_of(tree) else {
+        return match (is_item, parts_of(tree)) {
+            (true, _) => out.say(&[b"an item begins with a word, as (latch NAME word)"]),
+            (false, _) => out.say(&[
+                b"a list begins with an operator, or the name of a function or predicate",
+            ]),
+        };
+    };
+    match (is_item, item_form(list.head), operator_form(list.head)) {
+        (true, Some(form), _) => at_form(view, out, form, list),
+        (_, _, Some(form)) if !is_item || is_value(view) => at_form(view, out, form, list),
+        (true, None, _) => unknown_item(view, out, list.head),
+        _ => at_part(view, out),
+    }
+}
+
+/// Whether the end of the way is the expression of an invariant or a start.
+fn is_value(view: &View<'_>) -> bool {
+    match view.way.last() {
+        Some(level) => {
+            matches!(view.fault.file, Text::Inv | Text::Start)
+                && level.place.saturating_add(1) == level.parts.len()
+        }
+        None => false,
+    }
+}
+
+/// What helps at a part of an item that is no sort, name or number.
+fn at_part(view: &View<'_>, out: &mut Lines) -> Result<(), AllocError> {
+    let Some((item, place)) = view.way.item() else {
+        return Ok(());
+    };
+    let is_memory = matches!(view.way.atom(), Some(b"memory")) && item.head == b"latch".as_slice();
+    if is_memory {
+        return out.say(&[b"wanted: (memory NAME), or a latch of sort word or bool"]);
+    }
+    if let (Some(atom), 2) = (view.way.atom(), place) {
+        if sort_named(atom).is_none() {
+            out.say(&[b"no sort is called ", atom])?;
+        }
+    }
+    match item_form(item.head) {
+        Some(form) => out.say(&[b"wanted: ", form]),
+        None => Ok(()),
+    }
+}
+
+/// What helps at a malformed form.
+pub fn malformed(view: &View<'_>, out: &mut Lines) -> Result<(), AllocError> {
+    let file = view.fault.file;
+    match (view.way.end, view.way.depth()) {
+        (Some(_), 0) => out.say(&[kind_text(file), b" is written ", kind_form(file)]),
+        (Some(Tree::Atom { text, .. }), 1) => match item_form(text.as_slice()) {
+            Some(form) => out.say(&[b"wanted: ", form]),
+            None => out.say(&[b"an item is a list, as (latch NAME word)"]),
+        },
+        (Some(Tree::Atom { .. }), _) => at_part(view, out),
+        (Some(tree), depth) => {
+            if depth == 2 && names_part(view) {
+                return at_part(view, out);
+            }
+            at_list(view, out, tree)
+        }
+        (None, _) => Ok(()),
+    }
+}
+
+/// Whether the end of the way stands where a name, a sort or a number is wanted.
+fn names_part(view: &View<'_>) -> bool {
+    match view.way.item() {
+        Some((item, place)) => {
+            item_form(item.head).is_some()
+                && (place == 1 || (place == 2 && item.parts.len() == 4))
+                && item.head != b"exact".as_slice()
+        }
+        None => false,
+    }
+}
+
+/// What helps at a number that is none or out of range.
+pub fn at_number(view: &View<'_>, out: &mut Lines) -> Result<(), AllocError> {
+    let form = match view.way.item() {
+        Some((item, _)) => item_form(item.head),
+        None => None,
+    };
+    if let Some(form) = form {
+        out.say(&[b"wanted: ", form])?;
+    }
+    match view.way.atom() {
+        Some([b'0', _, ..]) => out.say(&[b"a number has no zeros before it"]),
+        _ => Ok(()),
+    }
+}
+
+/// What helps at an item that stands in a file of another kind.
+pub fn elsewhere(view: &View<'_>, out: &mut Lines) -> Result<(), AllocError> {
+    let file = view.fault.file;
+    let head = match view.way.end {
+        Some(tree) => list_of(tree),
+        None => None,
+    };
+    match (file, head) {
+        (Text::Spec, Some(list)) => out.say(&[
+            b"only a pipeline has (",
+            list.head,
+            b" ..): a specification has no inputs and makes one step at a time",
+        ]),
+        (Text::Comp, _) => out.say(&[
+            b"a completion function has lets, and after them its abstracts and nothing else",
+        ]),
+        _ => out.say(&[kind_text(file), b" has lets and then one expression"]),
+    }
+}

@@ -1,0 +1,177 @@
+//! What there is to look at: the files, their declarations, and the way down to the fault.
+
+use crate::declared::{Declared, Kind, sort_text};
+use crate::file::File;
+use crate::lines::Lines;
+use crate::near::nearest;
+use crate::source::{Fault, Source};
+use crate::way::Way;
+use bd_typer::Text;
+use indexmap::IndexMap;
+use std::alloc::{AllocError, Global};
+
+/// The file with the fault, all files and declarations, and the way down to the fault.
+#[derive(Drop)]
+pub struct View<'v> {
+    pub alloc: Global,
+    pub fault: Fault,
+    pub file: &'v File<'v>,
+    pub files: &'v [File<'v>],
+    pub declared: &'v [Declared<'v>],
+    pub way: Way<'v>,
+}
+
+/// Whether a name is one that the expressions of a file, or a case's entries, may use.
+fn may_use(file: Text, declared: &Declared<'_>) -> bool {
+    if declared.file == file {
+        return true;
+    }
+    match (file, declared.file) {
+        (Text::Pipe | Text::Spec, _) => false,
+        (_, Text::Pipe) => !declared.kind.is_let(),
+        (_, Text::Spec) => declared.kind.arity().is_some(),
+        _ => false,
+    }
+}
+
+impl<'v> View<'v> {
+    /// The source of a kind.
+    pub fn source(&self, file: Text) -> Option<Source<'v>> {
+        for other in self.files {
+            if other.source.file == file {
+                return Some(other.source);
+            }
+        }
+        None
+    }
+
+    /// The first declaration of a name in a file of this kind.
+    pub fn declared_in(&self, file: Text, name: &[u8]) -> Option<Declared<'v>> {
+        self.declared
+            .iter()
+            .copied()
+            .find(|other| other.file == file && other.name == name)
+    }
+
+    /// What the names of a file of this kind are declared as.
+    pub fn names_in(&self, file: Text) -> Result<IndexMap<&'v [u8], Declared<'v>>, AllocError> {
+        let mut names = IndexMap::new(self.alloc);
+        for other in self.declared {
+            if other.file == file {
+                names.insert(other.name, *other)?;
+            }
+        }
+        Ok(names)
+    }
+
+    /// The first declaration of a name in any file.
+    pub fn declared_anywhere(&self, name: &[u8]) -> Option<Declared<'v>> {
+        self.declared
+            .iter()
+            .copied()
+            .find(|other| other.name == name)
+    }
+
+    /// The declaration of a name that the file with the fault may use.
+    pub fn usable(&self, name: &[u8]) -> Option<Declared<'v>> {
+        let file = self.fault.file;
+        self.declared
+            .iter()
+            .copied()
+            .find(|other| other.name == name && may_use(file, other))
+    }
+
+    /// The first declaration of a near name, of those that pass a test.
+    pub fn near<F: Fn(&Declared<'v>) -> bool>(
+        &self,
+        name: &[u8],
+        passes: F,
+    ) -> Result<Option<Declared<'v>>, AllocError>
+        requires { F.IsAlwaysCallable passes }
+    {
+        let mut candidates = Vec::new(self.alloc);
+        let mut names = Vec::new(self.alloc);
+        for other in self.declared {
+            if passes(other) {
+                candidates.push(*other)?;
+                names.push(other.name)?;
+            }
+        }
+        match nearest(self.alloc, name, names.as_slice())? {
+            Some(place) => Ok(candidates.as_slice().get(place).copied()),
+            None => Ok(None),
+        }
+    }
+
+    /// The first latch or memory of a file with a near name.
+    pub fn near_entry(&self, file: Text, name: &[u8]) -> Result<Option<Declared<'v>>, AllocError> {
+        self.near(name, |other| other.file == file && other.kind.is_entry())
+    }
+
+    /// The first usable name that is near.
+    pub fn near_usable(&self, name: &[u8]) -> Result<Option<Declared<'v>>, AllocError> {
+        let file = self.fault.file;
+        self.near(name, |other| may_use(file, other))
+    }
+
+    /// The first usable function or predicate with a near name.
+    pub fn near_symbol(&self, name: &[u8]) -> Result<Option<Declared<'v>>, AllocError> {
+        let file = self.fault.file;
+        self.near(
+            name,
+            |other| may_use(file, other) && other.kind.arity().is_some(),
+        )
+    }
+
+    /// Adds where a name is declared, and these words.
+    pub fn mark(
+        &self,
+        out: &mut Lines,
+        declared: &Declared<'_>,
+        words: &[u8],
+    ) -> Result<(), AllocError> {
+        match self.source(declared.file) {
+            Some(source) => out.note(source, declared.at, &[words]),
+            None => Ok(()),
+        }
+    }
+
+    /// Adds where a name is declared, and as what, after these words.
+    pub fn note(
+        &self,
+        out: &mut Lines,
+        lead: &[u8],
+        declared: &Declared<'_>,
+    ) -> Result<(), AllocError> {
+        let mut words = Lines::new(self.alloc);
+        words.put(&[lead])?;
+        put_described(&mut words, declared)?;
+        self.mark(out, declared, words.into_bytes().as_slice())
+    }
+}
+
+/// Adds what a name is declared as.
+pub fn put_described(out: &mut Lines, declared: &Declared<'_>) -> Result<(), AllocError> {
+    out.put(&[declared.name, b" is "])?;
+    match declared.kind {
+        Kind::Latch(sort) => out.put(&[b"a latch of sort ", sort_text(sort)]),
+        Kind::Memory => out.put(&[b"a memory"]),
+        Kind::Input(sort) => out.put(&[b"an input of sort ", sort_text(sort)]),
+        Kind::Let(sort) => out.put(&[b"a let of sort ", sort_text(sort)]),
+        Kind::Function(arity) => put_arity(out, b"a function of ", arity),
+        Kind::Predicate(arity) => put_arity(out, b"a predicate of ", arity),
+    }
+}
+
+/// Adds how many words something is of.
+pub fn put_arity(out: &mut Lines, words: &[u8], arity: u64) -> Result<(), AllocError> {
+    out.put(&[words])?;
+    match arity {
+        0 => out.put(&[b"no word"]),
+        1 => out.put(&[b"1 word"]),
+        _ => {
+            out.put_number(arity)?;
+            out.put(&[b" words"])
+        }
+    }
+}
