@@ -1,8 +1,6 @@
 //! Pipelines, each with its specification.
 use crate::draft::{DesignDraft, Draft, MachineDraft, NO_MACHINE, PLAIN, SymbolDraft};
-use Draft::{
-    And, Apply, Entry, Equal, Iff, Implies, Input, Ite, Local, Not, Or, Read, Truth, Write,
-};
+use Draft::{Apply, Entry, Equal, Iff, Input, Ite, Local, Not, Read, Truth, Write};
 use SymbolDraft::{Function, Predicate};
 use bd_model::Sort;
 
@@ -288,46 +286,6 @@ pub static DISTINCT_CONSTANTS: DesignDraft = DesignDraft {
     ..PLAIN
 };
 
-/// Each kind of item and of expression, and a specification with its entries in another order and with symbols of
-/// its own.
-pub static EACH_ITEM: DesignDraft = DesignDraft {
-    symbols: &[
-        Function("c", 0),
-        Predicate("odd", 1),
-        Function("e", 0),
-        Function("k", 0),
-    ],
-    pipe: MachineDraft {
-        entries: &[("m", Sort::Memory), ("x", Sort::Word), ("b", Sort::Bool)],
-        inputs: &[
-            ("go", Sort::Bool, And(&[Entry(2), Truth(true), Entry(2)])),
-            ("in", Sort::Word, Local(0)),
-        ],
-        locals: &[(Sort::Word, Entry(1)), (Sort::Bool, Input(0))],
-        nexts: &[
-            Write(&Entry(0), &Entry(1), &Input(1)),
-            Ite(&Local(1), &Read(&Entry(0), &Local(0)), &C),
-            Or(&[
-                Implies(&Entry(2), &Apply(1, &[Entry(1)])),
-                Iff(&Entry(2), &Truth(false)),
-            ]),
-        ],
-    },
-    spec: MachineDraft {
-        entries: &[("b", Sort::Bool), ("m", Sort::Memory)],
-        locals: &[(Sort::Bool, Apply(1, &[Apply(3, &[])]))],
-        nexts: &[Local(0), Entry(1)],
-        ..NO_MACHINE
-    },
-    visible: &[2, 0],
-    flush: 64,
-    steps: 8,
-    inv_locals: &[(Sort::Bool, Entry(2)), (Sort::Bool, Not(&Local(0)))],
-    inv: Or(&[Local(1), Equal(&Entry(1), &Apply(3, &[]))]),
-    exact: &[(0, Input(0)), (8, Local(1))],
-    distinct: &[&[2, 0], &[3, 0]],
-};
-
 /// A function, a constant, a predicate, and entries and inputs of each sort.
 pub static EACH_SORT: DesignDraft = DesignDraft {
     symbols: &[Function("f", 2), Function("g", 0), Predicate("p", 1)],
@@ -339,11 +297,5 @@ pub static EACH_SORT: DesignDraft = DesignDraft {
     },
     spec: KEPT,
     visible: &[1],
-    ..PLAIN
-};
-
-/// No entry, input or symbol.
-pub static NOTHING: DesignDraft = DesignDraft {
-    visible: &[],
     ..PLAIN
 };

@@ -6,10 +6,7 @@
 
 pub mod build;
 pub mod cases;
-pub mod completions;
 pub mod designs;
 pub mod draft;
 pub mod forms;
-pub mod gallery;
-pub mod texts;
 pub mod trails;

@@ -2,7 +2,8 @@
 ghost use Rattle.bd_model.specs.declared.design.Sort.TheVariants as kind;
 ghost use Rattle.bd_terms.specs.Graph.{HasSort};
 
-use crate::graphs::{Term, build_all, has, has_no_memory};
+use crate::function::value_at;
+use crate::graphs::{build_all, has, has_no_memory};
 use bd_diverse::{Positive, diversify, is_true, marked, positive};
 use bd_function::{Flat, FlatTables, SymTable, flatten};
 use bd_model::{Rows, Scalar, Sort, Table};
@@ -11,88 +12,37 @@ use std::alloc::AllocError;
 use std::process::Abort;
 use std::test::Fail;
 
-const F: Sym = Sym::Function(0);
+/// f(x) = y, or not f(z) = m, or not (p and not a = b), or g(ite(n = q, x, z)) = y, or ite(c = d, a, b) = y. The symbols
+/// f, p, c, d, m, n and q aren't positive, g, x, y, z, a and b are.
+const MIXED: &str =
+    "I 1, I 2, I 3, F 0 0, = 3 1, F 0 2, I 8, = 5 6, not 7, I? 0, I 4, I 5, = 10 11, not 12, \
+and 9 13, not 14, I 9, I 10, = 16 17, ite 18 0 2, F 1 19, = 20 1, I 6, I 7, = 22 23, ite 24 10 11, = 25 1, \
+or 4 8, or 15 21, or 27 28, or 29 26";
 
-const G: Sym = Sym::Function(1);
-
-const P: Sym = Sym::Input(0);
-
-const X: Sym = Sym::Input(1);
-
-const Y: Sym = Sym::Input(2);
-
-const Z: Sym = Sym::Input(3);
-
-const A: Sym = Sym::Input(4);
-
-const B: Sym = Sym::Input(5);
-
-const C: Sym = Sym::Input(6);
-
-const D: Sym = Sym::Input(7);
-
-const M: Sym = Sym::Input(8);
-
-const N: Sym = Sym::Input(9);
-
-const Q: Sym = Sym::Input(10);
-
-// f(x) = y, or not f(z) = m, or not (p and not a = b), or g(ite(n = q, x, z)) = y, or ite(c = d, a, b) = y.
-static MIXED: [Term; 31] = [
-    Term::App(X, &[]),
-    Term::App(Y, &[]),
-    Term::App(Z, &[]),
-    Term::App(F, &[0]),
-    Term::Eq(3, 1),
-    Term::App(F, &[2]),
-    Term::App(M, &[]),
-    Term::Eq(5, 6),
-    Term::Not(7),
-    Term::Pred(P, &[]),
-    Term::App(A, &[]),
-    Term::App(B, &[]),
-    Term::Eq(10, 11),
-    Term::Not(12),
-    Term::And(9, 13),
-    Term::Not(14),
-    Term::App(N, &[]),
-    Term::App(Q, &[]),
-    Term::Eq(16, 17),
-    Term::Ite(18, 0, 2),
-    Term::App(G, &[19]),
-    Term::Eq(20, 1),
-    Term::App(C, &[]),
-    Term::App(D, &[]),
-    Term::Eq(22, 23),
-    Term::Ite(24, 10, 11),
-    Term::Eq(25, 1),
-    Term::Or(4, 8),
-    Term::Or(15, 21),
-    Term::Or(27, 28),
-    Term::Or(29, 26),
+static POSITIVE: [Sym; 6] = [
+    Sym::Function(1),
+    Sym::Input(1),
+    Sym::Input(2),
+    Sym::Input(3),
+    Sym::Input(4),
+    Sym::Input(5),
 ];
 
-static POSITIVE: [Sym; 6] = [G, X, Y, Z, A, B];
-
-static OTHERS: [Sym; 7] = [F, P, C, D, M, N, Q];
-
-// f(x) = y.
-static EQUATION: [Term; 4] = [
-    Term::App(X, &[]),
-    Term::App(F, &[0]),
-    Term::App(Y, &[]),
-    Term::Eq(1, 2),
+static OTHERS: [Sym; 7] = [
+    Sym::Function(0),
+    Sym::Input(0),
+    Sym::Input(6),
+    Sym::Input(7),
+    Sym::Input(8),
+    Sym::Input(9),
+    Sym::Input(10),
 ];
 
-fn has_all(positive: &Positive, symbols: &[Sym]) -> bool {
-    symbols.iter().all(|sym| positive.has(*sym))
+fn has_these(positive: &Positive) -> bool {
+    POSITIVE.iter().all(|sym| positive.has(*sym)) && OTHERS.iter().all(|sym| !positive.has(*sym))
 }
 
-fn has_none(positive: &Positive, symbols: &[Sym]) -> bool {
-    symbols.iter().all(|sym| !positive.has(*sym))
-}
-
-// Exactly the variables of positive symbols are marked.
+/// Exactly the variables of positive symbols are marked.
 fn check_marked(
     rt: &(impl Abort + AllocGlobal),
     flat: &Flat,
@@ -101,7 +51,7 @@ fn check_marked(
     let marked = marked(rt.alloc(), flat, positive)?;
     for symbol in flat.syms.as_slice() {
         for row in symbol.rows.as_slice() {
-            assert_eq!(rt; marked.has(row.var), positive.has(symbol.sym));
+            assert!(rt; marked.has(row.var) == positive.has(symbol.sym));
         }
     }
     Ok(())
@@ -120,16 +70,18 @@ fn check_flat(
     check_marked(rt, &flat, positive)
 }
 
-fn check_positive(
-    rt: &(impl Abort + AllocGlobal),
-    graph: &Graph,
-    root: Id,
-) -> Result<(), AllocError> {
+fn mixed(rt: &(impl Abort + AllocGlobal), graph: &mut Graph) -> Result<(), AllocError> {
+    let root = build_all(rt, graph, MIXED)?;
     assert!(rt; has(graph, root, Sort::Bool));
     let positive = positive(rt.alloc(), graph, root)?;
-    assert!(rt; has_all(&positive, &POSITIVE));
-    assert!(rt; has_none(&positive, &OTHERS));
+    assert!(rt; has_these(&positive));
     check_flat(rt, graph, root, &positive)
+}
+
+#[test]
+fn symbols_are_positive_or_not(rt: HostRuntime) -> Result<(), Fail> {
+    let mut graph = Graph::new(rt.alloc());
+    Ok(mixed(&rt, &mut graph)?)
 }
 
 fn constant(rt: &impl AllocGlobal, sym: Sym, word: u64) -> SymTable {
@@ -142,22 +94,17 @@ fn constant(rt: &impl AllocGlobal, sym: Sym, word: u64) -> SymTable {
     }
 }
 
-// What the symbol has at words.
-fn value_at(tables: &[SymTable], sym: Sym, args: &[u64]) -> Scalar {
-    match tables.iter().find(|table| table.sym == sym) {
-        Some(table) => table.table.at(args),
-        None => Scalar::Bool(false),
+/// In the new world f(x), x and y have three different values.
+fn are_different(tables: &[SymTable]) -> bool {
+    let x = value_at(tables, Sym::Input(0), &[]);
+    let y = value_at(tables, Sym::Input(1), &[]);
+    match x {
+        Scalar::Word(word) => {
+            let f = value_at(tables, Sym::Function(0), &[word]);
+            x != y && f != x && f != y
+        }
+        Scalar::Bool(_) => false,
     }
-}
-
-// In the new world f(x), x and y have three different values.
-fn check_different(rt: &impl Abort, tables: &[SymTable]) {
-    let x = value_at(tables, X, &[]);
-    let y = value_at(tables, Y, &[]);
-    assert!(rt; x != y);
-    let Scalar::Word(word) = x else { return };
-    let f = value_at(tables, F, &[word]);
-    assert!(rt; f != x && f != y);
 }
 
 fn check_diverse(
@@ -170,43 +117,32 @@ fn check_diverse(
     let is_true = is_true(rt.alloc(), graph, root, tables)?;
     assert!(rt; !is_true);
     let diverse = diversify(rt.alloc(), graph, root, tables)?;
-    check_different(rt, diverse.as_slice());
+    assert!(rt; are_different(diverse.as_slice()));
     Ok(())
 }
 
-// With f 0 everywhere, x 0 and y 1.
-fn check_tables(
-    rt: &(impl Abort + AllocGlobal),
-    graph: &Graph,
-    root: Id,
-) -> Result<(), AllocError> {
+/// f 0 everywhere, x 0 and y 1.
+fn world(rt: &impl AllocGlobal) -> Result<FlatTables, AllocError> {
     let mut tables = FlatTables::new(rt.alloc());
-    tables.push(constant(rt, F, 0))?;
-    tables.push(constant(rt, X, 0))?;
-    tables.push(constant(rt, Y, 1))?;
-    check_diverse(rt, graph, root, &tables)
+    for (sym, word) in [
+        (Sym::Function(0), 0),
+        (Sym::Input(0), 0),
+        (Sym::Input(1), 1),
+    ] {
+        tables.push(constant(rt, sym, word))?;
+    }
+    Ok(tables)
 }
 
-fn mixed(rt: &(impl Abort + AllocGlobal), graph: &mut Graph) -> Result<(), AllocError> {
-    let root = build_all(rt, graph, &MIXED)?;
-    check_positive(rt, graph, root)
-}
-
+/// The equation f(x) = y.
 fn equation(rt: &(impl Abort + AllocGlobal), graph: &mut Graph) -> Result<(), AllocError> {
-    let root = build_all(rt, graph, &EQUATION)?;
-    check_tables(rt, graph, root)
-}
-
-#[test]
-fn symbols_are_positive_or_not(rt: HostRuntime) -> Result<(), Fail> {
-    let mut graph = Graph::new(rt.alloc());
-    mixed(&rt, &mut graph)?;
-    Ok(())
+    let root = build_all(rt, graph, "I 0, F 0 0, I 1, = 1 2")?;
+    let tables = world(rt)?;
+    check_diverse(rt, graph, root, &tables)
 }
 
 #[test]
 fn equal_values_become_different(rt: HostRuntime) -> Result<(), Fail> {
     let mut graph = Graph::new(rt.alloc());
-    equation(&rt, &mut graph)?;
-    Ok(())
+    Ok(equation(&rt, &mut graph)?)
 }

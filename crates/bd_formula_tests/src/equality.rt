@@ -1,218 +1,174 @@
 //! Formulas encoded by hand.
-use crate::graphs::Term::{self, And, App, Eq, Ite, Not, Or, Pred, True};
 use crate::graphs::{build_all, has, has_no_memory};
+use crate::numbers::numbers;
+use crate::truths::are_shown;
 use bd_equality::{Encoded, encode};
 use bd_function::{Flat, Marked, flatten};
 use bd_list::Sequence;
 use bd_model::{Distinct, Sort};
-use bd_prop::{Atom, PropNode};
-use bd_terms::{Graph, Sym};
+use bd_terms::Graph;
 use bd_transitive::Edge;
 use std::alloc::{AllocError, Global};
 use std::process::Abort;
 use std::test::Fail;
 
-type Pairs = &'static [(u64, u64)];
-
-/// Terms, of which the last is the root, a group of constants that are kept apart, marked variables, and the truth
-/// graph with its edges. Variables are numbered as constants come.
-#[derive(Clone, Copy)]
+/// Terms, of which the last is the root, a group of constants that are kept apart, marked variables if any are, and the truth graph
+/// with its edges and those of the constants. Variables are numbered as constants come.
 struct Case {
-    terms: &'static [Term],
-    group: &'static [u32],
-    marked: &'static [u64],
-    nodes: &'static [PropNode],
-    edges: Pairs,
-    apart: Pairs,
+    terms: &'static str,
+    group: &'static str,
+    marked: &'static str,
+    nodes: &'static str,
+    edges: &'static str,
+    apart: &'static str,
 }
 
 static CASES: [Case; 9] = [
     // two variables
     Case {
-        terms: &[
-            App(Sym::Function(0), &[]),
-            App(Sym::Function(1), &[]),
-            Eq(0, 1),
-        ],
-        group: &[],
-        marked: &[],
-        nodes: &[PropNode::Atom(Atom::Edge(0, 1))],
-        edges: &[(0, 1)],
-        apart: &[],
+        terms: "F 0, F 1, = 0 1",
+        group: "",
+        marked: "",
+        nodes: "= 0 1",
+        edges: "0 1 ",
+        apart: "",
     },
     // one word and itself
     Case {
-        terms: &[App(Sym::Function(0), &[]), Eq(0, 0)],
-        group: &[],
-        marked: &[],
-        nodes: &[PropNode::True],
-        edges: &[],
-        apart: &[],
+        terms: "F 0, = 0 0",
+        group: "",
+        marked: "",
+        nodes: "true",
+        edges: "",
+        apart: "",
     },
     // the constant true
     Case {
-        terms: &[True],
-        group: &[],
-        marked: &[],
-        nodes: &[PropNode::True],
-        edges: &[],
-        apart: &[],
+        terms: "true",
+        group: "",
+        marked: "",
+        nodes: "true",
+        edges: "",
+        apart: "",
     },
     // an ite against one of its branches
     Case {
-        terms: &[
-            Pred(Sym::Function(0), &[]),
-            App(Sym::Function(1), &[]),
-            App(Sym::Function(2), &[]),
-            Ite(0, 1, 2),
-            Eq(3, 1),
-        ],
-        group: &[],
-        marked: &[],
-        nodes: &[
-            PropNode::Atom(Atom::Truth(0)),
-            PropNode::True,
-            PropNode::Atom(Atom::Edge(1, 2)),
-            PropNode::Ite(0, 1, 2),
-        ],
-        edges: &[(1, 2)],
-        apart: &[],
+        terms: "F? 0, F 1, F 2, ite 0 1 2, = 3 1",
+        group: "",
+        marked: "",
+        nodes: "T 0, true, = 1 2, ite 0 1 2",
+        edges: "1 2 ",
+        apart: "",
     },
     // an ite against an ite
     Case {
-        terms: &[
-            Pred(Sym::Function(0), &[]),
-            Pred(Sym::Function(1), &[]),
-            App(Sym::Function(2), &[]),
-            App(Sym::Function(3), &[]),
-            Ite(0, 2, 3),
-            Ite(1, 2, 3),
-            Eq(4, 5),
-        ],
-        group: &[],
-        marked: &[],
-        nodes: &[
-            PropNode::Atom(Atom::Truth(0)),
-            PropNode::Atom(Atom::Truth(1)),
-            PropNode::True,
-            PropNode::Atom(Atom::Edge(2, 3)),
-            PropNode::Ite(0, 2, 3),
-            PropNode::Ite(0, 3, 2),
-            PropNode::Ite(1, 4, 5),
-        ],
-        edges: &[(2, 3)],
-        apart: &[],
+        terms: "F? 0, F? 1, F 2, F 3, ite 0 2 3, ite 1 2 3, = 4 5",
+        group: "",
+        marked: "",
+        nodes: "T 0, T 1, true, = 2 3, ite 0 2 3, ite 0 3 2, ite 1 4 5",
+        edges: "2 3 ",
+        apart: "",
     },
     // a marked variable
     Case {
-        terms: &[
-            App(Sym::Function(0), &[]),
-            App(Sym::Function(1), &[]),
-            Eq(0, 1),
-        ],
-        group: &[0, 1],
-        marked: &[1],
-        nodes: &[PropNode::True, PropNode::Not(0)],
-        edges: &[],
-        apart: &[],
+        terms: "F 0, F 1, = 0 1",
+        group: "0 1",
+        marked: "1",
+        nodes: "true, not 0",
+        edges: "",
+        apart: "",
     },
     // two constants that are compared, and one without a variable
     Case {
-        terms: &[
-            App(Sym::Function(0), &[]),
-            App(Sym::Function(1), &[]),
-            Eq(0, 1),
-        ],
-        group: &[1, 5, 0],
-        marked: &[],
-        nodes: &[PropNode::Atom(Atom::Edge(0, 1))],
-        edges: &[(0, 1)],
-        apart: &[(0, 1)],
+        terms: "F 0, F 1, = 0 1",
+        group: "1 5 0",
+        marked: "",
+        nodes: "= 0 1",
+        edges: "0 1 ",
+        apart: "0 1 ",
     },
     // two constants that are not compared with each other
     Case {
-        terms: &[
-            Pred(Sym::Function(3), &[]),
-            App(Sym::Function(0), &[]),
-            App(Sym::Function(1), &[]),
-            Ite(0, 1, 2),
-            App(Sym::Function(2), &[]),
-            Eq(3, 4),
-        ],
-        group: &[0, 1],
-        marked: &[],
-        nodes: &[
-            PropNode::Atom(Atom::Truth(0)),
-            PropNode::Atom(Atom::Edge(1, 3)),
-            PropNode::Atom(Atom::Edge(2, 3)),
-            PropNode::Ite(0, 1, 2),
-        ],
-        edges: &[(1, 2), (1, 3), (2, 3)],
-        apart: &[(1, 2)],
+        terms: "F? 3, F 0, F 1, ite 0 1 2, F 2, = 3 4",
+        group: "0 1",
+        marked: "",
+        nodes: "T 0, = 1 3, = 2 3, ite 0 1 2",
+        edges: "1 2 1 3 2 3 ",
+        apart: "1 2 ",
     },
     // connectives
     Case {
-        terms: &[
-            App(Sym::Function(0), &[]),
-            App(Sym::Function(1), &[]),
-            Eq(0, 1),
-            Pred(Sym::Function(2), &[]),
-            Not(2),
-            And(4, 3),
-            Or(5, 3),
-            Ite(3, 6, 2),
-        ],
-        group: &[],
-        marked: &[],
-        nodes: &[
-            PropNode::Atom(Atom::Edge(0, 1)),
-            PropNode::Atom(Atom::Truth(2)),
-            PropNode::Not(0),
-            PropNode::And(2, 1),
-            PropNode::Or(3, 1),
-            PropNode::Ite(1, 4, 0),
-        ],
-        edges: &[(0, 1)],
-        apart: &[],
+        terms: "F 0, F 1, = 0 1, F? 2, not 2, and 4 3, or 5 3, ite 3 6 2",
+        group: "",
+        marked: "",
+        nodes: "= 0 1, T 2, not 0, and 2 1, or 3 1, ite 1 4 0",
+        edges: "0 1 ",
+        apart: "",
     },
 ];
 
-fn marked_of(alloc: Global, vars: &[u64]) -> Result<Marked, AllocError> {
+fn marked_of(alloc: Global, vars: &[u32]) -> Result<Marked, AllocError> {
     let mut marked = Marked::new(alloc);
     for var in vars {
-        marked.insert(*var)?;
+        marked.insert(u64::from(*var))?;
     }
     Ok(marked)
 }
 
-fn group_of(alloc: Global, group: &[u32]) -> Result<Distinct, AllocError> {
-    let places = Sequence::from_vec(Vec::from_slice(alloc, group)?);
+fn group_of(alloc: Global, group: &str) -> Result<Distinct, AllocError> {
+    let places = Sequence::from_vec(numbers(alloc, group)?);
     let mut groups = Distinct::new(alloc);
     groups.push(places)?;
     Ok(groups)
 }
 
-fn are_edges(edges: &[Edge], pairs: &[(u64, u64)]) -> bool {
-    edges.len() == pairs.len()
-        && edges
-            .iter()
-            .zip(pairs)
-            .all(|(edge, pair)| (edge.from, edge.to) == *pair)
+/// The ends of the edges.
+fn ends(alloc: Global, edges: &[Edge]) -> Result<String, AllocError> {
+    let mut text = String::new(alloc);
+    for edge in edges {
+        let (from, to) = (edge.from, edge.to);
+        write!(text, "{from} {to} ")?;
+    }
+    Ok(text)
 }
 
-fn compare(rt: &impl Abort, encoded: &Encoded, case: &Case) {
-    assert_eq!(rt; encoded.prop.nodes(), case.nodes);
-    assert_eq!(rt; Some(encoded.root), case.nodes.len().checked_sub(1));
-    assert!(rt; are_edges(encoded.edges.as_slice(), case.edges));
-    assert!(rt; are_edges(encoded.apart.as_slice(), case.apart));
+fn are_edges(alloc: Global, edges: &[Edge], want: &str) -> Result<bool, AllocError> {
+    let text = ends(alloc, edges)?;
+    Ok(text.as_str() == want)
 }
 
-fn check_flat(rt: &(impl Abort + AllocGlobal), flat: &Flat, case: &Case) -> Result<(), AllocError> {
-    let marked = marked_of(rt.alloc(), case.marked)?;
-    let distinct = group_of(rt.alloc(), case.group)?;
-    let encoded = encode(rt.alloc(), flat, &distinct, Some(&marked))?;
-    compare(rt, &encoded, case);
-    Ok(())
+fn is_as_told(alloc: Global, encoded: &Encoded, case: &Case) -> Result<bool, AllocError> {
+    Ok(
+        encoded.root.saturating_add(1) == encoded.prop.len()
+            && are_shown(alloc, encoded.prop.nodes(), case.nodes)?
+            && are_edges(alloc, encoded.edges.as_slice(), case.edges)?
+            && are_edges(alloc, encoded.apart.as_slice(), case.apart)?,
+    )
+}
+
+fn check_encoded(
+    alloc: Global,
+    flat: &Flat,
+    marked: Option<&Marked>,
+    case: &Case,
+) -> Result<bool, AllocError> {
+    let distinct = group_of(alloc, case.group)?;
+    let encoded = encode(alloc, flat, &distinct, marked)?;
+    is_as_told(alloc, &encoded, case)
+}
+
+fn check_marked(alloc: Global, flat: &Flat, case: &Case) -> Result<bool, AllocError> {
+    let vars = numbers(alloc, case.marked)?;
+    let marked = marked_of(alloc, &vars)?;
+    check_encoded(alloc, flat, Some(&marked), case)
+}
+
+fn check_flat(alloc: Global, flat: &Flat, case: &Case) -> Result<bool, AllocError> {
+    if case.marked.is_empty() {
+        check_encoded(alloc, flat, None, case)
+    } else {
+        check_marked(alloc, flat, case)
+    }
 }
 
 fn check(
@@ -223,7 +179,8 @@ fn check(
     let root = build_all(rt, graph, case.terms)?;
     assert!(rt; has(graph, root, Sort::Bool) && has_no_memory(graph, root));
     let flat = flatten(rt.alloc(), graph, root)?;
-    check_flat(rt, &flat, case)
+    assert!(rt; check_flat(rt.alloc(), &flat, case)?, "{}", case.terms);
+    Ok(())
 }
 
 #[test]
@@ -232,22 +189,5 @@ fn formulas_are_encoded(rt: HostRuntime) -> Result<(), Fail> {
         let mut graph = Graph::new(rt.alloc());
         check(&rt, &mut graph, case)?;
     }
-    Ok(())
-}
-
-#[test]
-fn nothing_is_marked(rt: HostRuntime) -> Result<(), Fail> {
-    let mut graph = Graph::new(rt.alloc());
-    Ok(check_plain(&rt, &mut graph)?)
-}
-
-fn check_plain(rt: &(impl Abort + AllocGlobal), graph: &mut Graph) -> Result<(), AllocError> {
-    let case = &CASES[0];
-    let root = build_all(rt, graph, case.terms)?;
-    assert!(rt; has(graph, root, Sort::Bool) && has_no_memory(graph, root));
-    let flat = flatten(rt.alloc(), graph, root)?;
-    let distinct = Distinct::new(rt.alloc());
-    let encoded = encode(rt.alloc(), &flat, &distinct, None)?;
-    compare(rt, &encoded, case);
     Ok(())
 }

@@ -5,26 +5,21 @@
 mod clauses;
 #[cfg(test)]
 mod diverse;
-mod ends;
 #[cfg(test)]
 mod equality;
 #[cfg(test)]
 mod function;
 #[cfg(test)]
-mod goal;
-#[cfg(test)]
 mod graphs;
 #[cfg(test)]
 mod memory;
 #[cfg(test)]
-mod swap;
+mod numbers;
 #[cfg(test)]
 mod symbolic;
 #[cfg(test)]
 mod terms;
 #[cfg(test)]
 mod texts;
-#[cfg(test)]
-mod transitive;
 #[cfg(test)]
 mod truths;

@@ -1,98 +1,141 @@
-//! Truth graphs, and values of their atoms.
+//! Truth graphs as texts, and values of their atoms. Nodes are parted by commas: `T 7` is a truth variable, `= 1 2` an
+//! edge, and the others name their parts by their places.
+use crate::numbers::numbers;
 use bd_prop::{Atom, AtomValues, Prop, PropNode, reached};
-use std::alloc::AllocError;
+use std::alloc::{AllocError, Global};
 use std::process::Abort;
 use std::test::Fail;
 
-/// Nodes that are made in this order, and the id that each has then.
-static MADE: [(PropNode, usize); 28] = [
-    (PropNode::True, 0),
-    (PropNode::Not(0), 1),
-    (PropNode::Atom(Atom::Truth(7)), 2),
-    (PropNode::Atom(Atom::Edge(1, 7)), 3),
-    // equal nodes
-    (PropNode::Atom(Atom::Truth(7)), 2),
-    (PropNode::True, 0),
-    // a double negation
-    (PropNode::Not(1), 0),
-    (PropNode::Not(2), 4),
-    (PropNode::Not(4), 2),
-    // constant or equal children
-    (PropNode::And(2, 3), 5),
-    (PropNode::And(0, 2), 2),
-    (PropNode::And(2, 0), 2),
-    (PropNode::And(1, 2), 1),
-    (PropNode::And(2, 1), 1),
-    (PropNode::And(3, 3), 3),
-    (PropNode::Or(2, 3), 6),
-    (PropNode::Or(0, 2), 0),
-    (PropNode::Or(2, 0), 0),
-    (PropNode::Or(1, 2), 2),
-    (PropNode::Or(2, 1), 2),
-    (PropNode::Or(3, 3), 3),
-    // a constant control, and equal branches
-    (PropNode::Ite(2, 3, 5), 7),
-    (PropNode::Ite(0, 2, 3), 2),
-    (PropNode::Ite(1, 2, 3), 3),
-    (PropNode::Ite(2, 3, 3), 3),
-    // no other rule
-    (PropNode::And(3, 2), 8),
-    (PropNode::And(2, 4), 9),
-    (PropNode::And(2, 3), 5),
-];
+/// The number at the place, and 0 past the end.
+fn at(numbers: &[u32], place: usize) -> u32 {
+    numbers.get(place).copied().unwrap_or(0)
+}
 
-/// The node, made in the graph; it may be rewritten.
-pub(crate) fn make(rt: &impl Abort, prop: &mut Prop, node: PropNode) -> Result<usize, AllocError> {
+/// An operation on nodes of the graph.
+fn make_over(
+    rt: &impl Abort,
+    prop: &mut Prop,
+    op: &str,
+    a: usize,
+    b: usize,
+    c: usize,
+) -> Result<usize, AllocError> {
     let len = prop.len();
-    match node {
-        PropNode::True => prop.mk_true(),
-        PropNode::Atom(atom) => prop.mk_atom(atom),
-        PropNode::Not(a) => {
-            assert!(rt; a < len);
-            prop.mk_not(a)
-        }
-        PropNode::And(a, b) => {
-            assert!(rt; a < len && b < len);
-            prop.mk_and(a, b)
-        }
-        PropNode::Or(a, b) => {
-            assert!(rt; a < len && b < len);
-            prop.mk_or(a, b)
-        }
-        PropNode::Ite(a, b, c) => {
-            assert!(rt; a < len && b < len && c < len);
-            prop.mk_ite(a, b, c)
-        }
+    assert!(rt; a < len && b < len && c < len);
+    if op == "not" {
+        prop.mk_not(a)
+    } else if op == "and" {
+        prop.mk_and(a, b)
+    } else if op == "or" {
+        prop.mk_or(a, b)
+    } else {
+        prop.mk_ite(a, b, c)
     }
+}
+
+/// The node of a text, made in the graph; it may be rewritten.
+fn make(rt: &(impl Abort + AllocGlobal), prop: &mut Prop, node: &str) -> Result<usize, AllocError> {
+    let (op, rest) = node.split_once(' ').unwrap_or((node, ""));
+    let numbers = numbers(rt.alloc(), rest)?;
+    let (a, b, c) = (at(&numbers, 0), at(&numbers, 1), at(&numbers, 2));
+    if op == "true" {
+        prop.mk_true()
+    } else if op == "T" {
+        prop.mk_atom(Atom::Truth(u64::from(a)))
+    } else if op == "=" {
+        prop.mk_atom(Atom::Edge(u64::from(a), u64::from(b)))
+    } else {
+        make_over(rt, prop, op, a as usize, b as usize, c as usize)
+    }
+}
+
+/// Makes the nodes of the text in order, and answers with the last.
+pub(crate) fn make_all(
+    rt: &(impl Abort + AllocGlobal),
+    prop: &mut Prop,
+    text: &str,
+) -> Result<usize, AllocError> {
+    let mut last = 0;
+    for node in text.split(", ") {
+        last = make(rt, prop, node)?;
+    }
+    assert!(rt; last < prop.len());
+    Ok(last)
+}
+
+/// Adds an atom.
+pub(crate) fn push_atom(text: &mut String, atom: Atom) -> Result<(), AllocError> {
+    match atom {
+        Atom::Truth(var) => write!(text, "T {var}"),
+        Atom::Edge(from, to) => write!(text, "= {from} {to}"),
+    }
+}
+
+/// Adds a node.
+fn push_node(text: &mut String, node: &PropNode) -> Result<(), AllocError> {
+    match *node {
+        PropNode::True => text.push_str("true"),
+        PropNode::Atom(atom) => push_atom(text, atom),
+        PropNode::Not(a) => write!(text, "not {a}"),
+        PropNode::And(a, b) => write!(text, "and {a} {b}"),
+        PropNode::Or(a, b) => write!(text, "or {a} {b}"),
+        PropNode::Ite(a, b, c) => write!(text, "ite {a} {b} {c}"),
+    }
+}
+
+/// The nodes, as `make_all` reads them.
+fn shown(alloc: Global, nodes: &[PropNode]) -> Result<String, AllocError> {
+    let mut text = String::new(alloc);
+    for (index, node) in nodes.iter().enumerate() {
+        if index > 0 {
+            text.push_str(", ")?;
+        }
+        push_node(&mut text, node)?;
+    }
+    Ok(text)
+}
+
+/// Whether these are the nodes.
+pub(crate) fn are_shown(alloc: Global, nodes: &[PropNode], want: &str) -> Result<bool, AllocError> {
+    let text = shown(alloc, nodes)?;
+    Ok(text.as_str() == want)
+}
+
+/// Equal nodes, a double negation, constant and equal parts, a constant control, equal branches, and nodes of each form
+/// to which no rule applies.
+const MADE: &str =
+    "true, not 0, T 7, = 1 7, T 7, not 1, not 2, not 4, and 2 3, and 0 2, and 2 0, and 1 2, \
+and 2 1, and 3 3, or 2 3, or 0 2, or 2 0, or 1 2, or 2 1, or 3 3, ite 0 2 3, ite 1 2 3, ite 2 3 3, and 3 2, \
+ite 2 3 5";
+
+const KEPT: &str = "true, not 0, T 7, = 1 7, not 2, and 2 3, or 2 3, and 3 2, ite 2 3 5";
+
+/// Whether the node reaches just these.
+fn reaches(alloc: Global, prop: &Prop, root: usize, want: &[bool]) -> Result<bool, AllocError> {
+    if root >= prop.len() {
+        return Ok(false);
+    }
+    let marks = reached(alloc, prop, root)?;
+    Ok(marks.as_slice() == want)
 }
 
 #[test]
 fn constructors_rewrite(rt: HostRuntime) -> Result<(), Fail> {
     let mut prop = Prop::new(rt.alloc());
-    assert!(rt; prop.is_empty());
-    for &(node, want) in &MADE {
-        let id = make(&rt, &mut prop, node)?;
-        assert_eq!(rt; id, want);
-    }
-    assert_eq!(rt; prop.len(), 10);
-    assert_eq!(rt; *prop.node(7), PropNode::Ite(2, 3, 5));
-    let marks = reached(rt.alloc(), &prop, 7)?;
-    let want = [
-        false, false, true, true, false, true, false, true, false, false,
-    ];
-    assert_eq!(rt; marks.as_slice(), want.as_slice());
+    let root = make_all(&rt, &mut prop, MADE)?;
+    assert!(&rt; are_shown(rt.alloc(), prop.nodes(), KEPT)?);
+    let want = [false, false, true, true, false, true, false, false, true];
+    assert!(rt; reaches(rt.alloc(), &prop, root, want.as_slice())?);
     Ok(())
 }
 
 #[test]
 fn values_are_kept(rt: HostRuntime) -> Result<(), Fail> {
     let mut values = AtomValues::new(rt.alloc());
-    values.set(Atom::Truth(3), false)?;
-    values.set(Atom::Edge(3, 4), false)?;
     values.set(Atom::Edge(3, 4), true)?;
-    assert_eq!(rt; values.get(Atom::Edge(3, 4)), Some(true));
-    assert_eq!(rt; values.get(Atom::Truth(3)), Some(false));
-    assert_eq!(rt; values.get(Atom::Truth(4)), None);
+    assert!(&rt;
+        values.get(Atom::Edge(3, 4)) == Some(true) && values.get(Atom::Truth(3)).is_none()
+    );
     assert!(rt; !values.value(Atom::Edge(4, 3)));
     Ok(())
 }

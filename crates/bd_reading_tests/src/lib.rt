@@ -1,17 +1,7 @@
-//! Tests of reading: texts, forms, designs, cases and trails, over public calls.
+//! Tests of what is written of trees, cases and trails, over public calls. What texts read as is tested by rows.
 #![tactic(auto)]
 
 #[cfg(test)]
-mod cases;
+mod trees;
 #[cfg(test)]
-mod completions;
-#[cfg(test)]
-mod designs;
-#[cfg(test)]
-mod forms;
-#[cfg(test)]
-mod long;
-#[cfg(test)]
-mod texts;
-#[cfg(test)]
-mod trails;
+mod values;

@@ -51,5 +51,8 @@ told_fault words k (Told text) told fails = elim fails [
     ],
   )
 ]
-told_fault words k (Usage text) told fails = elim fails [ inl memory ↦ absurd (told memory) | inr among ↦ refused words k among ]
+told_fault words k (Usage text) told fails = elim fails [
+  | inl memory ↦ absurd (told.0 memory)
+  | inr among ↦ (refused words k among, inr (k, among, told.1, told.2))
+]
 told_fault words k Memory told fails = tt

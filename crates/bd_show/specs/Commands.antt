@@ -1,11 +1,12 @@
 -- The command line: which words are taken, and what they ask for.
 -- Source: what `clap` makes of the words of a simple command, as the crate states it.
-use Rattle.std.specs.Prelude.{◌⊎◌, ℕ, true, false, List, [], ◌∷◌, codes, Option, Some, None, if◌then◌else◌}
+use Rattle.std.specs.Prelude.{◌≡◌, ◌≢◌, ◌⊎◌, ℕ, true, false, List, [], ◌∷◌, codes, Option, Some, None, if◌then◌else◌}
 use Rattle.std.specs.Str.{bytes_eq}
 use Rattle.clap.specs.Faults.{fault_of}
 use Rattle.clap.specs.Kinds.{IsAmong}
 use Rattle.clap.specs.Simple.{App, Shape, new_rule, new_shape, subcommand_of}
 use Rattle.clap.specs.Walk.{Row, first_of}
+use Rattle.clap.specs.declared.error.kind.ErrorKind.{ErrorKind}
 use Rattle.clap.specs.declared.error.kind.ErrorKind.TheVariants.{DisplayHelp, DisplayVersion}
 use Rattle.bd_app.specs.Commands.{if_faultless}
 use Rattle.bd_app.specs.Words.{budget_option, flag, flag_at, machines_command, mode_at, number_of, option, required, ◌>>=◌}
@@ -155,3 +156,9 @@ abbrev pub AskHelp : List (List ℕ) → Type 0
 AskHelp words =
     IsAmong DisplayHelp (fault_of command_line words)
     ⊎ IsAmong DisplayVersion (fault_of command_line words)
+
+-- clap finds a fault in them that is no wish for help or for the version, or finds none, and they name no command
+abbrev pub AreMisused : List (List ℕ) → Type 0
+AreMisused words =
+    (fault_of command_line words ≡ [])
+    ⊎ ((k : ErrorKind) × IsAmong k (fault_of command_line words) × (k ≢ DisplayHelp) × (k ≢ DisplayVersion))

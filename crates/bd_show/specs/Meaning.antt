@@ -189,7 +189,8 @@ OfCase texts P = (d : DesignView) × (c : Case) × AreCase texts d c × P d c
 abbrev pub Says : Question → Texts → Ended → List ℕ → Type 0
 Says q texts (Refused file offset code) text =
     IsTextFault texts file offset code
-    × (text ≡ fault_text (name_in (asked_names q) file) (bytes_in texts file) offset code)
+    × (rest : List ℕ)
+    × (text ≡ fault_text (name_in (asked_names q) file) (bytes_in texts file) offset code ++ rest)
 Says (check q) texts (Checked found) text =
     OfDesign texts (λ d. IsChecked (asked_of q) d found text)
 Says (show q) texts (Shown j) text = OfCase texts (λ d c. IsShown q.whole d c j text)

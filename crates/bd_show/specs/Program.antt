@@ -4,7 +4,7 @@ use Rattle.bd_files.specs.Devices.{Appends, AppendsPrefix, PutsOrFaults, Rose}
 use Rattle.bd_app.specs.Meaning.{FilesSeen}
 use Rattle.bd_app.specs.Program.{SinkSeen}
 use Rattle.bd_show.specs.Answer.{HasReport}
-use Rattle.bd_show.specs.Commands.{AskHelp, taken}
+use Rattle.bd_show.specs.Commands.{AreMisused, AskHelp, taken}
 use Rattle.bd_show.specs.Meaning.{IsAnswered, Question}
 use Rattle.bd_show.specs.declared.answer.Ended.{Ended}
 use Rattle.bd_show.specs.declared.answer.Ended.TheVariants.{Told, Usage, Unwritten, Memory}
@@ -12,7 +12,7 @@ use Rattle.bd_show.specs.declared.answer.Ended.TheVariants.{Told, Usage, Unwritt
 -- an answer to words that ask no question
 abbrev pub IsOnWords : List (List ℕ) → Ended → Type 0
 IsOnWords words Told = AskHelp words
-IsOnWords words Usage = Unit {0}
+IsOnWords words Usage = AreMisused words
 IsOnWords words Memory = Unit {0}
 IsOnWords words e = ⊥
 

@@ -9,6 +9,7 @@ ghost use Rattle.bd_show.specs.inner.Answered.{IsRefusal, IsUnloaded};
 use crate::answer::{Answer, Ended};
 use crate::load::{FileNames, LoadFault, Texts};
 use crate::place::fault_text;
+use bd_hint::{Fault, Source, hint_of};
 use bd_typer::{DesignFault, Text};
 use std::alloc::{AllocError, Global};
 
@@ -48,6 +49,56 @@ fn bytes_in(texts: &Texts, file: Text) -> &[u8]
     }
 }
 
+/// Puts a file that may be there among sources.
+fn push_source<'a>(
+    sources: &mut Vec<Source<'a>>,
+    file: Text,
+    name: Option<&'a str>,
+    text: &'a Option<Vec<u8>>,
+) -> Result<(), AllocError> {
+    if let (Some(name), Some(text)) = (name, text) {
+        sources.push(Source {
+            file,
+            name,
+            text: text.as_slice(),
+        })?;
+    }
+    Ok(())
+}
+
+/// The texts under their names.
+fn sources_of<'a>(
+    alloc: Global,
+    names: FileNames<'a>,
+    texts: &'a Texts,
+) -> Result<Vec<Source<'a>>, AllocError> {
+    let mut sources = Vec::new(alloc);
+    sources.push(Source {
+        file: Text::Pipe,
+        name: names.pipe,
+        text: texts.pipe.as_slice(),
+    })?;
+    sources.push(Source {
+        file: Text::Spec,
+        name: names.spec,
+        text: texts.spec.as_slice(),
+    })?;
+    push_source(&mut sources, Text::Case, names.case, &texts.case)?;
+    push_source(&mut sources, Text::Inv, names.inv, &texts.inv)?;
+    Ok(sources)
+}
+
+/// What helps after a fault of the texts.
+fn hint(
+    alloc: Global,
+    names: FileNames<'_>,
+    texts: &Texts,
+    fault: Fault,
+) -> Result<Vec<u8>, AllocError> {
+    let sources = sources_of(alloc, names, texts)?;
+    hint_of(alloc, sources.as_slice(), fault)
+}
+
 /// The answer that texts are refused.
 pub fn refused(
     alloc: Global,
@@ -63,7 +114,10 @@ pub fn refused(
     match fault {
         DesignFault::Bad { file, offset, code } => {
             let name = name_in(names, file).as_bytes();
-            let text = fault_text(alloc, name, bytes_in(texts, file), offset, code)?;
+            let mut text = fault_text(alloc, name, bytes_in(texts, file), offset, code)?;
+            let fault = Fault { file, offset, code };
+            let hint = hint(alloc, names, texts, fault)?;
+            text.extend_from_slice(hint.as_slice())?;
             let ended = Ended::Refused { file, offset, code };
             Ok(Answer { ended, text })
         }

@@ -61,12 +61,13 @@ pub fn left(
     }
 }
 
-/// What is printed of a case.
+/// What is printed of a case: all of its values, or only those that what is broken rests on.
 fn drawn(
     alloc: Global,
     design: &Design,
     case: &Case,
     judged: Judged,
+    whole: bool,
     names: &[Vec<u8>],
 ) -> Result<Picture, AllocError>
     requires { IsJudged (design_view design.now) case.now judged }
@@ -79,6 +80,7 @@ fn drawn(
         judged,
         diagram: &diagram,
         names,
+        whole,
     };
     picture_of(alloc, &view)
 }
@@ -100,7 +102,7 @@ pub fn pictured(
         p.sentence.items ≡ sentence (design_view design.now) judged) }
 {
     let left = left(alloc, design, case, judged, whole)?;
-    drawn(alloc, design, &left, judged, names)
+    drawn(alloc, design, &left, judged, whole, names)
 }
 
 /// The answer on a case.

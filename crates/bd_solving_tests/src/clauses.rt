@@ -1,70 +1,76 @@
-use crate::formulas::{Lits, SQUARE, formula, literals, push};
-use bd_cnf::{Assignment, Clause, Lit, dimacs_text, push_literals};
+//! Clauses of literals, and formulas under assignments.
+use crate::formulas::{SQUARE, formula, literals};
+use bd_cnf::{Assignment, Clause, Cnf, dimacs_text, push_literals};
 use std::alloc::{AllocError, Global};
+use std::process::Abort;
 use std::test::Fail;
 
-/// Literals in any order, and their clause as DIMACS CNF writes it, if it is no tautology.
-static CLAUSES: [(Lits, Option<&str>); 5] = [
-    (&[2, -1, 2], Some("-1 2 ")),
-    (&[-3, 7, 1, -3], Some("1 -3 7 ")),
-    (&[], Some("")),
-    (&[1, -1], None),
-    (&[-3, 1, 3], None),
-];
-
-static ASSIGNMENTS: [(bool, bool); 4] = [
-    (true, true),
-    (true, false),
-    (false, true),
-    (false, false),
-];
-
-fn text(alloc: Global, made: Option<Clause>) -> Result<Option<String>, AllocError> {
-    let Some(clause) = made else {
-        return Ok(None);
-    };
+/// The clause, as DIMACS CNF writes it; none for a tautology.
+fn spelled(alloc: Global, clause: Option<&Clause>) -> Result<String, AllocError> {
     let mut text = String::new(alloc);
-    push_literals(&mut text, clause.clone()?.lits())?;
-    Ok(Some(text))
+    match clause {
+        Some(clause) => push_literals(&mut text, clause.lits())?,
+        None => text.push_str("none")?,
+    }
+    Ok(text)
+}
+
+fn is_spelled(alloc: Global, clause: Option<&Clause>, want: &str) -> Result<bool, AllocError> {
+    let text = spelled(alloc, clause)?;
+    Ok(text.as_str() == want)
+}
+
+/// Whether the clause of the literals is this one.
+fn is_of(alloc: Global, text: &str, want: &str) -> Result<bool, AllocError> {
+    let lits = literals(alloc, text)?;
+    let clause = Clause::of(alloc, &lits)?;
+    is_spelled(alloc, clause.as_ref(), want)
+}
+
+fn is_from_vec(alloc: Global, text: &str, want: &str) -> Result<bool, AllocError> {
+    let clause = Clause::from_vec(literals(alloc, text)?);
+    is_spelled(alloc, clause.as_ref(), want)
 }
 
 #[test]
 fn clauses_drop_repeats_and_refuse_both_signs(rt: HostRuntime) -> Result<(), Fail> {
-    for &(numbers, want) in &CLAUSES {
-        let lits = literals(rt.alloc(), numbers)?;
-        let of = text(rt.alloc(), Clause::of(rt.alloc(), &lits)?)?;
-        assert_eq!(&rt; of.as_deref(), want);
-        let from_vec = text(rt.alloc(), Clause::from_vec(lits))?;
-        assert_eq!(&rt; from_vec.as_deref(), want);
+    for (text, want) in [("2 -1 2", "-1 2 "), ("1 -1", "none")] {
+        assert!(&rt; is_of(rt.alloc(), text, want)?);
+        assert!(&rt; is_from_vec(rt.alloc(), text, want)?);
     }
     Ok(())
 }
 
+/// The assignment in which variable 2 alone is held.
+fn second(alloc: Global, value: bool) -> Result<Assignment, AllocError> {
+    let mut a = Assignment::new(alloc);
+    a.set(2, value)?;
+    Ok(a)
+}
+
+/// Whether it satisfies the formula. What isn't held is false.
+fn satisfies(rt: &(impl Abort + AllocGlobal), value: bool, text: &str) -> Result<bool, AllocError> {
+    let a = second(rt.alloc(), value)?;
+    assert!(rt; a.get(1).is_none() && a.value(2) == value);
+    let cnf = formula(rt, 2, text)?;
+    Ok(cnf.satisfied(&a))
+}
+
 #[test]
-fn no_assignment_satisfies_the_square(rt: HostRuntime) -> Result<(), Fail> {
+fn assignments_satisfy_formulas(rt: HostRuntime) -> Result<(), Fail> {
+    assert!(&rt; satisfies(&rt, false, "1 -2\n-1 -2\n")? && !satisfies(&rt, false, SQUARE)?);
+    assert!(rt; !satisfies(&rt, true, "1 -2\n-1 -2\n")? && satisfies(&rt, true, "")?);
+    Ok(())
+}
+
+fn has_text(alloc: Global, cnf: &Cnf) -> Result<bool, AllocError> {
+    let text = dimacs_text(alloc, cnf)?;
+    Ok(text.as_slice() == b"p cnf 2 4\n1 2 0\n1 -2 0\n-1 2 0\n-1 -2 0\n".as_slice())
+}
+
+#[test]
+fn the_square_is_written(rt: HostRuntime) -> Result<(), Fail> {
     let cnf = formula(&rt, 2, SQUARE)?;
-    for &(first, second) in &ASSIGNMENTS {
-        let mut a = Assignment::new(rt.alloc());
-        a.set(1, first)?;
-        a.set(2, second)?;
-        assert!(&rt; !cnf.satisfied(&a));
-    }
-    let text = dimacs_text(rt.alloc(), &cnf)?;
-    assert_eq!(rt;
-        text.as_slice(),
-        b"p cnf 2 4\n1 2 0\n1 -2 0\n-1 2 0\n-1 -2 0\n".as_slice()
-    );
-    Ok(())
-}
-
-#[test]
-fn a_variable_that_is_not_held_is_false(rt: HostRuntime) -> Result<(), Fail> {
-    let a = Assignment::new(rt.alloc());
-    let mut cnf = formula(&rt, 5, &[])?;
-    assert!(&rt; cnf.satisfied(&a));
-    push(&rt, &mut cnf, &[Lit::new(5, false)])?;
-    assert!(&rt; cnf.clone()?.satisfied(&a.clone()?));
-    push(&rt, &mut cnf, &[Lit::new(5, true)])?;
-    assert!(rt; !cnf.satisfied(&a));
+    assert!(rt; has_text(rt.alloc(), &cnf)?);
     Ok(())
 }

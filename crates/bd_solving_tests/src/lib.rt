@@ -1,4 +1,4 @@
-//! Tests of clauses, of logs and their check, of propagation and of solvers, over public calls alone.
+//! Tests of clauses, of logs and their check, of propagation and of solvers, over public calls that no words reach.
 #![tactic(auto)]
 
 #[cfg(test)]
@@ -7,8 +7,6 @@ mod clauses;
 mod formulas;
 #[cfg(test)]
 mod logs;
-#[cfg(test)]
-mod proof_texts;
 #[cfg(test)]
 mod propagation;
 #[cfg(test)]

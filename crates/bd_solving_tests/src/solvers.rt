@@ -1,47 +1,30 @@
+//! What solvers say of small formulas, and the logs that they write, which are worked out by hand.
 ghost use Rattle.std.specs.Prelude.{◌≡◌, [], IfOk};
 ghost use Rattle.bd_cdcl.specs.Law.{IsLaw};
 
-use crate::formulas::{Lits, SQUARE, formula, push};
+use crate::formulas::{SQUARE, formula, push};
 use bd_cdcl::{Cdcl, Found, HonestSolver, Plain, Scripted, Solver};
-use bd_cnf::{Cnf, Lit};
-use bd_lrat::{Line, Log, lrat_text, refused_line, refutes};
-use std::alloc::AllocError;
+use bd_cnf::Cnf;
+use bd_lrat::{Line, Log, lrat_text};
+use std::alloc::{AllocError, Global};
 use std::process::Abort;
 use std::test::Fail;
 
-/// What is to be said.
-#[derive(Clone, Copy, PartialEq, Eq, Debug)]
-enum Said {
-    Model,
-    Refuted,
-    Spent,
-}
+/// The number of variables, the clauses, the budget, and what is said, with which log of decision clauses and which of
+/// clauses of first unique implication points.
+type Row = (
+    u64,
+    &'static str,
+    u32,
+    &'static str,
+    &'static str,
+    &'static str,
+);
 
-/// The number of variables, the clauses, the budget, and what is said, with which log of decision
-/// clauses and which of clauses of first unique implication points.
-type Row = (u64, &'static [Lits], u32, Said, &'static str, &'static str);
-
-const CUBE: &[Lits] = &[
-    &[1, 2, 3],
-    &[1, 2, -3],
-    &[1, -2, 3],
-    &[1, -2, -3],
-    &[-1, 2, 3],
-    &[-1, 2, -3],
-    &[-1, -2, 3],
-    &[-1, -2, -3],
-];
-
-const CONTRADICTION: &[Lits] = &[&[1], &[-1]];
-
-const CHAIN: &[Lits] = &[&[1], &[-1, 2]];
-
-const BROKEN_CHAIN: &[Lits] = &[&[1], &[-1, 2], &[-2]];
+const CUBE: &str = "1 2 3\n1 2 -3\n1 -2 3\n1 -2 -3\n-1 2 3\n-1 2 -3\n-1 -2 3\n-1 -2 -3\n";
 
 /// Half a square teaches the first variable, and another the last one.
-const HALF_SQUARES: &[Lits] = &[&[1, 2], &[1, -2], &[2, 3], &[-2, 3]];
-
-const LAST_HALF: &[Lits] = &[&[57, 58], &[-57, 58]];
+const HALF_SQUARES: &str = "1 2\n1 -2\n2 3\n-2 3\n";
 
 const SQUARE_LOG: &str = "5 1 0 1 2 0\n6 0 5 3 4 0\n";
 
@@ -58,92 +41,46 @@ const CUBE_TURNED_START: &str = "9 2 3 0 1 5 0\n10 3 0 9 3 7 0\n";
 const CUBE_TURNED: &str = "9 2 3 0 1 5 0\n10 3 0 9 3 7 0\n11 -2 0 10 4 8 0\n12 0 10 11 2 6 0\n";
 
 static ROWS: [Row; 14] = [
-    (2, SQUARE, 0, Said::Spent, "", ""),
-    (2, SQUARE, 1, Said::Refuted, SQUARE_LOG, SQUARE_TURNED),
-    (2, SQUARE, 2, Said::Refuted, SQUARE_LOG, SQUARE_TURNED),
-    (0, &[], 0, Said::Model, "", ""),
-    (1, &[&[]], 0, Said::Refuted, "2 0 1 0\n", "2 0 1 0\n"),
-    (
-        1,
-        CONTRADICTION,
-        0,
-        Said::Refuted,
-        "3 0 1 2 0\n",
-        "3 0 1 2 0\n",
-    ),
+    (2, SQUARE, 0, "spent", "", ""),
+    (2, SQUARE, 1, "refuted", SQUARE_LOG, SQUARE_TURNED),
+    (2, SQUARE, 2, "refuted", SQUARE_LOG, SQUARE_TURNED),
+    (0, "", 0, "model", "", ""),
+    (1, "\n", 0, "refuted", "2 0 1 0\n", "2 0 1 0\n"),
+    (1, "1\n-1\n", 0, "refuted", "3 0 1 2 0\n", "3 0 1 2 0\n"),
     (
         2,
-        BROKEN_CHAIN,
+        "1\n-1 2\n-2\n",
         0,
-        Said::Refuted,
+        "refuted",
         "4 0 1 2 3 0\n",
         "4 0 1 3 2 0\n",
     ),
-    (2, CHAIN, 0, Said::Model, "", ""),
-    (3, HALF_SQUARES, 0, Said::Spent, "", ""),
+    (2, "1\n-1 2\n", 0, "model", "", ""),
+    (3, HALF_SQUARES, 0, "spent", "", ""),
     (
         3,
         HALF_SQUARES,
         1,
-        Said::Model,
+        "model",
         "5 1 0 1 2 0\n",
         "5 3 0 3 4 0\n",
     ),
-    (5, &[&[3]], 7, Said::Model, "", ""),
-    (3, CUBE, 2, Said::Spent, CUBE_START, CUBE_TURNED_START),
-    (3, CUBE, 3, Said::Refuted, CUBE_LOG, CUBE_TURNED),
-    (3, CUBE, 4, Said::Refuted, CUBE_LOG, CUBE_TURNED),
+    (5, "3\n", 7, "model", "", ""),
+    (3, CUBE, 2, "spent", CUBE_START, CUBE_TURNED_START),
+    (3, CUBE, 3, "refuted", CUBE_LOG, CUBE_TURNED),
+    (3, CUBE, 4, "refuted", CUBE_LOG, CUBE_TURNED),
 ];
 
-/// Two clauses that teach the last variable, and eight pigeons that are each in one of seven holes,
-/// and no two in one.
-fn pigeons(rt: &(impl Abort + AllocGlobal)) -> Result<Cnf, AllocError> {
-    let mut cnf = formula(rt, 58, LAST_HALF)?;
-    for pigeon in 0..8u64 {
-        let mut holes = Vec::new(rt.alloc());
-        for hole in 0..7u64 {
-            holes.push(Lit::new(1 + 7 * pigeon + hole, true))?;
-        }
-        push(rt, &mut cnf, &holes)?;
-    }
-    for hole in 0..7u64 {
-        for second in 0..8u64 {
-            for first in 0..second {
-                let one = Lit::new(1 + 7 * first + hole, false);
-                let other = Lit::new(1 + 7 * second + hole, false);
-                push(rt, &mut cnf, &[one, other])?;
-            }
-        }
-    }
-    Ok(cnf)
-}
-
-fn told(found: &Found, cnf: &Cnf) -> Option<Said> {
+fn word(found: &Found) -> &'static str {
     match found {
-        Found::Model(a) if cnf.satisfied(a) => Some(Said::Model),
-        Found::Model(_) => None,
-        Found::Refuted => Some(Said::Refuted),
-        Found::Spent => Some(Said::Spent),
+        Found::Model(_) => "model",
+        Found::Refuted => "refuted",
+        Found::Spent => "spent",
     }
 }
 
-fn is_as_said(
-    rt: &(impl Abort + AllocGlobal),
-    want: Said,
-    lines: &str,
-    cnf: &Cnf,
-    found: &Found,
-    log: &Log,
-) -> Result<(), AllocError> {
-    let text = lrat_text(rt.alloc(), log)?;
-    assert!(rt; text.as_slice() == lines.as_bytes());
-    assert!(rt; told(found, cnf) == Some(want));
-    assert!(rt; refused_line(rt.alloc(), cnf, log)?.is_none());
-    assert!(rt; refutes(rt.alloc(), cnf, log)? == (want == Said::Refuted));
-    Ok(())
-}
-
-/// Whatever the honest solver, its answer and log meet the law.
+/// Whatever the honest solver, its answer and log meet the law: a model satisfies the formula, each line is accepted,
+/// and what is refuted has the empty clause.
 fn answer<S: HonestSolver>(
     solver: &mut S,
     cnf: &Cnf,
@@ -156,27 +93,46 @@ fn answer<S: HonestSolver>(
     solver.solve(cnf, budget, log)
 }
 
-fn solves<S: HonestSolver>(
+fn has_text(alloc: Global, log: &Log, want: &str) -> Result<bool, AllocError> {
+    let text = lrat_text(alloc, log)?;
+    Ok(text.as_slice() == want.as_bytes())
+}
+
+/// Whether the solver says this, with this log.
+fn says<S: HonestSolver>(
+    alloc: Global,
+    solver: &mut S,
+    cnf: &Cnf,
+    row: Row,
+    lines: &str,
+) -> Result<bool, AllocError> {
+    let (_, _, budget, said, _, _) = row;
+    let mut log = Log::new(alloc);
+    let found = answer(solver, cnf, budget, &mut log)?;
+    if word(&found) != said {
+        return Ok(false);
+    }
+    has_text(alloc, &log, lines)
+}
+
+/// Equal input gives equal output, so each formula is solved twice.
+fn says_twice<S: HonestSolver>(
     rt: &(impl Abort + AllocGlobal),
     solver: &mut S,
     row: Row,
     lines: &str,
-) -> Result<(), AllocError> {
-    let (vars, clauses, budget, want, _, _) = row;
+) -> Result<bool, AllocError> {
+    let (vars, clauses, _, _, _, _) = row;
     let cnf = formula(rt, vars, clauses)?;
-    let mut log = Log::new(rt.alloc());
-    let found = answer(solver, &cnf, budget, &mut log)?;
-    is_as_said(rt, want, lines, &cnf, &found, &log)
+    Ok(says(rt.alloc(), solver, &cnf, row, lines)? && says(rt.alloc(), solver, &cnf, row, lines)?)
 }
 
-/// Each formula twice: equal input gives equal output.
 #[test]
 fn decision_clauses_settle_formulas_within_the_budget(rt: HostRuntime) -> Result<(), Fail> {
     let mut solver = Plain::new(rt.alloc());
     for &row in &ROWS {
         let (_, _, _, _, lines, _) = row;
-        solves(&rt, &mut solver, row, lines)?;
-        solves(&rt, &mut solver, row, lines)?;
+        assert!(&rt; says_twice(&rt, &mut solver, row, lines)?);
     }
     Ok(())
 }
@@ -188,8 +144,49 @@ fn unique_implication_points_settle_formulas_within_the_budget(
     let mut solver = Cdcl::new(rt.alloc());
     for &row in &ROWS {
         let (_, _, _, _, _, lines) = row;
-        solves(&rt, &mut solver, row, lines)?;
-        solves(&rt, &mut solver, row, lines)?;
+        assert!(&rt; says_twice(&rt, &mut solver, row, lines)?);
+    }
+    Ok(())
+}
+
+/// Adds that the pigeon is in one of the holes.
+fn push_pigeon(
+    rt: &(impl Abort + AllocGlobal),
+    cnf: &mut Cnf,
+    pigeon: u64,
+) -> Result<(), AllocError> {
+    let mut text = String::new(rt.alloc());
+    for hole in 0..7 {
+        let var = 1 + 7 * (pigeon % 8) + hole;
+        write!(text, "{var} ")?;
+    }
+    push(rt, cnf, text.as_str())
+}
+
+/// Adds that not both of the pigeons are in the hole.
+fn push_pair(
+    rt: &(impl Abort + AllocGlobal),
+    cnf: &mut Cnf,
+    hole: u64,
+    first: u64,
+    second: u64,
+) -> Result<(), AllocError> {
+    let one = 1 + 7 * (first % 8) + hole % 7;
+    let other = 1 + 7 * (second % 8) + hole % 7;
+    let text = format!(in rt.alloc(); "-{one} -{other}")?;
+    push(rt, cnf, text.as_str())
+}
+
+/// Adds that eight pigeons are each in one of seven holes, and no two in one.
+fn push_pigeons(rt: &(impl Abort + AllocGlobal), cnf: &mut Cnf) -> Result<(), AllocError> {
+    for pigeon in 0..8 {
+        push_pigeon(rt, cnf, pigeon)?;
+    }
+    for number in 0..7 * 64 {
+        let (hole, second, first) = (number / 64, number / 8 % 8, number % 8);
+        if first < second {
+            push_pair(rt, cnf, hole, first, second)?;
+        }
     }
     Ok(())
 }
@@ -219,38 +216,39 @@ fn first_deletion(log: &Log) -> Option<&[u64]> {
     None
 }
 
-/// The first two clauses are true at level 0 once the last variable is learned. The clause which says
-/// that it is true is its reason.
+/// The first two clauses are true at level 0 once the last variable is learned. The clause which says that it is true is
+/// its reason.
+fn deletes_first(alloc: Global, cnf: &Cnf) -> Result<bool, AllocError> {
+    let mut log = Log::new(alloc);
+    let found = Cdcl::new(alloc).solve(cnf, 300, &mut log)?;
+    let deleted: &[u64] = &[1, 2];
+    Ok(word(&found) == "spent" && additions(&log) == 300 && first_deletion(&log) == Some(deleted))
+}
+
 #[test]
 fn clauses_that_level_zero_makes_true_are_deleted(rt: HostRuntime) -> Result<(), Fail> {
-    let cnf = pigeons(&rt)?;
-    let mut log = Log::new(rt.alloc());
-    let found = Cdcl::new(rt.alloc()).solve(&cnf, 300, &mut log)?;
-    assert!(rt; told(&found, &cnf) == Some(Said::Spent));
-    assert!(rt; refused_line(rt.alloc(), &cnf, &log)?.is_none());
-    assert!(rt; additions(&log) == 300);
-    assert!(rt; first_deletion(&log) == Some(&[1, 2]));
+    let mut cnf = formula(&rt, 58, "57 58\n-57 58\n")?;
+    push_pigeons(&rt, &mut cnf)?;
+    assert!(rt; deletes_first(rt.alloc(), &cnf)?);
     Ok(())
 }
 
-fn says<S: Solver>(
-    rt: &impl AllocGlobal,
-    solver: &mut S,
-    cnf: &Cnf,
-) -> Result<(bool, usize), AllocError> {
-    let mut log = Log::new(rt.alloc());
+/// Whether the solver says that it is refuted, and logs nothing.
+fn says_script(alloc: Global, solver: &mut Scripted, cnf: &Cnf) -> Result<bool, AllocError> {
+    let mut log = Log::new(alloc);
     let found = solver.solve(cnf, 3, &mut log)?;
-    Ok((told(&found, cnf) == Some(Said::Refuted), log.len()))
+    Ok(word(&found) == "refuted" && log.len() == 0)
 }
 
 #[test]
 fn a_script_is_said_each_time(rt: HostRuntime) -> Result<(), Fail> {
-    let cnf = formula(&rt, 1, &[])?;
+    let cnf = formula(&rt, 1, "")?;
     let mut solver = Scripted {
         found: Found::Refuted,
         lines: Log::new(rt.alloc()),
     };
-    assert!(rt; says(&rt, &mut solver, &cnf)? == (true, 0));
-    assert!(rt; says(&rt, &mut solver, &cnf)? == (true, 0));
+    for _ in 0..2 {
+        assert!(&rt; says_script(rt.alloc(), &mut solver, &cnf)?);
+    }
     Ok(())
 }

@@ -1,15 +1,10 @@
-//! Tests of verdicts over public calls that no words reach.
+//! Tests of verdicts over public calls that no words reach: what a solver's answer comes to, also where it lies, verdicts
+//! by the plain solver, and cases that are judged by a completion.
 #![tactic(auto)]
 
 #[cfg(test)]
-mod checks;
-#[cfg(test)]
-mod completions;
-#[cfg(test)]
-mod files;
-#[cfg(test)]
-mod left_out;
+mod judging;
 #[cfg(test)]
 mod settling;
 #[cfg(test)]
-mod solvers;
+mod verdicts;

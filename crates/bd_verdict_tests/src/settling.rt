@@ -3,217 +3,210 @@ use bd_cdcl::{Found, Scripted};
 use bd_cnf::{Assignment, Clause, Clauses, Cnf, Lit};
 use bd_lrat::{ClauseIds, Hint, Hints, Line, Log};
 use bd_verify::{Settled, settle};
-use std::alloc::AllocError;
+use std::alloc::{AllocError, Global};
 use std::process::Abort;
 use std::test::Fail;
 
-pub(crate) type Parts = &'static [(u64, bool)];
+/// The four clauses over two variables, which no assignment satisfies, a line each.
+const SQUARE: &str = "1 2\n1 -2\n-1 2\n-1 -2\n";
 
-pub(crate) static SQUARE: [Parts; 4] = [
-    &[(1, true), (2, true)],
-    &[(1, true), (2, false)],
-    &[(1, false), (2, true)],
-    &[(1, false), (2, false)],
-];
+/// The same without the last.
+const OPEN: &str = "1 2\n1 -2\n-1 2\n";
 
-/// A line: its id, and its literals with its hints, or the ids that it takes out.
-#[derive(Clone, Copy)]
-pub(crate) enum Text {
-    Add(u64, Parts, &'static [u64]),
-    Delete(u64, &'static [u64]),
-}
-
-/// What a solver says: a model by the variables that are true.
-#[derive(Clone, Copy)]
-enum Said {
-    Model(&'static [u64]),
-    Refuted,
-    Spent,
-}
-
-/// What it comes to.
-#[derive(Clone, Copy, Debug, PartialEq, Eq)]
-pub(crate) enum Kind {
-    Refuted,
-    Model,
-    Spent,
-    BadProof(u64),
-    NoEnd(u64),
-    BadModel(u64),
-}
-
-type Row = (Said, u32, &'static [Text], Kind);
-
-const NOT_ONE: Parts = &[(1, false)];
-
-static ROWS: [Row; 12] = [
+/// The clauses over two variables, what is said, a model by the variables that are true, the budget, the lines of the log,
+/// and what that comes to. A line has its id, its literals, 0 and its hints; `d` begins a deletion.
+static ROWS: [(&str, &str, u32, &str, &str); 13] = [
+    (SQUARE, "refuted", 9, "5 -1 0 4", "bad proof 1"),
+    (SQUARE, "refuted", 9, "", "no end 0"),
+    (SQUARE, "model 1 2", 9, "", "bad model 4"),
+    (SQUARE, "model", 9, "", "bad model 1"),
+    (OPEN, "model 1 2", 0, "", "model"),
+    (SQUARE, "spent", 3, "5 -1 0 3 4", "no end 1"),
+    (SQUARE, "spent", 1, "5 -1 0 3 4", "spent"),
+    (SQUARE, "spent", 0, "", "spent"),
     (
-        Said::Refuted,
+        SQUARE,
+        "refuted",
         9,
-        &[Text::Add(5, NOT_ONE, &[4])],
-        Kind::BadProof(1),
-    ),
-    (Said::Refuted, 9, &[], Kind::NoEnd(0)),
-    (Said::Model(&[1, 2]), 9, &[], Kind::BadModel(4)),
-    (Said::Model(&[]), 9, &[], Kind::BadModel(1)),
-    (
-        Said::Spent,
-        3,
-        &[Text::Add(5, NOT_ONE, &[3, 4])],
-        Kind::NoEnd(1),
+        "5 -1 0 3 3 4 99\n6 0 5 1 2",
+        "refuted",
     ),
     (
-        Said::Spent,
-        1,
-        &[Text::Add(5, NOT_ONE, &[3, 4])],
-        Kind::Spent,
-    ),
-    (Said::Spent, 0, &[], Kind::Spent),
-    (
-        Said::Refuted,
+        SQUARE,
+        "refuted",
         9,
-        &[
-            Text::Add(5, NOT_ONE, &[3, 3, 4, 99]),
-            Text::Add(6, &[], &[5, 1, 2]),
-        ],
-        Kind::Refuted,
+        "5 -1 0 3 4\nd 1\n6 0 5 1 2",
+        "bad proof 3",
     ),
     (
-        Said::Refuted,
+        SQUARE,
+        "refuted",
         9,
-        &[
-            Text::Add(5, NOT_ONE, &[3, 4]),
-            Text::Delete(6, &[1]),
-            Text::Add(6, &[], &[5, 1, 2]),
-        ],
-        Kind::BadProof(3),
+        "18446744073709551615 -1 0 3 4\n6 0 5 1 2",
+        "bad proof 2",
     ),
-    (
-        Said::Refuted,
-        9,
-        &[
-            Text::Add(u64::MAX, NOT_ONE, &[3, 4]),
-            Text::Add(6, &[], &[5, 1, 2]),
-        ],
-        Kind::BadProof(2),
-    ),
-    (
-        Said::Refuted,
-        9,
-        &[Text::Add(5, &[(3, true)], &[1])],
-        Kind::BadProof(1),
-    ),
+    (SQUARE, "refuted", 9, "5 3 0 1", "bad proof 1"),
     // accepted, and not fresh
-    (
-        Said::Spent,
-        1,
-        &[Text::Add(5, &[(1, true), (2, true)], &[1])],
-        Kind::Spent,
-    ),
+    (SQUARE, "spent", 1, "5 1 2 0 1", "spent"),
 ];
 
-fn clause(rt: &(impl Abort + AllocGlobal), parts: &[(u64, bool)]) -> Result<Clause, AllocError> {
-    let mut lits = Vec::new(rt.alloc());
-    for &(var, positive) in parts {
-        lits.push(Lit::new(var.max(1), positive))?;
-    }
-    Ok(Clause::of(rt.alloc(), &lits)?.expect(rt, "no tautology"))
+/// The number that a word spells, and 0 for another word.
+fn number(word: &str) -> u64 {
+    word.parse::<u64>().unwrap_or(0)
 }
 
-pub(crate) fn formula(
-    rt: &(impl Abort + AllocGlobal),
-    vars: u64,
-    clauses: &[Parts],
-) -> Result<Cnf, AllocError> {
-    let mut cnf = Cnf::new(vars, Clauses::new(rt.alloc()));
-    for parts in clauses {
-        let clause = clause(rt, parts)?;
-        assert!(rt; clause.is_within(cnf.vars()));
-        cnf.push(clause)?;
+/// The literal that a number spells; none for 0.
+fn literal(word: &str) -> Option<Lit> {
+    let number = word.parse::<i64>().unwrap_or(0);
+    let var = number.unsigned_abs();
+    if var > 0 {
+        Some(Lit::new(var, number > 0))
+    } else {
+        None
+    }
+}
+
+/// The clause of the literals of a text, which is no tautology.
+fn clause(rt: &(impl Abort + AllocGlobal), text: &str) -> Result<Clause, AllocError> {
+    let mut lits = Vec::new(rt.alloc());
+    for word in text.split_whitespace() {
+        if let Some(lit) = literal(word) {
+            lits.push(lit)?;
+        }
+    }
+    Ok(Clause::from_vec(lits).expect(rt, "no tautology"))
+}
+
+/// Adds the clause of a text.
+fn push(rt: &(impl Abort + AllocGlobal), cnf: &mut Cnf, text: &str) -> Result<(), AllocError> {
+    let clause = clause(rt, text)?;
+    assert!(rt; clause.is_within(cnf.vars()));
+    cnf.push(clause)
+}
+
+/// The formula of a text over two variables.
+fn formula(rt: &(impl Abort + AllocGlobal), text: &str) -> Result<Cnf, AllocError> {
+    let mut cnf = Cnf::new(2, Clauses::new(rt.alloc()));
+    for line in text.lines() {
+        push(rt, &mut cnf, line)?;
     }
     Ok(cnf)
 }
 
-/// The line, without the hint at the place.
-pub(crate) fn line(
-    rt: &(impl Abort + AllocGlobal),
-    text: Text,
-    without: Option<usize>,
-) -> Result<Line, AllocError> {
-    match text {
-        Text::Add(id, parts, ids) => {
-            let mut hints = Hints::new(rt.alloc());
-            for (place, id) in ids.iter().enumerate() {
-                if without != Some(place) {
-                    hints.push(Hint::Unit(*id))?;
-                }
-            }
-            let clause = clause(rt, parts)?;
-            Ok(Line::Add { id, clause, hints })
-        }
-        Text::Delete(id, ids) => {
-            let ids = ClauseIds::from_vec(Vec::from_slice(rt.alloc(), ids)?);
-            Ok(Line::Delete { id, ids })
+/// The hints of a text.
+fn hints(alloc: Global, text: &str) -> Result<Hints, AllocError> {
+    let mut hints = Hints::new(alloc);
+    for word in text.split_whitespace() {
+        hints.push(Hint::Unit(number(word)))?;
+    }
+    Ok(hints)
+}
+
+/// The deletion of a clause.
+fn deletion(alloc: Global, id: u64) -> Result<Line, AllocError> {
+    let ids = ClauseIds::from_vec(vec![in alloc; id]?);
+    Ok(Line::Delete { id: 0, ids })
+}
+
+/// An addition: its id and literals, and its hints.
+fn addition(rt: &(impl Abort + AllocGlobal), head: &str, tail: &str) -> Result<Line, AllocError> {
+    let (id, lits) = head.split_once(' ').unwrap_or((head, ""));
+    let id = number(id);
+    let clause = clause(rt, lits)?;
+    let hints = hints(rt.alloc(), tail)?;
+    Ok(Line::Add { id, clause, hints })
+}
+
+/// The line of a text.
+fn line(rt: &(impl Abort + AllocGlobal), text: &str) -> Result<Line, AllocError> {
+    match text.strip_prefix("d ") {
+        Some(id) => deletion(rt.alloc(), number(id)),
+        None => {
+            let (head, tail) = text.split_once(" 0 ").unwrap_or((text, ""));
+            addition(rt, head, tail)
         }
     }
 }
 
-fn log(rt: &(impl Abort + AllocGlobal), texts: &[Text]) -> Result<Log, AllocError> {
+/// The lines of a text.
+fn log(rt: &(impl Abort + AllocGlobal), text: &str) -> Result<Log, AllocError> {
     let mut log = Log::new(rt.alloc());
-    for text in texts {
-        log.push(line(rt, *text, None)?)?;
+    for text in text.lines() {
+        log.push(line(rt, text)?)?;
     }
     Ok(log)
 }
 
-fn found(rt: &(impl Abort + AllocGlobal), said: Said) -> Result<Found, AllocError> {
-    match said {
-        Said::Model(vars) => {
-            let mut assignment = Assignment::new(rt.alloc());
-            for var in vars {
-                assignment.set(*var, true)?;
-            }
-            Ok(Found::Model(assignment))
-        }
-        Said::Refuted => Ok(Found::Refuted),
-        Said::Spent => Ok(Found::Spent),
+/// The assignment in which these variables are true.
+fn assignment(alloc: Global, vars: &str) -> Result<Assignment, AllocError> {
+    let mut assignment = Assignment::new(alloc);
+    for word in vars.split_whitespace() {
+        assignment.set(number(word), true)?;
+    }
+    Ok(assignment)
+}
+
+/// What is said.
+fn found(alloc: Global, said: &str) -> Result<Found, AllocError> {
+    match said.strip_prefix("model") {
+        Some(vars) => Ok(Found::Model(assignment(alloc, vars)?)),
+        None if said == "spent" => Ok(Found::Spent),
+        None => Ok(Found::Refuted),
     }
 }
 
-pub(crate) fn kind_of(settled: &Settled) -> Kind {
+/// What it comes to.
+fn shown(alloc: Global, settled: &Settled) -> Result<String, AllocError> {
+    let mut text = String::new(alloc);
     match settled {
-        Settled::Refuted(_) => Kind::Refuted,
-        Settled::Model(..) => Kind::Model,
-        Settled::Spent(_) => Kind::Spent,
-        Settled::BadProof(number) => Kind::BadProof(*number),
-        Settled::NoEnd(number) => Kind::NoEnd(*number),
-        Settled::BadModel(number) => Kind::BadModel(*number),
+        Settled::Refuted(_) => text.push_str("refuted")?,
+        Settled::Model(..) => text.push_str("model")?,
+        Settled::Spent(_) => text.push_str("spent")?,
+        Settled::BadProof(number) => write!(text, "bad proof {number}")?,
+        Settled::NoEnd(number) => write!(text, "no end {number}")?,
+        Settled::BadModel(number) => write!(text, "bad model {number}")?,
     }
+    Ok(text)
+}
+
+/// A solver that says this, with that log.
+fn script(
+    rt: &(impl Abort + AllocGlobal),
+    said: &str,
+    lines: &str,
+) -> Result<Scripted, AllocError> {
+    let found = found(rt.alloc(), said)?;
+    let lines = log(rt, lines)?;
+    Ok(Scripted { found, lines })
+}
+
+/// What the solver's answer comes to.
+fn settled(
+    alloc: Global,
+    solver: &mut Scripted,
+    cnf: &Cnf,
+    budget: u32,
+) -> Result<String, AllocError> {
+    let settled = settle(alloc, solver, cnf, budget)?;
+    shown(alloc, &settled)
+}
+
+fn outcome(
+    rt: &(impl Abort + AllocGlobal),
+    clauses: &str,
+    said: &str,
+    budget: u32,
+    lines: &str,
+) -> Result<String, AllocError> {
+    let cnf = formula(rt, clauses)?;
+    let mut solver = script(rt, said, lines)?;
+    settled(rt.alloc(), &mut solver, &cnf, budget)
 }
 
 #[test]
 fn answers_are_checked(rt: HostRuntime) -> Result<(), Fail> {
-    let cnf = formula(&rt, 2, &SQUARE)?;
-    for (number, row) in ROWS.iter().enumerate() {
-        let (said, budget, texts, want) = *row;
-        let mut solver = Scripted {
-            found: found(&rt, said)?,
-            lines: log(&rt, texts)?,
-        };
-        let settled = settle(rt.alloc(), &mut solver, &cnf, budget)?;
-        assert_eq!(rt; kind_of(&settled), want, "{number}");
+    for &(clauses, said, budget, lines, want) in &ROWS {
+        assert_eq!(rt; outcome(&rt, clauses, said, budget, lines)?.as_str(), want);
     }
-    Ok(())
-}
-
-#[test]
-fn a_model_is_given_on(rt: HostRuntime) -> Result<(), Fail> {
-    let cnf = formula(&rt, 2, &SQUARE[..3])?;
-    let mut solver = Scripted {
-        found: found(&rt, Said::Model(&[1, 2]))?,
-        lines: Log::new(rt.alloc()),
-    };
-    let settled = settle(rt.alloc(), &mut solver, &cnf, 0)?;
-    assert_eq!(rt; kind_of(&settled), Kind::Model);
     Ok(())
 }

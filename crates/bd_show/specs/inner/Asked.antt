@@ -5,7 +5,7 @@ use Rattle.clap.specs.Simple.{subcommand_of, subcommand_rows_of}
 use Rattle.clap.specs.declared.error.kind.ErrorKind.{ErrorKind}
 use Rattle.clap.specs.declared.error.kind.ErrorKind.TheVariants as kind
 use Rattle.clap.specs.declared.parser.matches.ArgMatches.{ArgMatches}
-use Rattle.bd_show.specs.Commands.{AskHelp, command_line, taken}
+use Rattle.bd_show.specs.Commands.{AreMisused, AskHelp, command_line, taken}
 use Rattle.bd_show.specs.Files.{names_of}
 use Rattle.bd_show.specs.Meaning.{Question, check, show, shrink, explain, about, recheck}
 use Rattle.bd_show.specs.inner.Answered.{check_of, recheck_of, show_of, why_of}
@@ -31,11 +31,12 @@ pub record IsParsed (words : List (List ℕ)) (m : ArgMatches) : Type 0 where
 -- what clap said of a fault of this kind
 abbrev pub IsToldBy : ErrorKind → WordsFault → Type 0
 IsToldBy k (Told text) = (k ≡ kind.DisplayHelp) ⊎ (k ≡ kind.DisplayVersion)
-IsToldBy k (Usage text) = k ≢ kind.OutOfMemory
+IsToldBy k (Usage text) =
+    (k ≢ kind.OutOfMemory) × (k ≢ kind.DisplayHelp) × (k ≢ kind.DisplayVersion)
 IsToldBy k Memory = Unit {0}
 
 -- why words ask nothing
 abbrev pub IsWordsFault : List (List ℕ) → WordsFault → Type 0
 IsWordsFault words (Told text) = (taken words ≡ None) × AskHelp words
-IsWordsFault words (Usage text) = taken words ≡ None
+IsWordsFault words (Usage text) = (taken words ≡ None) × AreMisused words
 IsWordsFault words Memory = Unit {0}

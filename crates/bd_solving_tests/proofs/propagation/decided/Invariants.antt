@@ -1,5 +1,5 @@
 use Rattle.bd_watch.specs.Watch.{IsWatching}
 use Rattle.bd_solving_tests.proofs.propagation.decided.Given as goal
 
-abbrev pub invariant-loop-number : goal.invariant-loop-number
-invariant-loop-number l = IsWatching l.watch
+abbrev pub invariant-loop-word : goal.invariant-loop-word
+invariant-loop-word l = IsWatching l.watch

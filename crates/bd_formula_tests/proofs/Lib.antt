@@ -1,2 +1,0 @@
-pub mod ExampleLawful
-pub mod EndsEq
