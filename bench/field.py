@@ -1,38 +1,29 @@
 #!/usr/bin/env python3
-"""Runs the built program, and others where they are installed, on the machines that the field measures by.
+"""Runs the built program on wrong twins of the machines that the field measures by, and on other ways to write them.
 
-The machines are those of `dlx.py` and `vliw.py`, asked by `check --diverse`. The first table has for each what the
-program says, its processor seconds, how many clauses it learned, and the size of the formula; then, on the saved
-formula, the processor seconds of `minisat`, of `cadical` as it comes and of `cadical` without deletions and
-simplification, each with how many times ours they are, and their conflicts; and those of `z3` and `cvc5` on the
-question as SMT-LIB (`smtlib.py`). The second table (--twins) has all wrong twins of each machine, the third (--ways)
-some machines written in other ways.
+The machines are those of `dlx.py` and `vliw.py`, asked by `check --diverse`; the right ones are in the tables of
+`measure.py`. With --twins the table has all wrong twins of each machine, with --ways some machines written in other
+ways: what the program says, its processor seconds, how many clauses it learned, and the size of the formula.
 
 Seconds are medians of --runs runs; what takes more than half a minute runs once. With --counts each thing runs once and
-no seconds are printed, which serves where other work is done beside. `-` is a program that isn't installed, `>N` one
-that didn't end within the limit, of N processor seconds. It stops where two of them don't say the same. With --write
-the rows are put into FILE too, between the marks of their table, as `<!-- machines: made by bench/field.py -->` and
-`<!-- machines: to here -->`; rows that stand there under the same head are kept where they weren't asked for.
+no seconds are printed, which serves where other work is done beside. `>N` didn't end within the limit, of N processor
+seconds. With --write the rows are put into FILE too, between the marks of their table, as
+`<!-- twins: made by bench/field.py -->` and `<!-- twins: to here -->`; rows that stand there under the same head are
+kept where they weren't asked for.
 
-usage: field.py PROGRAM [--twins | --ways] [--all] [--only WORD] [--runs N] [--limit SECONDS] [--smt SECONDS]
-                [--budget N] [--counts] [--write FILE]
+usage: field.py PROGRAM (--twins | --ways) [--all] [--only WORD] [--runs N] [--limit SECONDS] [--budget N] [--counts]
+                [--write FILE]
 """
 import argparse
 import os
 import re
-import shutil
 import statistics
-import subprocess
-import sys
 import tempfile
 
 import dlx
 import vliw
-from bench import HERE, added_clauses, answer_of, conflicts, formula_size, run
+from bench import added_clauses, formula_size, run
 
-SOLVERS = {"minisat": ["minisat"], "cadical": ["cadical"],
-           "cadical --plain --reduce=0": ["cadical", "--plain", "--reduce=0"]}
-SMT = {"z3": ["z3"], "cvc5": ["cvc5", "--incremental"]}
 MACHINES = ("1xDLX-C", "1xDLX-C-MC-EX-BP", "2xDLX-CA", "2xDLX-CA-MC-EX-BP", "2xDLX-CC", "2xDLX-CC-MC", "2xDLX-CC-EX",
             "2xDLX-CC-BP", "2xDLX-CC-MC-EX-BP", "4VLIW-MC", "4VLIW-MC-BP", "9VLIW-MC", "9VLIW-MC-BP")
 WRITTEN = ("1xDLX-C", "1xDLX-C-MC-EX-BP", "2xDLX-CA")
@@ -48,8 +39,7 @@ class Question:
     def __init__(self, folder, name, **ways):
         texts = (vliw if "VLIW" in name else dlx).design(name, **ways)
         self.name, self.files = name, []
-        saved = ("kept.cnf", "proof.lrat", "question.smt2")
-        self.cnf, self.proof, self.smt = (os.path.join(folder, part) for part in saved)
+        self.cnf, self.proof = (os.path.join(folder, part) for part in ("kept.cnf", "proof.lrat"))
         for part, text in zip(("pipe", "spec", "inv"), texts):
             if text is not None:
                 self.files.append(os.path.join(folder, part))
@@ -60,12 +50,6 @@ class Question:
         """The words that ask it, within a budget."""
         most = str(words.budget if budget is None else budget)
         return [words.program, "check", *self.files, "--diverse", "--budget", most]
-
-    def as_smt(self):
-        """The name of the question's file as SMT-LIB."""
-        with open(self.smt, "w", encoding="ascii") as file:
-            subprocess.run([sys.executable, os.path.join(HERE, "smtlib.py"), *self.files], stdout=file, check=True)
-        return self.smt
 
 
 def median(command, limit, runs):
@@ -103,40 +87,6 @@ def own_cells(question, words):
     return answer, own, [answer, f"{own:.2f}", *counts]
 
 
-def other_cells(command, limit, own, words, answers):
-    """The cells of another program: its seconds with how many times ours they are, and its conflicts."""
-    if shutil.which(command[0]) is None:
-        return "-", "-"
-    done = median(command, limit, 1 if words.counts else words.runs)
-    if done is None:
-        return f">{limit}" + (f" (>{limit / own:.1f})" if own else ""), "-"
-    answer, count = answer_of(done[0]), conflicts(done[0])
-    if answer is None:
-        return "no answer", "-"
-    answers[answer] = command[0]
-    ratio = f" ({done[1] / own:.1f})" if own else ""
-    return f"{done[1]:.2f}{ratio}", f"{int(count):,}" if count.isdigit() else count
-
-
-def machine_rows(words, folder):
-    """The rows of the table of machines."""
-    for name in EVERY if words.all else MACHINES:
-        if words.only not in name:
-            continue
-        question, answers = Question(folder, name), {}
-        answer, own, cells = own_cells(question, words)
-        if answer and not answer.startswith("undecided"):
-            answers[answer.split()[0]] = words.program
-        for command in SOLVERS.values():
-            seconds, count = other_cells([*command, question.cnf], words.limit, own, words, answers)
-            cells += [count] if words.counts else [seconds, count]
-        for command in () if words.counts else SMT.values():
-            cells.append(other_cells([*command, question.as_smt()], words.smt, own, words, answers)[0])
-        if len(answers) > 1:
-            raise SystemExit(f"{name}: they don't say the same: {answers}")
-        yield [name, *cells]
-
-
 def twin_rows(words, folder):
     """The rows of the table of wrong twins."""
     for name in EVERY if words.all else MACHINES:
@@ -170,11 +120,7 @@ def heads(words):
         seconds = [] if words.counts else ["median s", "longest s"]
         most = "learns most" if words.counts else "the longest"
         return "twins", twin_rows, ["machine", "wrong twins", "found", *seconds, most, "it learns"]
-    if words.ways:
-        return "ways", way_rows, ["machine", "written", *own]
-    others = [f"conflicts of `{name}`" for name in SOLVERS] if words.counts else [
-        *(cell for name in SOLVERS for cell in (f"`{name}`, s", "its conflicts")), *(f"`{name}`, s" for name in SMT)]
-    return "machines", machine_rows, ["machine", *own, *others]
+    return "ways", way_rows, ["machine", "written", *own]
 
 
 def merged(old, new):
@@ -201,16 +147,15 @@ def put(name, lines, document):
 
 
 def main():
-    parser = argparse.ArgumentParser(description="Runs the program and others on the machines of the field.")
+    parser = argparse.ArgumentParser(description="Runs the program on twins and other ways of the field's machines.")
     parser.add_argument("program", type=os.path.abspath)
-    which = parser.add_mutually_exclusive_group()
+    which = parser.add_mutually_exclusive_group(required=True)
     which.add_argument("--twins", action="store_true", help="the table of wrong twins")
     which.add_argument("--ways", action="store_true", help="the table of ways to write a machine")
     parser.add_argument("--all", action="store_true", help="all machines that can be written")
     parser.add_argument("--only", default="", help="rows whose name has this in it")
     parser.add_argument("--runs", type=int, default=3, help="how many runs a median is of")
     parser.add_argument("--limit", type=int, default=300, help="processor seconds for each run")
-    parser.add_argument("--smt", type=int, default=60, help="the same for `z3` and `cvc5`")
     parser.add_argument("--budget", type=int, default=200000, help="how many clauses `check` may learn")
     parser.add_argument("--counts", action="store_true", help="one run each, and no seconds")
     parser.add_argument("--write", metavar="FILE", help="put the table into this document too")

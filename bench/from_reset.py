@@ -53,7 +53,7 @@ def with_column(text, twin, said):
         if line.startswith("| Twin |") and HEAD not in line:
             lines[at] += f" {HEAD} |"
             lines[at + 1] += "---|"
-        if line.startswith(f"| `{os.path.basename(twin)}` |"):
+        if line.startswith(f"| `{os.path.basename(twin)}` "):
             cells = line.strip("|").split("|")[:2]
             lines[at] = "|" + "|".join(cells) + f"| {said} |"
     return "\n".join(lines)

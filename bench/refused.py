@@ -156,11 +156,29 @@ def companion_commands() -> Iterator[Command]:
 
     stale, right = ("stale_operand.pipe", "two_stage.spec"), ("two_stage.pipe", "two_stage.spec")
     page = ("--html", SAVED[2])
+    inv = "nothing_pending.inv"
+    yield command("check, right", "check", *right)
+    yield command("check, right, with an invariant", "check", "twin_valid_bits.pipe", right[1], "twin_valid_bits.inv")
+    yield command("check, wrong", "check", *stale)
+    yield command("check --diverse, wrong", "check", *stale, "--diverse")
+    yield command("check, wrong, with an invariant", "check", *right, inv)
+    yield command("check, void", "check", *right, "no_state.inv")
+    yield command("check, undecided", "check", *right, "--budget", "0")
+    yield command("why, broken", "why", *stale, "pending_write.case")
+    yield command("why --of, whole", "why", *stale, "pending_write.case", "--of", "rf[4]", "--whole")
+    yield command("why, an invariant", "why", *right, "fetches.case", inv)
+    yield command("why, holds", "why", *right, "pending_write.case")
+    yield command("why, holds, a value", "why", *right, "pending_write.case", "--of", "a")
+    yield command("why, outside, a value", "why", *right, "pending_write.case", inv, "--of", "a")
+    yield command("why, no such value", "why", *right, "pending_write.case", "--of", "nowhere")
+    yield command("recheck", "recheck", *right, "two_stage.lrat")
+    yield command("recheck --diverse", "recheck", *right, "diverse.lrat", "--diverse")
+    yield command("recheck, a spoiled proof", "recheck", *right, "spoiled.lrat")
     yield command("show, broken", "show", *stale, "pending_write.case")
     yield command("show, broken, a page", "show", *stale, "pending_write.case", *page, saves=SAVED[2:])
     yield command("show --whole, a page", "show", *stale, "pending_write.case", "--whole", *page, saves=SAVED[2:])
     yield command("show, holds", "show", *right, "pending_write.case")
-    yield command("show, outside", "show", *right, "pending_write.case", "nothing_pending.inv")
+    yield command("show, outside", "show", *right, "pending_write.case", inv)
     yield command("shrink, broken", "shrink", *stale, "pending_write.case")
     yield command("shrink, holds", "shrink", *right, "pending_write.case")
     yield command("about", "about", *right)
@@ -210,23 +228,26 @@ class Place:
             file.write(bytes(4096))
         shutil.copytree(DATA, self.folder)
         self.prove("two_stage.lrat", "two_stage.pipe", "two_stage.spec")
+        self.prove("diverse.lrat", "two_stage.pipe", "two_stage.spec", "--diverse")
         self.prove("twin_valid_bits.lrat", "twin_valid_bits.pipe", "two_stage.spec", "twin_valid_bits.inv")
         with open(os.path.join(self.folder, "two_stage.lrat"), "rb") as file:
             proof = file.read()
         self.write("spoiled.lrat", proof[:len(proof) // 2] + b"\nx\n")
-        self.write("apart.trail", self.trail("twin_valid_bits.pipe", "two_stage.spec", "valid_bits_apart.start", "2"))
+        apart = self.printed("bounded", "twin_valid_bits.pipe", "two_stage.spec", "valid_bits_apart.start", "2")
+        self.write("apart.trail", apart)
+        self.write("fetches.case", self.printed("check", "two_stage.pipe", "two_stage.spec", "nothing_pending.inv"))
         for name in SAVED:
             self.write(name, OLD)
         self.held = self.files()
 
-    def prove(self, proof: str, *files: str) -> None:
-        """Saves the proof for a right design."""
-        subprocess.run([self.program, "check", *files, "--lrat", proof], cwd=self.folder, check=True,
+    def prove(self, proof: str, *words: str) -> None:
+        """Saves the proof for a right design, by these words of `check`."""
+        subprocess.run([self.program, "check", *words, "--lrat", proof], cwd=self.folder, check=True,
                        stdout=subprocess.DEVNULL)
 
-    def trail(self, *words: str) -> bytes:
-        """The trail that a bounded run of a wrong design prints."""
-        ran = subprocess.run([self.program, "bounded", *words], cwd=self.folder, stdout=subprocess.PIPE, check=False)
+    def printed(self, *words: str) -> bytes:
+        """The case or the trail that is printed of a wrong design."""
+        ran = subprocess.run([self.program, *words], cwd=self.folder, stdout=subprocess.PIPE, check=False)
         return ran.stdout.split(b"\n", 1)[1]
 
     def write(self, name: str, text: bytes) -> None:

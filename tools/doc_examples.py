@@ -40,8 +40,8 @@ from typing import Iterator, NamedTuple
 
 ROOT = Path(__file__).resolve().parent.parent
 DOCUMENTS = ("README.md", "docs/*.md", "docs/commands/*.md", "gallery/riddles/ANSWERS.md")
-OTHERS = ("cadical",)
-ASKS = {"tools/prove.py": "cadical"}
+OTHERS = ("cadical", "parallel")
+ASKS = {"tools/prove.py": ("cadical",), "tools/conquer.py": ("cadical", "parallel")}
 PROGRAMS = ("burch_dill", "bd_view")
 PROMPT = "$ "
 CUT = "..."
@@ -150,8 +150,8 @@ def run(command: str, folder: Path, environment: dict[str, str]) -> list[str]:
 def is_missing(command: str, programs: dict[str, Path]) -> bool:
     """Whether the command is or asks another tool that isn't installed, or begins with a program that isn't given."""
     word = command.split()[0]
-    other = ASKS.get(word, word)
-    return (other in OTHERS and shutil.which(other) is None) or (word in PROGRAMS and word not in programs)
+    others = [other for other in ASKS.get(word, (word,)) if other in OTHERS]
+    return any(shutil.which(other) is None for other in others) or (word in PROGRAMS and word not in programs)
 
 
 def run_document(document: list[Block], programs: dict[str, Path]) -> list[Result]:

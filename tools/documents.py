@@ -12,6 +12,8 @@
 - docs/DEFINITIONS.md: each definition that a public contract cites, with its module and its source. Contracts are those
   of public calls and of the methods of public traits; how a public type is seen counts too.
 
+What the programs take and print stands in users' pages, in examples that are run (`shown.py`).
+
 A file that a document names by a path from a crate's folder on has to be there, and so has what a link of a document
 leads to, with its heading. So has each call of tools/surface.txt,
 the calls that other programs rely on, with the signature that stands there: a line is a crate and a signature.
@@ -21,6 +23,8 @@ import re
 import sys
 import textwrap
 from pathlib import Path
+
+import shown
 
 ROOT = Path(__file__).resolve().parent.parent
 WIDTH = 118
@@ -635,6 +639,7 @@ def main(words):
     mapped, mapped_faults = map_text()
     made = {"docs/MAP.md": mapped, "docs/PROVED.md": proved, "docs/DEFINITIONS.md": definitions_text()}
     faults = mapped_faults + proved_faults + missing_files() + broken_links() + missing_calls()
+    faults += shown.missing()
     for path, text in made.items():
         file = ROOT / path
         old = file.read_text() if file.exists() else ""

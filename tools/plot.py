@@ -1,11 +1,11 @@
 #!/usr/bin/env python3
 """Draws how clauses, conflicts and seconds grow with width and depth, as an SVG file, from rows of `bench/`.
 
-The rows are what `bench/bench.py` and `bench/learned.py` print, tables of a document among them: lines between bars,
+The rows are what `bench/bench.py` and `bench/measure.py` print, tables of a document among them: lines between bars,
 the first of which has the names of the columns. Of these it takes the superscalars, `WIDTH x DEPTH`, and the generated
 pipelines, `gen DEPTH 0`, whose width is 1; `--mode` says of which mode. Each column that was asked for and is there
-(`clauses`, `learned`, `seconds`; `whole` counts as `seconds`) is a picture, with the depth along the bottom, a line for
-each width, and powers of ten up the side. Nothing but Python is needed.
+(`clauses`, `learned`, `seconds`; `whole` and `s` count as `seconds`) is a picture, with the depth along the bottom, a
+line for each width, and powers of ten up the side. Nothing but Python is needed.
 
 usage: plot.py [--mode plain|diverse] [--columns NAME,NAME] OUTPUT.svg [ROWS ..]
 """
@@ -18,7 +18,7 @@ from pathlib import Path
 from typing import Dict, Iterable, List, NamedTuple, Optional, Sequence, Tuple
 
 COLUMNS = ("clauses", "learned", "seconds")
-SAME = {"whole": "seconds"}
+SAME = {"whole": "seconds", "s": "seconds"}
 COLOURS = ("#1b6ca8", "#c1432e", "#3b8f4a", "#8a5aa8", "#b8860b", "#4a4a4a")
 WIDTH, HEIGHT, LEFT, RIGHT, TOP, BOTTOM = 430, 300, 78, 92, 36, 44
 

@@ -5,7 +5,7 @@
 #
 # The programs are crates/*/out/burch_dill and bd_view, or those that BURCH_DILL and BD_VIEW name, and go in byte for
 # byte. The same tree and programs give the same files; their time is that of the last commit, or SOURCE_DATE_EPOCH.
-# It wants python3, and dpkg-deb for the package. tools/try_release.sh installs the package in a clean root.
+# It wants python3, and dpkg-deb for the package. tools/try_release.sh tries both in a clean root.
 set -eu
 umask 022
 cd "$(dirname "$0")/.."
@@ -36,6 +36,8 @@ shared() {
     cp -R docs gallery "$1"
     cp -R crates/burch_dill/data "$1/crates/burch_dill"
     cp -R tools/burch_dill "$1/tools"
+    mkdir "$1/bench"
+    cp bench/dlx.py bench/vliw.py "$1/bench"
     find tools -maxdepth 1 -name '*.py' -exec cp {} "$1/tools" \; -o -name '*.c' -exec cp {} "$1/tools" \;
     find "$1" -name __pycache__ -prune -exec rm -rf {} +
 }

@@ -84,10 +84,10 @@ _burch_dill_files() {
 
 _burch_dill() {
     local current=${COMP_WORDS[COMP_CWORD]} previous=${COMP_WORDS[COMP_CWORD-1]}
-    local command=${COMP_WORDS[1]} place=0 word skip=
+    local program=${1##*/} command=${COMP_WORDS[1]} place=0 word skip=
     COMPREPLY=()
     if [ "$COMP_CWORD" -eq 1 ]; then
-        case ${1##*/} in
+        case $program in
 @COMMANDS@
         esac
         return
@@ -105,12 +105,12 @@ _burch_dill() {
     done
     case $current in
         -*)
-            case $command in
+            case $program:$command in
 @OPTIONS@
             esac
             return ;;
     esac
-    case $command:$place in
+    case $program:$command:$place in
 @PLACES@
     esac
 }
@@ -140,11 +140,11 @@ def bash() -> str:
         for command in listed:
             if command.options:
                 words = " ".join(name for name, _ in command.options)
-                options.append(f'                {command.name}) mapfile -t COMPREPLY < '
+                options.append(f'                {program}:{command.name}) mapfile -t COMPREPLY < '
                                f'<(compgen -W "{words}" -- "$current") ;;')
             for at, place in enumerate(command.places + command.optional):
                 if pattern(place):
-                    places.append(f"        {command.name}:{at}) {bash_reply(place)} ;;")
+                    places.append(f"        {program}:{command.name}:{at}) {bash_reply(place)} ;;")
     values = [f"        {name}) {bash_reply(value)}; return ;;" for name, value in valued()]
     made = {"COMMANDS": commands, "OPTIONS": options, "PLACES": places, "VALUES": values,
             "VALUED": ["|".join(name for name, _ in valued())]}
@@ -168,12 +168,12 @@ def zsh_value(place: str) -> str:
     return f"{place}:{files if pattern(place) else ' '}"
 
 
-def zsh_command(command: Command) -> List[str]:
+def zsh_command(program: str, command: Command) -> List[str]:
     """The case of a command: its options and its places."""
     parts = [f"'{name}[{name}]" + (f":{zsh_value(value)}'" if value else "'") for name, value in command.options]
     parts += [f"'{at}:{zsh_value(place)}'" for at, place in enumerate(command.places, 1)]
     parts += [f"'{at}::{zsh_value(place)}'" for at, place in enumerate(command.optional, len(command.places) + 1)]
-    return [f"        {command.name})", "            _arguments -s \\",
+    return [f"        {program}:{command.name})", "            _arguments -s \\",
             *(f"                {part} \\" for part in parts[:-1]), f"                {parts[-1]} ;;"]
 
 
@@ -187,10 +187,10 @@ def zsh() -> str:
         lines += [f"            '{word}:{does}'" for word, does in COMPANION_WORDS] if program == "bd_view" else []
         lines += ["        ) ;;"]
     lines += ["esac", "if (( CURRENT == 2 )); then", "    _describe command commands", "else",
-              "    local command=$words[2]", "    shift words", "    (( CURRENT-- ))", "    case $command in"]
-    for listed in PROGRAMS.values():
+              "    local command=$words[2]", "    shift words", "    (( CURRENT-- ))", "    case ${service##*/}:$command in"]
+    for program, listed in PROGRAMS.items():
         for command in listed:
-            lines += zsh_command(command)
+            lines += zsh_command(program, command)
     return "\n".join([*lines, "    esac", "fi", ""])
 
 

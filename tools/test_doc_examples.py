@@ -84,6 +84,12 @@ class Running(unittest.TestCase):
         with mock.patch("doc_examples.OTHERS", ("no-such-tool",)):
             self.assertEqual(self.run_on(text)[:2], (0, "2 examples, 2 not run, 0 faults\n"))
 
+    def test_a_script_that_asks_a_tool_that_is_not_there(self) -> None:
+        text = "```\n$ echo before it\nbefore it\n$ asks-it\ndone\n$ echo after it\nafter it\n```\n"
+        with mock.patch("doc_examples.OTHERS", ("sh", "no-such-tool")), \
+                mock.patch("doc_examples.ASKS", {"asks-it": ("sh", "no-such-tool")}):
+            self.assertEqual(self.run_on(text)[:2], (0, "3 examples, 2 not run, 0 faults\n"))
+
     def test_usage(self) -> None:
         with contextlib.redirect_stdout(io.StringIO()):
             self.assertEqual(main([]), 2)

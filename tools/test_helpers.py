@@ -13,8 +13,8 @@ from pathlib import Path
 import example
 import superscalar
 from burch_dill import FALSE, TRUE, Bool, Case, Declarations, DesignError, Fault, Function, Group, Invariant, Judgement
-from burch_dill import NoAnswer, NoFile, Outcome, Pipeline, Specification, Vector, Word, about, check, conj, disj
-from burch_dill import equal, first_of, gen, grid, held, ite, replay, show, shrink, xor
+from burch_dill import NoAnswer, NoFile, Outcome, Pipeline, Specification, Vector, Word, about, check, check_and_show
+from burch_dill import conj, disj, equal, first_of, gen, grid, held, ite, replay, show, shrink, why, xor
 from burch_dill.trees import item_at
 
 DATA = Path(__file__).resolve().parent.parent / "crates" / "burch_dill" / "data"
@@ -147,6 +147,48 @@ class Shown(unittest.TestCase):
         self.assertIsNone(shrink(TWO_STAGE, SPEC, case))
         self.assertEqual(show(TWO_STAGE, SPEC, case, whole=True).judgement, Judgement.HOLDS)
         self.assertEqual(f"{case}", case.text())
+
+    def test_check_and_show(self) -> None:
+        wrong = check_and_show(STALE, SPEC)
+        self.assertEqual((wrong.outcome, wrong.is_right), (Outcome.WRONG_COMMUTE, False))
+        assert wrong.shown is not None
+        self.assertEqual(wrong.shown.judgement, Judgement.BROKEN_COMMUTE)
+        self.assertEqual(str(wrong), f"wrong commute\n{wrong.shown}")
+        case = check(STALE, SPEC).case
+        assert case is not None
+        self.assertEqual(str(wrong.shown), str(show(STALE, SPEC, case)))
+        right = check_and_show(TWO_STAGE, SPEC, diverse=True)
+        self.assertEqual((right.outcome, right.is_right, right.shown), (Outcome.CORRECT, True, None))
+        spent = check_and_show(DATA / "five_stage.pipe", DATA / "five_stage.spec", budget=100)
+        self.assertEqual((spent.outcome, spent.learned, spent.seeks_state), (Outcome.UNDECIDED, 100, False))
+        self.assertEqual(check_and_show(TWO_STAGE, SPEC, DATA / "no_state.inv").outcome, Outcome.VOID)
+
+    def test_why(self) -> None:
+        case = check(STALE, SPEC).case
+        assert case is not None
+        said = why(STALE, SPEC, case)
+        assert said is not None
+        self.assertEqual(said.judgement, Judgement.BROKEN_COMMUTE)
+        self.assertEqual([(line.file, line.line) for line in said.reasons],
+                         [("pipe", line) for line in (9, 7, 13, 10, 11, 12)] + [("spec", 6), ("pipe", 8), ("pipe", 6)])
+        self.assertIn(f"\n{STALE}:13:2: before to after: a=10 since ", str(said))
+        operand = why(STALE.read_text(), SPEC, case, of="a", whole=True)
+        assert operand is not None
+        self.assertEqual([(line.file, line.line, line.column) for line in operand.reasons], [("pipe", 13, 2)])
+        self.assertIn("\npipe:13:2: before to after: a=10 since ", operand.text)
+        self.assertIsNone(why(TWO_STAGE, SPEC, case))
+        with self.assertRaises(NoAnswer) as no:
+            why(STALE, SPEC, case, of="zz")
+        self.assertEqual(no.exception.status, 2)
+
+    def test_why_of_an_invariant(self) -> None:
+        inv = Invariant(~Bool("v"))
+        case = check(TWO_STAGE, SPEC, inv).case
+        assert case is not None
+        said = why(TWO_STAGE, SPEC, case, inv)
+        assert said is not None
+        self.assertEqual((said.judgement, said.reasons[0].file), (Judgement.BROKEN_INVARIANT, "inv"))
+        self.assertIn("\ninv:", said.text)
 
     def test_about(self) -> None:
         said = about(TWO_STAGE, SPEC)

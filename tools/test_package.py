@@ -3,44 +3,65 @@
     cd tools && python3 -m unittest test_package
 """
 import ast
+import base64
+import hashlib
 import importlib.util
-import shutil
 import subprocess
 import sys
+import tarfile
 import tempfile
 import unittest
 import zipfile
 from pathlib import Path
 
+import wheel_backend
+
 ROOT = Path(__file__).resolve().parent.parent
 VERSION = (ROOT / "VERSION").read_text(encoding="ascii").strip()
 
 
-HAS_SETUPTOOLS = all(importlib.util.find_spec(name) for name in ("pip", "setuptools", "wheel"))
-
-
-@unittest.skipUnless(HAS_SETUPTOOLS, "pip, setuptools and wheel aren't all installed")
+@unittest.skipUnless(importlib.util.find_spec("pip"), "no pip")
 class Wheel(unittest.TestCase):
+    def wheel(self, folder: str) -> Path:
+        """A wheel that pip builds of the repository, without a network."""
+        words = [sys.executable, "-m", "pip", "wheel", "-q", "--no-deps", "--no-index", "--no-build-isolation", "-w"]
+        subprocess.run([*words, folder, str(ROOT)], check=True, capture_output=True)
+        return next(Path(folder).glob(f"burch_dill-{VERSION}-*.whl"))
+
+    def test_it_has_all_that_it_should(self) -> None:
+        """Nothing is left in the repository, each file has its sum, and the version is that of the whole."""
+        with tempfile.TemporaryDirectory() as folder, zipfile.ZipFile(self.wheel(folder)) as archive:
+            info = f"burch_dill-{VERSION}.dist-info"
+            rows = [row.split(",") for row in archive.read(f"{info}/RECORD").decode().splitlines()]
+            self.assertEqual([row[0] for row in rows], archive.namelist())
+            for name, digest, size in rows[:-1]:
+                made = base64.urlsafe_b64encode(hashlib.sha256(archive.read(name)).digest()).decode().rstrip("=")
+                self.assertEqual((digest, size), (f"sha256={made}", str(len(archive.read(name)))))
+            metadata = archive.read(f"{info}/METADATA").decode()
+            package = {f"burch_dill/{path.name}" for path in (ROOT / "tools" / "burch_dill").iterdir() if path.is_file()}
+            self.assertLessEqual(package | {f"{info}/LICENSE-MIT", f"{info}/LICENSE-APACHE"}, set(archive.namelist()))
+        self.assertIn(f"\nVersion: {VERSION}\n", metadata)
+        self.assertIn("\nRequires-Python: >=3.9\n", metadata)
+        self.assertNotIn("Requires-Dist", metadata)
+        self.assertFalse((ROOT / "build").exists())
+
     def test_installs(self) -> None:
-        """A wheel is built of a copy, so that nothing is left in the repository, and the package is read from it."""
+        """`pip install` of it into an empty folder, from which the package is read."""
         with tempfile.TemporaryDirectory() as folder:
-            sources = Path(folder, "sources")
-            sources.mkdir()
-            for name in ("pyproject.toml", "VERSION", "README.md", "LICENSE-MIT", "LICENSE-APACHE"):
-                shutil.copy(ROOT / name, sources)
-            shutil.copytree(ROOT / "tools" / "burch_dill", sources / "tools" / "burch_dill",
-                            ignore=shutil.ignore_patterns("__pycache__"))
-            words = [sys.executable, "-m", "pip", "wheel", "-q", "--no-build-isolation", "--no-deps", "--no-index",
-                     "-w", folder]
-            subprocess.run([*words, str(sources)], check=True, capture_output=True)
-            wheel = next(Path(folder).glob(f"burch_dill-{VERSION}-*.whl"))
-            with zipfile.ZipFile(wheel) as archive:
-                self.assertIn("burch_dill/py.typed", archive.namelist())
+            words = [sys.executable, "-m", "pip", "install", "-q", "--no-index", "--target", f"{folder}/there"]
+            subprocess.run([*words, str(self.wheel(folder))], check=True, capture_output=True)
             script = "import burch_dill; print(burch_dill.conj(burch_dill.TRUE, burch_dill.FALSE))"
-            path = f"import sys; sys.path.insert(0, {str(wheel)!r})\n"
+            path = f"import sys; sys.path.insert(0, {f'{folder}/there'!r})\n"
             done = subprocess.run([sys.executable, "-I", "-c", path + script],
                                   capture_output=True, text=True, check=True, cwd=folder)
         self.assertEqual(done.stdout, "(and true false)\n")
+
+    def test_other_archives(self) -> None:
+        with tempfile.TemporaryDirectory() as folder:
+            with tarfile.open(Path(folder, wheel_backend.build_sdist(folder))) as sources:
+                self.assertIn(f"burch_dill-{VERSION}/tools/burch_dill/py.typed", sources.getnames())
+            with zipfile.ZipFile(Path(folder, wheel_backend.build_editable(folder))) as archive:
+                self.assertEqual(archive.read("burch_dill.pth").decode(), f"{ROOT / 'tools'}\n")
 
 
 class Package(unittest.TestCase):

@@ -304,6 +304,18 @@ class Conquering(InFolder):
         self.assertEqual(status, 1)
         self.assertIn("has a model: a case breaks a condition", err)
 
+    @unittest.skipUnless(HAS_PROGRAMS and HAS_CADICAL, "the program or cadical isn't there")
+    def test_the_program_itself_takes_the_joined_proof(self) -> None:
+        program, view = (os.environ.get(name.upper(), name) for name in ("burch_dill", "bd_view"))
+        files = [str(DATA / "two_stage.pipe"), str(DATA / "two_stage.spec")]
+        for mode, checker in (([], program), (["--diverse"], view)):
+            with self.subTest(mode=mode), contextlib.redirect_stderr(io.StringIO()):
+                joined = str(self.folder / "joined.lrat")
+                kept = [*files, joined, *mode, "--cubes", "4", "--program", program]
+                self.assertEqual(conquer.main(kept), 0)
+                done = subprocess.run([checker, "recheck", *files, joined, *mode], capture_output=True, text=True, check=False)
+                self.assertEqual((done.returncode, done.stdout), (0, "correct by proof\n"))
+
 
 if __name__ == "__main__":
     unittest.main()

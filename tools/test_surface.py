@@ -44,6 +44,19 @@ class Words(unittest.TestCase):
             wanted = [(name, bool(value)) for name, value in command.options]
             self.assertEqual([(name, bool(value)) for name, value in found if name != "--help"], wanted)
 
+    def test_each_page_names_its_files(self) -> None:
+        for program, commands in surface.PROGRAMS.items():
+            for command in commands:
+                text = (PAGES / f"{program}-{command.name}.md").read_text()
+                section = text.partition("\n## Files\n")[2].partition("\n## ")[0]
+                places = [place for place in command.places + command.optional if surface.pattern(place)]
+                self.assertEqual(re.findall(r"^\| ([A-Z]+) \|", section, re.M), places, command.name)
+
+    def test_tables_of_words(self) -> None:
+        for program, page in (("burch_dill", "README.md"), ("bd_view", "docs/COUNTEREXAMPLES.md")):
+            found = re.findall(r"^\| `([a-z]+ [A-Z]+ [^`]*)` \|", (PAGES.parent.parent / page).read_text(), re.M)
+            self.assertEqual(sorted(found), sorted(command.synopsis() for command in surface.PROGRAMS[program]))
+
     def test_each_command_has_its_page(self) -> None:
         wanted = {}
         for program, commands in surface.PROGRAMS.items():
@@ -57,43 +70,89 @@ class Words(unittest.TestCase):
                              [name for name in wanted if name.startswith(f"{program}-")])
 
 
+FILES = ("a.pipe", "a.spec", "a.inv", "a.case", "a.txt")
+# what is offered after some words, in a folder with FILES
+OFFERED = {
+    "burch_dill re": ["recheck", "replay", "retrace"], "bd_view s": ["show", "shrink"], "burch_dill gen ": [],
+    "burch_dill check ": ["a.pipe"], "burch_dill check --budget 7 x.pipe ": ["a.spec"],
+    "burch_dill replay x y ": ["a.case"], "burch_dill check x y --d": ["--diverse"],
+    "bd_view why x y z --": ["--of", "--whole"], "bd_view why x y ": ["a.case"],
+}
+OPTIONS = {f"{program} {command.name} --": sorted(name for name, _ in command.options)
+           for program, commands in surface.PROGRAMS.items() for command in commands}
+# asks zsh in a terminal of its own, and writes down what is handed to it as matches
+ZSH = r"""zmodload zsh/zpty
+zpty z zsh -f -i
+zpty -w z "fpath=($PWD/functions \$fpath); autoload -Uz compinit; compinit -u -D; PROMPT=; unsetopt automenu
+compadd () {
+    if [[ \${@[1,(i)(-|--)]} != *-(O|A|D)* ]]; then
+        typeset -a found; builtin compadd -A found \"\$@\"; builtin print -rl -- \$found >> $PWD/offers
+    fi
+    builtin compadd \"\$@\"
+}
+echo rea''dy"
+zpty -r z said '*ready*'
+for words in "$@"; do
+    : > offers
+    zpty -w -n z "$words"$'\t'
+    sleep 1
+    print -r -- "$words:" $(<offers)
+    zpty -w -n z $'\x15'
+done
+zpty -d z
+"""
+
+
 class Completions(unittest.TestCase):
-    def completed(self, *words: str) -> List[str]:
-        """What bash offers after these words, in a folder with one file of each kind."""
-        with tempfile.TemporaryDirectory() as folder:
-            for name in ("a.pipe", "a.spec", "a.inv", "a.case", "a.txt"):
-                Path(folder, name).write_text("")
-            script = Path(folder, "completion")
-            script.write_text(surface.bash())
-            listed = " ".join(f"'{word}'" for word in words)
-            done = subprocess.run(["bash", "-c", f"source completion; COMP_WORDS=({listed}); "
-                                   f"COMP_CWORD={len(words) - 1}; _burch_dill {words[0]} 2> /dev/null; "
-                                   "printf '%s\\n' \"${COMPREPLY[@]}\""],
-                                  cwd=folder, capture_output=True, text=True, check=True)
-        return sorted(done.stdout.split())
+    def setUp(self) -> None:
+        self.maxDiff = None
+        made = tempfile.TemporaryDirectory()
+        self.addCleanup(made.cleanup)
+        self.folder = Path(made.name)
+        for name in FILES:
+            (self.folder / name).write_text("")
+
+    def asked(self, *words: str) -> str:
+        """What a shell prints in the folder."""
+        return subprocess.run(words, cwd=self.folder, capture_output=True, text=True, check=True, timeout=100).stdout
+
+    def bash(self, words: str) -> List[str]:
+        """What bash offers after these words."""
+        listed = words.split(" ")
+        made = self.asked("bash", "-c", f"source completion; COMP_WORDS=({' '.join(map(repr, listed))}); "
+                          f"COMP_CWORD={len(listed) - 1}; _burch_dill {listed[0]} 2> /dev/null; "
+                          "printf '%s\\n' \"${COMPREPLY[@]}\"")
+        return sorted(set(made.split()) - {"completion"})
+
+    def fish(self, words: str) -> List[str]:
+        """What fish offers first after these words; files of other endings come after those that fit."""
+        made = self.asked("fish", "-N", "-c", f"source completion; complete -C '{words}'")
+        found = [line.split("\t")[0] for line in made.splitlines()]
+        return found[:1] if found[:1] and found[0] in FILES else sorted(found)
 
     @unittest.skipUnless(shutil.which("bash"), "no bash")
     def test_bash(self) -> None:
-        self.assertEqual(self.completed("burch_dill", "re"), ["recheck", "replay", "retrace"])
-        self.assertEqual(self.completed("bd_view", "s"), ["show", "shrink"])
-        self.assertEqual(self.completed("burch_dill", "check", ""), ["a.pipe"])
-        self.assertEqual(self.completed("burch_dill", "check", "--budget", "7", "x.pipe", ""), ["a.spec"])
-        self.assertEqual(self.completed("burch_dill", "replay", "x", "y", "a"), ["a.case"])
-        self.assertEqual(self.completed("burch_dill", "check", "x", "y", "--d"), ["--diverse"])
-        self.assertEqual(self.completed("burch_dill", "check", "x", "y", "--budget", ""), [])
-        self.assertIn("a.txt", self.completed("burch_dill", "check", "x", "y", "--cnf", "a"))
-        self.assertEqual(self.completed("burch_dill", "gen", ""), [])
+        (self.folder / "completion").write_text(surface.bash())
+        wanted = {**OFFERED, **OPTIONS, "burch_dill check x y --budget ": []}
+        self.assertEqual({words: self.bash(words) for words in wanted}, wanted)
+        self.assertIn("a.txt", self.bash("burch_dill check x y --cnf a"))
 
-    def test_other_shells_read_theirs(self) -> None:
-        for shell, text in (("zsh", surface.zsh()), ("fish", surface.fish())):
-            for commands in surface.PROGRAMS.values():
-                for command in commands:
-                    self.assertIn(command.name, text)
-            if shutil.which(shell):
-                with tempfile.TemporaryDirectory() as folder:
-                    path = Path(folder, "completion")
-                    path.write_text(text)
-                    subprocess.run([shell, "-n", str(path)], check=True)
+    @unittest.skipUnless(shutil.which("fish"), "no fish")
+    def test_fish(self) -> None:
+        (self.folder / "completion").write_text(surface.fish())
+        wanted = {**OFFERED, **OPTIONS}
+        self.assertEqual({words: self.fish(words) for words in wanted}, wanted)
+
+    @unittest.skipUnless(shutil.which("zsh"), "no zsh")
+    def test_zsh(self) -> None:
+        (self.folder / "functions").mkdir()
+        (self.folder / "functions" / "_burch_dill").write_text(surface.zsh())
+        wanted = {**OFFERED, **{words: OPTIONS[words] for words in ("bd_view check --", "burch_dill recheck --")}}
+        found = {}
+        for line in self.asked("zsh", "-f", "-c", ZSH, "zsh", *wanted).splitlines():
+            words, _, offers = line.rpartition(":")
+            found[words] = sorted(set(offers.split()) - {"functions"})
+        self.assertEqual(found, wanted)
 
 
 class Manual(unittest.TestCase):

@@ -200,6 +200,8 @@ class Answers(InBrowser):
             if checked.status == 1:
                 shown = self.words("bd_view", "show", "pipe", "spec", "case", files=files)
                 self.same([*shown, "--html", "diagram.html"], [*files, ("case", checked.out)])
+                self.same(self.words("bd_view", "why", "pipe", "spec", "case", files=files),
+                          [*files, ("case", checked.out)])
 
     def test_random_designs(self) -> None:
         source = random.Random(1)
@@ -210,6 +212,7 @@ class Answers(InBrowser):
 
     def test_words(self) -> None:
         for words in (["burch_dill"], ["bd_view"], ["bd_view", "--help"], ["bd_view", "about", "pipe", "spec"],
+                      ["bd_view", "check", "pipe", "spec"],
                       ["burch_dill", "gen", "3", "1"], ["burch_dill", "check", "nowhere", "spec"]):
             self.same(words, texts_of(web_page.designs()[0]))
 

@@ -24,32 +24,33 @@ with `grid`, for each stage and slot, and `vector` a `Vector`. `let`, `next`, `i
 whole; `advance` gives a group its next values, with a condition that holds it and one that squashes it.
 
 `check`, `gen`, `replay`, `run`, `recheck`, `bounded`, `retrace` and `complete` run the built program, once a call; it
-is the argument `program`, else the environment's `BURCH_DILL`, else `burch_dill` on the path. `show`, `shrink` and
-`about` run `bd_view`, which `BD_VIEW` names. Where a file is wanted (`Source`), a path from `pathlib` names a file, and
-so does a `str` that is the name of one; any other `str`, and `bytes`, is the text itself. A `str` without a
-parenthesis that names no file is a mistake, and is said to be one (`NoFile`). Printing a `Case` or a `Trail` gives its
-text.
+is the argument `program`, else the environment's `BURCH_DILL`, else `burch_dill` on the path. `check_and_show`, `show`,
+`why`, `shrink` and `about` run `bd_view`, which `BD_VIEW` names. Where a file is wanted (`Source`), a path from
+`pathlib` names a file, and so does a `str` that is the name of one; any other `str`, and `bytes`, is the text itself.
+A `str` without a parenthesis that names no file is a mistake, and is said to be one (`NoFile`). Printing a `Case` or a
+`Trail` gives its text.
 
 What is raised: `DesignError` where a design can't be written, which names the let or the next value that is being
 defined; `Fault` for the first fault of a file, with its item; `NoAnswer` where the program ends without an answer; all
 of them and `NoFile` are `BurchDillError`; and `subprocess.TimeoutExpired` where `timeout` seconds have passed.
 """
-from .answers import About, Bounded, Generated, Judgement, Outcome, Retraced, Shown, Verdict
+from .answers import About, Bounded, Checked, Explained, Generated, Judgement, Outcome, Reason, Retraced, Shown
+from .answers import Verdict
 from .cases import Case, Content, Row, State, Table, Trail, Value
 from .errors import BurchDillError, DesignError, Fault, NoAnswer, NoFile
 from .expressions import FALSE, TRUE, Bool, Expression, Function, Group, Memory, Predicate, Vector, Word, all_of, any_of
 from .expressions import conj, disj, equal, first_of, held, iff, implies, ite, xor
 from .machines import Completion, Declarations, Invariant, Machine, Pipeline, Specification, Start, grid
-from .program import File, Source, about, bounded, check, complete, gen, line_and_column, recheck, replay, retrace, run
-from .program import show, shrink
+from .program import File, Source, about, bounded, check, check_and_show, complete, gen, line_and_column, recheck
+from .program import replay, retrace, run, show, shrink, why
 from .trees import WIDTH, read_trees
 
 __all__ = [
-    "About", "Bool", "Bounded", "BurchDillError", "Case", "Completion", "Content", "Declarations", "DesignError",
-    "Expression", "FALSE", "Fault", "File", "Function", "Generated", "Group", "Invariant", "Judgement", "Machine",
-    "Memory", "NoAnswer", "NoFile", "Outcome", "Pipeline", "Predicate", "Retraced", "Row", "Shown", "Source",
-    "Specification", "Start", "State", "TRUE", "Table", "Trail", "Value", "Vector", "Verdict", "WIDTH", "Word", "about",
-    "all_of", "any_of", "bounded", "check", "complete", "conj", "disj", "equal", "first_of", "gen", "grid", "held",
-    "iff", "implies", "ite", "line_and_column", "read_trees", "recheck", "replay", "retrace", "run", "show", "shrink",
-    "xor",
+    "About", "Bool", "Bounded", "BurchDillError", "Case", "Checked", "Completion", "Content", "Declarations",
+    "DesignError", "Explained", "Expression", "FALSE", "Fault", "File", "Function", "Generated", "Group",
+    "Invariant", "Judgement", "Machine", "Memory", "NoAnswer", "NoFile", "Outcome", "Pipeline", "Predicate",
+    "Reason", "Retraced", "Row", "Shown", "Source", "Specification", "Start", "State", "TRUE", "Table", "Trail",
+    "Value", "Vector", "Verdict", "WIDTH", "Word", "about", "all_of", "any_of", "bounded", "check",
+    "check_and_show", "complete", "conj", "disj", "equal", "first_of", "gen", "grid", "held", "iff", "implies",
+    "ite", "line_and_column", "read_trees", "recheck", "replay", "retrace", "run", "show", "shrink", "why", "xor",
 ]

@@ -91,6 +91,57 @@ class Shown:
 
 
 @dataclass(frozen=True)
+class Checked:
+    """What `check_and_show` prints of a pipeline: the verdict, and of a wrong one what a case shows.
+
+    `shown` is that of the small case, and None where the outcome isn't wrong. `learned` and `seeks_state` are those of
+    a `Verdict`. `text` is all of it, which printing gives.
+    """
+
+    outcome: Outcome
+    shown: Optional[Shown]
+    learned: Optional[int]
+    seeks_state: bool
+    text: str
+
+    def __str__(self) -> str:
+        return self.text
+
+    @property
+    def is_right(self) -> bool:
+        """Whether the pipeline is right over every run."""
+        return self.outcome is Outcome.CORRECT
+
+
+class Reason(NamedTuple):
+    """A line of an explanation: the item that it names, by file, line and column, and what it says of it.
+
+    `file` is `pipe`, `spec` or `inv`. `line` and `column` count from 1.
+    """
+
+    file: str
+    line: int
+    column: int
+    text: str
+
+
+@dataclass(frozen=True)
+class Explained:
+    """What `why` prints of a value of a case: the judgement, the lines of the files that it comes from, and the text.
+
+    `reasons` are in the order in which they are printed, the value's own first. Printing gives `text`, where a file
+    that was given as a text is named by its word, as in `pipe:9:2`.
+    """
+
+    judgement: Judgement
+    reasons: Tuple[Reason, ...]
+    text: str
+
+    def __str__(self) -> str:
+        return self.text
+
+
+@dataclass(frozen=True)
 class About:
     """What `about` prints of a design.
 

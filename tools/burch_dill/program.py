@@ -7,9 +7,10 @@ import shutil
 import subprocess
 import tempfile
 from pathlib import Path
-from typing import List, Mapping, NamedTuple, Optional, Sequence, Tuple, Type, TypeVar, Union
+from typing import Dict, List, Mapping, NamedTuple, Optional, Sequence, Tuple, Type, TypeVar, Union
 
-from .answers import About, Bounded, Generated, Judgement, Outcome, Retraced, Shown, Verdict
+from .answers import About, Bounded, Checked, Explained, Generated, Judgement, Outcome, Reason, Retraced, Shown
+from .answers import Verdict
 from .cases import Case, State, Trail, named_content
 from .errors import Fault, NoAnswer, NoFile
 from .machines import Machine, OfStates
@@ -30,10 +31,11 @@ class Named(NamedTuple):
 
 
 PROGRAM = Named("burch_dill", "BURCH_DILL", (0, 1, 4, 7, 8))
-COMPANION = Named("bd_view", "BD_VIEW", (0, 1, 8, 9))
+COMPANION = Named("bd_view", "BD_VIEW", (0, 1, 4, 7, 8, 9))
 NOTHING_BROKEN = 9
 FAULT = re.compile(r"(\w+):(\d+):(?:(\d+):)? (E\d\d) (.*)")
 PLACED = re.compile(r"(?::(\d+):(\d+))?: (E\d\d) (.*)")
+REASON = re.compile(r":(\d+):(\d+): (.*)")
 
 
 # ---- verdicts
@@ -47,8 +49,7 @@ def check(pipe: Source, spec: Source, inv: Optional[Source] = None, *, budget: O
     `budget` is how many clauses may be learned (the program's own is 200,000); `diverse` asks by positive equality;
     the formula is saved to the file `formula` as DIMACS, its proof to `proof` as LRAT.
     """
-    options = [] if budget is None else ["--budget", str(budget)]
-    options += ["--diverse"] if diverse else []
+    options = _budget(budget) + (["--diverse"] if diverse else [])
     options += [] if formula is None else ["--cnf", os.path.abspath(formula)]
     options += [] if proof is None else ["--lrat", os.path.abspath(proof)]
     return _verdict(_ask("check", {"pipe": pipe, "spec": spec, "inv": inv}, options, program, timeout))
@@ -97,7 +98,7 @@ def bounded(pipe: Source, spec: Source, start: Source, cycles: int, *, budget: O
     `budget` is how many clauses may be learned (the program's own is 200,000). Nothing is said of whether there is
     such a state.
     """
-    options = [str(cycles)] + ([] if budget is None else ["--budget", str(budget)])
+    options = [str(cycles)] + _budget(budget)
     printed = _ask("bounded", {"pipe": pipe, "spec": spec, "start": start}, options, program, timeout)
     line, _, trail = printed.partition("\n")
     found = re.fullmatch(r"(correct) to \d+|(wrong commute) (\d+)|(undecided) (\d+)", line)
@@ -122,13 +123,41 @@ def complete(pipe: Source, spec: Source, comp: Source, inv: Optional[Source] = N
 
     With `agree`, whether the two are the same in every state that meets the invariant: `AGREES` or `DIFFERS`.
     """
-    options = ["--agree"] if agree else []
-    options += [] if budget is None else ["--budget", str(budget)]
+    options = (["--agree"] if agree else []) + _budget(budget)
     files = {"pipe": pipe, "spec": spec, "comp": comp, "inv": inv}
     return _verdict(_ask("complete", files, options, program, timeout))
 
 
 # ---- for people
+
+
+def check_and_show(pipe: Source, spec: Source, inv: Optional[Source] = None, *, budget: Optional[int] = None,
+                   diverse: bool = False, program: Optional[File] = None, timeout: Optional[float] = None) -> Checked:
+    """What `check` asks, and where the answer is wrong, what `show` prints of the case. `program` is `bd_view`.
+
+    It gives no case and saves no formula; for those ask `check`.
+    """
+    options = _budget(budget) + (["--diverse"] if diverse else [])
+    _, text = _told("check", {"pipe": pipe, "spec": spec, "inv": inv}, options, program, timeout)
+    line, _, tables = text.partition("\n")
+    verdict = _verdict(line)
+    return Checked(verdict.outcome, _shown(tables) if tables else None, verdict.learned, verdict.seeks_state, text)
+
+
+def why(pipe: Source, spec: Source, case: Source, inv: Optional[Source] = None, *, of: Optional[str] = None,
+        whole: bool = False, program: Optional[File] = None, timeout: Optional[float] = None) -> Optional[Explained]:
+    """Why a value of a case is what it is, line by line of the files. `program` is `bd_view`.
+
+    `of` names the value, as the option of `bd_view why` does: `"a2"`, `"rf[8]@after.1"`. If it isn't given, that is the
+    first value that differs, or the invariant after the cycle; and where the case breaks nothing the answer is None.
+    The case is made small first, unless `whole` says that it stays as it is.
+    """
+    options = ([] if of is None else ["--of", of]) + (["--whole"] if whole else [])
+    sources = {"pipe": pipe, "spec": spec, "case": case, "inv": inv}
+    with tempfile.TemporaryDirectory() as folder:
+        files = _files(sources, folder)
+        status, text = _run(COMPANION, "why", files, sources, options, program, timeout)
+    return None if status == NOTHING_BROKEN else _explained(text, files, sources)
 
 
 def show(pipe: Source, spec: Source, case: Source, inv: Optional[Source] = None, *, whole: bool = False,
@@ -139,11 +168,7 @@ def show(pipe: Source, spec: Source, case: Source, inv: Optional[Source] = None,
     """
     options = (["--whole"] if whole else []) + ([] if page is None else ["--html", os.path.abspath(page)])
     files = {"pipe": pipe, "spec": spec, "case": case, "inv": inv}
-    _, text = _told("show", files, options, program, timeout)
-    for judgement in Judgement:
-        if text.startswith(judgement.value):
-            return Shown(judgement, text)
-    raise NoAnswer(0, f"this answer isn't known: {text!r}")
+    return _shown(_told("show", files, options, program, timeout)[1])
 
 
 def shrink(pipe: Source, spec: Source, case: Source, inv: Optional[Source] = None, *,
@@ -177,6 +202,36 @@ def _names(listed: str) -> Tuple[str, ...]:
 # ---- how they are asked
 
 
+def _budget(budget: Optional[int]) -> List[str]:
+    return [] if budget is None else ["--budget", str(budget)]
+
+
+def _judgement(text: str) -> Judgement:
+    """The judgement that a text of the companion begins with."""
+    for judgement in Judgement:
+        if text.startswith(judgement.value + ":"):
+            return judgement
+    raise NoAnswer(0, f"this answer isn't known: {text!r}")
+
+
+def _explained(text: str, files: Mapping[str, str], sources: Mapping[str, Optional[Source]]) -> Explained:
+    """The explanation that the companion prints, with the files by the names that were given."""
+    reasons, lines = [], []
+    for line in text.split("\n"):
+        for word, file in files.items():
+            found = REASON.match(line, len(file)) if line.startswith(file) else None
+            if found:
+                reasons.append(Reason(word, int(found[1]), int(found[2]), found[3]))
+                line = _name(word, sources[word]) + line[len(file):]
+                break
+        lines.append(line)
+    return Explained(_judgement(text), tuple(reasons), "\n".join(lines))
+
+
+def _shown(text: str) -> Shown:
+    return Shown(_judgement(text), text)
+
+
 def _verdict(printed: str) -> Verdict:
     line, _, case = printed.partition("\n")
     undecided = re.fullmatch(r"undecided (\d+)( meets)?", line)
@@ -208,13 +263,23 @@ def _told(command: str, sources: Mapping[str, Optional[Source]], options: Sequen
 def _printed(named: Named, command: str, sources: Mapping[str, Optional[Source]], options: Sequence[str],
              program: Optional[File], timeout: Optional[float]) -> Tuple[int, str]:
     with tempfile.TemporaryDirectory() as folder:
-        files = {word: _file(source, Path(folder, word)) for word, source in sources.items() if source is not None}
-        words = [_found(named, program), command, *files.values(), *options]
-        done = subprocess.run(words, capture_output=True, encoding="ascii", errors="replace", timeout=timeout,
-                              stdin=subprocess.DEVNULL, check=False)
-        if done.returncode in named.answered:
-            return done.returncode, done.stdout
-        raise _fault(done.stderr, files, sources) or NoAnswer(done.returncode, done.stderr.rstrip("\n"))
+        return _run(named, command, _files(sources, folder), sources, options, program, timeout)
+
+
+def _files(sources: Mapping[str, Optional[Source]], folder: str) -> Dict[str, str]:
+    """The names of the files of what is given, by their words; those of texts are written in the folder."""
+    return {word: _file(source, Path(folder, word)) for word, source in sources.items() if source is not None}
+
+
+def _run(named: Named, command: str, files: Mapping[str, str], sources: Mapping[str, Optional[Source]],
+         options: Sequence[str], program: Optional[File], timeout: Optional[float]) -> Tuple[int, str]:
+    """The status of a program over these files, and what it prints of its answer."""
+    words = [_found(named, program), command, *files.values(), *options]
+    done = subprocess.run(words, capture_output=True, encoding="ascii", errors="replace", timeout=timeout,
+                          stdin=subprocess.DEVNULL, check=False)
+    if done.returncode in named.answered:
+        return done.returncode, done.stdout
+    raise _fault(done.stderr, files, sources) or NoAnswer(done.returncode, done.stderr.rstrip("\n"))
 
 
 def _found(named: Named, program: Optional[File]) -> str:
