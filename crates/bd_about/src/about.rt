@@ -15,7 +15,7 @@ use bd_model::Design;
 use std::alloc::{AllocError, Global};
 
 /// What nothing reads, what is found, and both as lines.
-#[derive(Debug, Drop)]
+#[derive(Drop)]
 pub struct About {
     pub unread: Unread,
     pub findings: Findings,

@@ -14,7 +14,7 @@ use bd_verify::{Mode, Verdict, verify};
 use std::alloc::{AllocError, Global};
 
 /// What a verdict found, without its case and its work.
-#[derive(Clone, Copy, Debug, PartialEq, Eq)]
+#[derive(Clone, Copy, PartialEq, Eq)]
 pub enum Finding {
     /// The pipeline is right.
     Right,
@@ -27,7 +27,7 @@ pub enum Finding {
 }
 
 /// What is found of a design.
-#[derive(Clone, Copy, Debug, PartialEq, Eq)]
+#[derive(Clone, Copy, PartialEq, Eq)]
 pub struct Findings {
     /// As it is.
     pub own: Finding,

@@ -9,7 +9,7 @@ use bd_model::{Expr, Exprs};
 use std::alloc::{AllocError, Global};
 
 /// Marks on entries, inputs, lets and symbols. What stands past the end of a list isn't marked.
-#[derive(Debug, Drop)]
+#[derive(Drop)]
 pub struct Marks {
     pub entries: Vec<bool>,
     pub inputs: Vec<bool>,

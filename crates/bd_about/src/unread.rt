@@ -16,7 +16,7 @@ use std::alloc::{AllocError, Global};
 
 /// What nothing reads: lets of the pipeline, the specification and the invariant, entries and inputs of the pipeline,
 /// and symbols, each by its number. Every entry of the specification is visible, so it is read.
-#[derive(Debug, Drop)]
+#[derive(Drop)]
 pub struct Unread {
     pub lets: Places,
     pub spec_lets: Places,

@@ -8,7 +8,7 @@ use bd_model::{Design, Entry, Port, Sort, Symbol};
 use std::alloc::AllocError;
 
 /// The names of a design's lets, which the design doesn't keep.
-#[derive(Clone, Copy, Debug)]
+#[derive(Clone, Copy)]
 pub struct LetNames<'a> {
     pub lets: &'a [Vec<u8>],
     pub spec_lets: &'a [Vec<u8>],

@@ -3,7 +3,7 @@ use bd_model::{Exprs, Locals};
 
 /// What a state of the pipeline stands for: what is visible once the pipeline is flushed, or one expression for each
 /// visible entry, in the specification's order, over the pipeline's entries and lets of its own.
-#[derive(Debug, PartialEq, Drop)]
+#[derive(PartialEq, Drop)]
 pub enum Abstraction {
     Flushing,
     Given { lets: Locals, parts: Exprs },

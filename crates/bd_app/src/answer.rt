@@ -21,7 +21,7 @@ use bd_verify::{Question, Verdict, Work};
 use itoa::Buffer;
 
 /// A call on a device.
-#[derive(Clone, Copy, Debug, PartialEq, Eq)]
+#[derive(Clone, Copy, PartialEq, Eq)]
 pub enum Which {
     /// A load of a file.
     Load,
@@ -32,7 +32,7 @@ pub enum Which {
 }
 
 /// The answer of a run.
-#[derive(Debug, Drop)]
+#[derive(Drop)]
 pub enum Ended {
     /// The pipeline is right over every run. Where an invariant was given: a case that meets it and
     /// breaks nothing.
@@ -78,7 +78,7 @@ pub enum Ended {
 }
 
 /// An answer that is no fault, and its report.
-#[derive(Debug, Drop)]
+#[derive(Drop)]
 pub struct Answer {
     pub ended: Ended,
     pub report: Vec<u8>,

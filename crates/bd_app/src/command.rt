@@ -31,7 +31,7 @@ use clap::error::ErrorKind;
 use std::alloc::{AllocError, Global};
 
 /// What the words ask for. The name of a file is its word.
-#[derive(Clone, Copy, Debug)]
+#[derive(Clone, Copy)]
 pub enum Command<'a> {
     /// The verdict on a pipeline.
     Check(CheckOptions<'a>),
@@ -52,7 +52,7 @@ pub enum Command<'a> {
 }
 
 /// Why words ask for nothing.
-#[derive(Clone, Copy, Debug, PartialEq, Eq)]
+#[derive(Clone, Copy, PartialEq, Eq)]
 pub enum WordsFault {
     /// They aren't taken.
     Usage,

@@ -74,7 +74,7 @@ fn load_if<F: Files>(
 }
 
 /// The names of the files of a design. The third says of states what the premise does.
-#[derive(Clone, Copy, Debug)]
+#[derive(Clone, Copy)]
 pub struct DesignFiles<'a> {
     pub pipe: &'a str,
     pub spec: &'a str,
@@ -83,7 +83,7 @@ pub struct DesignFiles<'a> {
 }
 
 /// Their bytes.
-#[derive(Debug, Drop)]
+#[derive(Drop)]
 pub struct Sources {
     pub pipe: Vec<u8>,
     pub spec: Vec<u8>,
@@ -114,14 +114,14 @@ pub fn load_sources<F: Files>(files: &mut F, names: DesignFiles<'_>) -> Result<S
 
 /// The names of the files of a design and of a text on it: a case, a trail, a proof or a completion
 /// function.
-#[derive(Clone, Copy, Debug)]
+#[derive(Clone, Copy)]
 pub struct TextFiles<'a> {
     pub design: DesignFiles<'a>,
     pub text: &'a str,
 }
 
 /// Their bytes.
-#[derive(Debug, Drop)]
+#[derive(Drop)]
 pub struct TextBytes {
     pub sources: Sources,
     pub text: Vec<u8>,

@@ -36,7 +36,7 @@ fn save<F: Files>(files: &mut F, name: &str, text: &[u8]) -> Result<(), Ended>
 }
 
 /// What is saved of a verdict's work.
-#[derive(Clone, Copy, Debug)]
+#[derive(Clone, Copy)]
 enum Part<'a> {
     /// The formula.
     Formula(&'a Cnf),

@@ -19,7 +19,7 @@ use bd_verify::{Mode, Question, Verdict, Work, verify};
 use std::alloc::{AllocError, Global};
 
 /// What is asked of a design.
-#[derive(Clone, Copy, Debug)]
+#[derive(Clone, Copy)]
 pub struct Asked {
     /// How many clauses the solver may add for each question.
     pub budget: u32,
@@ -30,7 +30,7 @@ pub struct Asked {
 }
 
 /// A verdict, and the text of the case that is shown with it.
-#[derive(Debug, Drop)]
+#[derive(Drop)]
 pub struct ShownVerdict {
     pub verdict: Verdict,
     pub case: Vec<u8>,

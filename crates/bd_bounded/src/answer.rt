@@ -3,7 +3,7 @@ use bd_model::Trail;
 use bd_verify::Work;
 
 /// What a pipeline is found to be over so many cycles, with the work of the question.
-#[derive(Debug, Drop)]
+#[derive(Drop)]
 pub enum Bounded {
     /// Each trail of at most so many cycles is right.
     Kept(Work),

@@ -8,28 +8,28 @@ ghost use Rattle.bd_case.specs.Reading.{is_head};
 use bd_model::{Sort, Symbol};
 
 /// What a text is of.
-#[derive(Clone, Copy, Debug, PartialEq, Eq)]
+#[derive(Clone, Copy, PartialEq, Eq)]
 pub enum Subject {
     Case,
     Trail,
 }
 
 /// The version of a case text: the second has an entry for constants that are kept apart.
-#[derive(Clone, Copy, Debug, PartialEq, Eq)]
+#[derive(Clone, Copy, PartialEq, Eq)]
 pub enum Version {
     One,
     Two,
 }
 
 /// How a text gives its entries: in which version, and over how many cycles an input has values.
-#[derive(Clone, Copy, Debug, PartialEq, Eq)]
+#[derive(Clone, Copy, PartialEq, Eq)]
 pub struct Layout {
     pub version: Version,
     pub cycles: u32,
 }
 
 /// What an entry begins with.
-#[derive(Clone, Copy, Debug, PartialEq, Eq)]
+#[derive(Clone, Copy, PartialEq, Eq)]
 pub enum EntryHead {
     Function,
     Predicate,
@@ -40,7 +40,7 @@ pub enum EntryHead {
 }
 
 /// What an entry gives: a table of a sort and an arity, and whether it's a constant that is kept apart.
-#[derive(Clone, Copy, Debug, PartialEq, Eq)]
+#[derive(Clone, Copy, PartialEq, Eq)]
 pub struct EntryKind {
     pub head: EntryHead,
     pub sort: Sort,

@@ -7,7 +7,7 @@ use std::alloc::AllocError;
 
 /// A solver that says what it was given, whatever the formula: what a caller does with a wrong
 /// answer can be tried by it.
-#[derive(Debug, Drop)]
+#[derive(Drop)]
 pub struct Scripted {
     pub found: Found,
     pub lines: Log,

@@ -12,7 +12,7 @@ use bd_lrat::Log;
 use std::alloc::AllocError;
 
 /// What a solver says of a formula.
-#[derive(Debug, Drop)]
+#[derive(Drop)]
 pub enum Found {
     /// The assignment satisfies it.
     Model(Assignment),

@@ -10,7 +10,7 @@ use std::collections::BTreeMap;
 use std::marker::Model;
 
 /// A finite map from variables to truth values. A variable that it doesn't hold is false.
-#[derive(Debug, Drop)]
+#[derive(Drop)]
 pub struct Assignment {
     values: BTreeMap<u64, bool>,
 }

@@ -14,7 +14,7 @@ use std::alloc::{AllocError, Global};
 use std::marker::Model;
 
 /// A disjunction of literals, by rising variable, with no variable twice. The empty one is false.
-#[derive(Debug, Drop)]
+#[derive(Drop)]
 pub struct Clause {
     lits: Vec<Lit>,
 }

@@ -10,7 +10,7 @@ use std::alloc::AllocError;
 use std::marker::Model;
 
 /// A conjunction of clauses, each variable of which is at most `vars`.
-#[derive(Debug, Drop)]
+#[derive(Drop)]
 pub struct Cnf {
     vars: u64,
     clauses: Clauses,

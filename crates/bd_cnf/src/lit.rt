@@ -5,7 +5,7 @@ use std::fmt;
 use std::marker::Model;
 
 /// A variable, counted from 1, or its negation.
-#[derive(Clone, Copy, Debug, PartialEq, Eq, PartialOrd, Ord, Hash)]
+#[derive(Clone, Copy, PartialEq, Eq, Hash)]
 pub struct Lit {
     var: u64,
     positive: bool,

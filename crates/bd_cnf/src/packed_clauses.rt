@@ -8,14 +8,14 @@ use std::alloc::{AllocError, Global};
 use std::marker::Model;
 
 /// Where a clause's literals lie.
-#[derive(Clone, Copy, Debug)]
+#[derive(Clone, Copy)]
 pub(crate) struct ClauseRange {
     start: usize,
     end: usize,
 }
 
 /// A list of clauses.
-#[derive(Debug, Drop)]
+#[derive(Drop)]
 pub struct PackedClauses {
     literals: Vec<PackedLit>,
     ranges: Vec<ClauseRange>,

@@ -7,7 +7,7 @@ use crate::lit::Lit;
 use std::marker::Model;
 
 /// A literal as a number: twice its variable, and one more where it is negative.
-#[derive(Clone, Copy, Debug)]
+#[derive(Clone, Copy)]
 pub struct PackedLit {
     number: u32,
 }

@@ -1,7 +1,7 @@
 use crate::lit::Lit;
 
 /// How many literals of a clause aren't false.
-#[derive(Clone, Copy, Debug)]
+#[derive(Clone, Copy)]
 pub enum ClauseStatus {
     /// None.
     Falsified,

@@ -3,7 +3,7 @@ use bd_model::{Case, Condition};
 use bd_verify::Work;
 
 /// What a pipeline is found to be by an abstraction, or the abstraction beside flushing, with the work of the question.
-#[derive(Debug, Drop)]
+#[derive(Drop)]
 pub enum Complete {
     /// The pipeline is right by the abstraction.
     Right(Work),

@@ -12,7 +12,7 @@ use std::alloc::{AllocError, Global};
 
 /// A number of steps of the specification: the visible entries after them, whether the cycle may stand for so many
 /// steps, whether the pipeline stands there after the cycle, and else where the two part.
-#[derive(Debug, PartialEq, Drop)]
+#[derive(PartialEq, Drop)]
 pub struct Comparison {
     pub visible: State,
     pub allowed: bool,

@@ -16,7 +16,7 @@ use std::alloc::{AllocError, Global};
 /// Both ways round the diagram: the pipeline flushed before the cycle and after it, the values of the pipeline's lets
 /// in the cycle, what is visible once the pipeline is flushed after the cycle, and each number of steps of the
 /// specification compared with that.
-#[derive(Debug, PartialEq, Drop)]
+#[derive(PartialEq, Drop)]
 pub struct Diagram {
     pub before: Flushing,
     pub after: Flushing,

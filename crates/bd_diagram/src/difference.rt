@@ -8,14 +8,14 @@ use std::alloc::{AllocError, Global};
 
 /// Where two memories part: the addresses of their rows at which they read differently, and whether they do at the
 /// addresses that are in no row.
-#[derive(Debug, PartialEq, Drop)]
+#[derive(PartialEq, Drop)]
 pub struct MemoryDifference {
     pub addresses: Words,
     pub elsewhere: bool,
 }
 
 /// What tells two values apart: nothing, that they are different scalars, or the words of two memories.
-#[derive(Debug, PartialEq, Drop)]
+#[derive(PartialEq, Drop)]
 pub enum Difference {
     Nothing,
     Latch,

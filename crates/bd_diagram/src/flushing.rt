@@ -8,7 +8,7 @@ use bd_sim::{idle_inputs, step};
 use std::alloc::{AllocError, Global};
 
 /// A state and the states after each of its flush cycles, and the inputs of each of these cycles.
-#[derive(Debug, PartialEq, Drop)]
+#[derive(PartialEq, Drop)]
 pub struct Flushing {
     pub states: States,
     pub inputs: InputLists,

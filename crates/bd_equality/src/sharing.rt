@@ -23,7 +23,7 @@ pub(crate) struct Trees {
 }
 
 /// How many words of a tree a walk has come to, and how many of them the walk before it had come to.
-#[derive(Clone, Copy, Debug)]
+#[derive(Clone, Copy)]
 struct Seen {
     words: usize,
     shared: usize,

@@ -7,14 +7,14 @@ ghost use Rattle.bd_equality.specs.inner.Split.{between, part};
 use bd_terms::{Graph, Id, Node};
 
 /// An equation of two words, the one that stands earlier on the left.
-#[derive(Clone, Copy, Debug, PartialEq, Eq, Hash)]
+#[derive(Clone, Copy, PartialEq, Eq, Hash)]
 pub(crate) struct Equation {
     pub(crate) left: Id,
     pub(crate) right: Id,
 }
 
 /// What an equation rests on: a control, and the equations of what both words are where it is true and where it is false.
-#[derive(Clone, Copy, Debug)]
+#[derive(Clone, Copy)]
 pub(crate) struct Parts {
     pub(crate) yes: Equation,
     pub(crate) no: Equation,

@@ -5,7 +5,7 @@ ghost use Rattle.bd_files.specs.Devices.{Held, Blame, Call, Rose, IsLoaded, Hold
 use thiserror::Error;
 
 /// The kinds of call on [`Files`].
-#[derive(Clone, Copy, Debug, PartialEq, Eq)]
+#[derive(Clone, Copy, PartialEq, Eq)]
 pub enum FileCall {
     Load,
     Save,

@@ -7,13 +7,13 @@ use super::FileCall;
 use std::marker::Model;
 
 /// How many faults an object with files had, and which call the last one came from.
-#[derive(Debug, Default, Drop)]
+#[derive(Default, Drop)]
 pub struct FaultLog {
     count: u64,
     blame: Option<Blame>,
 }
 
-#[derive(Debug, Drop)]
+#[derive(Drop)]
 struct Blame {
     call: FileCall,
     name: String,

@@ -18,7 +18,7 @@ use std::marker::Model;
 
 /// Files in memory, of which calls with given numbers fail. The calls on a shelf, loads and saves
 /// together, have the numbers 1, 2, 3, .. The shelf tells them, until memory runs out for it.
-#[derive(Debug, Drop)]
+#[derive(Drop)]
 pub struct Shelf {
     alloc: Global,
     held: Vec<(String, Vec<u8>)>,

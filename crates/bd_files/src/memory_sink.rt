@@ -13,7 +13,7 @@ use std::marker::Model;
 
 /// A sink in memory that has room for so many bytes, and of which puts with given numbers fail. The
 /// puts on a page have the numbers 1, 2, 3, ..
-#[derive(Debug, Drop)]
+#[derive(Drop)]
 pub struct Page {
     written: Vec<u8>,
     room: usize,

@@ -6,7 +6,7 @@ ghost use Rattle.bd_files.specs.Noted.{call_of, calls_of};
 use std::alloc::{AllocError, Global};
 
 /// A call that was noted.
-#[derive(Debug, Drop)]
+#[derive(Drop)]
 pub enum NotedCall {
     /// A load of a name, of at most so many bytes.
     Load(String, usize),

@@ -7,7 +7,7 @@ use bd_proof_text::Why;
 use std::alloc::AllocError;
 
 /// Why a text is no proof that a design is right.
-#[derive(Debug, Drop)]
+#[derive(Drop)]
 pub enum ProofFault {
     /// Its first fault over this formula, the kept one. Lines and columns count from 1, columns in bytes.
     Bad {

@@ -17,7 +17,7 @@ use bd_terms::{Id, Node, Sym};
 use std::alloc::{AllocError, Global};
 
 /// A symbol with the table that it stands for.
-#[derive(Debug, PartialEq, Drop)]
+#[derive(PartialEq, Drop)]
 pub struct SymTable {
     pub sym: Sym,
     pub table: Table,

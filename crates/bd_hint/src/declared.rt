@@ -7,7 +7,7 @@ use bd_typer::Text;
 use std::alloc::{AllocError, Global};
 
 /// What a name is declared as.
-#[derive(Clone, Copy, Debug, PartialEq, Eq)]
+#[derive(Clone, Copy, PartialEq, Eq)]
 pub enum Kind {
     Latch(Sort),
     Memory,

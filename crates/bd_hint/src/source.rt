@@ -4,7 +4,7 @@ use bd_text::Code;
 use bd_typer::Text;
 
 /// A file: what it is to be, the name under which its lines are told, and its bytes.
-#[derive(Clone, Copy, Debug)]
+#[derive(Clone, Copy)]
 pub struct Source<'a> {
     pub file: Text,
     pub name: &'a str,
@@ -12,7 +12,7 @@ pub struct Source<'a> {
 }
 
 /// A fault: its file, the offset of its byte, and its code.
-#[derive(Clone, Copy, Debug)]
+#[derive(Clone, Copy)]
 pub struct Fault {
     pub file: Text,
     pub offset: usize,

@@ -21,7 +21,7 @@ use std::io::{Error, ErrorKind, Read};
 
 /// The files of a disk, under the names that they have there. Each call that fails is counted, and
 /// blamed with its name. It tells nothing of what the files hold.
-#[derive(Debug, Drop)]
+#[derive(Drop)]
 pub struct RealFiles<'a, D> {
     alloc: Global,
     disk: &'a D,

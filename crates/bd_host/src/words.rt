@@ -13,7 +13,7 @@ use std::rt::Env;
 use std::{env, io};
 
 /// Why there are no words.
-#[derive(Clone, Copy, Debug, PartialEq, Eq)]
+#[derive(Clone, Copy, PartialEq, Eq)]
 pub enum WordsError {
     /// A word isn't text.
     NotText,

@@ -22,7 +22,7 @@ const VARIABLES: u64 = 1 << 31;
 
 /// The clauses of a formula and of the lines that were added, by their ids, each of which follows
 /// from the formula.
-#[derive(Debug, Drop)]
+#[derive(Drop)]
 pub struct Checker {
     vars: u64,
     clauses: ClauseStore,

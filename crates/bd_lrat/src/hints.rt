@@ -10,7 +10,7 @@ use std::alloc::{AllocError, Global};
 use std::marker::Model;
 
 /// A list of hints.
-#[derive(Debug, Drop)]
+#[derive(Drop)]
 pub struct Hints {
     ids: Vec<u64>,
     /// The places, from 0, of the hints that are `Rat`.
@@ -118,7 +118,7 @@ impl Hints {
 }
 
 /// What is left of some hints, in order.
-#[derive(Debug, Drop)]
+#[derive(Drop)]
 pub struct HintsIter<'a> {
     place: u64,
     ids: &'a [u64],

@@ -6,7 +6,7 @@ use bd_list::Sequence;
 use std::alloc::AllocError;
 
 /// A hint of an addition.
-#[derive(Clone, Copy, Debug, PartialEq, Eq, Hash)]
+#[derive(Clone, Copy, PartialEq, Eq, Hash)]
 pub enum Hint {
     /// The id of a clause that is false, or true in one literal alone, where the line comes to it.
     Unit(u64),
@@ -18,7 +18,7 @@ pub enum Hint {
 pub type ClauseIds = Sequence<u64>;
 
 /// A line of a log.
-#[derive(Debug, Drop)]
+#[derive(Drop)]
 pub enum Line {
     /// Adds a clause under an id.
     Add {

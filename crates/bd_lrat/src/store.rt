@@ -14,7 +14,7 @@ use std::alloc::{AllocError, Global};
 use std::marker::Model;
 
 /// The clauses that stand, by their ids.
-#[derive(Debug, Drop)]
+#[derive(Drop)]
 pub(crate) struct ClauseStore {
     /// The greatest id that was given.
     last: u64,

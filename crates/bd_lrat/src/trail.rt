@@ -12,7 +12,7 @@ use std::alloc::{AllocError, Global};
 use std::marker::Model;
 
 /// The literals that a check takes as true.
-#[derive(Debug, Drop)]
+#[derive(Drop)]
 pub(crate) struct PropagationTrail {
     /// By variable, its value where it has one.
     values: Vec<Option<bool>>,

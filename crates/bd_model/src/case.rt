@@ -19,7 +19,7 @@ pub type Inputs = Sequence<Scalar>;
 pub type LetValues = Sequence<Value>;
 
 /// An interpretation, a state and inputs.
-#[derive(Debug, PartialEq, Drop)]
+#[derive(PartialEq, Drop)]
 pub struct Case {
     pub interp: Interp,
     pub state: State,
@@ -44,7 +44,7 @@ impl Clone for Case {
 pub type InputLists = Sequence<Inputs>;
 
 /// A run of several cycles: an interpretation, the first state, and the inputs of each cycle.
-#[derive(Debug, PartialEq, Drop)]
+#[derive(PartialEq, Drop)]
 pub struct Trail {
     pub interp: Interp,
     pub state: State,

@@ -3,7 +3,7 @@ use crate::expr::{Expr, Exprs};
 use bd_list::Sequence;
 
 /// The sort of an expression or an entry.
-#[derive(Clone, Copy, Debug, PartialEq, Eq)]
+#[derive(Clone, Copy, PartialEq, Eq)]
 pub enum Sort {
     Bool,
     Word,
@@ -17,7 +17,7 @@ pub type Name = Sequence<u8>;
 pub type Places = Sequence<u32>;
 
 /// A function of words, or a predicate of words.
-#[derive(Debug, PartialEq, Drop)]
+#[derive(PartialEq, Drop)]
 pub struct Symbol {
     pub name: Name,
     pub arity: u32,
@@ -28,7 +28,7 @@ pub struct Symbol {
 pub type Symbols = Sequence<Symbol>;
 
 /// A latch, of sort word or bool, or a memory.
-#[derive(Debug, PartialEq, Drop)]
+#[derive(PartialEq, Drop)]
 pub struct Entry {
     pub name: Name,
     pub sort: Sort,
@@ -38,7 +38,7 @@ pub struct Entry {
 pub type Entries = Sequence<Entry>;
 
 /// An input, and the flush expression that gives its value in flush cycles.
-#[derive(Debug, PartialEq, Drop)]
+#[derive(PartialEq, Drop)]
 pub struct Port {
     pub name: Name,
     pub sort: Sort,
@@ -49,7 +49,7 @@ pub struct Port {
 pub type Ports = Sequence<Port>;
 
 /// A let: a value that later expressions name by its number.
-#[derive(Debug, PartialEq, Drop)]
+#[derive(PartialEq, Drop)]
 pub struct Local {
     pub sort: Sort,
     pub value: Expr,
@@ -60,7 +60,7 @@ pub type Locals = Sequence<Local>;
 
 /// Where the condition is true before a cycle, that cycle has to stand for exactly this many steps of the
 /// specification.
-#[derive(Debug, PartialEq, Drop)]
+#[derive(PartialEq, Drop)]
 pub struct Exact {
     pub count: u32,
     pub when: Expr,
@@ -73,7 +73,7 @@ pub type Exacts = Sequence<Exact>;
 pub type Distinct = Sequence<Places>;
 
 /// A machine: its entries, inputs and lets, and the next value of each entry.
-#[derive(Debug, PartialEq, Drop)]
+#[derive(PartialEq, Drop)]
 pub struct Machine {
     pub entries: Entries,
     pub ports: Ports,
@@ -84,7 +84,7 @@ pub struct Machine {
 /// A pipeline, its specification and an invariant. `visible` has for each entry of the specification its
 /// place in the pipeline; `flush` is the number of flush cycles, and `steps` the most steps of the
 /// specification that one cycle of the pipeline may stand for.
-#[derive(Debug, PartialEq, Drop)]
+#[derive(PartialEq, Drop)]
 pub struct Design {
     pub pipe: Machine,
     pub spec: Machine,

@@ -3,7 +3,7 @@
 /// An expression over a machine's entries, inputs and lets. `Entry`, `Input` and `Local` count from 0 in the
 /// machine in which the expression stands, in an invariant in the pipeline's entries and the invariant's own
 /// lets; `Apply` names a symbol of the design.
-#[derive(Debug, PartialEq, Drop)]
+#[derive(PartialEq, Drop)]
 #[cycle(expr)]
 pub enum Expr {
     Bool(bool),
@@ -23,7 +23,7 @@ pub enum Expr {
 }
 
 /// A list of expressions.
-#[derive(Debug, PartialEq, Drop)]
+#[derive(PartialEq, Drop)]
 #[cycle(expr)]
 pub struct Exprs {
     pub items: Vec<Expr>,

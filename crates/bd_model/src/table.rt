@@ -57,7 +57,7 @@ impl Scalar {
 pub type Words = Sequence<u64>;
 
 /// The value of a table at some arguments.
-#[derive(Debug, PartialEq, Drop)]
+#[derive(PartialEq, Drop)]
 pub struct Row {
     pub args: Words,
     pub value: Scalar,
@@ -80,7 +80,7 @@ impl Clone for Row {
 pub type Rows = Sequence<Row>;
 
 /// What a function or predicate symbol stands for: the first row with the arguments counts, else the default.
-#[derive(Debug, PartialEq, Drop)]
+#[derive(PartialEq, Drop)]
 pub struct Table {
     pub default: Scalar,
     pub rows: Rows,
@@ -117,7 +117,7 @@ impl Table {
 }
 
 /// The word that a memory has at an address.
-#[derive(Clone, Copy, Debug, PartialEq, Eq)]
+#[derive(Clone, Copy, PartialEq, Eq)]
 pub struct Slot {
     pub address: u64,
     pub value: u64,
@@ -127,7 +127,7 @@ pub struct Slot {
 pub type Slots = Sequence<Slot>;
 
 /// A machine's memory: the first row with the address counts, else the default.
-#[derive(Debug, PartialEq, Drop)]
+#[derive(PartialEq, Drop)]
 pub struct Memory {
     pub default: u64,
     pub rows: Slots,
@@ -201,7 +201,7 @@ fn common_end(a: &[Slot], b: &[Slot]) -> usize
 }
 
 /// What an entry of a state holds.
-#[derive(Debug, PartialEq, Drop)]
+#[derive(PartialEq, Drop)]
 pub enum Value {
     Scalar(Scalar),
     Memory(Memory),

@@ -79,7 +79,7 @@ fn put_line(
 }
 
 /// What is named in a box: of the states what is shown there, and of the compared states what differs there.
-#[derive(Clone, Copy, Debug, PartialEq, Eq)]
+#[derive(Clone, Copy, PartialEq, Eq)]
 enum Named {
     Shown,
     Stands,
@@ -98,7 +98,7 @@ impl Named {
 }
 
 /// A box: its place, the column of a grid that it shows, and what is named of it.
-#[derive(Clone, Copy, Debug)]
+#[derive(Clone, Copy)]
 struct Spot {
     x: u64,
     y: u64,
@@ -212,7 +212,7 @@ fn put_down(out: &mut Vec<u8>, x: u64, y: u64, what: &str) -> Result<(), AllocEr
 }
 
 /// The columns of one way, and where their boxes stand.
-#[derive(Clone, Copy, Debug)]
+#[derive(Clone, Copy)]
 struct Way {
     from: usize,
     to: usize,

@@ -6,14 +6,14 @@ use bd_slice::{Column, Spot};
 use std::alloc::{AllocError, Global};
 
 /// What a line is of: a value of a state, or an input of the cycle that led to it.
-#[derive(Clone, Copy, Debug, PartialEq, Eq)]
+#[derive(Clone, Copy, PartialEq, Eq)]
 pub enum Place {
     Value(Spot),
     Input(u32),
 }
 
 /// What a cell shows.
-#[derive(Clone, Copy, Debug, PartialEq, Eq)]
+#[derive(Clone, Copy, PartialEq, Eq)]
 pub enum Content {
     /// Nothing: there is no value.
     Nothing,
@@ -26,7 +26,7 @@ pub enum Content {
 }
 
 /// How a cell looks.
-#[derive(Clone, Copy, Debug, PartialEq, Eq)]
+#[derive(Clone, Copy, PartialEq, Eq)]
 pub enum Look {
     /// As it is.
     Plain,
@@ -39,14 +39,14 @@ pub enum Look {
 }
 
 /// What a cell shows, and how it looks.
-#[derive(Clone, Copy, Debug, PartialEq, Eq)]
+#[derive(Clone, Copy, PartialEq, Eq)]
 pub struct Cell {
     pub content: Content,
     pub look: Look,
 }
 
 /// The cells of an entry, of an address of a memory or of an input.
-#[derive(Debug, Drop)]
+#[derive(Drop)]
 pub struct Row {
     pub name: Vec<u8>,
     pub place: Place,
@@ -58,7 +58,7 @@ pub struct Row {
 }
 
 /// A heading, the state that stands under it, and whether the cycle may stand for so many steps.
-#[derive(Debug, Drop)]
+#[derive(Drop)]
 pub struct Head {
     pub text: Vec<u8>,
     pub column: Column,
@@ -66,7 +66,7 @@ pub struct Head {
 }
 
 /// Rows under headings. A bar stands before the column of the number `bar`.
-#[derive(Debug, Drop)]
+#[derive(Drop)]
 pub struct Grid {
     pub title: &'static str,
     pub heads: Vec<Head>,

@@ -14,7 +14,7 @@ use std::alloc::{AllocError, Global};
 use std::collections::BTreeSet;
 
 /// A line.
-#[derive(Debug, Drop)]
+#[derive(Drop)]
 pub struct Line {
     pub name: Vec<u8>,
     pub place: Place,
@@ -25,7 +25,7 @@ pub struct Line {
 }
 
 /// An entry: its name, its number, and its number in the specification if it is visible.
-#[derive(Clone, Copy, Debug)]
+#[derive(Clone, Copy)]
 struct Named<'a> {
     name: &'a [u8],
     number: u32,

@@ -10,7 +10,7 @@ use std::alloc::{AllocError, Global};
 use std::collections::BTreeSet;
 
 /// A title, and the items of a list.
-#[derive(Debug, Drop)]
+#[derive(Drop)]
 pub struct Items {
     pub title: &'static str,
     pub items: Vec<Vec<u8>>,

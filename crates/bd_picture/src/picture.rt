@@ -19,7 +19,7 @@ use std::alloc::{AllocError, Global};
 
 /// A case of a design, what it shows and its diagram, and the names of the pipeline's lets, in their order; and whether
 /// all values are printed, or only those that what is broken rests on.
-#[derive(Debug, Drop)]
+#[derive(Drop)]
 pub struct View<'a> {
     pub design: &'a Design,
     pub case: &'a Case,
@@ -30,7 +30,7 @@ pub struct View<'a> {
 }
 
 /// Tables and lists. Where the invariant is broken no steps are compared.
-#[derive(Debug, Drop)]
+#[derive(Drop)]
 pub struct Tables {
     pub states: Grid,
     pub steps: Option<Grid>,
@@ -39,7 +39,7 @@ pub struct Tables {
 }
 
 /// A sentence, what is printed under it, and all values, where these are only some.
-#[derive(Debug, Drop)]
+#[derive(Drop)]
 pub struct Picture {
     pub sentence: Vec<u8>,
     pub(crate) tables: Tables,

@@ -170,7 +170,7 @@ fn shows(view: &View<'_>, marks: &Marks, lines: &[Line], column: Column) -> bool
 }
 
 /// A column that is printed, and the last one that is folded into it.
-#[derive(Clone, Copy, Debug)]
+#[derive(Clone, Copy)]
 struct Folded {
     first: Column,
     last: Column,

@@ -10,7 +10,7 @@ use std::alloc::{AllocError, Global};
 const WIDTH: usize = 100;
 
 /// A text to which spaces are put only before something else, so that no line ends in one.
-#[derive(Debug, Drop)]
+#[derive(Drop)]
 struct Pen {
     out: Vec<u8>,
     column: usize,
@@ -80,7 +80,7 @@ fn names_width(grid: &Grid) -> usize {
 }
 
 /// A column of a block: its number and where it begins.
-#[derive(Clone, Copy, Debug)]
+#[derive(Clone, Copy)]
 struct Place {
     column: usize,
     start: usize,

@@ -8,7 +8,7 @@ use bd_lrat::Refused;
 use std::alloc::{AllocError, AllocFailed};
 
 /// What is wrong at a place of a proof text.
-#[derive(Clone, Copy, Debug, PartialEq, Eq)]
+#[derive(Clone, Copy, PartialEq, Eq)]
 pub enum Why {
     /// A byte that is no digit, `-`, `d` or separator (E20).
     Byte,
@@ -23,14 +23,14 @@ pub enum Why {
 }
 
 /// A fault of a proof text.
-#[derive(Clone, Copy, Debug, PartialEq, Eq)]
+#[derive(Clone, Copy, PartialEq, Eq)]
 pub struct Fault {
     pub place: Place,
     pub why: Why,
 }
 
 /// Why a proof text isn't read.
-#[derive(Clone, Copy, Debug, PartialEq, Eq)]
+#[derive(Clone, Copy, PartialEq, Eq)]
 pub enum ReadFault {
     /// Its first fault.
     Bad(Fault),

@@ -10,7 +10,7 @@ use crate::number::size_of;
 use std::marker::Model;
 
 /// A place in a text. Lines and columns count from 1, columns in bytes.
-#[derive(Clone, Copy, Debug, PartialEq, Eq)]
+#[derive(Clone, Copy, PartialEq, Eq)]
 pub struct Place {
     pub line: u64,
     pub column: u64,

@@ -8,7 +8,7 @@ ghost use Rattle.bd_prop.specs.Form.{IsFormBelow, form_truth, is_true, is_false,
 use crate::node::PropNode;
 
 /// What a constructor makes of its node: an id that stands for it already, or the node.
-#[derive(Clone, Copy, Debug)]
+#[derive(Clone, Copy)]
 pub(crate) enum Rewrite {
     Kept(usize),
     Fresh(PropNode),

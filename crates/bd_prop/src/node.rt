@@ -1,7 +1,7 @@
 use crate::atom::Atom;
 
 /// A node of a truth graph. Its children are named by their ids.
-#[derive(Clone, Copy, Debug, PartialEq, Eq, Hash)]
+#[derive(Clone, Copy, PartialEq, Eq, Hash)]
 pub enum PropNode {
     True,
     Atom(Atom),

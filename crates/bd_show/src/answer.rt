@@ -9,7 +9,7 @@ use bd_text::Code;
 use bd_typer::Text;
 
 /// The answer of a run.
-#[derive(Clone, Copy, Debug, PartialEq, Eq)]
+#[derive(Clone, Copy, PartialEq, Eq)]
 pub enum Ended {
     /// The verdict on the design was printed, and where it is `wrong` what its case shows.
     Checked(Finding),
@@ -56,7 +56,7 @@ pub enum Ended {
 }
 
 /// An answer, and its text.
-#[derive(Debug, Drop)]
+#[derive(Drop)]
 pub struct Answer {
     pub ended: Ended,
     pub text: Vec<u8>,

@@ -25,7 +25,7 @@ use bd_verify::{Mode, Question, Verdict, verify};
 use std::alloc::{AllocError, Global};
 
 /// Its options: the files, how equations become edges, and how many clauses the solver may add for each question.
-#[derive(Clone, Copy, Debug)]
+#[derive(Clone, Copy)]
 pub struct CheckOptions<'a> {
     pub names: FileNames<'a>,
     pub mode: Mode,

@@ -23,7 +23,7 @@ use clap::{Arg, ArgMatches};
 use std::alloc::{AllocError, Global};
 
 /// What the words ask for.
-#[derive(Clone, Copy, Debug)]
+#[derive(Clone, Copy)]
 pub enum Command<'a> {
     /// Whether a pipeline is right, and else what a case shows.
     Check(CheckOptions<'a>),
@@ -40,7 +40,7 @@ pub enum Command<'a> {
 }
 
 /// Why words ask nothing.
-#[derive(Debug, Drop)]
+#[derive(Drop)]
 pub enum WordsFault {
     /// They ask for help or for the version, which is this text.
     Told(Vec<u8>),

@@ -11,7 +11,7 @@ use bd_files::{Files, LoadError};
 use bd_typer::Text;
 
 /// The names of the files of a design, of a case of it, of a proof that it is right, and of an invariant.
-#[derive(Clone, Copy, Debug)]
+#[derive(Clone, Copy)]
 pub struct FileNames<'a> {
     pub pipe: &'a str,
     pub spec: &'a str,
@@ -21,7 +21,7 @@ pub struct FileNames<'a> {
 }
 
 /// Their bytes.
-#[derive(Debug, Drop)]
+#[derive(Drop)]
 pub struct Texts {
     pub pipe: Vec<u8>,
     pub spec: Vec<u8>,
@@ -31,7 +31,7 @@ pub struct Texts {
 }
 
 /// Why a file gave no bytes.
-#[derive(Clone, Copy, Debug, PartialEq, Eq)]
+#[derive(Clone, Copy, PartialEq, Eq)]
 pub enum LoadFault {
     /// It can't be read.
     Failed(Text),

@@ -4,7 +4,7 @@ ghost use Rattle.bd_show.specs.Open.{after, begun, is_further_out, line_after, o
 
 /// A line as far as it is read: how many blanks it begins with, and whether anything else, and whether a comment,
 /// stands in it.
-#[derive(Clone, Copy, Debug)]
+#[derive(Clone, Copy)]
 pub struct Line {
     pub blanks: usize,
     pub is_blank: bool,
@@ -13,7 +13,7 @@ pub struct Line {
 
 /// The lists of a text as far as it is read: how many are open, where the outermost one begins, where the last one
 /// inside it begins, and how many blanks the line of that one begins with.
-#[derive(Clone, Copy, Debug)]
+#[derive(Clone, Copy)]
 pub struct Lists {
     pub depth: usize,
     pub outermost: usize,

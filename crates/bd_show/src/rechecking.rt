@@ -22,7 +22,7 @@ use bd_verify::Mode;
 use std::alloc::{AllocError, Global};
 
 /// Its options: the files, and the mode of the formula that the proof is over.
-#[derive(Clone, Copy, Debug)]
+#[derive(Clone, Copy)]
 pub struct RecheckOptions<'a> {
     pub names: FileNames<'a>,
     pub mode: Mode,

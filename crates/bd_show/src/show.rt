@@ -28,7 +28,7 @@ use bd_syntax::Kind;
 use std::alloc::{AllocError, Global};
 
 /// Its options: the files, whether all of the case is shown, and where a page is saved.
-#[derive(Clone, Copy, Debug)]
+#[derive(Clone, Copy)]
 pub struct ShowOptions<'a> {
     pub names: FileNames<'a>,
     pub whole: bool,
@@ -36,7 +36,7 @@ pub struct ShowOptions<'a> {
 }
 
 /// An answer, and its page where one is shown.
-#[derive(Debug, Drop)]
+#[derive(Drop)]
 struct Seen {
     answer: Answer,
     page: Option<Vec<u8>>,

@@ -25,7 +25,7 @@ use bd_why::{Source, Sources, Why, why_of};
 use std::alloc::{AllocError, Global};
 
 /// Its options: the files, whether all of the case is explained, and the value that is asked for.
-#[derive(Clone, Copy, Debug)]
+#[derive(Clone, Copy)]
 pub struct WhyOptions<'a> {
     pub names: FileNames<'a>,
     pub whole: bool,

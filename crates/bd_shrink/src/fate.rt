@@ -6,7 +6,7 @@ use bd_model::Scalar;
 
 /// What becomes of a row or of another value: it stays, its value becomes 0 or false, or it goes. A value that
 /// isn't a row's can't go: it becomes 0 or false.
-#[derive(Clone, Copy, Debug, PartialEq, Eq)]
+#[derive(Clone, Copy, PartialEq, Eq)]
 pub enum Fate {
     Stays,
     Zero,

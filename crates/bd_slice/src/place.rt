@@ -4,7 +4,7 @@ use std::alloc::AllocError;
 
 /// A place of a case: a latch, by its entry; the word of a memory at an address, by its entry and the address; an
 /// input; or what a symbol stands for at arguments.
-#[derive(Debug, PartialEq, Drop)]
+#[derive(PartialEq, Drop)]
 pub enum Place {
     Latch(usize),
     Cell(usize, u64),
@@ -33,7 +33,7 @@ pub type Places = Sequence<Place>;
 /// A state of the diagram: the pipeline after so many flush cycles from the case's state, the pipeline after so many
 /// flush cycles from the state after the case's cycle, or what is visible after so many steps of the specification from
 /// where the pipeline is flushed before the cycle.
-#[derive(Clone, Copy, Debug, PartialEq, Eq, Hash)]
+#[derive(Clone, Copy, PartialEq, Eq, Hash)]
 pub enum Column {
     Before(u32),
     After(u32),
@@ -41,14 +41,14 @@ pub enum Column {
 }
 
 /// A value of a state: a latch, by its entry, or the word of a memory at an address.
-#[derive(Clone, Copy, Debug, PartialEq, Eq)]
+#[derive(Clone, Copy, PartialEq, Eq)]
 pub enum Spot {
     Latch(u32),
     Cell(u32, u64),
 }
 
 /// A value that is asked for: one of a state of the diagram.
-#[derive(Clone, Copy, Debug, PartialEq, Eq)]
+#[derive(Clone, Copy, PartialEq, Eq)]
 pub struct Want {
     pub column: Column,
     pub spot: Spot,

@@ -6,7 +6,7 @@ use std::alloc::AllocError;
 /// A cycle of the run. The case's own leads from the case's state to the first one after it, a flush cycle from the
 /// column of this number before or after the case's cycle to the next, and a step of the specification likewise. The
 /// invariant is valued in the state after the case's cycle, and leads nowhere.
-#[derive(Clone, Copy, Debug, PartialEq, Eq, Hash)]
+#[derive(Clone, Copy, PartialEq, Eq, Hash)]
 pub enum Cycle {
     Case,
     FlushBefore(u32),
@@ -18,7 +18,7 @@ pub enum Cycle {
 /// A value of the run: a latch, or a memory's word at an address, by column and entry; an input, a let, or the word at
 /// an address of a let that is a memory, by cycle and number. In the columns of the specification entries and lets are
 /// those of the specification. Last the invariant after the cycle.
-#[derive(Clone, Copy, Debug, PartialEq, Eq, Hash)]
+#[derive(Clone, Copy, PartialEq, Eq, Hash)]
 pub enum Subject {
     Latch(Column, u32),
     Cell(Column, u32, u64),

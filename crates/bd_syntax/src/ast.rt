@@ -4,7 +4,7 @@ use crate::{Form, Items, Spot};
 use bd_list::Sequence;
 
 /// Which kind of machine a file describes.
-#[derive(Clone, Copy, Debug, PartialEq, Eq)]
+#[derive(Clone, Copy, PartialEq, Eq)]
 pub enum Kind {
     /// A pipeline.
     Pipeline,
@@ -13,7 +13,7 @@ pub enum Kind {
 }
 
 /// A machine file.
-#[derive(Debug, PartialEq, Eq, Drop)]
+#[derive(PartialEq, Eq, Drop)]
 pub struct Ast {
     /// Of which kind.
     pub kind: Kind,
@@ -24,7 +24,7 @@ pub struct Ast {
 }
 
 /// An invariant file, or a file of starts.
-#[derive(Debug, PartialEq, Eq, Drop)]
+#[derive(PartialEq, Eq, Drop)]
 pub struct InvAst {
     /// Where its tree stands.
     pub offset: usize,
@@ -35,7 +35,7 @@ pub struct InvAst {
 }
 
 /// The expression of a visible entry in a completion.
-#[derive(Debug, PartialEq, Eq, Drop)]
+#[derive(PartialEq, Eq, Drop)]
 pub struct Abstract {
     /// Where its tree stands.
     pub offset: usize,
@@ -49,7 +49,7 @@ pub struct Abstract {
 pub type Abstracts = Sequence<Abstract>;
 
 /// A completion file: what a state of the pipeline stands for, as expressions.
-#[derive(Debug, PartialEq, Eq, Drop)]
+#[derive(PartialEq, Eq, Drop)]
 pub struct CompAst {
     /// Where its tree stands.
     pub offset: usize,

@@ -6,7 +6,7 @@ ghost use Rattle.bd_syntax.specs.Forms.{expressions_of, expressions_of_all, expr
 use bd_text::Bytes;
 
 /// An atom of a file, and where it stands.
-#[derive(Debug, PartialEq, Eq, Drop)]
+#[derive(PartialEq, Eq, Drop)]
 pub struct Spot {
     /// The offset of its first byte.
     pub offset: usize,
@@ -15,7 +15,7 @@ pub struct Spot {
 }
 
 /// An expression.
-#[derive(Debug, PartialEq, Eq, Drop)]
+#[derive(PartialEq, Eq, Drop)]
 #[cycle(form)]
 pub enum Form {
     /// A name, `true` or `false`.
@@ -32,7 +32,7 @@ pub enum Form {
 }
 
 /// Expressions, in the order of the file.
-#[derive(Debug, PartialEq, Eq, Drop)]
+#[derive(PartialEq, Eq, Drop)]
 #[cycle(form)]
 pub struct Forms {
     items: Vec<Form>,

@@ -8,7 +8,7 @@ use bd_model::Sort;
 pub type Spots = Sequence<Spot>;
 
 /// An item. Each has the offset of its `(`.
-#[derive(Debug, PartialEq, Eq, Drop)]
+#[derive(PartialEq, Eq, Drop)]
 pub enum Item {
     /// `(latch NAME SORT)`, of sort word or bool.
     Latch {

@@ -13,7 +13,7 @@ use std::hash::{Hash, Hasher};
 use std::marker::Model;
 
 /// The place of a node in its graph, from 0. The default is place 0.
-#[derive(Clone, Copy, Debug, Default, PartialEq, Eq, Hash)]
+#[derive(Clone, Copy, Default, PartialEq, Eq, Hash)]
 pub struct Id {
     index: usize,
 }
@@ -45,7 +45,7 @@ impl Id {
 }
 
 /// The arguments of an application, mostly few.
-#[derive(Debug, Drop)]
+#[derive(Drop)]
 pub struct Ids {
     items: SmallVec<Id, 4>,
 }

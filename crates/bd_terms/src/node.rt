@@ -8,7 +8,7 @@ use std::alloc::AllocError;
 
 /// What an application stands for: a function or predicate of the design, the first contents of an entry, an
 /// input, a fresh address, or a variable.
-#[derive(Clone, Copy, Debug, PartialEq, Eq, PartialOrd, Ord, Hash)]
+#[derive(Clone, Copy, PartialEq, Eq, Hash)]
 pub enum Sym {
     Function(u32),
     Entry(u32),
@@ -18,7 +18,7 @@ pub enum Sym {
 }
 
 /// A term over terms that stand before it in the same graph.
-#[derive(Debug, PartialEq, Eq, Hash, Drop)]
+#[derive(PartialEq, Eq, Hash, Drop)]
 pub enum Node {
     True,
     Not(Id),

@@ -11,7 +11,7 @@ use bd_list::Sequence;
 pub type Bytes = Sequence<u8>;
 
 /// A tree: an atom, or a list of trees.
-#[derive(Debug, PartialEq, Eq, Drop)]
+#[derive(PartialEq, Eq, Drop)]
 #[cycle(tree)]
 pub enum Tree {
     /// A run of bytes other than parentheses, semicolons and separators.
@@ -31,7 +31,7 @@ pub enum Tree {
 }
 
 /// Trees, in the order of the text.
-#[derive(Debug, PartialEq, Eq, Drop)]
+#[derive(PartialEq, Eq, Drop)]
 #[cycle(tree)]
 pub struct Trees {
     pub(crate) items: Vec<Tree>,

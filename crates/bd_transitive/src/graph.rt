@@ -3,7 +3,7 @@ use bd_cnf::Clause;
 use bd_list::Sequence;
 
 /// An edge between two vertices, which may stand either way round.
-#[derive(Clone, Copy, Debug, PartialEq, Eq)]
+#[derive(Clone, Copy, PartialEq, Eq)]
 pub struct Edge {
     pub from: u64,
     pub to: u64,
@@ -25,7 +25,7 @@ pub type EdgeValues = Sequence<bool>;
 pub type Classes = Sequence<u64>;
 
 /// Vertices in the order in which they are eliminated, and the edges between them.
-#[derive(Debug, Drop)]
+#[derive(Drop)]
 pub struct Order {
     pub vertices: Vertices,
     pub edges: Edges,

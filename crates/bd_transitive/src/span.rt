@@ -10,7 +10,7 @@ use std::alloc::{AllocError, Global};
 use std::hash::Hash;
 
 /// The places of the two ends of an edge, the one that is eliminated first before the other.
-#[derive(Clone, Copy, Debug, PartialEq, Eq, Hash)]
+#[derive(Clone, Copy, PartialEq, Eq, Hash)]
 pub(crate) struct Span {
     pub(crate) low: usize,
     pub(crate) high: usize,

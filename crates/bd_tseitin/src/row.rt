@@ -2,7 +2,7 @@ use bd_list::Sequence;
 use bd_prop::Atom;
 
 /// The variable that stands for an atom.
-#[derive(Clone, Copy, Debug, PartialEq, Eq)]
+#[derive(Clone, Copy, PartialEq, Eq)]
 pub struct AtomVar {
     pub atom: Atom,
     pub var: u64,

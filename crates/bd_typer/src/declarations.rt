@@ -24,7 +24,7 @@ use bd_text::Code;
 use std::alloc::{AllocError, Global};
 
 /// What an item may name.
-#[derive(Clone, Copy, Debug, PartialEq, Eq)]
+#[derive(Clone, Copy, PartialEq, Eq)]
 pub enum Role {
     /// What it declares.
     Declared,
@@ -37,7 +37,7 @@ pub enum Role {
 }
 
 /// What must stand once in a pipeline.
-#[derive(Clone, Copy, Debug, PartialEq, Eq)]
+#[derive(Clone, Copy, PartialEq, Eq)]
 pub enum Once {
     Flush,
     Steps,

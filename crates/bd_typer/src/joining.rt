@@ -243,7 +243,7 @@ fn assembled(
 }
 
 /// A design, and what its states stand for.
-#[derive(Debug, PartialEq, Drop)]
+#[derive(PartialEq, Drop)]
 pub struct Joined {
     pub design: Design,
     pub abs: Abstraction,

@@ -10,7 +10,7 @@ use indexmap::{IndexMap, IndexSet};
 use std::alloc::{AllocError, Global};
 
 /// What a name means. Entries, inputs and lets are numbered in their machine, symbols in the design.
-#[derive(Clone, Copy, Debug, PartialEq, Eq)]
+#[derive(Clone, Copy, PartialEq, Eq)]
 pub enum Meaning {
     /// A latch or memory.
     Entry {

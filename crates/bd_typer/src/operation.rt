@@ -9,7 +9,7 @@ use bd_syntax::Operator;
 use std::alloc::{AllocError, Global};
 
 /// An operator, or the application of a symbol.
-#[derive(Clone, Copy, Debug, PartialEq, Eq)]
+#[derive(Clone, Copy, PartialEq, Eq)]
 pub enum Operation {
     Operator(Operator),
     Apply(u32),

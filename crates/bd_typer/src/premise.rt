@@ -9,7 +9,7 @@ use crate::fault::{Text, TypeFault};
 use bd_model::Design;
 
 /// What the third file of a design says of states.
-#[derive(Clone, Copy, Debug, PartialEq, Eq)]
+#[derive(Clone, Copy, PartialEq, Eq)]
 pub enum Premise {
     /// An invariant, which is to hold in each state of a run.
     Invariant,

@@ -23,7 +23,7 @@ use bd_tseitin::{Formula, inputs_of};
 use std::alloc::{AllocError, Global};
 
 /// Whether a root is true in every world that keeps the constants apart.
-#[derive(Debug, Drop)]
+#[derive(Drop)]
 pub enum Decided {
     /// It is.
     Valid(Work),

@@ -11,7 +11,7 @@ use bd_lrat::{Line, Log, adds_empty, refused_line};
 use std::alloc::{AllocError, Global};
 
 /// What an answer comes to.
-#[derive(Debug, Drop)]
+#[derive(Drop)]
 pub enum Settled {
     /// The log is accepted, and adds the empty clause.
     Refuted(Log),

@@ -18,7 +18,7 @@ use bd_sim::judge;
 use std::alloc::{AllocError, Global};
 
 /// What is asked of a design's cases.
-#[derive(Clone, Copy, Debug, PartialEq, Eq)]
+#[derive(Clone, Copy, PartialEq, Eq)]
 pub enum Question {
     /// Whether one breaks a condition.
     Breaks,
@@ -27,7 +27,7 @@ pub enum Question {
 }
 
 /// How equations between words become edges.
-#[derive(Clone, Copy, Debug, PartialEq, Eq)]
+#[derive(Clone, Copy, PartialEq, Eq)]
 pub enum Mode {
     /// Each equation between two variables may have an edge.
     Plain,
@@ -38,14 +38,14 @@ pub enum Mode {
 
 /// The kept formula of a question, and the log of the solver's answer over it: with the clauses from 1 in order, each
 /// line is accepted on what stands before it.
-#[derive(Debug, Drop)]
+#[derive(Drop)]
 pub struct Work {
     pub cnf: Cnf,
     pub log: Log,
 }
 
 /// What a pipeline is found to be. Each verdict has the work of the question that gave it.
-#[derive(Debug, Drop)]
+#[derive(Drop)]
 pub enum Verdict {
     /// It obeys its specification. Where an invariant was given: a case that meets it and breaks nothing.
     Correct(Option<Case>, Work),

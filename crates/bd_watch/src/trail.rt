@@ -16,7 +16,7 @@ use std::alloc::{AllocError, Global};
 use std::marker::Model;
 
 /// A literal on a trail: a decision where it has no reason.
-#[derive(Clone, Copy, Debug)]
+#[derive(Clone, Copy)]
 pub struct Assigned {
     literal: PackedLit,
     /// The id of the clause that implied it.
@@ -50,7 +50,7 @@ impl Assigned {
 }
 
 /// The literals that a solver takes as true, with what implied each.
-#[derive(Debug, Drop)]
+#[derive(Drop)]
 pub struct AssignmentTrail {
     /// By literal, whether it is on the trail.
     holds: Vec<bool>,

@@ -11,7 +11,7 @@ use std::alloc::{AllocError, Global};
 use std::marker::Model;
 
 /// A clause that watches a literal, by its place, and another of its literals.
-#[derive(Clone, Copy, Debug)]
+#[derive(Clone, Copy)]
 pub(crate) struct Watcher {
     pub(crate) clause: u32,
     pub(crate) blocker: PackedLit,
@@ -22,7 +22,7 @@ pub(crate) struct Watcher {
 
 /// The two literals that a clause watches, and its third if it has just three: such a clause need
 /// not be read where it is looked at.
-#[derive(Clone, Copy, Debug)]
+#[derive(Clone, Copy)]
 pub(crate) struct WatchedPair {
     pub(crate) first: PackedLit,
     pub(crate) second: PackedLit,
@@ -65,7 +65,7 @@ impl WatchedPair {
 }
 
 /// The watchers of a literal.
-#[derive(Debug, Drop)]
+#[derive(Drop)]
 pub(crate) struct WatchList {
     watchers: Vec<Watcher>,
 }

@@ -8,7 +8,7 @@ use crate::fault::Fault;
 use std::alloc::{AllocError, Global};
 
 /// Parts, one after another, and the length of each.
-#[derive(Debug, Drop)]
+#[derive(Drop)]
 pub struct Parts {
     pub bytes: Vec<u8>,
     pub lengths: Vec<usize>,

@@ -11,7 +11,7 @@ use std::alloc::Global;
 use std::marker::Model;
 
 /// Files in memory, of which the first of a name counts. A save puts its file before the others.
-#[derive(Debug, Drop)]
+#[derive(Drop)]
 pub struct Folder {
     alloc: Global,
     files: Vec<(String, Vec<u8>)>,

@@ -13,7 +13,7 @@ use std::alloc::Global;
 use std::str;
 
 /// What is handed in.
-#[derive(Debug, Drop)]
+#[derive(Drop)]
 pub struct Handed {
     pub words: Vec<String>,
     pub files: Vec<(String, Vec<u8>)>,

@@ -23,7 +23,7 @@ const OUT_ROOM: usize = 4_000_000;
 const ERR_ROOM: usize = 1_000_000;
 
 /// A run's status, and what comes back of it.
-#[derive(Debug, Drop)]
+#[derive(Drop)]
 struct Came {
     status: u8,
     back: Parts,

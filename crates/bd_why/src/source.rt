@@ -1,14 +1,14 @@
 //! What is asked with, and what is found.
 
 /// A text of a design, and the name under which its lines are told.
-#[derive(Clone, Copy, Debug)]
+#[derive(Clone, Copy)]
 pub struct Source<'a> {
     pub name: &'a str,
     pub text: &'a [u8],
 }
 
 /// The texts of a design.
-#[derive(Clone, Copy, Debug)]
+#[derive(Clone, Copy)]
 pub struct Sources<'a> {
     pub pipe: Source<'a>,
     pub spec: Source<'a>,
@@ -16,7 +16,7 @@ pub struct Sources<'a> {
 }
 
 /// What is found for what is asked.
-#[derive(Debug, Drop)]
+#[derive(Drop)]
 pub enum Why {
     /// The lines that explain the value.
     Explained(Vec<u8>),

@@ -28,7 +28,7 @@ use clap::{Arg, ArgMatches, Command, value_parser};
 use std::alloc::{AllocError, Global};
 
 /// Its options.
-#[derive(Clone, Copy, Debug)]
+#[derive(Clone, Copy)]
 pub struct BoundedOptions<'a> {
     pub pipe: &'a str,
     pub spec: &'a str,
@@ -76,7 +76,7 @@ pub fn options<'a>(matches: &ArgMatches<'a>) -> BoundedOptions<'a>
 }
 
 /// What a design is found to be, and the text of the trail that is shown with it.
-#[derive(Debug, Drop)]
+#[derive(Drop)]
 pub struct ShownRun {
     pub answer: Bounded,
     pub trail: Vec<u8>,

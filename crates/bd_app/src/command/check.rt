@@ -22,7 +22,7 @@ use clap::{Arg, ArgMatches, Command};
 use std::alloc::{AllocError, Global};
 
 /// Its options.
-#[derive(Clone, Copy, Debug)]
+#[derive(Clone, Copy)]
 pub struct CheckOptions<'a> {
     pub pipe: &'a str,
     pub spec: &'a str,

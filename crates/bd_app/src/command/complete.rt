@@ -33,7 +33,7 @@ use clap::{Arg, ArgMatches, Command};
 use std::alloc::{AllocError, Global};
 
 /// Its options.
-#[derive(Clone, Copy, Debug)]
+#[derive(Clone, Copy)]
 pub struct CompleteOptions<'a> {
     pub files: TextFiles<'a>,
     pub agree: bool,
@@ -71,7 +71,7 @@ pub fn options<'a>(matches: &ArgMatches<'a>) -> CompleteOptions<'a>
 }
 
 /// What is found, and the text of the case that is shown with it.
-#[derive(Debug, Drop)]
+#[derive(Drop)]
 pub struct ShownBreak {
     pub answer: Complete,
     pub case: Vec<u8>,

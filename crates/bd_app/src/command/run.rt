@@ -25,7 +25,7 @@ use itoa::Buffer;
 use std::alloc::{AllocError, Global};
 
 /// Its options.
-#[derive(Clone, Copy, Debug)]
+#[derive(Clone, Copy)]
 pub struct RunOptions<'a> {
     pub pipe: &'a str,
     pub spec: &'a str,
