@@ -8,7 +8,7 @@ use std::process::Abort;
 use std::test::Fail;
 
 /// A graph, whose last node is the root, the form of the root, and the atoms with their variables.
-static FORMS: [(&str, &str, &str); 8] = [
+static FORMS: [(&str, &str, &str); 11] = [
     (
         "T 7, = 1 2, and 0 1",
         "p cnf 3 4\n1 -3 0\n2 -3 0\n-1 -2 3 0\n3 0\n",
@@ -22,7 +22,25 @@ static FORMS: [(&str, &str, &str); 8] = [
     ),
     (
         "T 7, = 1 2, T 9, ite 0 1 2",
-        "p cnf 4 5\n-1 2 -4 0\n1 3 -4 0\n-1 -2 4 0\n1 -3 4 0\n4 0\n",
+        "p cnf 4 5\n-1 2 -4 0\n-1 -2 4 0\n1 3 -4 0\n1 -3 4 0\n4 0\n",
+        "T 7 1, = 1 2 2, T 9 3, ",
+    ),
+    // a tree of two choices is one gate
+    (
+        "T 7, = 1 2, T 9, T 8, ite 0 1 2, ite 3 4 1",
+        "p cnf 5 7\n-1 2 -4 -5 0\n-1 -2 -4 5 0\n1 3 -4 -5 0\n1 -3 -4 5 0\n2 4 -5 0\n-2 4 5 0\n5 0\n",
+        "T 7 1, = 1 2 2, T 9 3, T 8 4, ",
+    ),
+    // so it is where a branch is the negation of a choice
+    (
+        "T 7, = 1 2, T 9, T 8, ite 0 1 2, not 4, ite 3 5 1",
+        "p cnf 5 7\n-1 2 -4 5 0\n-1 -2 -4 -5 0\n1 3 -4 5 0\n1 -3 -4 -5 0\n2 4 -5 0\n-2 4 5 0\n5 0\n",
+        "T 7 1, = 1 2 2, T 9 3, T 8 4, ",
+    ),
+    // a choice that is a control is a gate of its own
+    (
+        "T 7, = 1 2, T 9, ite 0 1 2, ite 3 0 1",
+        "p cnf 5 9\n-1 2 -4 0\n-1 -2 4 0\n1 3 -4 0\n1 -3 4 0\n1 -4 -5 0\n-1 -4 5 0\n2 4 -5 0\n-2 4 5 0\n5 0\n",
         "T 7 1, = 1 2 2, T 9 3, ",
     ),
     // not (a and not b)

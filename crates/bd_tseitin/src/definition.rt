@@ -1,4 +1,4 @@
-//! The clauses that define one gate.
+//! The clauses that define one gate: a connective over its children, or a tree of choices over its leaves.
 ghost use Rattle.std.specs.Prelude.{◌≡◌, ◌<◌, [], ◌∷◌, Some, None, IsSome, slice_index_or, OnOk, length};
 ghost use Rattle.bd_prop.specs.Node.{children};
 ghost use Rattle.bd_tseitin.specs.Definition.{definition, and_clauses, or_clauses, ite_clauses};
@@ -30,6 +30,7 @@ pub(crate) fn push(alloc: Global, clauses: &mut Vec<Clause>, lits: &[Lit]) -> Re
 pub(crate) fn define(
     alloc: Global,
     clauses: &mut Vec<Clause>,
+    nodes: &[PropNode],
     literals: &[Option<Lit>],
     gate: Lit,
     node: PropNode,
@@ -52,10 +53,17 @@ pub(crate) fn define(
             define_or(alloc, clauses, gate, a, b)
         }
         PropNode::Ite(a, b, c) => {
-            let a = literal(literals, a);
-            let b = literal(literals, b);
-            let c = literal(literals, c);
-            define_ite(alloc, clauses, gate, a, b, c)
+            let control = literal(literals, a);
+            branch(
+                alloc,
+                clauses,
+                nodes,
+                literals,
+                gate,
+                &[control.negated()],
+                b,
+            )?;
+            branch(alloc, clauses, nodes, literals, gate, &[control], c)
         }
     }
 }
@@ -88,18 +96,50 @@ fn define_or(
     push(alloc, clauses, &[gate.negated(), a, b])
 }
 
-fn define_ite(
+/// Puts the clauses of a branch of a tree after the others, two for each leaf. The path has what the
+/// controls above falsify. A node with no literal is inside the tree.
+fn branch(
+    alloc: Global,
+    clauses: &mut Vec<Clause>,
+    nodes: &[PropNode],
+    literals: &[Option<Lit>],
+    gate: Lit,
+    path: &[Lit],
+    id: usize,
+) -> Result<(), AllocError> {
+    if let Some(leaf) = literals[id] {
+        return define_leaf(alloc, clauses, gate, path, leaf);
+    }
+    match nodes[id] {
+        PropNode::True | PropNode::Atom(_) | PropNode::And(_, _) | PropNode::Or(_, _) => Ok(()),
+        PropNode::Not(a) => branch(alloc, clauses, nodes, literals, gate.negated(), path, a),
+        PropNode::Ite(a, b, c) => {
+            let control = literal(literals, a);
+            let yes = joined(alloc, path, &[control.negated()])?;
+            branch(alloc, clauses, nodes, literals, gate, &yes, b)?;
+            let no = joined(alloc, path, &[control])?;
+            branch(alloc, clauses, nodes, literals, gate, &no, c)
+        }
+    }
+}
+
+/// At the end of a path the gate has the leaf's value.
+fn define_leaf(
     alloc: Global,
     clauses: &mut Vec<Clause>,
     gate: Lit,
-    a: Lit,
-    b: Lit,
-    c: Lit,
-) -> Result<(), AllocError>
-    ensures { OnOk result (Pushes clauses.old.items (ite_clauses gate a b c) clauses.new.items) }
-{
-    push(alloc, clauses, &[gate.negated(), a.negated(), b])?;
-    push(alloc, clauses, &[gate.negated(), a, c])?;
-    push(alloc, clauses, &[gate, a.negated(), b.negated()])?;
-    push(alloc, clauses, &[gate, a, c.negated()])
+    path: &[Lit],
+    leaf: Lit,
+) -> Result<(), AllocError> {
+    let below = joined(alloc, path, &[gate.negated(), leaf])?;
+    push(alloc, clauses, &below)?;
+    let above = joined(alloc, path, &[gate, leaf.negated()])?;
+    push(alloc, clauses, &above)
+}
+
+/// The first literals, and then the others.
+fn joined(alloc: Global, lits: &[Lit], more: &[Lit]) -> Result<Vec<Lit>, AllocError> {
+    let mut all = Vec::from_slice(alloc, lits)?;
+    all.extend_from_slice(more)?;
+    Ok(all)
 }

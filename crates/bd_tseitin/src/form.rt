@@ -14,6 +14,7 @@ ghost use Rattle.bd_tseitin.specs.inner.Step.{AreKnown, AddsNode};
 use crate::definition::{define, literal, push};
 use crate::formula::Formula;
 use crate::row::{AtomVar, AtomVars};
+use crate::tree::inside_trees;
 use bd_cnf::{Clause, Clauses, Cnf, Lit};
 use bd_prop::{Prop, PropNode, reached};
 use std::alloc::{AllocError, Global};
@@ -21,7 +22,7 @@ use std::alloc::{AllocError, Global};
 /// The form of the nodes so far.
 #[derive(Drop)]
 struct PartialForm {
-    /// The literal of each node that the root reaches.
+    /// The literals of the nodes that the root reaches and that aren't inside trees.
     literals: Vec<Option<Lit>>,
     vars: u64,
     clauses: Vec<Clause>,
@@ -37,7 +38,12 @@ fn push_row(atoms: &mut Vec<AtomVar>, node: PropNode, var: u64) -> Result<(), Al
     Ok(())
 }
 
-fn add_gate(alloc: Global, parts: &mut PartialForm, node: PropNode) -> Result<(), AllocError>
+fn add_gate(
+    alloc: Global,
+    parts: &mut PartialForm,
+    nodes: &[PropNode],
+    node: PropNode,
+) -> Result<(), AllocError>
     requires gate { is_gate node ≡ true }
     requires known { AreKnown parts.old.literals.items (children node) }
     requires room { parts.old.vars + 1 < 2 ^ 64 }
@@ -45,14 +51,26 @@ fn add_gate(alloc: Global, parts: &mut PartialForm, node: PropNode) -> Result<()
 {
     let var = parts.vars + 1;
     let gate = Lit::new(var, true);
-    define(alloc, &mut parts.clauses, &parts.literals, gate, node)?;
+    define(
+        alloc,
+        &mut parts.clauses,
+        nodes,
+        &parts.literals,
+        gate,
+        node,
+    )?;
     push_row(&mut parts.atoms, node, var)?;
     parts.literals.push(Some(gate))?;
     parts.vars = var;
     Ok(())
 }
 
-fn add(alloc: Global, parts: &mut PartialForm, node: PropNode) -> Result<(), AllocError>
+fn add(
+    alloc: Global,
+    parts: &mut PartialForm,
+    nodes: &[PropNode],
+    node: PropNode,
+) -> Result<(), AllocError>
     requires known { AreKnown parts.old.literals.items (children node) }
     requires room { parts.old.vars + 1 < 2 ^ 64 }
     ensures { OnOk result (AddsNode parts.old node parts.new) }
@@ -62,7 +80,7 @@ fn add(alloc: Global, parts: &mut PartialForm, node: PropNode) -> Result<(), All
         parts.literals.push(Some(negated))?;
         return Ok(());
     }
-    add_gate(alloc, parts, node)
+    add_gate(alloc, parts, nodes, node)
 }
 
 fn parts_of(alloc: Global, prop: &Prop, root: usize) -> Result<PartialForm, AllocError>
@@ -74,6 +92,7 @@ fn parts_of(alloc: Global, prop: &Prop, root: usize) -> Result<PartialForm, Allo
     let marked = reached(alloc, prop, root)?;
     let marks = marked.as_slice();
     let nodes = prop.nodes();
+    let inside = inside_trees(alloc, nodes, marks, root)?;
     let mut parts = PartialForm {
         literals: Vec::with_capacity(alloc, nodes.len())?,
         vars: 0,
@@ -81,8 +100,8 @@ fn parts_of(alloc: Global, prop: &Prop, root: usize) -> Result<PartialForm, Allo
         atoms: Vec::new(alloc),
     };
     for (id, node) in nodes.iter().enumerate() {
-        if marks[id] {
-            add(alloc, &mut parts, *node)?;
+        if marks[id] && !inside[id] {
+            add(alloc, &mut parts, nodes, *node)?;
         } else {
             parts.literals.push(None)?;
         }
