@@ -1,5 +1,5 @@
 -- The clauses that define a gate say that its literal has the value of its connective.
-use Rattle.std.proofs.Common.{◌≡◌, ℕ, Bool, true, false, not, ◌&&◌, ◌||◌, cond, refl, sym, ◌∙◌}
+use Rattle.std.proofs.Common.{◌≡◌, ℕ, Bool, true, false, not, ◌&&◌, ◌||◌, cond, List, [], All, refl, sym, ◌∙◌, arith}
 use Rattle.std.proofs.lemmas.Bool.{false≢true, true≢false}
 use mathlib.Core.Bool.{beq}
 use Rattle.bd_prop.specs.declared.atom.Atom.{Atom}
@@ -9,15 +9,16 @@ use Rattle.bd_prop.specs.Node.{node_truth}
 use Rattle.bd_cnf.specs.Literal.{Literal, literal_value}
 use Rattle.bd_cnf.specs.Clause.{clauses_value}
 use Rattle.bd_cnf.proofs.Literals.{negate-value}
-use Rattle.bd_tseitin.specs.Definition.{and_clauses, or_clauses, ite_clauses, definition}
+use Rattle.bd_tseitin.specs.Definition.{and_clauses, or_clauses, inner_clauses, definition}
+use Rattle.bd_tseitin.specs.inner.Tree.{operands}
 
-beq-same : (x y : Bool) → x ≡ y → beq x y ≡ true
+pub beq-same : (x y : Bool) → x ≡ y → beq x y ≡ true
 beq-same true true h = refl
 beq-same true false h = absurd (true≢false h)
 beq-same false true h = absurd (false≢true h)
 beq-same false false h = refl
 
-same_from_beq : (x y : Bool) → beq x y ≡ true → x ≡ y
+pub same_from_beq : (x y : Bool) → beq x y ≡ true → x ≡ y
 same_from_beq true true h = refl
 same_from_beq true false h = absurd (false≢true h)
 same_from_beq false true h = absurd (false≢true h)
@@ -43,24 +44,6 @@ or_table false true false = refl
 or_table false false true = refl
 or_table false false false = refl
 
-ite_table : (x y z w : Bool) → ((not x || (not y || (z || false))) && ((not x || (y || (w || false))) && ((x || (not y || (not z || false))) && ((x || (y || (not w || false))) && true)))) ≡ beq x (cond y z w)
-ite_table true true true true = refl
-ite_table true true true false = refl
-ite_table true true false true = refl
-ite_table true true false false = refl
-ite_table true false true true = refl
-ite_table true false true false = refl
-ite_table true false false true = refl
-ite_table true false false false = refl
-ite_table false true true true = refl
-ite_table false true true false = refl
-ite_table false true false true = refl
-ite_table false true false false = refl
-ite_table false false true true = refl
-ite_table false false true false = refl
-ite_table false false false true = refl
-ite_table false false false false = refl
-
 -- whether the node's clauses say what its literal is
 abbrev pub is_defined : PropNode → Bool
 is_defined (OfAtom a) = false
@@ -80,30 +63,34 @@ module _ (v : ℕ → Bool) where
       && ((negate-value v g i || (literal_value v a || (literal_value v b || false))) && true)))
       ∙ or_table (literal_value v g) (literal_value v a) (literal_value v b)
 
-  pub value-ite : (g a b c : Literal) → clauses_value v (ite_clauses g a b c) ≡ beq (literal_value v g) (cond (literal_value v a) (literal_value v b) (literal_value v c))
-  value-ite g a b c =
-      (λ i. (negate-value v g i || (negate-value v a i || (literal_value v b || false))) && ((negate-value v g i || (literal_value v a || (literal_value v c || false)))
-      && ((literal_value v g || (negate-value v a i || (negate-value v b i || false))) && ((literal_value v g || (literal_value v a || (negate-value v c i || false))) && true))))
-      ∙ ite_table (literal_value v g) (literal_value v a) (literal_value v b) (literal_value v c)
-
   one_true : (b : Bool) → ((b || false) && true) ≡ b
   one_true true = refl
   one_true false = refl
 
-  -- a literal with its connective's value makes the clauses true
-  pub definition_holds : (values : Atom → Bool) (l : ℕ → Literal) (g : Literal) (n : PropNode) → literal_value v g ≡ node_truth values (λ c. literal_value v (l c)) n → clauses_value v (definition l g n) ≡ true
-  definition_holds values l g True h = one_true (literal_value v g) ∙ h
-  definition_holds values l g (OfAtom a) h = refl
-  definition_holds values l g (Not a) h = refl
-  definition_holds values l g (And a b) h = value-and g (l a) (l b) ∙ beq-same _ _ h
-  definition_holds values l g (Or a b) h = value-or g (l a) (l b) ∙ beq-same _ _ h
-  definition_holds values l g (Ite a b c) h = value-ite g (l a) (l b) (l c) ∙ beq-same _ _ h
+  is_true : (b : Bool) → beq b true ≡ b
+  is_true true = refl
+  is_true false = refl
 
-  -- and the clauses give it that value
-  pub value_from_definition : (values : Atom → Bool) (l : ℕ → Literal) (g : Literal) (n : PropNode) → is_defined n ≡ true → clauses_value v (definition l g n) ≡ true → literal_value v g ≡ node_truth values (λ c. literal_value v (l c)) n
-  value_from_definition values l g True d h = sym (one_true (literal_value v g)) ∙ h
-  value_from_definition values l g (OfAtom a) d h = absurd (false≢true d)
-  value_from_definition values l g (Not a) d h = absurd (false≢true d)
-  value_from_definition values l g (And a b) d h = same_from_beq _ _ (sym (value-and g (l a) (l b)) ∙ h)
-  value_from_definition values l g (Or a b) d h = same_from_beq _ _ (sym (value-or g (l a) (l b)) ∙ h)
-  value_from_definition values l g (Ite a b c) d h = same_from_beq _ _ (sym (value-ite g (l a) (l b) (l c)) ∙ h)
+  -- the clauses say that the literal has the connective's value, where operands have their values
+  pub definition_value : (values : Atom → Bool) (l : ℕ → Literal) (branch : List Literal → Literal → ℕ → List (List Literal)) (truth : ℕ → Bool) (g : Literal) (n : PropNode) → is_defined n ≡ true
+      → All (λ c. literal_value v (l c) ≡ truth c) (operands n)
+      → ((a b c : ℕ) → n ≡ Ite a b c → clauses_value v (inner_clauses l branch [] g (Ite a b c)) ≡ beq (literal_value v g) (cond (truth a) (truth b) (truth c)))
+      → clauses_value v (definition l branch g n) ≡ beq (literal_value v g) (node_truth values truth n)
+  definition_value values l branch truth g True d h choice = one_true (literal_value v g) ∙ sym (is_true (literal_value v g))
+  definition_value values l branch truth g (OfAtom a) d h choice = absurd (false≢true d)
+  definition_value values l branch truth g (Not a) d h choice = absurd (false≢true d)
+  definition_value values l branch truth g (And a b) d h choice =
+      let first : literal_value v (l a) ≡ truth a = h 0 a (omega arith) in
+      let second : literal_value v (l b) ≡ truth b = h 1 a (omega arith) in
+      value-and g (l a) (l b) ∙ (λ i. beq (literal_value v g) (first i && second i))
+  definition_value values l branch truth g (Or a b) d h choice =
+      let first : literal_value v (l a) ≡ truth a = h 0 a (omega arith) in
+      let second : literal_value v (l b) ≡ truth b = h 1 a (omega arith) in
+      value-or g (l a) (l b) ∙ (λ i. beq (literal_value v g) (first i || second i))
+  definition_value values l branch truth g (Ite a b c) d h choice = choice a b c refl
+
+  -- and say nothing of an atom
+  pub undefined_value : (l : ℕ → Literal) (branch : List Literal → Literal → ℕ → List (List Literal)) (g : Literal) (n : PropNode) → is_defined n ≡ false → clauses_value v (definition l branch g n) ≡ true
+  undefined_value l branch g (OfAtom a) d = refl
+  undefined_value l branch g (Not a) d = refl
+  undefined_value l branch g n d = absurd (true≢false d)

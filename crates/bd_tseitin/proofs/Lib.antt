@@ -1,4 +1,7 @@
 pub mod Joined
+pub mod Trees
+pub mod Branches
+pub mod Pushed
 pub mod Numbering
 pub mod Stage
 pub mod Gates

@@ -1,5 +1,5 @@
--- The literal of each node, and the gates among the nodes that are reached.
-use Rattle.std.proofs.Common.{◌≡◌, ℕ, ◌<◌, ◌≤◌, ◌+◌, Bool, true, false, ◌&&◌, cond, List, [], ◌∷◌, ◌++◌, length, get_or, take, drop, Contains, refl, ap, sym, ◌∙◌, subst, inl, inr, zero, suc, arith}
+-- The literal of each node, and the gates among the nodes that have literals.
+use Rattle.std.proofs.Common.{◌≡◌, ℕ, ◌<◌, ◌≤◌, ◌+◌, Bool, true, ◌&&◌, cond, List, [], ◌∷◌, ◌++◌, length, get_or, take, drop, Contains, refl, ap, sym, ◌∙◌, subst, inl, inr, zero, suc, arith}
 use Rattle.std.proofs.lemmas.Bool.{false≢true, and_parts, cases_Bool, cases_lt, cases_eq}
 use Rattle.std.proofs.lemmas.List.{length-take-le, get_or_append_left, get_or_push, length_push}
 use Rattle.std.proofs.lemmas.List.Elements.{Contains-push, Contains-append_left, Contains-push_cases}
@@ -14,12 +14,9 @@ use Rattle.bd_prop.proofs.Truths.{split_at}
 use Rattle.bd_cnf.specs.Literal.{Literal, literal, negate}
 use Rattle.bd_tseitin.specs.Definition.{is_gate}
 
-module _ (nodes : List PropNode) (marks : List Bool) where
-  abbrev pub is_marked : ℕ → Bool
-  is_marked id = get_or marks id false
-
+module _ (nodes : List PropNode) (has : ℕ → Bool) where
   abbrev pub has_variable : ℕ → Bool
-  has_variable id = is_marked id && is_gate (node_at nodes id)
+  has_variable id = has id && is_gate (node_at nodes id)
 
   -- the gates below k
   abbrev pub gates : ℕ → List ℕ
@@ -62,14 +59,14 @@ module _ (nodes : List PropNode) (marks : List Bool) where
   -- the gates below k are those nodes below k that have a variable
   pub gates_have : (k id : ℕ) → Contains (gates k) id → (id < k) × (has_variable id ≡ true)
   gates_have zero id (j, inside, at) = absurd (omega arith)
-  gates_have (suc k) id has =
+  gates_have (suc k) id there =
       elim (cases_Bool (has_variable k)) [
         | inl e ↦
-            elim (Contains-push_cases (gates k) k id (subst (λ b. Contains (cond b (gates k ++ k ∷ []) (gates k)) id) e has)) [
+            elim (Contains-push_cases (gates k) k id (subst (λ b. Contains (cond b (gates k ++ k ∷ []) (gates k)) id) e there)) [
               | inl old ↦ let found = gates_have k id old in (omega arith, found.1)
               | inr same ↦ (omega arith, ap has_variable (sym same) ∙ e)
             ]
-        | inr e ↦ let found = gates_have k id (subst (λ b. Contains (cond b (gates k ++ k ∷ []) (gates k)) id) e has) in (omega arith, found.1)
+        | inr e ↦ let found = gates_have k id (subst (λ b. Contains (cond b (gates k ++ k ∷ []) (gates k)) id) e there) in (omega arith, found.1)
       ]
 
   pub have_gates : (k id : ℕ) → id < k → has_variable id ≡ true → Contains (gates k) id
@@ -97,7 +94,7 @@ module _ (nodes : List PropNode) (marks : List Bool) where
 
   -- a gate's literal is that of its number
   literal-gate : IsGraph nodes → (id : ℕ) → id < length nodes → has_variable id ≡ true → literal_of id ≡ literal (length (gates id) + 1) true
-  literal-gate graph id inside e = literal-node id (node_at nodes id) graph (slice_get-get_or nodes id True inside) ∙ by (node_at nodes id) (and_parts (is_marked id) _ e).1
+  literal-gate graph id inside e = literal-node id (node_at nodes id) graph (slice_get-get_or nodes id True inside) ∙ by (node_at nodes id) (and_parts (has id) _ e).1
     where
       by : (n : PropNode) → is_gate n ≡ true → literal_for id n ≡ literal (length (gates id) + 1) true
       by (Not a) off = absurd (false≢true off)

@@ -1,8 +1,8 @@
-//! The clauses that define one gate: a connective over its children, or a tree of choices over its leaves.
-ghost use Rattle.std.specs.Prelude.{◌≡◌, ◌<◌, [], ◌∷◌, Some, None, IsSome, slice_index_or, OnOk, length};
-ghost use Rattle.bd_prop.specs.Node.{children};
-ghost use Rattle.bd_tseitin.specs.Definition.{definition, and_clauses, or_clauses, ite_clauses};
-ghost use Rattle.bd_tseitin.specs.inner.Step.{known, AreKnown, Pushes};
+//! The clauses that define one gate: a connective of its children, or a tree of choices.
+ghost use Rattle.std.specs.Prelude.{◌≡◌, ◌<◌, ℕ, ◌++◌, [], ◌∷◌, Some, None, IsSome, slice_index_or, IfOk, OnOk, length, All};
+ghost use Rattle.bd_tseitin.specs.Definition.{and_clauses, or_clauses, leaf_clauses, branch_clauses};
+ghost use Rattle.bd_tseitin.specs.inner.Tree.{operands, branches, lacks, HasTree};
+ghost use Rattle.bd_tseitin.specs.inner.Step.{known, AreKnown, Pushes, Defines};
 
 use bd_cnf::{Clause, Lit};
 use bd_prop::PropNode;
@@ -35,9 +35,10 @@ pub(crate) fn define(
     gate: Lit,
     node: PropNode,
 ) -> Result<(), AllocError>
-    requires { AreKnown literals.now (children node) }
+    requires known { AreKnown literals.now (operands node) }
+    requires trees { All (HasTree nodes.now literals.now) (branches node) }
     ensures { OnOk result
-        (Pushes clauses.old.items (definition (known literals.now) gate node) clauses.new.items) }
+        (Defines nodes.now literals.now gate node clauses.old.items clauses.new.items) }
 {
     match node {
         PropNode::True => push(alloc, clauses, &[gate]),
@@ -54,20 +55,15 @@ pub(crate) fn define(
         }
         PropNode::Ite(a, b, c) => {
             let control = literal(literals, a);
-            branch(
-                alloc,
-                clauses,
-                nodes,
-                literals,
-                gate,
-                &[control.negated()],
-                b,
-            )?;
-            branch(alloc, clauses, nodes, literals, gate, &[control], c)
+            let yes = [control.negated()];
+            branch(alloc, clauses, nodes, literals, gate, &yes, b)?;
+            let no = [control];
+            branch(alloc, clauses, nodes, literals, gate, &no, c)
         }
     }
 }
 
+/// gate = a and b.
 fn define_and(
     alloc: Global,
     clauses: &mut Vec<Clause>,
@@ -82,6 +78,7 @@ fn define_and(
     push(alloc, clauses, &[gate, a.negated(), b.negated()])
 }
 
+/// gate = a or b.
 fn define_or(
     alloc: Global,
     clauses: &mut Vec<Clause>,
@@ -96,8 +93,8 @@ fn define_or(
     push(alloc, clauses, &[gate.negated(), a, b])
 }
 
-/// Puts the clauses of a branch of a tree after the others, two for each leaf. The path has what the
-/// controls above falsify. A node with no literal is inside the tree.
+/// Puts the clauses of a branch of a tree after the others, two for each leaf. The path has the
+/// literals that the controls above it falsify. A node with no literal is inside the tree.
 fn branch(
     alloc: Global,
     clauses: &mut Vec<Clause>,
@@ -106,7 +103,12 @@ fn branch(
     gate: Lit,
     path: &[Lit],
     id: usize,
-) -> Result<(), AllocError> {
+) -> Result<(), AllocError>
+    requires { HasTree nodes.now literals.now id }
+    ensures { OnOk result ((levels : ℕ) → id < levels → Pushes clauses.old.items
+        (branch_clauses nodes.now (lacks literals.now) (known literals.now) levels path.now gate id)
+        clauses.new.items) }
+{
     if let Some(leaf) = literals[id] {
         return define_leaf(alloc, clauses, gate, path, leaf);
     }
@@ -130,7 +132,10 @@ fn define_leaf(
     gate: Lit,
     path: &[Lit],
     leaf: Lit,
-) -> Result<(), AllocError> {
+) -> Result<(), AllocError>
+    ensures { OnOk result
+        (Pushes clauses.old.items (leaf_clauses path.now gate leaf) clauses.new.items) }
+{
     let below = joined(alloc, path, &[gate.negated(), leaf])?;
     push(alloc, clauses, &below)?;
     let above = joined(alloc, path, &[gate, leaf.negated()])?;
@@ -138,7 +143,9 @@ fn define_leaf(
 }
 
 /// The first literals, and then the others.
-fn joined(alloc: Global, lits: &[Lit], more: &[Lit]) -> Result<Vec<Lit>, AllocError> {
+fn joined(alloc: Global, lits: &[Lit], more: &[Lit]) -> Result<Vec<Lit>, AllocError>
+    ensures { IfOk result (λ all. all.items ≡ lits.now ++ more.now) }
+{
     let mut all = Vec::from_slice(alloc, lits)?;
     all.extend_from_slice(more)?;
     Ok(all)

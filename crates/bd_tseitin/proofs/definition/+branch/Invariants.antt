@@ -1,0 +1,4 @@
+use Rattle.bd_tseitin.proofs.definition.+branch.Given as goal
+
+abbrev pub decreases-branch : goal.decreases-branch
+decreases-branch l = l.id
