@@ -1,7 +1,7 @@
 -- The kept formula of a root, layer by layer: memories and functions are removed, positive symbols marked, equations
 -- become edges, and the negated truth root, the edges' triangles and the edges that are kept apart become clauses
--- (Burch and Dill 1994; Bryant, German and Velev 2001; Bryant and Velev 2000; Tseitin 1968). What a layer leaves free
--- stays free, as the order of triangles, and which variable a node gets.
+-- (Burch and Dill 1994; Bryant, German and Velev 2001; Bryant and Velev 2000; Tseitin 1968; Velev 2004). What a layer
+-- leaves free stays free, as the order of triangles, which choices are inside trees, and which variable a node gets.
 use Rattle.std.specs.Prelude.{◌≡◌, ◌↔◌, ◌⊎◌, ◌<◌, ◌≤◌, ◌+◌, ◌++◌, ℕ, true, false, List, [], ◌∷◌, All, Contains, Option, None, length, map, take, slice_index, slice_index_or}
 use Rattle.bd_model.specs.Cycle.{flushed}
 use Rattle.bd_model.specs.DesignView.{DesignView}
