@@ -1,13 +1,14 @@
 """Whether users' pages show all that the two programs take and print, by examples that are run.
 
-`tools/documents.py --check` asks it. What there is to show stands in `surface.py` (commands and options) and in the
-tables of docs/commands/: the column `Printed` of each page under "Answers", its statuses, and for all commands the
-codes. Examples are those of `doc_examples.py`, whose outputs are compared with what the programs print; so what stands
-in one is printed. These have to be in some page:
+`tools/documents.py --check` asks it. What there is to show stands in `surface.py` (commands and options), in the tables
+of docs/commands/ (the column `Printed` of each page under "Answers", its statuses, and for all commands the codes), and
+in the sources: whatever text stands in the crates that print answers. Examples are those of `doc_examples.py`, whose
+outputs are compared with what the programs print; so what stands in one is printed. These have to be in some page:
 
 - a call of each command, with each of its options;
-- each answer in the output of a call of its command, and its status by `echo $?` after a call of the program;
-- each code that a text of the language or of a proof is refused by.
+- each answer in the output of a call of its command, and in the same output its status, by `echo $?`;
+- each code that a text of the language or of a proof is refused by;
+- each text of the sources, in a command or an output.
 """
 from __future__ import annotations
 
@@ -21,8 +22,11 @@ from surface import COMPANION_WORDS, PROGRAMS
 ROOT = Path(__file__).resolve().parent.parent
 PAGES = ROOT / "docs" / "commands"
 CODES = range(25)
-# answers that a page has to name, though nothing is known that gives them
-NEVER = ("gen DEPTH DROP latches N undecided 200000",)
+# the crates whose texts are answers, and words of the programs
+SPEAKING = ("bd_app", "bd_show", "bd_about", "bd_why")
+LITERAL = re.compile(r'b?"((?:[^"\\]|\\.)*)"', re.S)
+# answers that a page has to name, though no example's budget is spent by such a question
+NEVER = ("gen DEPTH DROP latches N undecided 200000", "undecided: the budget is 200000")
 # what an answer's span has in the place of a number or of words that differ
 OPEN = re.compile(r"\b(?:LINE:COLUMN|FILE|DEPTH|DROP|N|C|T)\b|\.\.")
 
@@ -63,14 +67,32 @@ def pages() -> List[Path]:
     return [path for pattern in doc_examples.DOCUMENTS for path in sorted(ROOT.glob(pattern))]
 
 
+def examples() -> List[doc_examples.Example]:
+    """The examples of all pages."""
+    return [example for path in pages() for block in doc_examples.blocks(path.read_text(encoding="utf-8").splitlines())
+            for example in doc_examples.examples(block)]
+
+
 def calls() -> List[Call]:
     """The calls of all pages."""
-    found: List[Call] = []
-    for path in pages():
-        for block in doc_examples.blocks(path.read_text(encoding="utf-8").splitlines()):
-            for example in doc_examples.examples(block):
-                found += example_calls(example)
-    return found
+    return [call for example in examples() for call in example_calls(example)]
+
+
+def one_line(*lines: str) -> str:
+    """Lines as one, with single spaces between words: an example may break a long line."""
+    return " ".join(" ".join(lines).split())
+
+
+def texts() -> Iterator[Tuple[str, str]]:
+    """The texts of the sources that have a letter, each with its file. A text ends where its line does."""
+    for crate in SPEAKING:
+        for path in sorted((ROOT / "crates" / crate / "src").rglob("*.rt")):
+            code = re.sub(r"^\s*//.*$", "", path.read_text(encoding="utf-8"), flags=re.M)
+            for literal in LITERAL.findall(code):
+                whole = re.sub(r"\\\n\s*", "", literal)
+                for text in map(one_line, whole.split("\\n")):
+                    if re.search("[A-Za-z]", text):
+                        yield str(path.relative_to(ROOT)), text
 
 
 def rows(text: str) -> Iterator[Tuple[str, str]]:
@@ -121,16 +143,17 @@ def missing_calls(found: List[Call]) -> Iterator[str]:
 
 
 def missing_answers(found: List[Call]) -> Iterator[str]:
-    """The answers that no example prints, and the statuses that none shows."""
-    statuses = {(call.program, call.lines[-1]) for call in found if call.lines and call.lines[-1].isdigit()}
+    """The answers that no example prints, or none with its status."""
     for answer in answers():
         name = f"{answer.program} {answer.command}".strip()
-        lines = [call.lines for call in found
-                 if call.program == answer.program and answer.command in ("", call.command)]
-        if answer.printed not in NEVER and not any(is_printed(answer.printed, shown) for shown in lines):
+        shown = [call.lines for call in found if call.program == answer.program and answer.command in ("", call.command)
+                 and is_printed(answer.printed, call.lines)]
+        if answer.printed in NEVER:
+            continue
+        if not shown:
             yield f"no example of {name} prints {answer.printed}"
-        if answer.status.isdigit() and (answer.program, answer.status) not in statuses:
-            yield f"no example of {answer.program} shows status {answer.status}"
+        elif answer.status.isdigit() and all(lines[-1] != answer.status for lines in shown):
+            yield f"no example of {name} prints {answer.printed} and its status {answer.status}"
 
 
 def missing_codes(found: List[Call]) -> Iterator[str]:
@@ -141,7 +164,19 @@ def missing_codes(found: List[Call]) -> Iterator[str]:
             yield f"no example prints the code E{number:02}"
 
 
+def missing_texts(found: List[doc_examples.Example]) -> Iterator[str]:
+    """The texts of the sources that no example has; what a text leaves open in braces is any word."""
+    lines = [one_line(example.command, *example.shown) for example in found]
+    for place, text in texts():
+        parts = re.split(r"\{\w+\}", text)
+        near = [line for line in lines if all(part in line for part in parts)]
+        wanted = r"\S+".join(map(re.escape, parts))
+        if text not in NEVER and not any(re.search(wanted, line) for line in near):
+            yield f"no example has what {place} prints: {text}"
+
+
 def missing() -> List[str]:
     """What users' pages don't show, each once."""
     found = calls()
-    return list(dict.fromkeys([*missing_calls(found), *missing_answers(found), *missing_codes(found)]))
+    return list(dict.fromkeys([*missing_calls(found), *missing_answers(found), *missing_codes(found),
+                               *missing_texts(examples())]))

@@ -43,15 +43,23 @@ class Reading(unittest.TestCase):
             self.assertFalse(shown.is_printed(answer, (line,)), answer)
 
     def test_what_is_missing_is_named(self) -> None:
-        found = calls("burch_dill check a b --diverse", lines="wrong commute\n1")
+        found = calls("burch_dill check a b --diverse; echo $?", lines="wrong commute\n1")
         self.assertIn("no example calls burch_dill check --cnf", list(shown.missing_calls(found)))
         self.assertNotIn("no example calls burch_dill check --diverse", list(shown.missing_calls(found)))
         named = list(shown.missing_answers(found))
         self.assertIn("no example of burch_dill check prints void", named)
-        self.assertNotIn("no example of burch_dill check prints wrong commute", named)
-        self.assertIn("no example of burch_dill shows status 7", named)
-        self.assertNotIn("no example of burch_dill shows status 1", named)
+        self.assertFalse([line for line in named if line.startswith("no example of burch_dill check prints wrong c")])
+        self.assertIn("no example of burch_dill check prints wrong commute and its status 1",
+                      list(shown.missing_answers(calls("burch_dill check a b", lines="wrong commute"))))
         self.assertEqual(len(list(shown.missing_codes(calls("bd_view about", lines="a:1:2: E08 unknown")))), 24)
+
+    def test_texts_of_the_sources(self) -> None:
+        listed = {text for _, text in shown.texts()}
+        self.assertLessEqual({"correct", "undecided {budget} meets", "broken commute {cycle}", "cannot save", "START",
+                              "nothing to shrink: the case holds", "reset (all 0)", "nothing differs"}, listed)
+        named = list(shown.missing_texts([doc_examples.Example(1, "burch_dill check PIPE", ["undecided 7 meets"])]))
+        for text, is_missing in (("undecided {budget} meets", False), ("check", False), ("void", True), ("SPEC", True)):
+            self.assertEqual(any(line.endswith(f" prints: {text}") for line in named), is_missing, text)
 
 
 if __name__ == "__main__":
