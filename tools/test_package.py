@@ -13,6 +13,7 @@ import tempfile
 import unittest
 import zipfile
 from pathlib import Path
+from typing import Set
 
 import wheel_backend
 
@@ -28,8 +29,13 @@ class Wheel(unittest.TestCase):
         subprocess.run([*words, folder, str(ROOT)], check=True, capture_output=True)
         return next(Path(folder).glob(f"burch_dill-{VERSION}-*.whl"))
 
+    def names(self) -> Set[str]:
+        """What stands at the top of the repository, and in `build`, where another tool may put a page."""
+        return {path.name for folder in (ROOT, ROOT / "build") if folder.exists() for path in folder.iterdir()}
+
     def test_it_has_all_that_it_should(self) -> None:
         """Nothing is left in the repository, each file has its sum, and the version is that of the whole."""
+        before = self.names()
         with tempfile.TemporaryDirectory() as folder, zipfile.ZipFile(self.wheel(folder)) as archive:
             info = f"burch_dill-{VERSION}.dist-info"
             rows = [row.split(",") for row in archive.read(f"{info}/RECORD").decode().splitlines()]
@@ -43,7 +49,7 @@ class Wheel(unittest.TestCase):
         self.assertIn(f"\nVersion: {VERSION}\n", metadata)
         self.assertIn("\nRequires-Python: >=3.9\n", metadata)
         self.assertNotIn("Requires-Dist", metadata)
-        self.assertFalse((ROOT / "build").exists())
+        self.assertEqual(self.names(), before)
 
     def test_installs(self) -> None:
         """`pip install` of it into an empty folder, from which the package is read."""
