@@ -17,7 +17,7 @@ import time
 import unittest
 import urllib.request
 from pathlib import Path
-from typing import Any, Dict, List, NamedTuple, Tuple
+from typing import Any, Callable, Dict, List, NamedTuple, Tuple
 
 import web_page
 
@@ -225,11 +225,14 @@ class Answers(InBrowser):
 class Clicks(InBrowser):
     """What a visitor does."""
 
-    def wait(self, selector: str, wanted: str, seconds: float = 60) -> None:
+    def until(self, holds: Callable[[], bool], seconds: float = 60) -> None:
         end = time.monotonic() + seconds
-        while not re.match(wanted, self.browser.text(selector)):
-            self.assertLess(time.monotonic(), end, self.browser.text("body"))
+        while not holds():
+            self.assertLess(time.monotonic(), end, self.browser.text("main"))
             time.sleep(0.1)
+
+    def wait(self, selector: str, wanted: str) -> None:
+        self.until(lambda: re.match(wanted, self.browser.text(selector)) is not None)
 
     def setUp(self) -> None:
         self.browser.go(PAGE.as_uri())
@@ -248,6 +251,30 @@ class Clicks(InBrowser):
         self.browser.click("#why")
         self.wait("#note", "$")
         self.assertIn("broken commute", self.browser.text("#text"))
+        self.assertFalse(self.browser.script("return document.getElementById('diagram').hidden"))
+
+    def test_why_of_a_value(self) -> None:
+        self.browser.choose("accumulator/store_computes.pipe")
+        self.browser.click("#check")
+        self.wait("#verdict", "wrong commute$")
+        for value, wanted in (("acc@before", r"(?s).*pipeline: acc@before="), ("nowhere", "no such entry; there are pc")):
+            self.browser.type("#of", value)
+            self.browser.click("#why")
+            self.wait("#text", wanted)
+
+    def test_diagram_is_shown_whole(self) -> None:
+        self.browser.choose("accumulator/store_computes.pipe")
+        self.browser.click("#check")
+        self.wait("#verdict", "wrong commute$")
+        room = "const frame = document.getElementById('diagram');" \
+               "return frame.clientHeight - frame.contentDocument.documentElement.scrollHeight"
+        self.until(lambda: self.browser.script(room) == 0)
+
+    def test_case_of_a_correct_design(self) -> None:
+        self.browser.choose("multiplier/multiplier.pipe")
+        self.browser.click("#check")
+        self.wait("#verdict", "correct$")
+        self.assertEqual(self.browser.text("#case summary"), "a case that meets the invariant")
 
     def test_about(self) -> None:
         self.browser.choose("accumulator/accumulator.pipe")
@@ -258,7 +285,7 @@ class Clicks(InBrowser):
         self.browser.type("#pipe textarea", "(pipeline\n (latch a bool)\n (next a b)\n (flush 0) (steps 1))")
         self.browser.type("#spec textarea", "(specification (latch a bool) (next a a))")
         self.browser.click("#check")
-        self.wait("#pipe .says", "3:10: E08 unknown name")
+        self.wait("#pipe .says", "3:10: E08 unknown name: b\nno declared name is near")
         self.assertEqual(self.browser.text("#pipe .fault"), "3")
         chosen = "const area = document.querySelector('#pipe textarea');" \
                  "return area.value.slice(area.selectionStart, area.selectionEnd)"

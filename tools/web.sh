@@ -51,6 +51,10 @@ sed -i -E "s|^target datalayout.*|$layout|; s|^target triple.*|$triple|
     s/ \"probe-stack\"=\"[^\"]*\"//g; s/ \"stack-probe-size\"=\"[^\"]*\"//g
     s/ \"target-cpu\"=\"[^\"]*\"/ \"target-cpu\"=\"lime1\"/g; s/ \"target-features\"=\"[^\"]*\"//g
     s/^(define [^@]*@)(bd_web_run)(\(.*\)) (#[0-9]+) \{/\1\2\3 \4 \"wasm-export-name\"=\"\2\" {/" "$work/module.ll"
+grep -q '^define .*"wasm-export-name"="bd_web_run" {' "$work/module.ll" || {
+    echo "the module doesn't export bd_web_run" >&2
+    exit 1
+}
 if grep -o '@llvm\.x86[a-z0-9._]*' "$work/module.ll" | sort -u | grep .; then
     echo "the module uses what only x86-64 has" >&2
     exit 1

@@ -12,10 +12,10 @@ class Editor {
     this.area.setAttribute("aria-label", section.querySelector("h2").textContent);
     this.says = document.createElement("p");
     this.says.className = "says";
-    const lines = document.createElement("div");
-    lines.className = "lines";
-    lines.append(this.numbers, this.area);
-    section.append(lines, this.says);
+    this.lines = document.createElement("div");
+    this.lines.className = "lines";
+    this.lines.append(this.numbers, this.area);
+    section.append(this.lines, this.says);
     this.area.addEventListener("scroll", () => { this.numbers.scrollTop = this.area.scrollTop; });
     this.area.addEventListener("input", () => this.clear());
     this.number(0);
@@ -27,6 +27,12 @@ class Editor {
     this.area.value = text;
     this.clear();
   }
+
+  /** Shows all lines, for print. */
+  stretch() { this.lines.style.height = `${this.area.scrollHeight + 2}px`; }
+
+  /** Shows as many lines as before. */
+  shrink() { this.lines.style.height = ""; }
 
   /** Takes a fault away. */
   clear() {

@@ -8,7 +8,7 @@ const gallery = JSON.parse(at("gallery").textContent);
 const bytesOfModule = Uint8Array.from(atob(at("module").textContent), (letter) => letter.charCodeAt(0));
 const runner = new Runner(at("worker").textContent, bytesOfModule);
 
-/** The last case, and the design that it is of. */
+/** The last case, the design that it is of, and its diagram's page. */
 let last = null;
 
 function design() {
@@ -22,7 +22,7 @@ function fill(texts) {
 
 function clearAnswer() {
   last = null;
-  at("why").disabled = true;
+  at("why").disabled = at("of").disabled = true;
   at("verdict").textContent = "";
   at("verdict").className = "";
   at("text").textContent = "";
@@ -71,10 +71,25 @@ function show(came, asked) {
   const verdict = (came.verdict ?? "").split(" ")[0];
   at("verdict").className = { correct: "right", wrong: "wrong" }[verdict] ?? "";
   at("text").textContent = came.err + came.text;
-  if (came.page) at("diagram").srcdoc = came.page;
   at("diagram").hidden = !came.page;
-  if (came.caseText) at("case").querySelector("pre").textContent = came.caseText;
+  if (came.page && came.page !== at("diagram").srcdoc) at("diagram").srcdoc = came.page;
   at("case").hidden = !came.caseText;
+  if (!came.caseText) return;
+  at("case").querySelector("summary").textContent =
+    verdict === "correct" ? "a case that meets the invariant" : "the case as a text";
+  at("case").querySelector("pre").textContent = came.caseText;
+}
+
+/** Makes the diagram as high as what it shows, now and whenever its switch is used. No script runs in it. */
+function fitDiagram() {
+  const shown = at("diagram").contentDocument;
+  if (!shown || !shown.body) return;
+  const fit = () => {
+    at("diagram").style.height = "0";
+    at("diagram").style.height = `${shown.documentElement.scrollHeight + 2}px`;
+  };
+  shown.onchange = fit;
+  fit();
 }
 
 /** Asks, while the page can stop it. */
@@ -96,8 +111,8 @@ function check() {
   return ask(async (asked) => {
     const came = await askCheck(runner, asked, at("diverse").checked);
     if ((came.verdict ?? "").startsWith("wrong")) {
-      last = { design: asked, caseText: came.caseText };
-      at("why").disabled = false;
+      last = { design: asked, caseText: came.caseText, page: came.page };
+      at("why").disabled = at("of").disabled = false;
     }
     return came;
   });
@@ -105,8 +120,10 @@ function check() {
 
 function why() {
   if (last === null) return undefined;
-  const { design: asked, caseText } = last;
-  return ask(async () => ({ verdict: at("verdict").textContent, caseText, ...await askWhy(runner, asked, caseText) }));
+  const { design: asked, caseText, page } = last;
+  const verdict = at("verdict").textContent;
+  const value = at("of").value.trim();
+  return ask(async () => ({ verdict, caseText, page, ...await askWhy(runner, asked, caseText, value) }));
 }
 
 function about() {
@@ -149,6 +166,19 @@ at("why").addEventListener("click", why);
 at("about").addEventListener("click", about);
 at("stop").addEventListener("click", () => runner.stop());
 at("link").addEventListener("click", copyLink);
+at("of").addEventListener("keydown", (event) => {
+  if (event.key !== "Enter") return;
+  event.preventDefault();
+  why();
+});
+at("diagram").addEventListener("load", fitDiagram);
+addEventListener("resize", fitDiagram);
+addEventListener("beforeprint", () => { for (const file of FILES) editors[file].stretch(); });
+addEventListener("afterprint", () => { for (const file of FILES) editors[file].shrink(); });
+runner.module.catch(() => {
+  at("check").disabled = at("about").disabled = true;
+  at("note").textContent = "this browser can't run the program: its WebAssembly has no 64-bit memories";
+});
 at("design").addEventListener("change", () => {
   if (at("design").value !== "") take(at("design").value);
 });

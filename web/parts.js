@@ -10,6 +10,12 @@ const WORD = 8;
 const FIRST_ROOM = 1 << 26;
 const MOST_ROOM = 1 << 30;
 
+/** What they say; the first two don't come of texts. */
+const SAYS = {
+  [STATUS.cutOff]: "the answer is too long for this page: ask the program itself\n",
+  [STATUS.memory]: "out of memory: ask the program itself\n",
+};
+
 /** How many files a run may save besides those that it is given. */
 const MORE_FILES = 8;
 
@@ -99,7 +105,7 @@ function runOn(module, words, files) {
   for (let room = FIRST_ROOM; ; room *= 4) {
     const { status, parts } = callWithRoom(module, words, files, room);
     if (status === STATUS.cutOff && room < MOST_ROOM) continue;
-    if (parts.length === 0) return { status, out: "", err: "", files: {} };
+    if (parts.length === 0) return { status, out: "", err: SAYS[status] ?? `status ${status}\n`, files: {} };
     const [out, err, ...rest] = parts;
     return { status, out: textOf(out), err: textOf(err), files: filesOf(rest) };
   }

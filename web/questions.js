@@ -1,7 +1,6 @@
 // What is asked of a design, and what its answers are.
 "use strict";
 
-const USAGE = 2;
 const REFUSED = 3;
 const SHOWN = "diagram.html";
 
@@ -17,11 +16,12 @@ function invariantOf(files) {
   return files.filter(([name]) => name === "inv").map(([name]) => name);
 }
 
-/** Asks for the verdict; a case comes with its explanation and its diagram. */
+/** Asks for the verdict; a case comes with its tables and its diagram, and a fault with what the companion says of it. */
 async function askCheck(runner, design, diverse) {
   const files = designFiles(design);
   const words = ["burch_dill", "check", "pipe", "spec", ...invariantOf(files)];
   const checked = await runner.run(diverse ? [...words, "--diverse"] : words, files);
+  if (checked.status === REFUSED) return askAbout(runner, design);
   const end = checked.out.indexOf("\n");
   const verdict = end < 0 ? "" : checked.out.slice(0, end);
   if (!verdict.startsWith("wrong")) return { verdict, text: "", ...checked, caseText: checked.out.slice(end + 1) };
@@ -37,12 +37,11 @@ async function askShow(runner, files, caseText) {
   return { ...shown, text: shown.out, page: page && new TextDecoder().decode(page) };
 }
 
-/** Asks why the values of a case are what they are; a companion that can't say shows the case. */
-async function askWhy(runner, design, caseText) {
+/** Asks why a value of a case is what it is: the one that is named, or the first that differs where none is. */
+async function askWhy(runner, design, caseText, value) {
   const files = designFiles(design);
-  const words = ["bd_view", "why", "pipe", "spec", "case", ...invariantOf(files)];
+  const words = ["bd_view", "why", "pipe", "spec", "case", ...invariantOf(files), ...(value ? ["--of", value] : [])];
   const said = await runner.run(words, [...files, ["case", caseText]]);
-  if (said.status === USAGE) return askShow(runner, files, caseText);
   return { ...said, text: said.out };
 }
 
@@ -53,19 +52,14 @@ async function askAbout(runner, design) {
   return { ...said, text: said.out };
 }
 
-/** The fault that a line tells: by the program at an offset in bytes, by the companion at a line and a column. */
+/** The fault that the companion tells, at a line and a column: below the line and its caret stands what helps. */
 function faultOf(err, design) {
-  const byOffset = /^(pipe|spec|inv):(\d+): (.*)/.exec(err);
-  const byPlace = /^(pipe|spec|inv):(\d+):(\d+): (.*)/.exec(err);
-  if (byPlace) {
-    const [, file, line, column, message] = byPlace;
-    return { file, offset: offsetOf(design[file], Number(line), Number(column)), message };
-  }
-  if (byOffset) {
-    const [, file, offset, message] = byOffset;
-    return { file, offset: Number(offset), message };
-  }
-  return null;
+  const [first, ...rest] = err.trimEnd().split("\n");
+  const found = /^(pipe|spec|inv):(\d+):(\d+): (.*)/.exec(first);
+  if (!found) return null;
+  const [, file, line, column, message] = found;
+  const helps = rest.slice(rest.findIndex((text) => text.trim() === "^") + 1);
+  return { file, offset: offsetOf(design[file], Number(line), Number(column)), message: [message, ...helps].join("\n") };
 }
 
 /** The offset in bytes of a column, in bytes too, of a line; both count from 1. */
