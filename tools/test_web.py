@@ -300,6 +300,12 @@ class Clicks(InBrowser):
         value = self.browser.script("return document.querySelector('#pipe textarea').value")
         self.assertEqual(value, "(pipeline) ; my own \u2192")
 
+    def test_print(self) -> None:
+        self.browser.choose("accumulator/accumulator.pipe")
+        self.browser.script("dispatchEvent(new Event('beforeprint'))")
+        self.assertRegex(self.browser.text("#spec .printed"), r"^   1 ; .*\n   2 \(specification\n")
+        self.assertEqual(self.browser.script("return document.querySelector('.empty').id"), "inv")
+
     def test_stop(self) -> None:
         self.browser.choose("dlx/dlx.pipe")
         self.browser.click("#check")

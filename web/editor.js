@@ -12,10 +12,13 @@ class Editor {
     this.area.setAttribute("aria-label", section.querySelector("h2").textContent);
     this.says = document.createElement("p");
     this.says.className = "says";
-    this.lines = document.createElement("div");
-    this.lines.className = "lines";
-    this.lines.append(this.numbers, this.area);
-    section.append(this.lines, this.says);
+    const lines = document.createElement("div");
+    lines.className = "lines";
+    lines.append(this.numbers, this.area);
+    this.printed = document.createElement("pre");
+    this.printed.className = "printed";
+    this.section = section;
+    section.append(lines, this.printed, this.says);
     this.area.addEventListener("scroll", () => { this.numbers.scrollTop = this.area.scrollTop; });
     this.area.addEventListener("input", () => this.clear());
     this.number(0);
@@ -28,11 +31,12 @@ class Editor {
     this.clear();
   }
 
-  /** Shows all lines, for print. */
-  stretch() { this.lines.style.height = `${this.area.scrollHeight + 2}px`; }
-
-  /** Shows as many lines as before. */
-  shrink() { this.lines.style.height = ""; }
+  /** Writes down all lines for print, where no text area scrolls. */
+  writeDown() {
+    const lines = this.text.trimEnd().split("\n");
+    this.printed.textContent = lines.map((line, at) => `${at + 1}`.padStart(4) + ` ${line}`).join("\n");
+    this.section.classList.toggle("empty", this.text.trim() === "");
+  }
 
   /** Takes a fault away. */
   clear() {

@@ -74,10 +74,10 @@ function show(came, asked) {
   at("diagram").hidden = !came.page;
   if (came.page && came.page !== at("diagram").srcdoc) at("diagram").srcdoc = came.page;
   at("case").hidden = !came.caseText;
-  if (!came.caseText) return;
   at("case").querySelector("summary").textContent =
     verdict === "correct" ? "a case that meets the invariant" : "the case as a text";
-  at("case").querySelector("pre").textContent = came.caseText;
+  at("case").querySelector("pre").textContent = came.caseText ?? "";
+  if (at("verdict").getBoundingClientRect().bottom > innerHeight) at("answer").scrollIntoView();
 }
 
 /** Makes the diagram as high as what it shows, now and whenever its switch is used. No script runs in it. */
@@ -173,8 +173,7 @@ at("of").addEventListener("keydown", (event) => {
 });
 at("diagram").addEventListener("load", fitDiagram);
 addEventListener("resize", fitDiagram);
-addEventListener("beforeprint", () => { for (const file of FILES) editors[file].stretch(); });
-addEventListener("afterprint", () => { for (const file of FILES) editors[file].shrink(); });
+addEventListener("beforeprint", () => { for (const file of FILES) editors[file].writeDown(); });
 runner.module.catch(() => {
   at("check").disabled = at("about").disabled = true;
   at("note").textContent = "this browser can't run the program: its WebAssembly has no 64-bit memories";
