@@ -5,7 +5,7 @@
 ghost use Rattle.std.specs.Prelude.{◌≡◌, ◌==◌, ◌||◌, IfOk, IsTrue, List, map, not, ℕ};
 ghost use Rattle.std.specs.List.{list_all, list_any};
 ghost use mathlib.Core.Bool.{beq};
-ghost use Rattle.bd_model.specs.ExprView.{expr_view, expr_views};
+ghost use Rattle.bd_model.specs.ExprView.{expr_view, expr_views, Not, Implies, Iff, Equal, Ite, Read, Write, Apply};
 ghost use Rattle.bd_model.specs.Table.{at};
 ghost use Rattle.bd_model.specs.Value.{is_true, scalar_truth, scalar_word, table_of, value_of, values_of, word_of};
 ghost use Rattle.bd_slice.specs.inner.Followed.{Other, Holds, Grows, Follows, Combines};
@@ -100,6 +100,7 @@ impl Graph {
     }
 }
 
+/// What a symbol's table has at arguments.
 fn table_at(interp: &[Table], f: u32, args: &[u64]) -> Scalar
     ensures { result ≡ at (table_of interp.now f) args.now }
 {
@@ -120,61 +121,138 @@ pub fn trace(graph: &mut Graph, names: &Names, expr: &Expr) -> Result<Kept, Allo
         Expr::Entry(i) => Ok(kept_at(names.state, *i)?),
         Expr::Input(i) => Ok(Kept::Scalar(traced_at(names.inputs, *i))),
         Expr::Local(i) => Ok(kept_at(names.lets.as_slice(), *i)?),
-        Expr::Not(a) => {
-            let part = trace_scalar(graph, names, a)?;
-            Ok(Kept::Scalar(Traced {
-                value: Scalar::Bool(!part.value.truth()),
-                node: part.node,
-            }))
-        }
+        Expr::Not(a) => trace_not(graph, names, a),
         Expr::And(parts) => Ok(Kept::Scalar(trace_all(graph, names, parts)?)),
         Expr::Or(parts) => Ok(Kept::Scalar(trace_any(graph, names, parts)?)),
-        Expr::Implies(a, b) => {
-            let p = trace_scalar(graph, names, a)?;
-            let q = trace_scalar(graph, names, b)?;
-            Ok(Kept::Scalar(graph.implied(p, q)?))
-        }
-        Expr::Iff(a, b) => {
-            let p = trace_scalar(graph, names, a)?;
-            let q = trace_scalar(graph, names, b)?;
-            Ok(Kept::Scalar(graph.same_truth(p, q)?))
-        }
-        Expr::Equal(a, b) => {
-            let p = trace_scalar(graph, names, a)?;
-            let q = trace_scalar(graph, names, b)?;
-            Ok(Kept::Scalar(graph.same_word(p, q)?))
-        }
-        Expr::Ite(p, a, b) => {
-            let condition = trace_scalar(graph, names, p)?;
-            if condition.value.truth() {
-                let taken = trace(graph, names, a)?;
-                let chosen = graph.under(names.alloc, condition.node, taken)?;
-                Ok(chosen)
-            } else {
-                let taken = trace(graph, names, b)?;
-                let chosen = graph.under(names.alloc, condition.node, taken)?;
-                Ok(chosen)
-            }
-        }
-        Expr::Read(m, a) => {
-            let memory = trace(graph, names, m)?.memory(names.alloc)?;
-            let address = trace_scalar(graph, names, a)?.word();
-            let read = graph.read(names.case, &memory, address)?;
-            Ok(Kept::Scalar(read.scalar()))
-        }
-        Expr::Write(m, a, d) => {
-            let memory = trace(graph, names, m)?.memory(names.alloc)?;
-            let address = trace_scalar(graph, names, a)?.word();
-            let word = trace_scalar(graph, names, d)?.word();
-            Ok(Kept::Memory(memory.written(names.alloc, address, word)?))
-        }
-        Expr::Apply(f, args) => {
-            let args = trace_words(graph, names, args)?;
-            Ok(Kept::Scalar(graph.applied(names.case, *f, args)?))
-        }
+        Expr::Implies(a, b) => trace_implies(graph, names, a, b),
+        Expr::Iff(a, b) => trace_iff(graph, names, a, b),
+        Expr::Equal(a, b) => trace_equal(graph, names, a, b),
+        Expr::Ite(p, a, b) => trace_choice(graph, names, p, a, b),
+        Expr::Read(m, a) => trace_read(graph, names, m, a),
+        Expr::Write(m, a, d) => trace_written(graph, names, m, a, d),
+        Expr::Apply(f, args) => trace_applied(graph, names, *f, args),
     }
 }
 
+/// Of a `not`.
+#[cycle(trace)]
+fn trace_not(graph: &mut Graph, names: &Names, a: &Expr) -> Result<Kept, AllocError>
+    ensures grows { IfOk result (λ k. Grows graph.old.nodes graph.new.nodes) }
+    ensures follows { IfOk result (λ k. Traces graph.new.nodes names.now
+        (Not (expr_view a.now)) k) }
+{
+    let part = trace_scalar(graph, names, a)?;
+    Ok(Kept::Scalar(Traced {
+        value: Scalar::Bool(!part.value.truth()),
+        node: part.node,
+    }))
+}
+
+/// Of an `implies`.
+#[cycle(trace)]
+fn trace_implies(graph: &mut Graph, names: &Names, a: &Expr, b: &Expr) -> Result<Kept, AllocError>
+    ensures grows { IfOk result (λ k. Grows graph.old.nodes graph.new.nodes) }
+    ensures follows { IfOk result (λ k. Traces graph.new.nodes names.now
+        (Implies (expr_view a.now) (expr_view b.now)) k) }
+{
+    let p = trace_scalar(graph, names, a)?;
+    let q = trace_scalar(graph, names, b)?;
+    Ok(Kept::Scalar(graph.implied(p, q)?))
+}
+
+/// Of an `iff`.
+#[cycle(trace)]
+fn trace_iff(graph: &mut Graph, names: &Names, a: &Expr, b: &Expr) -> Result<Kept, AllocError>
+    ensures grows { IfOk result (λ k. Grows graph.old.nodes graph.new.nodes) }
+    ensures follows { IfOk result (λ k. Traces graph.new.nodes names.now
+        (Iff (expr_view a.now) (expr_view b.now)) k) }
+{
+    let p = trace_scalar(graph, names, a)?;
+    let q = trace_scalar(graph, names, b)?;
+    Ok(Kept::Scalar(graph.same_truth(p, q)?))
+}
+
+/// Of an `=`.
+#[cycle(trace)]
+fn trace_equal(graph: &mut Graph, names: &Names, a: &Expr, b: &Expr) -> Result<Kept, AllocError>
+    ensures grows { IfOk result (λ k. Grows graph.old.nodes graph.new.nodes) }
+    ensures follows { IfOk result (λ k. Traces graph.new.nodes names.now
+        (Equal (expr_view a.now) (expr_view b.now)) k) }
+{
+    let p = trace_scalar(graph, names, a)?;
+    let q = trace_scalar(graph, names, b)?;
+    Ok(Kept::Scalar(graph.same_word(p, q)?))
+}
+
+/// Of a choice: the branch taken, under its condition.
+#[cycle(trace)]
+fn trace_choice(
+    graph: &mut Graph,
+    names: &Names,
+    p: &Expr,
+    a: &Expr,
+    b: &Expr,
+) -> Result<Kept, AllocError>
+    ensures grows { IfOk result (λ k. Grows graph.old.nodes graph.new.nodes) }
+    ensures follows { IfOk result (λ k. Traces graph.new.nodes names.now
+        (Ite (expr_view p.now) (expr_view a.now) (expr_view b.now)) k) }
+{
+    let condition = trace_scalar(graph, names, p)?;
+    if condition.value.truth() {
+        let taken = trace(graph, names, a)?;
+        let chosen = graph.under(names.alloc, condition.node, taken)?;
+        Ok(chosen)
+    } else {
+        let taken = trace(graph, names, b)?;
+        let chosen = graph.under(names.alloc, condition.node, taken)?;
+        Ok(chosen)
+    }
+}
+
+/// Of a read: the word of its memory at its address.
+#[cycle(trace)]
+fn trace_read(graph: &mut Graph, names: &Names, m: &Expr, a: &Expr) -> Result<Kept, AllocError>
+    ensures grows { IfOk result (λ k. Grows graph.old.nodes graph.new.nodes) }
+    ensures follows { IfOk result (λ k. Traces graph.new.nodes names.now
+        (Read (expr_view m.now) (expr_view a.now)) k) }
+{
+    let memory = trace(graph, names, m)?.memory(names.alloc)?;
+    let address = trace_scalar(graph, names, a)?.word();
+    let read = graph.read(names.case, &memory, address)?;
+    Ok(Kept::Scalar(read.scalar()))
+}
+
+/// Of a write: its memory with the word at the address.
+#[cycle(trace)]
+fn trace_written(
+    graph: &mut Graph,
+    names: &Names,
+    m: &Expr,
+    a: &Expr,
+    d: &Expr,
+) -> Result<Kept, AllocError>
+    ensures grows { IfOk result (λ k. Grows graph.old.nodes graph.new.nodes) }
+    ensures follows { IfOk result (λ k. Traces graph.new.nodes names.now
+        (Write (expr_view m.now) (expr_view a.now) (expr_view d.now)) k) }
+{
+    let memory = trace(graph, names, m)?.memory(names.alloc)?;
+    let address = trace_scalar(graph, names, a)?.word();
+    let word = trace_scalar(graph, names, d)?.word();
+    Ok(Kept::Memory(memory.written(names.alloc, address, word)?))
+}
+
+/// Of an application: what its table has at its arguments.
+#[cycle(trace)]
+fn trace_applied(graph: &mut Graph, names: &Names, f: u32, args: &Exprs) -> Result<Kept, AllocError>
+    ensures grows { IfOk result (λ k. Grows graph.old.nodes graph.new.nodes) }
+    ensures follows { IfOk result (λ k. Traces graph.new.nodes names.now
+        (Apply f (expr_views args.now)) k) }
+{
+    let args = trace_words(graph, names, args)?;
+    Ok(Kept::Scalar(graph.applied(names.case, f, args)?))
+}
+
+/// The value of an expression as a scalar.
 #[cycle(trace)]
 pub fn trace_scalar(graph: &mut Graph, names: &Names, expr: &Expr) -> Result<Traced, AllocError>
     ensures grows { IfOk result (λ t. Grows graph.old.nodes graph.new.nodes) }
@@ -232,6 +310,7 @@ fn trace_any(graph: &mut Graph, names: &Names, parts: &Exprs) -> Result<Traced, 
     })
 }
 
+/// The words of expressions, and the node of what they rest on.
 #[cycle(trace)]
 fn trace_words(graph: &mut Graph, names: &Names, parts: &Exprs) -> Result<Arguments, AllocError>
     ensures grows { IfOk result (λ a. Grows graph.old.nodes graph.new.nodes) }

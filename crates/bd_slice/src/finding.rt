@@ -39,15 +39,18 @@ impl Path {
         }
     }
 
+    /// Goes down to a part.
     fn down(&mut self, part: u64) -> Result<(), AllocError> {
         self.parts.push(part)?;
         Ok(())
     }
 
+    /// Goes back up from a part.
     fn up(&mut self) {
         self.parts.pop();
     }
 
+    /// A fact of the part that is reached.
     pub fn fact(&self, finding: Finding) -> Result<Fact, AllocError> {
         Ok(Fact {
             path: Sequence::from_vec(self.parts.clone()?),
@@ -56,6 +59,7 @@ impl Path {
     }
 }
 
+/// The scalar, false where there is none.
 fn bool_of(value: Option<&Value>) -> Scalar {
     match value {
         Some(Value::Scalar(scalar)) => *scalar,
@@ -63,6 +67,7 @@ fn bool_of(value: Option<&Value>) -> Scalar {
     }
 }
 
+/// The word of a memory at an address, 0 where there is none.
 fn word_of(value: Option<&Value>, address: u64) -> Scalar {
     match value {
         Some(Value::Memory(memory)) => Scalar::Word(memory.at(address)),
@@ -79,6 +84,7 @@ impl Found {
         }
     }
 
+    /// A value with one fact behind it.
     pub fn with(alloc: Global, value: Scalar, fact: Fact) -> Result<Found, AllocError> {
         let mut facts = Vec::new(alloc);
         facts.push(fact)?;
@@ -96,6 +102,12 @@ impl Found {
         })
     }
 
+    /// This value, with the facts of both.
+    fn joined(self, other: Found, value: Scalar) -> Result<Found, AllocError> {
+        Ok(self.then(other)?.valued(value))
+    }
+
+    /// Another value, with the same facts.
     fn valued(self, value: Scalar) -> Found {
         Found {
             value,
@@ -105,11 +117,13 @@ impl Found {
 }
 
 impl Here<'_> {
+    /// A value that rests on one of the run.
     fn rests(self, path: &Path, subject: Subject, value: Scalar) -> Result<Found, AllocError> {
         let fact = path.fact(Finding::Rests(subject, value))?;
         Found::with(self.alloc, value, fact)
     }
 
+    /// A value, with this fact behind it.
     fn told(self, path: &Path, value: Scalar, finding: Finding) -> Result<Found, AllocError> {
         let fact = path.fact(finding)?;
         Found::with(self.alloc, value, fact)
@@ -119,9 +133,21 @@ impl Here<'_> {
     fn implied(self, path: &Path, part: u32, found: Found) -> Result<Found, AllocError> {
         let yes = Scalar::Bool(true);
         let decided = self.told(path, yes, Finding::Decided(part))?;
-        Ok(decided.then(found)?.valued(yes))
+        decided.joined(found, yes)
     }
 
+    /// The value of a part, with this fact before its own.
+    fn after(self, path: &Path, finding: Finding, part: Found) -> Result<Found, AllocError> {
+        self.told(path, part.value, finding)?.then(part)
+    }
+
+    /// The condition of a choice.
+    fn chosen(self, path: &Path, condition: Found) -> Result<Found, AllocError> {
+        let taken = condition.value.truth();
+        self.after(path, Finding::Chosen(taken), condition)
+    }
+
+    /// The value of an input.
     fn input(self, path: &Path, number: u32) -> Result<Found, AllocError> {
         let value = match self.moment.inputs.as_slice().get(number as usize) {
             Some(value) => *value,
@@ -130,26 +156,31 @@ impl Here<'_> {
         self.rests(path, Subject::Input(self.cycle, number), value)
     }
 
+    /// The value of an entry of the state.
     fn entry(self, path: &Path, number: u32) -> Result<Found, AllocError> {
         let value = bool_of(self.moment.state.as_slice().get(number as usize));
         self.rests(path, Subject::Latch(self.column, number), value)
     }
 
+    /// The value of a let.
     fn local(self, path: &Path, number: u32) -> Result<Found, AllocError> {
         let value = bool_of(self.moment.lets.as_slice().get(number as usize));
         self.rests(path, Subject::Let(self.cycle, number), value)
     }
 
+    /// The word of an entry of the state at an address.
     fn entry_at(self, path: &Path, number: u32, address: u64) -> Result<Found, AllocError> {
         let value = word_of(self.moment.state.as_slice().get(number as usize), address);
         self.rests(path, Subject::Cell(self.column, number, address), value)
     }
 
+    /// The word of a let at an address.
     fn local_at(self, path: &Path, number: u32, address: u64) -> Result<Found, AllocError> {
         let value = word_of(self.moment.lets.as_slice().get(number as usize), address);
         self.rests(path, Subject::LetCell(self.cycle, number, address), value)
     }
 
+    /// What a symbol's table has at arguments.
     fn table_at(self, symbol: u32, args: &[u64]) -> Scalar {
         match self.case.interp.as_slice().get(symbol as usize) {
             Some(table) => table.at(args),
@@ -166,55 +197,14 @@ pub fn find(here: Here<'_>, path: &mut Path, expr: &Expr) -> Result<Found, Alloc
         Expr::Entry(i) => here.entry(path, *i),
         Expr::Input(i) => here.input(path, *i),
         Expr::Local(i) => here.local(path, *i),
-        Expr::Not(a) => {
-            let part = find_part(here, path, 0, a)?;
-            let value = Scalar::Bool(!part.value.truth());
-            Ok(part.valued(value))
-        }
+        Expr::Not(a) => find_not(here, path, a),
         Expr::And(parts) => find_first(here, path, parts, false),
         Expr::Or(parts) => find_first(here, path, parts, true),
-        Expr::Implies(a, b) => {
-            let p = find_part(here, path, 0, a)?;
-            if !p.value.truth() {
-                return here.implied(path, 0, p);
-            }
-            let q = find_part(here, path, 1, b)?;
-            if q.value.truth() {
-                return here.implied(path, 1, q);
-            }
-            p.then(q)
-        }
-        Expr::Iff(a, b) => {
-            let p = find_part(here, path, 0, a)?;
-            let q = find_part(here, path, 1, b)?;
-            let value = Scalar::Bool(p.value.truth() == q.value.truth());
-            Ok(p.then(q)?.valued(value))
-        }
-        Expr::Equal(a, b) => {
-            let p = find_part(here, path, 0, a)?;
-            let q = find_part(here, path, 1, b)?;
-            let value = Scalar::Bool(p.value.word() == q.value.word());
-            Ok(p.then(q)?.valued(value))
-        }
-        Expr::Ite(p, a, b) => {
-            let condition = find_part(here, path, 0, p)?;
-            let taken = condition.value.truth();
-            let chosen = here
-                .told(path, condition.value, Finding::Chosen(taken))?
-                .then(condition)?;
-            if taken {
-                let branch = find_part(here, path, 1, a)?;
-                chosen.then(branch)
-            } else {
-                let branch = find_part(here, path, 2, b)?;
-                chosen.then(branch)
-            }
-        }
-        Expr::Read(m, a) => {
-            let address = find_part(here, path, 1, a)?;
-            let word = find_word_part(here, path, 0, m, address.value.word())?;
-            address.then(word)
-        }
+        Expr::Implies(a, b) => find_implies(here, path, a, b),
+        Expr::Iff(a, b) => find_iff(here, path, a, b),
+        Expr::Equal(a, b) => find_equal(here, path, a, b),
+        Expr::Ite(p, a, b) => find_choice(here, path, p, a, b),
+        Expr::Read(m, a) => find_read(here, path, m, a),
         Expr::Write(_, _, _) => Ok(Found::plain(here.alloc, Scalar::Bool(false))),
         Expr::Apply(f, args) => find_applied(here, path, *f, args),
     }
@@ -227,6 +217,86 @@ fn find_part(here: Here<'_>, path: &mut Path, part: u64, expr: &Expr) -> Result<
     let found = find(here, path, expr)?;
     path.up();
     Ok(found)
+}
+
+/// What the value of a part comes from, after these facts.
+#[cycle(find)]
+fn find_after(
+    here: Here<'_>,
+    path: &mut Path,
+    before: Found,
+    part: u64,
+    expr: &Expr,
+) -> Result<Found, AllocError> {
+    let found = find_part(here, path, part, expr)?;
+    before.then(found)
+}
+
+/// Of a `not`: its part.
+#[cycle(find)]
+fn find_not(here: Here<'_>, path: &mut Path, a: &Expr) -> Result<Found, AllocError> {
+    let part = find_part(here, path, 0, a)?;
+    let value = Scalar::Bool(!part.value.truth());
+    Ok(part.valued(value))
+}
+
+/// Of an `implies`: the first part where that is false, else the second where that is true, else both.
+#[cycle(find)]
+fn find_implies(here: Here<'_>, path: &mut Path, a: &Expr, b: &Expr) -> Result<Found, AllocError> {
+    let p = find_part(here, path, 0, a)?;
+    if !p.value.truth() {
+        return here.implied(path, 0, p);
+    }
+    let q = find_part(here, path, 1, b)?;
+    if q.value.truth() {
+        return here.implied(path, 1, q);
+    }
+    p.then(q)
+}
+
+/// Of an `iff`: both parts.
+#[cycle(find)]
+fn find_iff(here: Here<'_>, path: &mut Path, a: &Expr, b: &Expr) -> Result<Found, AllocError> {
+    let p = find_part(here, path, 0, a)?;
+    let q = find_part(here, path, 1, b)?;
+    let same = p.value.truth() == q.value.truth();
+    p.joined(q, Scalar::Bool(same))
+}
+
+/// Of an `=`: both parts.
+#[cycle(find)]
+fn find_equal(here: Here<'_>, path: &mut Path, a: &Expr, b: &Expr) -> Result<Found, AllocError> {
+    let p = find_part(here, path, 0, a)?;
+    let q = find_part(here, path, 1, b)?;
+    let same = p.value.word() == q.value.word();
+    p.joined(q, Scalar::Bool(same))
+}
+
+/// Of an `ite`: its condition, and the branch taken.
+#[cycle(find)]
+fn find_choice(
+    here: Here<'_>,
+    path: &mut Path,
+    p: &Expr,
+    a: &Expr,
+    b: &Expr,
+) -> Result<Found, AllocError> {
+    let condition = find_part(here, path, 0, p)?;
+    let taken = condition.value.truth();
+    let chosen = here.chosen(path, condition)?;
+    if taken {
+        find_after(here, path, chosen, 1, a)
+    } else {
+        find_after(here, path, chosen, 2, b)
+    }
+}
+
+/// Of a read: its address, and the word there.
+#[cycle(find)]
+fn find_read(here: Here<'_>, path: &mut Path, m: &Expr, a: &Expr) -> Result<Found, AllocError> {
+    let address = find_part(here, path, 1, a)?;
+    let at = address.value.word();
+    find_word_after(here, path, address, 0, m, at)
 }
 
 /// Of an `and` or an `or`: the first part that has the value that decides, else all.
@@ -286,42 +356,18 @@ pub fn find_word(
     match expr {
         Expr::Entry(i) => here.entry_at(path, *i, address),
         Expr::Local(i) => here.local_at(path, *i, address),
-        Expr::Ite(p, a, b) => {
-            let condition = find_part(here, path, 0, p)?;
-            let taken = condition.value.truth();
-            let chosen = here
-                .told(path, condition.value, Finding::Chosen(taken))?
-                .then(condition)?;
-            if taken {
-                let branch = find_word_part(here, path, 1, a, address)?;
-                chosen.then(branch)
-            } else {
-                let branch = find_word_part(here, path, 2, b, address)?;
-                chosen.then(branch)
-            }
-        }
-        Expr::Write(m, a, d) => {
-            let at = find_part(here, path, 1, a)?;
-            let written = at.value.word();
-            if written == address {
-                let met = here.told(path, at.value, Finding::Met(address))?.then(at)?;
-                let word = find_part(here, path, 2, d)?;
-                met.then(word)
-            } else {
-                let passed = Finding::Passed(address, written);
-                let passed = here.told(path, at.value, passed)?.then(at)?;
-                let below = find_word_part(here, path, 0, m, address)?;
-                passed.then(below)
-            }
-        }
+        Expr::Ite(p, a, b) => find_word_choice(here, path, p, a, b, address),
+        Expr::Write(m, a, d) => find_written(here, path, m, a, d, address),
         _ => Ok(Found::plain(here.alloc, Scalar::Word(0))),
     }
 }
 
+/// What the word of a part at an address comes from, after these facts.
 #[cycle(find)]
-fn find_word_part(
+fn find_word_after(
     here: Here<'_>,
     path: &mut Path,
+    before: Found,
     part: u64,
     expr: &Expr,
     address: u64,
@@ -329,5 +375,46 @@ fn find_word_part(
     path.down(part)?;
     let found = find_word(here, path, expr, address)?;
     path.up();
-    Ok(found)
+    before.then(found)
+}
+
+/// Of a choice of memories: its condition, and the word of the one taken.
+#[cycle(find)]
+fn find_word_choice(
+    here: Here<'_>,
+    path: &mut Path,
+    p: &Expr,
+    a: &Expr,
+    b: &Expr,
+    address: u64,
+) -> Result<Found, AllocError> {
+    let condition = find_part(here, path, 0, p)?;
+    let taken = condition.value.truth();
+    let chosen = here.chosen(path, condition)?;
+    if taken {
+        find_word_after(here, path, chosen, 1, a, address)
+    } else {
+        find_word_after(here, path, chosen, 2, b, address)
+    }
+}
+
+/// Of a write: its address, then the word written where that is this one, else the word below.
+#[cycle(find)]
+fn find_written(
+    here: Here<'_>,
+    path: &mut Path,
+    m: &Expr,
+    a: &Expr,
+    d: &Expr,
+    address: u64,
+) -> Result<Found, AllocError> {
+    let at = find_part(here, path, 1, a)?;
+    let written = at.value.word();
+    if written == address {
+        let met = here.after(path, Finding::Met(address), at)?;
+        find_after(here, path, met, 2, d)
+    } else {
+        let passed = here.after(path, Finding::Passed(address, written), at)?;
+        find_word_after(here, path, passed, 0, m, address)
+    }
 }

@@ -109,28 +109,52 @@ fn stepping(
     Ok(moments)
 }
 
-/// All of the run of a case.
-pub fn history_of(alloc: Global, design: &Design, case: &Case) -> Result<History, AllocError> {
-    let next = step(alloc, design, &case.interp, &case.state, &case.inputs)?;
-    let before = flushing(alloc, design, case, case.state.clone()?)?;
-    let kept = plain_moment(alloc, case, &design.inv_locals, next.clone()?)?;
-    let after = flushing(alloc, design, case, next)?;
+/// The case's cycle.
+fn first_moment(alloc: Global, design: &Design, case: &Case) -> Result<Moment, AllocError> {
+    let state = case.state.clone()?;
+    moment_of(alloc, design, case, state, case.inputs.clone()?)
+}
+
+/// The steps of the specification from what is visible after these flush cycles.
+fn steps_after(
+    alloc: Global,
+    design: &Design,
+    case: &Case,
+    before: &Moments,
+) -> Result<Moments, AllocError> {
     let visible = match before.as_slice().last() {
         Some(moment) => look(alloc, design, &moment.state)?,
         None => Sequence::new(alloc),
     };
+    stepping(alloc, design, case, visible)
+}
+
+/// What follows the case's cycle: the flush cycles, and the invariant.
+#[derive(Drop)]
+struct Next {
+    after: Moments,
+    kept: Moment,
+}
+
+/// What follows the cycle that ends in this state.
+fn next_of(alloc: Global, design: &Design, case: &Case, state: State) -> Result<Next, AllocError> {
+    let kept = plain_moment(alloc, case, &design.inv_locals, state.clone()?)?;
+    let after = flushing(alloc, design, case, state)?;
+    Ok(Next { after, kept })
+}
+
+/// All of the run of a case.
+pub fn history_of(alloc: Global, design: &Design, case: &Case) -> Result<History, AllocError> {
+    let state = step(alloc, design, &case.interp, &case.state, &case.inputs)?;
+    let next = next_of(alloc, design, case, state)?;
+    let before = flushing(alloc, design, case, case.state.clone()?)?;
+    let steps = steps_after(alloc, design, case, &before)?;
     Ok(History {
-        first: moment_of(
-            alloc,
-            design,
-            case,
-            case.state.clone()?,
-            case.inputs.clone()?,
-        )?,
+        first: first_moment(alloc, design, case)?,
         before,
-        after,
-        steps: stepping(alloc, design, case, visible)?,
-        kept,
+        after: next.after,
+        steps,
+        kept: next.kept,
     })
 }
 

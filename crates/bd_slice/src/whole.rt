@@ -4,7 +4,7 @@ ghost use Rattle.bd_model.specs.DesignView.{design_view};
 ghost use Rattle.bd_model.specs.Fits.{Fits};
 ghost use Rattle.bd_slice.specs.Columns.{column_state};
 ghost use Rattle.bd_slice.specs.inner.Followed.{Other, Holds, Grows, FollowsState};
-ghost use Rattle.bd_slice.specs.inner.Runs.{FollowsWhole, IsWhole, Pins};
+ghost use Rattle.bd_slice.specs.inner.Runs.{FollowsWhole, IsBefore, IsAfter, IsSteps, IsWhole, Pins};
 
 use crate::column::run_of;
 use crate::cycle::{flush, look, spec_steps};
@@ -24,6 +24,53 @@ pub struct Whole {
     pub steps: Line,
 }
 
+/// The flushing from the case's state.
+fn before_of(
+    alloc: Global,
+    graph: &mut Graph,
+    design: &Design,
+    case: &Case,
+) -> Result<Line, AllocError>
+    ensures grows { IfOk result (λ l. Grows graph.old.nodes graph.new.nodes) }
+    ensures line { IfOk result (IsBefore (design_view design.now) case.now graph.new.nodes) }
+{
+    let first = graph.state_of(alloc, case)?;
+    let line = flush(alloc, graph, case, &design.pipe, first, design.flush)?;
+    Ok(line)
+}
+
+/// The steps from what is visible once the case's state is flushed.
+fn steps_of(
+    alloc: Global,
+    graph: &mut Graph,
+    design: &Design,
+    case: &Case,
+    before: &Line,
+) -> Result<Line, AllocError>
+    requires { IsBefore (design_view design.now) case.now graph.old.nodes before.now }
+    ensures grows { IfOk result (λ l. Grows graph.old.nodes graph.new.nodes) }
+    ensures line { IfOk result (IsSteps (design_view design.now) case.now graph.new.nodes) }
+{
+    let visible = look(alloc, &design.visible, before.end.as_slice())?;
+    let line = spec_steps(alloc, graph, case, design, visible, design.steps)?;
+    Ok(line)
+}
+
+/// The flushing from the state after the case's cycle.
+fn after_of(
+    alloc: Global,
+    graph: &mut Graph,
+    design: &Design,
+    case: &Case,
+) -> Result<Line, AllocError>
+    ensures grows { IfOk result (λ l. Grows graph.old.nodes graph.new.nodes) }
+    ensures line { IfOk result (IsAfter (design_view design.now) case.now graph.new.nodes) }
+{
+    let next = graph.after_cycle(alloc, design, case)?;
+    let line = flush(alloc, graph, case, &design.pipe, next, design.flush)?;
+    Ok(line)
+}
+
 /// All states of the diagram of a case.
 pub fn whole_of(
     alloc: Global,
@@ -34,12 +81,9 @@ pub fn whole_of(
     ensures grows { IfOk result (λ w. Grows graph.old.nodes graph.new.nodes) }
     ensures whole { IfOk result (IsWhole (design_view design.now) case.now graph.new.nodes) }
 {
-    let first = graph.state_of(alloc, case)?;
-    let before = flush(alloc, graph, case, &design.pipe, first, design.flush)?;
-    let visible = look(alloc, &design.visible, before.end.as_slice())?;
-    let steps = spec_steps(alloc, graph, case, design, visible, design.steps)?;
-    let next = graph.after_cycle(alloc, design, case)?;
-    let after = flush(alloc, graph, case, &design.pipe, next, design.flush)?;
+    let before = before_of(alloc, graph, design, case)?;
+    let steps = steps_of(alloc, graph, design, case, &before)?;
+    let after = after_of(alloc, graph, design, case)?;
     Ok(Whole {
         before,
         after,

@@ -10,6 +10,7 @@ use Rattle.bd_slice.specs.Columns.{column_state, shown}
 use Rattle.bd_slice.specs.Places.{AgreesAt, AgreesOn}
 use Rattle.bd_slice.specs.inner.Followed.{Other, Holds, Follows, FollowsKept, FollowsState}
 use Rattle.bd_slice.specs.inner.Lines.{FollowsLine}
+use Rattle.bd_slice.specs.declared.line.Line.{Line}
 use Rattle.bd_slice.specs.declared.whole.Whole.{Whole}
 use Rattle.bd_slice.specs.declared.graph.Node.{Node}
 use Rattle.bd_slice.specs.declared.graph.Node.TheVariants as node
@@ -26,15 +27,37 @@ IsRun d c which nodes state =
     (o : Other) → Holds c nodes o → Fits d c → Fits d o.case →
     FollowsState o state (column_state d o.case which)
 
--- the states of the diagram are followed in each other case that fits
+-- the states of a row of the diagram are followed
+abbrev pub FollowsBefore : DesignView → Other → Line → Type 0
+FollowsBefore d o l = FollowsLine o l d.flush (λ n. column_state d o.case (column.Before n))
+
+abbrev pub FollowsAfter : DesignView → Other → Line → Type 0
+FollowsAfter d o l = FollowsLine o l d.flush (λ n. column_state d o.case (column.After n))
+
+abbrev pub FollowsSteps : DesignView → Other → Line → Type 0
+FollowsSteps d o l = FollowsLine o l d.steps (λ n. column_state d o.case (column.Steps n))
+
+-- the states of all rows are followed
 pub record FollowsWhole (d : DesignView) (o : Other) (w : Whole) : Type 0 where
-  pub before : FollowsLine o w.before d.flush (λ n. column_state d o.case (column.Before n))
-  pub after : FollowsLine o w.after d.flush (λ n. column_state d o.case (column.After n))
-  pub steps : FollowsLine o w.steps d.steps (λ n. column_state d o.case (column.Steps n))
+  pub before : FollowsBefore d o w.before
+  pub after : FollowsAfter d o w.after
+  pub steps : FollowsSteps d o w.steps
+
+-- a fact of each other case that fits and that these nodes hold of
+abbrev pub InFitting : DesignView → Case → List Node → (Other → Type 0) → Type 0
+InFitting d c nodes P = (o : Other) → Holds c nodes o → Fits d c → Fits d o.case → P o
+
+abbrev pub IsBefore : DesignView → Case → List Node → Line → Type 0
+IsBefore d c nodes l = InFitting d c nodes (λ o. FollowsBefore d o l)
+
+abbrev pub IsAfter : DesignView → Case → List Node → Line → Type 0
+IsAfter d c nodes l = InFitting d c nodes (λ o. FollowsAfter d o l)
+
+abbrev pub IsSteps : DesignView → Case → List Node → Line → Type 0
+IsSteps d c nodes l = InFitting d c nodes (λ o. FollowsSteps d o l)
 
 abbrev pub IsWhole : DesignView → Case → List Node → Whole → Type 0
-IsWhole d c nodes w =
-    (o : Other) → Holds c nodes o → Fits d c → Fits d o.case → FollowsWhole d o w
+IsWhole d c nodes w = InFitting d c nodes (λ o. FollowsWhole d o w)
 
 -- a value is the same in each other case that fits, if the slice has this node
 abbrev pub Pins : DesignView → Case → List Node → Want → Traced → Type 0

@@ -1,7 +1,7 @@
 use Rattle.std.proofs.Common.{◌≡◌, ◌∙◌, ◌<◌, ◌≤◌, refl, sym, ap, rules, true, false, length, map, arith}
 use Rattle.std.proofs.lemmas.List.{take_all}
 use Rattle.std.proofs.lemmas.Simd.{map-map}
-use Rattle.bd_model.specs.ExprView.{expr_view, expr_views, Entry, Input, Local, Implies, Iff, Equal, Ite, Read, Write, Apply}
+use Rattle.bd_model.specs.ExprView.{expr_view, expr_views, Entry, Input, Local}
 use Rattle.bd_model.specs.Value.{value_of, values_of, is_true, word_of, scalar_word}
 use Rattle.bd_model.specs.declared.expr.Expr.{the_lemmas}
 use Rattle.bd_model.specs.declared.table.Scalar.TheVariants as scalar
@@ -26,120 +26,105 @@ trace-returns-in_ok-kept_at-in-Local-clause-follows t c = λ o env h f.
     let view : expr_view c.args.expr.now ≡ Local c.in-Local.i = rw c.in-Local.is (search (rules, the_lemmas)) in
     rw (view, c.in_ok-kept_at-in-Local.ensures, c.as_slice.ensures.value) (follows_at o _ _ c.in-Local.i f.locals)
 
-pub trace-returns-in_ok-implied-in-Implies-clause-grows : goal.trace-returns-in_ok-implied-in-Implies-clause-grows
-trace-returns-in_ok-implied-in-Implies-clause-grows t c = λ d o h. c.in_ok-p-in-Implies.ensures.grows d o (c.in_ok-q-in-Implies.ensures.grows d o (c.in_ok-implied-in-Implies.ensures.grows d o h))
+pub trace_implies-returns-clause-grows : goal.trace_implies-returns-clause-grows
+trace_implies-returns-clause-grows t c = λ d o h. c.in_ok-p.ensures.grows d o (c.in_ok-q.ensures.grows d o (c.in_ok-implied.ensures.grows d o h))
 
-pub trace-returns-in_ok-implied-in-Implies-clause-follows : goal.trace-returns-in_ok-implied-in-Implies-clause-follows
-trace-returns-in_ok-implied-in-Implies-clause-follows t c = λ o env h f has.
+pub trace_implies-returns-clause-follows : goal.trace_implies-returns-clause-follows
+trace_implies-returns-clause-follows t c = λ o env h f has.
     let case = c.args.names.now.case.now in
-    let view : expr_view c.args.expr.now ≡ Implies (expr_view c.deref-in-Implies.result.now) (expr_view c.deref-in-Implies-2.result.now) =
-    rw (c.in-Implies.is, c.deref-in-Implies.ensures, c.deref-in-Implies-2.ensures) (search (rules, the_lemmas)) in
-    let after = c.in_ok-implied-in-Implies.ensures.grows case o h in
-    let p = c.in_ok-p-in-Implies.ensures.follows o env (c.in_ok-q-in-Implies.ensures.grows case o after) f in
-    let q = c.in_ok-q-in-Implies.ensures.follows o env after f in
-    rw view (ap value.Scalar (c.in_ok-implied-in-Implies.ensures.follows case o _ _ h p q has))
+    let after = c.in_ok-implied.ensures.grows case o h in
+    let p = c.in_ok-p.ensures.follows o env (c.in_ok-q.ensures.grows case o after) f in
+    let q = c.in_ok-q.ensures.follows o env after f in
+    ap value.Scalar (c.in_ok-implied.ensures.follows case o _ _ h p q has)
 
-pub trace-returns-in_ok-same_truth-in-Iff-clause-grows : goal.trace-returns-in_ok-same_truth-in-Iff-clause-grows
-trace-returns-in_ok-same_truth-in-Iff-clause-grows t c = λ d o h. c.in_ok-p-in-Iff.ensures.grows d o (c.in_ok-q-in-Iff.ensures.grows d o (c.in_ok-same_truth-in-Iff.ensures.grows d o h))
+pub trace_iff-returns-clause-grows : goal.trace_iff-returns-clause-grows
+trace_iff-returns-clause-grows t c = λ d o h. c.in_ok-p.ensures.grows d o (c.in_ok-q.ensures.grows d o (c.in_ok-same_truth.ensures.grows d o h))
 
-pub trace-returns-in_ok-same_truth-in-Iff-clause-follows : goal.trace-returns-in_ok-same_truth-in-Iff-clause-follows
-trace-returns-in_ok-same_truth-in-Iff-clause-follows t c = λ o env h f has.
+pub trace_iff-returns-clause-follows : goal.trace_iff-returns-clause-follows
+trace_iff-returns-clause-follows t c = λ o env h f has.
     let case = c.args.names.now.case.now in
-    let view : expr_view c.args.expr.now ≡ Iff (expr_view c.deref-in-Iff.result.now) (expr_view c.deref-in-Iff-2.result.now) =
-    rw (c.in-Iff.is, c.deref-in-Iff.ensures, c.deref-in-Iff-2.ensures) (search (rules, the_lemmas)) in
-    let after = c.in_ok-same_truth-in-Iff.ensures.grows case o h in
-    let p = c.in_ok-p-in-Iff.ensures.follows o env (c.in_ok-q-in-Iff.ensures.grows case o after) f in
-    let q = c.in_ok-q-in-Iff.ensures.follows o env after f in
-    rw view (ap value.Scalar (c.in_ok-same_truth-in-Iff.ensures.follows case o _ _ h p q has))
+    let after = c.in_ok-same_truth.ensures.grows case o h in
+    let p = c.in_ok-p.ensures.follows o env (c.in_ok-q.ensures.grows case o after) f in
+    let q = c.in_ok-q.ensures.follows o env after f in
+    ap value.Scalar (c.in_ok-same_truth.ensures.follows case o _ _ h p q has)
 
-pub trace-returns-in_ok-same_word-in-Equal-clause-grows : goal.trace-returns-in_ok-same_word-in-Equal-clause-grows
-trace-returns-in_ok-same_word-in-Equal-clause-grows t c = λ d o h. c.in_ok-p-in-Equal.ensures.grows d o (c.in_ok-q-in-Equal.ensures.grows d o (c.in_ok-same_word-in-Equal.ensures.grows d o h))
+pub trace_equal-returns-clause-grows : goal.trace_equal-returns-clause-grows
+trace_equal-returns-clause-grows t c = λ d o h. c.in_ok-p.ensures.grows d o (c.in_ok-q.ensures.grows d o (c.in_ok-same_word.ensures.grows d o h))
 
-pub trace-returns-in_ok-same_word-in-Equal-clause-follows : goal.trace-returns-in_ok-same_word-in-Equal-clause-follows
-trace-returns-in_ok-same_word-in-Equal-clause-follows t c = λ o env h f has.
+pub trace_equal-returns-clause-follows : goal.trace_equal-returns-clause-follows
+trace_equal-returns-clause-follows t c = λ o env h f has.
     let case = c.args.names.now.case.now in
-    let view : expr_view c.args.expr.now ≡ Equal (expr_view c.deref-in-Equal.result.now) (expr_view c.deref-in-Equal-2.result.now) =
-    rw (c.in-Equal.is, c.deref-in-Equal.ensures, c.deref-in-Equal-2.ensures) (search (rules, the_lemmas)) in
-    let after = c.in_ok-same_word-in-Equal.ensures.grows case o h in
-    let p = c.in_ok-p-in-Equal.ensures.follows o env (c.in_ok-q-in-Equal.ensures.grows case o after) f in
-    let q = c.in_ok-q-in-Equal.ensures.follows o env after f in
-    rw view (ap value.Scalar (c.in_ok-same_word-in-Equal.ensures.follows case o _ _ h p q has))
+    let after = c.in_ok-same_word.ensures.grows case o h in
+    let p = c.in_ok-p.ensures.follows o env (c.in_ok-q.ensures.grows case o after) f in
+    let q = c.in_ok-q.ensures.follows o env after f in
+    ap value.Scalar (c.in_ok-same_word.ensures.follows case o _ _ h p q has)
 
-pub trace-returns-in_ok-chosen-in-Ite-clause-grows : goal.trace-returns-in_ok-chosen-in-Ite-clause-grows
-trace-returns-in_ok-chosen-in-Ite-clause-grows t c = λ d o h. c.in_ok-condition-in-Ite.ensures.grows d o (c.in_ok-taken-in-Ite.ensures.grows d o (c.in_ok-chosen-in-Ite.ensures.grows d o h))
+pub trace_choice-returns-in_ok-chosen-clause-grows : goal.trace_choice-returns-in_ok-chosen-clause-grows
+trace_choice-returns-in_ok-chosen-clause-grows t c = λ d o h. c.in_ok-condition.ensures.grows d o (c.in_ok-taken.ensures.grows d o (c.in_ok-chosen.ensures.grows d o h))
 
-pub trace-returns-in_ok-chosen-in-Ite-clause-follows : goal.trace-returns-in_ok-chosen-in-Ite-clause-follows
-trace-returns-in_ok-chosen-in-Ite-clause-follows t c = λ o env h f.
+pub trace_choice-returns-in_ok-chosen-clause-follows : goal.trace_choice-returns-in_ok-chosen-clause-follows
+trace_choice-returns-in_ok-chosen-clause-follows t c = λ o env h f.
     let case = c.args.names.now.case.now in
-    let view : expr_view c.args.expr.now ≡ Ite (expr_view c.deref-in-Ite.result.now) (expr_view c.deref-then-truth.result.now) (expr_view c.in-Ite.b.value) =
-    rw (c.in-Ite.is, c.deref-in-Ite.ensures, c.deref-then-truth.ensures) (search (rules, the_lemmas)) in
-    let chosen = c.in_ok-chosen-in-Ite.ensures in
-    let taken = c.in_ok-taken-in-Ite.ensures in
-    let condition = c.in_ok-condition-in-Ite.ensures in
+    let chosen = c.in_ok-chosen.ensures in
+    let taken = c.in_ok-taken.ensures in
+    let condition = c.in_ok-condition.ensures in
     let after = chosen.grows case o h in
-    let tested : c.truth-in-Ite.result ≡ true = search rules in
-    rw view (chosen.follows case o _ h (λ has.
-    let is : is_true (value_of env (expr_view c.deref-in-Ite.result.now)) ≡ true = same_truth_of _ _ _ (condition.follows o env (taken.grows case o after) f has) c.truth-in-Ite.ensures ∙ tested in
-    rw (ite_true _ _ _ is) (taken.follows o env after f)))
+    let tested : c.truth.result ≡ true = search rules in
+    chosen.follows case o _ h (λ has.
+    let is : is_true (value_of env (expr_view c.args.p.now)) ≡ true = same_truth_of _ _ _ (condition.follows o env (taken.grows case o after) f has) c.truth.ensures ∙ tested in
+    rw (ite_true _ _ _ is) (taken.follows o env after f))
 
-pub trace-returns-in_ok-chosen-in-Ite-2-clause-grows : goal.trace-returns-in_ok-chosen-in-Ite-2-clause-grows
-trace-returns-in_ok-chosen-in-Ite-2-clause-grows t c = λ d o h. c.in_ok-condition-in-Ite.ensures.grows d o (c.in_ok-taken-in-Ite-2.ensures.grows d o (c.in_ok-chosen-in-Ite-2.ensures.grows d o h))
+pub trace_choice-returns-in_ok-chosen-2-clause-grows : goal.trace_choice-returns-in_ok-chosen-2-clause-grows
+trace_choice-returns-in_ok-chosen-2-clause-grows t c = λ d o h. c.in_ok-condition.ensures.grows d o (c.in_ok-taken-2.ensures.grows d o (c.in_ok-chosen-2.ensures.grows d o h))
 
-pub trace-returns-in_ok-chosen-in-Ite-2-clause-follows : goal.trace-returns-in_ok-chosen-in-Ite-2-clause-follows
-trace-returns-in_ok-chosen-in-Ite-2-clause-follows t c = λ o env h f.
+pub trace_choice-returns-in_ok-chosen-2-clause-follows : goal.trace_choice-returns-in_ok-chosen-2-clause-follows
+trace_choice-returns-in_ok-chosen-2-clause-follows t c = λ o env h f.
     let case = c.args.names.now.case.now in
-    let view : expr_view c.args.expr.now ≡ Ite (expr_view c.deref-in-Ite.result.now) (expr_view c.in-Ite.a.value) (expr_view c.deref-else-truth.result.now) =
-    rw (c.in-Ite.is, c.deref-in-Ite.ensures, c.deref-else-truth.ensures) (search (rules, the_lemmas)) in
-    let chosen = c.in_ok-chosen-in-Ite-2.ensures in
-    let taken = c.in_ok-taken-in-Ite-2.ensures in
-    let condition = c.in_ok-condition-in-Ite.ensures in
+    let chosen = c.in_ok-chosen-2.ensures in
+    let taken = c.in_ok-taken-2.ensures in
+    let condition = c.in_ok-condition.ensures in
     let after = chosen.grows case o h in
-    let tested : c.truth-in-Ite.result ≡ false = search rules in
-    rw view (chosen.follows case o _ h (λ has.
-    let is : is_true (value_of env (expr_view c.deref-in-Ite.result.now)) ≡ false = same_truth_of _ _ _ (condition.follows o env (taken.grows case o after) f has) c.truth-in-Ite.ensures ∙ tested in
-    rw (ite_false _ _ _ is) (taken.follows o env after f)))
+    let tested : c.truth.result ≡ false = search rules in
+    chosen.follows case o _ h (λ has.
+    let is : is_true (value_of env (expr_view c.args.p.now)) ≡ false = same_truth_of _ _ _ (condition.follows o env (taken.grows case o after) f has) c.truth.ensures ∙ tested in
+    rw (ite_false _ _ _ is) (taken.follows o env after f))
 
-pub trace-returns-in_ok-read-in-Read-clause-grows : goal.trace-returns-in_ok-read-in-Read-clause-grows
-trace-returns-in_ok-read-in-Read-clause-grows t c = λ d o h. c.in_ok-trace-in-Read.ensures.grows d o (c.in_ok-trace_scalar-in-Read.ensures.grows d o (c.in_ok-read-in-Read.ensures.grows d o h))
+pub trace_read-returns-clause-grows : goal.trace_read-returns-clause-grows
+trace_read-returns-clause-grows t c = λ d o h. c.in_ok-trace.ensures.grows d o (c.in_ok-trace_scalar.ensures.grows d o (c.in_ok-read.ensures.grows d o h))
 
-pub trace-returns-in_ok-read-in-Read-clause-follows : goal.trace-returns-in_ok-read-in-Read-clause-follows
-trace-returns-in_ok-read-in-Read-clause-follows t c = λ o env h f.
+pub trace_read-returns-clause-follows : goal.trace_read-returns-clause-follows
+trace_read-returns-clause-follows t c = λ o env h f.
     let case = c.args.names.now.case.now in
-    let view : expr_view c.args.expr.now ≡ Read (expr_view c.deref-in-Read.result.now) (expr_view c.deref-in-Read-2.result.now) =
-    rw (c.in-Read.is, c.deref-in-Read.ensures, c.deref-in-Read-2.ensures) (search (rules, the_lemmas)) in
-    let after = c.in_ok-read-in-Read.ensures.grows case o h in
-    let memory = follows_memory o _ _ (c.in_ok-trace-in-Read.ensures.follows o env (c.in_ok-trace_scalar-in-Read.ensures.grows case o after) f) in
-    let kept = rw (← c.in_ok-memory-in-Read.ensures) at memory in
-    let address = c.word-address.ensures o _ (c.in_ok-trace_scalar-in-Read.ensures.follows o env after f) in
-    let word = c.in_ok-read-in-Read.ensures.follows o _ _ h kept address in
-    rw view (follows_kept o _ _ (c.scalar.ensures o _ word))
+    let after = c.in_ok-read.ensures.grows case o h in
+    let memory = follows_memory o _ _ (c.in_ok-trace.ensures.follows o env (c.in_ok-trace_scalar.ensures.grows case o after) f) in
+    let kept = rw (← c.in_ok-memory.ensures) at memory in
+    let address = c.word-address.ensures o _ (c.in_ok-trace_scalar.ensures.follows o env after f) in
+    let word = c.in_ok-read.ensures.follows o _ _ h kept address in
+    follows_kept o _ _ (c.scalar.ensures o _ word)
 
-pub trace-returns-in_ok-written-in-Write-clause-grows : goal.trace-returns-in_ok-written-in-Write-clause-grows
-trace-returns-in_ok-written-in-Write-clause-grows t c = λ d o h. c.in_ok-trace-in-Write.ensures.grows d o (c.in_ok-trace_scalar-in-Write.ensures.grows d o (c.in_ok-trace_scalar-in-Write-2.ensures.grows d o h))
+pub trace_written-returns-clause-grows : goal.trace_written-returns-clause-grows
+trace_written-returns-clause-grows t c = λ d o h. c.in_ok-trace.ensures.grows d o (c.in_ok-trace_scalar.ensures.grows d o (c.in_ok-trace_scalar-2.ensures.grows d o h))
 
-pub trace-returns-in_ok-written-in-Write-clause-follows : goal.trace-returns-in_ok-written-in-Write-clause-follows
-trace-returns-in_ok-written-in-Write-clause-follows t c = λ o env h f.
+pub trace_written-returns-clause-follows : goal.trace_written-returns-clause-follows
+trace_written-returns-clause-follows t c = λ o env h f.
     let case = c.args.names.now.case.now in
-    let view : expr_view c.args.expr.now ≡ Write (expr_view c.deref-in-Write.result.now) (expr_view c.deref-in-Write-2.result.now) (expr_view c.deref-in-Write-3.result.now) =
-    rw (c.in-Write.is, c.deref-in-Write.ensures, c.deref-in-Write-2.ensures, c.deref-in-Write-3.ensures) (search (rules, the_lemmas)) in
-    let after = c.in_ok-trace_scalar-in-Write-2.ensures.grows case o h in
-    let memory = follows_memory o _ _ (c.in_ok-trace-in-Write.ensures.follows o env (c.in_ok-trace_scalar-in-Write.ensures.grows case o after) f) in
-    let kept = rw (← c.in_ok-memory-in-Write.ensures) at memory in
-    let address = c.word-address-in-Write.ensures o _ (c.in_ok-trace_scalar-in-Write.ensures.follows o env after f) in
-    let word = c.word-word.ensures o _ (c.in_ok-trace_scalar-in-Write-2.ensures.follows o env h f) in
-    rw view (c.in_ok-written-in-Write.ensures o _ _ _ kept address word, λ has. refl)
+    let after = c.in_ok-trace_scalar-2.ensures.grows case o h in
+    let memory = follows_memory o _ _ (c.in_ok-trace.ensures.follows o env (c.in_ok-trace_scalar.ensures.grows case o after) f) in
+    let kept = rw (← c.in_ok-memory.ensures) at memory in
+    let address = c.word-address.ensures o _ (c.in_ok-trace_scalar.ensures.follows o env after f) in
+    let word = c.word-word.ensures o _ (c.in_ok-trace_scalar-2.ensures.follows o env h f) in
+    (c.in_ok-written.ensures o _ _ _ kept address word, λ has. refl)
 
-pub trace-returns-in_ok-applied-in-Apply-clause-grows : goal.trace-returns-in_ok-applied-in-Apply-clause-grows
-trace-returns-in_ok-applied-in-Apply-clause-grows t c = λ d o h. c.in_ok-args-in-Apply.ensures.grows d o (c.in_ok-applied-in-Apply.ensures.grows d o h)
+pub trace_applied-returns-clause-grows : goal.trace_applied-returns-clause-grows
+trace_applied-returns-clause-grows t c = λ d o h. c.in_ok-args.ensures.grows d o (c.in_ok-applied.ensures.grows d o h)
 
-pub trace-returns-in_ok-applied-in-Apply-clause-follows : goal.trace-returns-in_ok-applied-in-Apply-clause-follows
-trace-returns-in_ok-applied-in-Apply-clause-follows t c = λ o env h f has.
+pub trace_applied-returns-clause-follows : goal.trace_applied-returns-clause-follows
+trace_applied-returns-clause-follows t c = λ o env h f has.
     let case = c.args.names.now.case.now in
-    let view : expr_view c.args.expr.now ≡ Apply c.in-Apply.f (expr_views c.in-Apply.args) = rw c.in-Apply.is (search (rules, the_lemmas)) in
-    let after = c.in_ok-applied-in-Apply.ensures.grows case o h in
-    let args = c.in_ok-args-in-Apply.ensures.follows o env after f in
-    let same = c.in_ok-applied-in-Apply.ensures.follows o _ h args has in
-    rw view (ap value.Scalar (rw (← f.interp) at same))
+    let after = c.in_ok-applied.ensures.grows case o h in
+    let args = c.in_ok-args.ensures.follows o env after f in
+    let same = c.in_ok-applied.ensures.follows o _ h args has in
+    ap value.Scalar (rw (← f.interp) at same)
 
 pub trace_all-returns-then-not-truth-clause-grows : goal.trace_all-returns-then-not-truth-clause-grows
 trace_all-returns-then-not-truth-clause-grows t c = λ d o h. c.loop-part.invariant.grows d o (c.in_ok-traced.ensures.grows d o h)
