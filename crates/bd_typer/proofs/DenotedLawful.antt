@@ -19,7 +19,7 @@ use Rattle.bd_typer.specs.declared.fault.Text.{Text}
 use Rattle.bd_typer.specs.declared.fault.Text.TheVariants.{Pipe, Spec}
 use Rattle.bd_typer.specs.declared.fault.TypeFault.{TypeFault}
 use Rattle.bd_typer.specs.declared.premise.Premise.{Premise}
-use Rattle.bd_typer.specs.Denotes.{design_of_trees, premise_file, premise_form, premise_head, with_premise, Reads, ReadsIf, DenotesWith, OnDesign}
+use Rattle.bd_typer.specs.Denotes.{design_of_machines, design_of_trees, premise_file, premise_form, premise_head, with_premise, Reads, ReadsIf, DenotesWith, OnDesign}
 use Rattle.bd_typer.specs.Faults.{◌>>=◌, FileFault, in_file, GivesIn}
 use Rattle.bd_typer.specs.Given.{IsMachineFile, IsCompFile, IsInvFile}
 use Rattle.bd_typer.specs.Joined.{joined, joined_view, joined_with}
@@ -62,11 +62,11 @@ with_ok premise (Ok d) other h = h
 with_ok premise (Err fault) other h = absurd (cc h)
 
 trees_lawful : (premise : Premise) (pipe spec : Nodes) (third : Option Nodes) (d : DesignView) → AreWithinLimits pipe → AreWithinLimits spec → IfSome third AreWithinLimits → design_of_trees premise pipe spec third ≡ Ok d → IsLawful d
-unfolding design_of_trees
+unfolding design_of_trees design_of_machines
 trees_lawful premise pipe spec third d pipe_within spec_within third_within h =
     let file = premise_file premise in
-    let p = then_ok (in_file Pipe (machine_form kinds.Pipeline pipe)) (λ p. in_file Spec (machine_form kinds.Specification spec) >>= λ s. in_file file (premise_form premise third) >>= λ t. with_premise premise (joined p s t)) d h in
-    let s = then_ok (in_file Spec (machine_form kinds.Specification spec)) (λ s. in_file file (premise_form premise third) >>= λ t. with_premise premise (joined p.0 s t)) d p.2 in
+    let p = then_ok (in_file Pipe (machine_form kinds.Pipeline pipe)) (λ p. in_file Spec (machine_form kinds.Specification spec) >>= λ s. design_of_machines premise p s third) d h in
+    let s = then_ok (in_file Spec (machine_form kinds.Specification spec)) (λ s. design_of_machines premise p.0 s third) d p.2 in
     let t = then_ok (in_file file (premise_form premise third)) (λ t. with_premise premise (joined p.0 s.0 t)) d s.2 in
     joined_lawful p.0 s.0 t.0 d
     (machine_file kinds.Pipeline pipe p.0 pipe_within (in_file_ok Pipe (machine_form kinds.Pipeline pipe) p.0 p.1))

@@ -31,7 +31,7 @@ pub given_is : {A B : Type 0} (view : A → B) (r : Result A TypeFault) (x : A) 
 given_is view (Ok y) x given h e = let same : y ≡ x = cc in h ∙ ap (λ z. Ok (view z)) same
 given_is view (Err fault) x given h e = absurd (cc)
 
-fails_then : {B C : Type 0} (fault : TypeFault) (given : Result B FileFault) (f : B → Result C FileFault) → FailsIn fault given → FailsIn fault (given >>= f)
+pub fails_then : {B C : Type 0} (fault : TypeFault) (given : Result B FileFault) (f : B → Result C FileFault) → FailsIn fault given → FailsIn fault (given >>= f)
 fails_then (faults.Bad file offset code) given f h = rw h refl
 fails_then faults.Memory given f h = tt
 

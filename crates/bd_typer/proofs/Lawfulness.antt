@@ -1,5 +1,5 @@
 -- The design of files that are read is lawful, and so is the abstraction.
-use Rattle.std.proofs.Common.{◌≡◌, ◌≤◌, ℕ, true, false, List, [], ◌∷◌, ◌++◌, length, Option, Some, None, Result, Ok, refl, ap, sym, ◌∙◌, subst, arith, length-append}
+use Rattle.std.proofs.Common.{◌≡◌, ◌≤◌, ℕ, true, false, List, [], ◌∷◌, ◌++◌, length, Option, Some, None, Ok, refl, ap, sym, ◌∙◌, subst, arith, length-append}
 use Rattle.std.specs.Prelude.{IfSome, replicate, slice_get}
 use Rattle.std.specs.List.{filter_map, AllByRecursion}
 use Rattle.bd_abstraction.specs.Abstraction.{AbstractionView, flushing, given}
@@ -21,9 +21,9 @@ use Rattle.bd_typer.specs.declared.names.Meaning.TheVariants.{Entry}
 use Rattle.bd_typer.specs.Across.{across_faults}
 use Rattle.bd_typer.specs.Completions.{abstract_names, completion_faults, typed_abstracts}
 use Rattle.bd_typer.specs.Declarations.{declaration_faults}
-use Rattle.bd_typer.specs.Faults.{◌>>=◌, FileFault, in_file, without_faults}
+use Rattle.bd_typer.specs.Faults.{◌>>=◌, in_file, without_faults}
 use Rattle.bd_typer.specs.Given.{IsMachineFile, IsCompFile, IsInvFile}
-use Rattle.bd_typer.specs.Joined.{declared_comp, declared_inv, declared, start, TypedMachine, typed_machine, typed_completion, TypedInv, typed_inv, flush_count, steps_count, first_count, assembled, JoinedView, joined_with, joined}
+use Rattle.bd_typer.specs.Joined.{declared_comp, declared_inv, declared, start, TypedMachine, typed_machine, typed_completion, TypedInv, typed_inv, flush_count, steps_count, first_count, assembled, Claims, claimed, tested_inv, JoinedView, joined_machines, joined_onto, joined_items, joined_with, joined}
 use Rattle.bd_typer.specs.NameMap.{no_names, shared_names}
 use Rattle.bd_typer.specs.Repeats.{no_texts, with_names}
 use Rattle.bd_typer.specs.Walk.{typed_items}
@@ -172,47 +172,53 @@ record Steps (pipe spec : AstView) (comp : Option CompView) (inv : Option InvVie
   across : IsAcross p.typed.names spec.items
   j-is : record { design = assembled pipe.items p s i; abs = a } ≡ j
 
-module _ (pipe spec : AstView) (comp : Option CompView) (inv : Option InvView) (j : JoinedView) where
-  abbrev Made : Type 0
-  Made = Result JoinedView FileFault
+-- what a completion and an invariant say of machines, where no step has a fault
+record AreClaims (p s : TypedMachine) (spec : List ItemView) (comp : Option CompView) (inv : Option InvView) (c : Claims) : Type 0 where
+  a-is : typed_completion (shared_names p.typed.names s.typed.names) s.typed.names (length s.entries) comp ≡ Ok c.abs
+  i-is : typed_inv (shared_names p.typed.names s.typed.names) inv ≡ Ok c.inv
+  across : IsAcross p.typed.names spec
 
-  -- what follows each step
-  abbrev after_inv : TypedMachine → TypedMachine → AbstractionView → TypedInv → Made
-  after_inv p s a i = in_file Spec (without_faults (across_faults p.typed.names spec.items)) >>= λ last. Ok (record { design = assembled pipe.items p s i; abs = a })
+are_claims : (p s : TypedMachine) (spec : List ItemView) (comp : Option CompView) (inv : Option InvView) (c : Claims) → claimed p.typed.names s spec comp inv ≡ Ok c → AreClaims p s spec comp inv c
+unfolding claimed tested_inv
+are_claims p s spec comp inv c h =
+    let names = shared_names p.typed.names s.typed.names in
+    let typed_comp = typed_completion names s.typed.names (length s.entries) comp in
+    let faults = across_faults p.typed.names spec in
+    let a = then_ok (in_file Comp typed_comp) (λ a. tested_inv p.typed.names s.typed.names spec inv >>= λ i. Ok (record { abs = a; inv = i })) c h in
+    let t = then_ok (tested_inv p.typed.names s.typed.names spec inv) (λ i. Ok (record { abs = a.0; inv = i })) c a.2 in
+    let i = then_ok (in_file Inv (typed_inv names inv)) (λ i. in_file Spec (without_faults faults) >>= λ last. Ok i) t.0 t.1 in
+    let last = then_ok (in_file Spec (without_faults faults)) (λ last. Ok i.0) t.0 i.2 in
+    let same : i.0 ≡ t.0 = cc last.2 in
+    let is : record { abs = a.0; inv = t.0 } ≡ c = cc t.2 in
+    subst (AreClaims p s spec comp inv) is (record {
+      a-is = in_file_ok Comp typed_comp a.0 a.1;
+      i-is = subst (λ i. typed_inv names inv ≡ Ok i) same (in_file_ok Inv (typed_inv names inv) i.0 i.1);
+      across = is_across p.typed.names spec (none_of faults last.0 (in_file_ok Spec (without_faults faults) last.0 last.1));
+    })
 
-  abbrev after_comp : TypedMachine → TypedMachine → AbstractionView → Made
-  after_comp p s a = in_file Inv (typed_inv (shared_names p.typed.names s.typed.names) inv) >>= after_inv p s a
-
-  abbrev after_spec : TypedMachine → TypedMachine → Made
-  after_spec p s = in_file Comp (typed_completion (shared_names p.typed.names s.typed.names) s.typed.names (length s.entries) comp) >>= after_comp p s
-
-  abbrev after_pipe : TypedMachine → Made
-  after_pipe p = in_file Spec (typed_machine p.typed.names p.symbols spec.items) >>= after_spec p
-
-  steps_of : joined_with pipe spec comp inv ≡ Ok j → Steps pipe spec comp inv j
-  unfolding joined_with
-  steps_of h =
-      let first = then_ok (declared pipe spec comp inv) (λ first. in_file Pipe (typed_machine no_names [] pipe.items) >>= after_pipe) j h in
-      let p = then_ok (in_file Pipe (typed_machine no_names [] pipe.items)) after_pipe j first.2 in
-      let s = then_ok (in_file Spec (typed_machine p.0.typed.names p.0.symbols spec.items)) (after_spec p.0) j p.2 in
-      let names = shared_names p.0.typed.names s.0.typed.names in
-      let a = then_ok (in_file Comp (typed_completion names s.0.typed.names (length s.0.entries) comp)) (after_comp p.0 s.0) j s.2 in
-      let i = then_ok (in_file Inv (typed_inv names inv)) (after_inv p.0 s.0 a.0) j a.2 in
-      let faults = across_faults p.0.typed.names spec.items in
-      let last = then_ok (in_file Spec (without_faults faults)) (λ last. Ok (record { design = assembled pipe.items p.0 s.0 i.0; abs = a.0 })) j i.2 in
-      record {
-        declared = declarations_fine pipe spec comp inv first.0 first.1;
-        p = p.0;
-        p-is = in_file_ok Pipe (typed_machine no_names [] pipe.items) p.0 p.1;
-        s = s.0;
-        s-is = in_file_ok Spec (typed_machine p.0.typed.names p.0.symbols spec.items) s.0 s.1;
-        a = a.0;
-        a-is = in_file_ok Comp (typed_completion names s.0.typed.names (length s.0.entries) comp) a.0 a.1;
-        i = i.0;
-        i-is = in_file_ok Inv (typed_inv names inv) i.0 i.1;
-        across = is_across p.0.typed.names spec.items (none_of faults last.0 (in_file_ok Spec (without_faults faults) last.0 last.1));
-        j-is = cc last.2;
-      }
+steps_of : (pipe spec : AstView) (comp : Option CompView) (inv : Option InvView) (j : JoinedView) → joined_with pipe spec comp inv ≡ Ok j → Steps pipe spec comp inv j
+unfolding joined_with joined_items joined_onto joined_machines
+steps_of pipe spec comp inv j h =
+    let first = then_ok (declared pipe spec comp inv) (λ first. joined_items pipe.items spec.items comp inv) j h in
+    let typed_pipe = typed_machine no_names [] pipe.items in
+    let p = then_ok (in_file Pipe typed_pipe) (λ p. joined_onto pipe.items p spec.items comp inv) j first.2 in
+    let typed_spec = typed_machine p.0.typed.names p.0.symbols spec.items in
+    let s = then_ok (in_file Spec typed_spec) (λ s. joined_machines pipe.items p.0 spec.items s comp inv) j p.2 in
+    let c = then_ok (claimed p.0.typed.names s.0 spec.items comp inv) (λ c. Ok (record { design = assembled pipe.items p.0 s.0 c.inv; abs = c.abs })) j s.2 in
+    let are = are_claims p.0 s.0 spec.items comp inv c.0 c.1 in
+    record {
+      declared = declarations_fine pipe spec comp inv first.0 first.1;
+      p = p.0;
+      p-is = in_file_ok Pipe typed_pipe p.0 p.1;
+      s = s.0;
+      s-is = in_file_ok Spec typed_spec s.0 s.1;
+      a = c.0.abs;
+      a-is = are.a-is;
+      i = c.0.inv;
+      i-is = are.i-is;
+      across = are.across;
+      j-is = cc c.2;
+    }
 
 -- what a completion abstracts to, once the machine files are gone through
 module _ (pipe spec : AstView) (p s : TypedMachine) (i : TypedInv) (is : MachineIs s.symbols p.typed.names p.symbols spec.items s)

@@ -6,8 +6,8 @@ use Rattle.bd_text.specs.Grammar.{Spells}
 use Rattle.bd_text.specs.declared.code.Code.{Code}
 use Rattle.bd_model.specs.DesignView.{DesignView, design_view}
 use Rattle.bd_model.specs.declared.design.Design.{Design}
-use Rattle.bd_syntax.specs.Completion.{completion_form}
-use Rattle.bd_syntax.specs.Forms.{InvView}
+use Rattle.bd_syntax.specs.Completion.{CompView, completion_form}
+use Rattle.bd_syntax.specs.Forms.{AstView, InvView}
 use Rattle.bd_syntax.specs.Reading.{Fault, machine_form, invariant_form}
 use Rattle.bd_syntax.specs.declared.ast.Kind.TheVariants as kinds
 use Rattle.bd_typer.specs.declared.fault.Text.{Text}
@@ -50,13 +50,18 @@ with_premise premise (Err fault) =
 
 -- ---- the design
 
+-- once the forms of the pipeline and the specification are read
+unfoldable pub design_of_machines : Premise → AstView → AstView → Option Nodes → Result DesignView FileFault
+design_of_machines premise p s third = do
+  t ← in_file (premise_file premise) (premise_form premise third)
+  with_premise premise (joined p s t)
+
 -- the design of trees, or their first fault
 unfoldable pub design_of_trees : Premise → Nodes → Nodes → Option Nodes → Result DesignView FileFault
 design_of_trees premise pipe spec third = do
   p ← in_file Pipe (machine_form kinds.Pipeline pipe)
   s ← in_file Spec (machine_form kinds.Specification spec)
-  t ← in_file (premise_file premise) (premise_form premise third)
-  with_premise premise (joined p s t)
+  design_of_machines premise p s third
 
 -- a text has a first fault, which is the result, or it spells trees of which the rest holds
 abbrev pub Reads : {A : Type 0} → Text → List ℕ → Result A FileFault → (Nodes → Type 0) → Type 0
@@ -69,11 +74,15 @@ abbrev pub ReadsIf : {A : Type 0} → Text → Option (List ℕ) → Result A Fi
 ReadsIf file None result Rest = Rest None
 ReadsIf file (Some source) result Rest = Reads file source result (λ trees. Rest (Some trees))
 
+-- what a third file denotes, once the pipeline and the specification spell trees
+abbrev pub DenotesThird : Premise → Nodes → Nodes → Option (List ℕ) → Result DesignView FileFault → Type 0
+DenotesThird premise p s third result =
+    ReadsIf (premise_file premise) third result (λ t. result ≡ design_of_trees premise p s t)
+
 -- what a pipeline, a specification and a third file denote: a design, or their first fault
 abbrev pub DenotesWith : Premise → List ℕ → List ℕ → Option (List ℕ) → Result DesignView FileFault → Type 0
 DenotesWith premise pipe spec third result =
-    Reads Pipe pipe result (λ p. Reads Spec spec result (λ s.
-    ReadsIf (premise_file premise) third result (λ t. result ≡ design_of_trees premise p s t)))
+    Reads Pipe pipe result (λ p. Reads Spec spec result (λ s. DenotesThird premise p s third result))
 
 -- the same where the third file is an invariant
 abbrev pub Denotes : List ℕ → List ℕ → Option (List ℕ) → Result DesignView FileFault → Type 0
@@ -81,21 +90,38 @@ Denotes pipe spec inv result = DenotesWith premises.Invariant pipe spec inv resu
 
 -- ---- the design and the abstraction
 
+-- once the forms of all but the invariant are read
+unfoldable pub completed_of_forms : AstView → AstView → CompView → Option Nodes → Result JoinedView FileFault
+completed_of_forms p s c inv = do
+  i ← in_file Inv (premise_form premises.Invariant inv)
+  joined_completion p s c i
+
+-- once the forms of the pipeline and the specification are read
+unfoldable pub completed_of_machines : AstView → AstView → Nodes → Option Nodes → Result JoinedView FileFault
+completed_of_machines p s comp inv = do
+  c ← in_file Comp (completion_form comp)
+  completed_of_forms p s c inv
+
 -- those of trees, or their first fault
 unfoldable pub completed_of_trees : Nodes → Nodes → Nodes → Option Nodes → Result JoinedView FileFault
 completed_of_trees pipe spec comp inv = do
   p ← in_file Pipe (machine_form kinds.Pipeline pipe)
   s ← in_file Spec (machine_form kinds.Specification spec)
-  c ← in_file Comp (completion_form comp)
-  i ← in_file Inv (premise_form premises.Invariant inv)
-  joined_completion p s c i
+  completed_of_machines p s comp inv
+
+-- what an invariant denotes, once all else spells trees
+abbrev pub CompletesTrees : Nodes → Nodes → Nodes → Option (List ℕ) → Result JoinedView FileFault → Type 0
+CompletesTrees p s c inv result = ReadsIf Inv inv result (λ i. result ≡ completed_of_trees p s c i)
+
+-- what a completion and an invariant denote, once the pipeline and the specification spell trees
+abbrev pub CompletesMachines : Nodes → Nodes → List ℕ → Option (List ℕ) → Result JoinedView FileFault → Type 0
+CompletesMachines p s comp inv result = Reads Comp comp result (λ c. CompletesTrees p s c inv result)
 
 -- what a pipeline, a specification, a completion and an invariant denote: a design and an abstraction, or their first
 -- fault
 abbrev pub DenotesCompleted : List ℕ → List ℕ → List ℕ → Option (List ℕ) → Result JoinedView FileFault → Type 0
 DenotesCompleted pipe spec comp inv result =
-    Reads Pipe pipe result (λ p. Reads Spec spec result (λ s. Reads Comp comp result (λ c.
-    ReadsIf Inv inv result (λ i. result ≡ completed_of_trees p s c i))))
+    Reads Pipe pipe result (λ p. Reads Spec spec result (λ s. CompletesMachines p s comp inv result))
 
 -- ---- results
 

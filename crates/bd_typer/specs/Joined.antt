@@ -142,16 +142,47 @@ pub record JoinedView : Type 0 where
 abbrev pub joined_view : Joined → JoinedView
 joined_view j = record { design = design_view j.design; abs = abstraction_view j.abs }
 
+-- what a completion and an invariant say of both machines
+pub record Claims : Type 0 where
+  pub abs : AbstractionView
+  pub inv : TypedInv
+
+-- an invariant, and then the specification against the pipeline
+unfoldable pub tested_inv : NameMap → NameMap → List ItemView → Option InvView → Result TypedInv FileFault
+tested_inv pipe spec items inv = do
+  i ← in_file Inv (typed_inv (shared_names pipe spec) inv)
+  last ← in_file Spec (without_faults (across_faults pipe items))
+  Ok i
+
+unfoldable pub claimed : NameMap → TypedMachine → List ItemView → Option CompView → Option InvView → Result Claims FileFault
+claimed pipe spec items comp inv = do
+  a ← in_file Comp (typed_completion (shared_names pipe spec.typed.names) spec.typed.names (length spec.entries) comp)
+  i ← tested_inv pipe spec.typed.names items inv
+  Ok (record { abs = a; inv = i })
+
+-- once the pipeline and the specification are gone through
+unfoldable pub joined_machines : List ItemView → TypedMachine → List ItemView → TypedMachine → Option CompView → Option InvView → Result JoinedView FileFault
+joined_machines pipe p spec s comp inv = do
+  c ← claimed p.typed.names s spec comp inv
+  Ok (record { design = assembled pipe p s c.inv; abs = c.abs })
+
+-- once the pipeline is gone through
+unfoldable pub joined_onto : List ItemView → TypedMachine → List ItemView → Option CompView → Option InvView → Result JoinedView FileFault
+joined_onto pipe p spec comp inv = do
+  s ← in_file Spec (typed_machine p.typed.names p.symbols spec)
+  joined_machines pipe p spec s comp inv
+
+-- once the declarations are gone through
+unfoldable pub joined_items : List ItemView → List ItemView → Option CompView → Option InvView → Result JoinedView FileFault
+joined_items pipe spec comp inv = do
+  p ← in_file Pipe (typed_machine no_names [] pipe)
+  joined_onto pipe p spec comp inv
+
 -- the design and the abstraction of files, or their first fault
 unfoldable pub joined_with : AstView → AstView → Option CompView → Option InvView → Result JoinedView FileFault
 joined_with pipe spec comp inv = do
   first ← declared pipe spec comp inv
-  p ← in_file Pipe (typed_machine no_names [] pipe.items)
-  s ← in_file Spec (typed_machine p.typed.names p.symbols spec.items)
-  a ← in_file Comp (typed_completion (shared_names p.typed.names s.typed.names) s.typed.names (length s.entries) comp)
-  i ← in_file Inv (typed_inv (shared_names p.typed.names s.typed.names) inv)
-  last ← in_file Spec (without_faults (across_faults p.typed.names spec.items))
-  Ok (record { design = assembled pipe.items p s i; abs = a })
+  joined_items pipe.items spec.items comp inv
 
 -- the design where no completion is given
 unfoldable pub joined : AstView → AstView → Option InvView → Result DesignView FileFault

@@ -12,8 +12,9 @@ ghost use Rattle.bd_syntax.specs.Completion.{completion_form, completion_view};
 ghost use Rattle.bd_syntax.specs.Forms.{ast_view, invariant_view};
 ghost use Rattle.bd_syntax.specs.Reading.{machine_form};
 ghost use Rattle.bd_syntax.specs.WellFormed.{AreWithinLimits};
+ghost use Rattle.bd_syntax.specs.declared.ast.Kind.TheVariants.{Pipeline, Specification};
 ghost use Rattle.bd_typer.specs.declared.fault.Text.TheVariants.{Comp, Inv, Start};
-ghost use Rattle.bd_typer.specs.Denotes.{Denotes, DenotesCompleted, DenotesWith, OnDesign, OnJoined, completed_of_trees, design_of_trees, premise_file, premise_form};
+ghost use Rattle.bd_typer.specs.Denotes.{CompletesMachines, CompletesTrees, Denotes, DenotesCompleted, DenotesThird, DenotesWith, OnDesign, OnJoined, completed_of_forms, completed_of_machines, completed_of_trees, design_of_machines, design_of_trees, premise_file, premise_form};
 ghost use Rattle.bd_typer.specs.Faults.{GivesIn, in_file};
 ghost use Rattle.bd_typer.specs.Given.{IsCompFile, IsInvFile, IsMachineFile};
 ghost use Rattle.bd_typer.specs.Joined.{joined_view};
@@ -97,6 +98,30 @@ fn premise_form(alloc: Global, premise: Premise, trees: &Trees) -> Result<InvAst
     }
 }
 
+/// The design that the forms of two machines and the trees of a third file denote.
+#[tactic(auto, unfolding(crate::specs::Denotes::design_of_machines))]
+fn design_of_machines(
+    alloc: Global,
+    pipe: &Ast,
+    spec: &Ast,
+    premise: Premise,
+    third: Option<&Trees>,
+) -> Result<Design, TypeFault>
+    requires pipe { IsMachineFile Pipeline (ast_view pipe.now) }
+    requires spec { IsMachineFile Specification (ast_view spec.now) }
+    requires third { IfSome third (λ third. AreWithinLimits (nodes_of third.now)) }
+    ensures { GivesIn design_view result (design_of_machines premise (ast_view pipe.now)
+        (ast_view spec.now) (option_map (λ third. nodes_of third.now) third.entry)) }
+{
+    match third {
+        None => with_premise(premise, join(alloc, pipe, spec, None)),
+        Some(third) => {
+            let third = premise_form(alloc, premise, third)?;
+            with_premise(premise, join(alloc, pipe, spec, Some(&third)))
+        }
+    }
+}
+
 /// The design that trees denote.
 #[tactic(auto, unfolding(crate::specs::Denotes::design_of_trees))]
 fn design_of_trees(
@@ -114,11 +139,28 @@ fn design_of_trees(
 {
     let pipe = machine(alloc, Text::Pipe, pipe, Kind::Pipeline)?;
     let spec = machine(alloc, Text::Spec, spec, Kind::Specification)?;
+    design_of_machines(alloc, &pipe, &spec, premise, third)
+}
+
+/// The design that the trees of two machines and the text of a third file denote, or its first fault.
+fn denoted_third(
+    alloc: Global,
+    pipe: &Trees,
+    spec: &Trees,
+    premise: Premise,
+    third: Option<&[u8]>,
+) -> Result<Design, TypeFault>
+    requires pipe { AreWithinLimits (nodes_of pipe.now) }
+    requires spec { AreWithinLimits (nodes_of spec.now) }
+    requires third { IfSome third (λ third. length third.now ≤ 1048576) }
+    ensures { OnDesign result (DenotesThird premise (nodes_of pipe.now) (nodes_of spec.now)
+        (option_map (λ third. third.now) third.entry)) }
+{
     match third {
-        None => with_premise(premise, join(alloc, &pipe, &spec, None)),
+        None => design_of_trees(alloc, pipe, spec, premise, None),
         Some(third) => {
-            let third = premise_form(alloc, premise, third)?;
-            with_premise(premise, join(alloc, &pipe, &spec, Some(&third)))
+            let third = trees(alloc, premise.file(), third)?;
+            design_of_trees(alloc, pipe, spec, premise, Some(&third))
         }
     }
 }
@@ -139,13 +181,7 @@ fn denoted(
 {
     let pipe = trees(alloc, Text::Pipe, pipe)?;
     let spec = trees(alloc, Text::Spec, spec)?;
-    match third {
-        None => design_of_trees(alloc, &pipe, &spec, premise, None),
-        Some(third) => {
-            let third = trees(alloc, premise.file(), third)?;
-            design_of_trees(alloc, &pipe, &spec, premise, Some(&third))
-        }
-    }
+    denoted_third(alloc, &pipe, &spec, premise, third)
 }
 
 /// The design that texts of at most 1,048,576 bytes denote, or their first fault. The third says what this premise
@@ -188,6 +224,59 @@ pub fn design_of(
     design_with(alloc, pipe, spec, Premise::Invariant, inv)
 }
 
+/// The design and the abstraction that forms and the trees of an invariant denote.
+#[tactic(auto, unfolding(crate::specs::Denotes::completed_of_forms))]
+fn completed_of_forms(
+    alloc: Global,
+    pipe: &Ast,
+    spec: &Ast,
+    comp: &CompAst,
+    inv: Option<&Trees>,
+) -> Result<Joined, TypeFault>
+    requires pipe { IsMachineFile Pipeline (ast_view pipe.now) }
+    requires spec { IsMachineFile Specification (ast_view spec.now) }
+    requires comp { IsCompFile (completion_view comp.now) }
+    requires inv { IfSome inv (λ inv. AreWithinLimits (nodes_of inv.now)) }
+    ensures exact { GivesIn joined_view result (completed_of_forms (ast_view pipe.now)
+        (ast_view spec.now) (completion_view comp.now)
+        (option_map (λ inv. nodes_of inv.now) inv.entry)) }
+    ensures lawful { IfOk result (λ joined. IsLawful (design_view joined.design)) }
+    ensures abstraction { IfOk result
+        (λ joined. IsLawfulAbstraction (design_view joined.design) joined.abs) }
+{
+    match inv {
+        None => join_completion(alloc, pipe, spec, comp, None),
+        Some(inv) => {
+            let inv = invariant(alloc, inv)?;
+            join_completion(alloc, pipe, spec, comp, Some(&inv))
+        }
+    }
+}
+
+/// The design and the abstraction that the forms of two machines and the trees of other files denote.
+#[tactic(auto, unfolding(crate::specs::Denotes::completed_of_machines))]
+fn completed_of_machines(
+    alloc: Global,
+    pipe: &Ast,
+    spec: &Ast,
+    comp: &Trees,
+    inv: Option<&Trees>,
+) -> Result<Joined, TypeFault>
+    requires pipe { IsMachineFile Pipeline (ast_view pipe.now) }
+    requires spec { IsMachineFile Specification (ast_view spec.now) }
+    requires comp { AreWithinLimits (nodes_of comp.now) }
+    requires inv { IfSome inv (λ inv. AreWithinLimits (nodes_of inv.now)) }
+    ensures exact { GivesIn joined_view result (completed_of_machines (ast_view pipe.now)
+        (ast_view spec.now) (nodes_of comp.now)
+        (option_map (λ inv. nodes_of inv.now) inv.entry)) }
+    ensures lawful { IfOk result (λ joined. IsLawful (design_view joined.design)) }
+    ensures abstraction { IfOk result
+        (λ joined. IsLawfulAbstraction (design_view joined.design) joined.abs) }
+{
+    let comp = completion(alloc, comp)?;
+    completed_of_forms(alloc, pipe, spec, &comp, inv)
+}
+
 /// The design and the abstraction that trees denote.
 #[tactic(auto, unfolding(crate::specs::Denotes::completed_of_trees))]
 fn completed_of_trees(
@@ -210,14 +299,57 @@ fn completed_of_trees(
 {
     let pipe = machine(alloc, Text::Pipe, pipe, Kind::Pipeline)?;
     let spec = machine(alloc, Text::Spec, spec, Kind::Specification)?;
-    let comp = completion(alloc, comp)?;
+    completed_of_machines(alloc, &pipe, &spec, comp, inv)
+}
+
+/// The design and the abstraction that trees and the text of an invariant denote, or its first fault.
+fn completed_with(
+    alloc: Global,
+    pipe: &Trees,
+    spec: &Trees,
+    comp: &Trees,
+    inv: Option<&[u8]>,
+) -> Result<Joined, TypeFault>
+    requires pipe { AreWithinLimits (nodes_of pipe.now) }
+    requires spec { AreWithinLimits (nodes_of spec.now) }
+    requires comp { AreWithinLimits (nodes_of comp.now) }
+    requires inv { IfSome inv (λ inv. length inv.now ≤ 1048576) }
+    ensures exact { OnJoined result (CompletesTrees (nodes_of pipe.now) (nodes_of spec.now)
+        (nodes_of comp.now) (option_map (λ inv. inv.now) inv.entry)) }
+    ensures lawful { IfOk result (λ joined. IsLawful (design_view joined.design)) }
+    ensures abstraction { IfOk result
+        (λ joined. IsLawfulAbstraction (design_view joined.design) joined.abs) }
+{
     match inv {
-        None => join_completion(alloc, &pipe, &spec, &comp, None),
+        None => completed_of_trees(alloc, pipe, spec, comp, None),
         Some(inv) => {
-            let inv = invariant(alloc, inv)?;
-            join_completion(alloc, &pipe, &spec, &comp, Some(&inv))
+            let inv = trees(alloc, Text::Inv, inv)?;
+            completed_of_trees(alloc, pipe, spec, comp, Some(&inv))
         }
     }
+}
+
+/// The design and the abstraction that the trees of two machines and the texts of other files denote, or the first
+/// fault of these.
+fn completed_machines(
+    alloc: Global,
+    pipe: &Trees,
+    spec: &Trees,
+    comp: &[u8],
+    inv: Option<&[u8]>,
+) -> Result<Joined, TypeFault>
+    requires pipe { AreWithinLimits (nodes_of pipe.now) }
+    requires spec { AreWithinLimits (nodes_of spec.now) }
+    requires comp { length comp.now ≤ 1048576 }
+    requires inv { IfSome inv (λ inv. length inv.now ≤ 1048576) }
+    ensures exact { OnJoined result (CompletesMachines (nodes_of pipe.now) (nodes_of spec.now)
+        comp.now (option_map (λ inv. inv.now) inv.entry)) }
+    ensures lawful { IfOk result (λ joined. IsLawful (design_view joined.design)) }
+    ensures abstraction { IfOk result
+        (λ joined. IsLawfulAbstraction (design_view joined.design) joined.abs) }
+{
+    let comp = trees(alloc, Text::Comp, comp)?;
+    completed_with(alloc, pipe, spec, &comp, inv)
 }
 
 /// The design and the abstraction that texts of at most 1,048,576 bytes denote, or their first fault: a pipeline, a
@@ -241,12 +373,5 @@ pub fn completed_design(
 {
     let pipe = trees(alloc, Text::Pipe, pipe)?;
     let spec = trees(alloc, Text::Spec, spec)?;
-    let comp = trees(alloc, Text::Comp, comp)?;
-    match inv {
-        None => completed_of_trees(alloc, &pipe, &spec, &comp, None),
-        Some(inv) => {
-            let inv = trees(alloc, Text::Inv, inv)?;
-            completed_of_trees(alloc, &pipe, &spec, &comp, Some(&inv))
-        }
-    }
+    completed_machines(alloc, &pipe, &spec, comp, inv)
 }

@@ -13,11 +13,12 @@ ghost use Rattle.bd_syntax.specs.Forms.{ast_view, invariant_view, item_view};
 ghost use Rattle.bd_syntax.specs.Reading.{Gives};
 ghost use Rattle.bd_syntax.specs.WellFormed.{IsLimitedInvAst};
 ghost use Rattle.bd_syntax.specs.declared.ast.Kind.TheVariants.{Pipeline, Specification};
-ghost use Rattle.bd_typer.specs.Faults.{GivesIn};
+ghost use Rattle.bd_typer.specs.declared.fault.Text.TheVariants.{Pipe};
+ghost use Rattle.bd_typer.specs.Faults.{GivesIn, in_file};
 ghost use Rattle.bd_typer.specs.Given.{IsCompFile, IsInvFile, IsMachineFile};
-ghost use Rattle.bd_typer.specs.Joined.{assembled, declared, declared_comp, entry_place, joined, joined_completion, joined_view, joined_with, machine_of, typed_inv, typed_machine};
-ghost use Rattle.bd_typer.specs.inner.Held.{inv_view, machine_view, meanings};
-ghost use Rattle.bd_typer.specs.NameMap.{shared_names};
+ghost use Rattle.bd_typer.specs.Joined.{assembled, claimed, declared, declared_comp, entry_place, joined, joined_completion, joined_items, joined_machines, joined_onto, joined_view, joined_with, machine_of, tested_inv, typed_inv, typed_machine};
+ghost use Rattle.bd_typer.specs.inner.Held.{claims_view, inv_view, machine_view, meanings};
+ghost use Rattle.bd_typer.specs.NameMap.{no_names, shared_names};
 
 use crate::across::test_across;
 use crate::completions::typed_completion;
@@ -210,19 +211,30 @@ fn machine_parts(machine: TypedMachine<'_>) -> MachineParts
     }
 }
 
+/// Both machines, gone through, and the symbols of the design.
+#[derive(Drop)]
+struct Machines<'a> {
+    pipe: TypedMachine<'a>,
+    spec: TypedMachine<'a>,
+    symbols: Symbols,
+}
+
 /// The design that the parts make.
 fn assembled(
     alloc: Global,
     items: &[Item],
-    pipe: TypedMachine<'_>,
-    spec: TypedMachine<'_>,
-    symbols: Symbols,
+    machines: Machines<'_>,
     inv: TypedInv,
 ) -> Result<Design, AllocError>
     ensures { (before : List Symbol) → IfOk result (λ d. design_view d
-        ≡ assembled (map item_view items.now) (machine_view pipe.entry before)
-        (machine_view spec.entry symbols) (inv_view inv)) }
+        ≡ assembled (map item_view items.now) (machine_view machines.entry.pipe before)
+        (machine_view machines.entry.spec machines.entry.symbols) (inv_view inv)) }
 {
+    let Machines {
+        pipe,
+        spec,
+        symbols,
+    } = machines;
     let visible = visible(alloc, &pipe.typed.names, &spec.entries)?;
     let pipe = machine_parts(pipe);
     let spec = machine_parts(spec);
@@ -249,6 +261,145 @@ pub struct Joined {
     pub abs: Abstraction,
 }
 
+/// What a completion and an invariant say of both machines.
+#[derive(Drop)]
+struct Claims {
+    abs: Abstraction,
+    inv: TypedInv,
+}
+
+/// The lets and the expression of an invariant, where the specification has no fault against the pipeline.
+#[tactic(auto, unfolding(crate::specs::Joined::tested_inv))]
+fn tested_inv(
+    alloc: Global,
+    pipe: &NameMap<'_>,
+    spec: &NameMap<'_>,
+    items: &[Item],
+    inv: Option<&InvAst>,
+) -> Result<TypedInv, TypeFault>
+    requires { IfSome inv (λ inv. IsLimitedInvAst (invariant_view inv.now)) }
+    ensures { GivesIn inv_view result (tested_inv (meanings pipe.now) (meanings spec.now)
+        (map item_view items.now) (option_map (λ inv. invariant_view inv.now) inv.entry)) }
+{
+    let inv = located(Text::Inv, typed_inv(alloc, pipe, spec, inv))?;
+    located(Text::Spec, test_across(pipe, items))?;
+    Ok(inv)
+}
+
+/// What a completion and an invariant say, or their first fault or that of the specification against the pipeline.
+#[tactic(auto, unfolding(crate::specs::Joined::claimed))]
+fn claimed(
+    alloc: Global,
+    machines: &Machines<'_>,
+    items: &[Item],
+    comp: Option<&CompAst>,
+    inv: Option<&InvAst>,
+) -> Result<Claims, TypeFault>
+    requires comp { IfSome comp (λ comp. IsLimitedCompAst (completion_view comp.now)) }
+    requires inv { IfSome inv (λ inv. IsLimitedInvAst (invariant_view inv.now)) }
+    ensures { GivesIn claims_view result (claimed (meanings machines.now.pipe.typed.names)
+        (machine_view machines.now.spec machines.now.symbols) (map item_view items.now)
+        (option_map (λ comp. completion_view comp.now) comp.entry)
+        (option_map (λ inv. invariant_view inv.now) inv.entry)) }
+{
+    let (pipe, spec) = (&machines.pipe.typed.names, &machines.spec.typed.names);
+    let typed = typed_completion(alloc, pipe, spec, machines.spec.entries.len(), comp);
+    let abs = located(Text::Comp, typed)?;
+    let inv = tested_inv(alloc, pipe, spec, items, inv)?;
+    Ok(Claims { abs, inv })
+}
+
+/// The design and the abstraction of files whose machines are gone through, or their first fault.
+#[tactic(auto, unfolding(crate::specs::Joined::joined_machines))]
+fn joined_machines(
+    alloc: Global,
+    pipe: &[Item],
+    spec: &[Item],
+    machines: Machines<'_>,
+    comp: Option<&CompAst>,
+    inv: Option<&InvAst>,
+) -> Result<Joined, TypeFault>
+    requires comp { IfSome comp (λ comp. IsLimitedCompAst (completion_view comp.now)) }
+    requires inv { IfSome inv (λ inv. IsLimitedInvAst (invariant_view inv.now)) }
+    ensures { (before : List Symbol) → GivesIn joined_view result (joined_machines
+        (map item_view pipe.now) (machine_view machines.entry.pipe before)
+        (map item_view spec.now) (machine_view machines.entry.spec machines.entry.symbols)
+        (option_map (λ comp. completion_view comp.now) comp.entry)
+        (option_map (λ inv. invariant_view inv.now) inv.entry)) }
+{
+    let Claims { abs, inv } = claimed(alloc, &machines, spec, comp, inv)?;
+    let design = assembled(alloc, pipe, machines, inv)?;
+    Ok(Joined { design, abs })
+}
+
+/// What the pipeline's items declare, and their expressions.
+fn typed_pipe<'a>(
+    alloc: Global,
+    symbols: &mut Symbols,
+    items: &'a [Item],
+) -> Result<TypedMachine<'a>, TypeFault>
+    requires { length symbols.old + length items.now ≤ 2097152 }
+    ensures exact { GivesIn (λ m. machine_view m symbols.new) result
+        (in_file Pipe (typed_machine no_names symbols.old (map item_view items.now))) }
+    ensures room { OnOk result (length symbols.new ≤ length symbols.old + length items.now) }
+{
+    let none = NameMap::new(alloc);
+    located(Text::Pipe, typed_machine(alloc, &none, symbols, items))
+}
+
+/// The design and the abstraction of files whose pipeline is gone through, or their first fault.
+#[tactic(auto, unfolding(crate::specs::Joined::joined_onto))]
+fn joined_onto(
+    alloc: Global,
+    pipe_items: &[Item],
+    spec_items: &[Item],
+    pipe: TypedMachine<'_>,
+    mut symbols: Symbols,
+    comp: Option<&CompAst>,
+    inv: Option<&InvAst>,
+) -> Result<Joined, TypeFault>
+    requires room { length symbols + length spec_items.now ≤ 2097152 }
+    requires comp { IfSome comp (λ comp. IsLimitedCompAst (completion_view comp.now)) }
+    requires inv { IfSome inv (λ inv. IsLimitedInvAst (invariant_view inv.now)) }
+    ensures { GivesIn joined_view result (joined_onto
+        (map item_view pipe_items.now) (machine_view pipe.entry symbols)
+        (map item_view spec_items.now)
+        (option_map (λ comp. completion_view comp.now) comp.entry)
+        (option_map (λ inv. invariant_view inv.now) inv.entry)) }
+{
+    let typed = typed_machine(alloc, &pipe.typed.names, &mut symbols, spec_items);
+    let spec = located(Text::Spec, typed)?;
+    let machines = Machines {
+        pipe,
+        spec,
+        symbols,
+    };
+    joined_machines(alloc, pipe_items, spec_items, machines, comp, inv)
+}
+
+/// The design and the abstraction of files whose declarations are gone through, or their first fault.
+#[tactic(auto, unfolding(crate::specs::Joined::joined_items))]
+fn joined_items(
+    alloc: Global,
+    pipe_items: &[Item],
+    spec_items: &[Item],
+    comp: Option<&CompAst>,
+    inv: Option<&InvAst>,
+) -> Result<Joined, TypeFault>
+    requires pipe { length pipe_items.now ≤ 1048576 }
+    requires spec { length spec_items.now ≤ 1048576 }
+    requires comp { IfSome comp (λ comp. IsLimitedCompAst (completion_view comp.now)) }
+    requires inv { IfSome inv (λ inv. IsLimitedInvAst (invariant_view inv.now)) }
+    ensures { GivesIn joined_view result (joined_items
+        (map item_view pipe_items.now) (map item_view spec_items.now)
+        (option_map (λ comp. completion_view comp.now) comp.entry)
+        (option_map (λ inv. invariant_view inv.now) inv.entry)) }
+{
+    let mut symbols = Symbols::new(alloc);
+    let pipe = typed_pipe(alloc, &mut symbols, pipe_items)?;
+    joined_onto(alloc, pipe_items, spec_items, pipe, symbols, comp, inv)
+}
+
 /// The design and the abstraction of files, or their first fault.
 #[tactic(auto, unfolding(crate::specs::Joined::joined_with))]
 fn joined_with(
@@ -267,22 +418,8 @@ fn joined_with(
         (option_map (λ inv. invariant_view inv.now) inv.entry)) }
 {
     test_declared(alloc, pipe, spec, comp, inv)?;
-    let pipe_items = pipe.items.as_slice();
-    let spec_items = spec.items.as_slice();
-    let mut symbols = Symbols::new(alloc);
-    let none = NameMap::new(alloc);
-    let typed = typed_machine(alloc, &none, &mut symbols, pipe_items);
-    let pipe = located(Text::Pipe, typed)?;
-    let typed = typed_machine(alloc, &pipe.typed.names, &mut symbols, spec_items);
-    let spec = located(Text::Spec, typed)?;
-    let (names, entries) = (&spec.typed.names, spec.entries.len());
-    let typed = typed_completion(alloc, &pipe.typed.names, names, entries, comp);
-    let abs = located(Text::Comp, typed)?;
-    let typed = typed_inv(alloc, &pipe.typed.names, &spec.typed.names, inv);
-    let inv = located(Text::Inv, typed)?;
-    located(Text::Spec, test_across(&pipe.typed.names, spec_items))?;
-    let design = assembled(alloc, pipe_items, pipe, spec, symbols, inv)?;
-    Ok(Joined { design, abs })
+    let (pipe, spec) = (pipe.items.as_slice(), spec.items.as_slice());
+    joined_items(alloc, pipe, spec, comp, inv)
 }
 
 /// The design of files without a completion, or their first fault.

@@ -16,6 +16,8 @@ use Rattle.bd_typer.specs.declared.walk.Typed.{Typed}
 use Rattle.bd_typer.specs.NameMap as names
 use Rattle.bd_typer.specs.Walk as walk
 use Rattle.bd_typer.specs.Joined as joined
+use Rattle.bd_abstraction.specs.Abstraction.{abstraction_view}
+use Rattle.bd_typer.specs.declared.joining.Claims.{Claims}
 use Rattle.bd_typer.specs.declared.joining.TypedInv.{TypedInv}
 use Rattle.bd_typer.specs.declared.joining.TypedMachine.{TypedMachine}
 
@@ -59,6 +61,9 @@ typed_view outer t = record {
 
 abbrev pub inv_view : TypedInv → joined.TypedInv
 inv_view inv = record { locals = map local_view inv.locals; value = expr_view inv.value }
+
+abbrev pub claims_view : Claims → joined.Claims
+claims_view c = record { abs = abstraction_view c.abs; inv = inv_view c.inv }
 
 abbrev pub machine_view : TypedMachine → List symbol.Symbol → joined.TypedMachine
 machine_view m symbols = record {
