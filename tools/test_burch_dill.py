@@ -172,7 +172,7 @@ class Cases(unittest.TestCase):
     def test_printed_case_is_written_back(self) -> None:
         case = Case.read(PRINTED)
         self.assertEqual(case.text(), PRINTED)
-        self.assertEqual(case.symbols["alu"], Table(0, (Row((3, 10), 12), Row((3, 12), 15))))
+        self.assertEqual(case.symbols["alu"], Table(0, (Row((2, 10), 12), Row((3, 9), 13), Row((2, 13), 15))))
         self.assertEqual((case.state["v"], case.state["d"], case.inputs), (True, 7, {"stall": False}))
 
     def test_every_kind(self) -> None:
@@ -275,7 +275,7 @@ class Answers(unittest.TestCase):
         self.assertEqual(states[0], case.state)
         rf, after = states[0]["rf"], states[1]["rf"]
         assert isinstance(rf, Table) and isinstance(after, Table)
-        self.assertEqual((rf(7), after(7)), (10, 12))
+        self.assertEqual((rf(7), after(7)), (10, 13))
         self.assertEqual(run(STALE, SPEC, case, 0), states[:1])
 
     def test_saved_proof_is_read(self) -> None:
