@@ -1,4 +1,5 @@
 pub mod Loads
+pub mod Readable
 pub mod Refusals
 pub mod Answers
 pub mod Asked

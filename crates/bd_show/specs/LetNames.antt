@@ -3,6 +3,7 @@ use Rattle.std.specs.Prelude.{◌≡◌, ℕ, List, [], codes, Option, Some, Non
 use Rattle.std.specs.List.{filter_map}
 use Rattle.std.specs.declared.alloc.Global.{Global}
 use Rattle.bd_about.specs.declared.unread_lines.LetNames.{LetNames}
+use Rattle.bd_text.specs.Faults.{HasNoFault}
 use Rattle.bd_text.specs.Grammar.{Spells}
 use Rattle.bd_text.specs.Nodes.{Nodes}
 use Rattle.bd_syntax.specs.Forms.{AstView, InvView, ItemView, let_item}
@@ -20,6 +21,32 @@ let_names items = filter_map let_name items
 
 abbrev pub texts_of : List (Vec ℕ Global) → List (List ℕ)
 texts_of names = map (λ (name : Vec ℕ Global). name.items) names
+
+-- the text is one of a machine of this kind
+pub record IsMachineText (kind : Kind) (bytes : List ℕ) : Type 0 where
+  pub no_fault : HasNoFault bytes
+  pub trees : Nodes
+  pub spelled : Spells bytes trees
+  pub ast : AstView
+  pub read : machine_form kind trees ≡ Ok ast
+
+-- and of an invariant
+pub record IsInvariantText (bytes : List ℕ) : Type 0 where
+  pub no_fault : HasNoFault bytes
+  pub trees : Nodes
+  pub spelled : Spells bytes trees
+  pub ast : InvView
+  pub read : invariant_form (codes "invariant") trees ≡ Ok ast
+
+abbrev pub IsInvariantTextIf : Option (List ℕ) → Type 0
+IsInvariantTextIf None = Unit {0}
+IsInvariantTextIf (Some bytes) = IsInvariantText bytes
+
+-- the texts of a design can be read once more
+pub record AreReadable (texts : Texts) : Type 0 where
+  pub pipe : IsMachineText Pipeline texts.pipe
+  pub spec : IsMachineText Specification texts.spec
+  pub inv : IsInvariantTextIf texts.inv
 
 -- these are the names of the lets in a machine's text
 pub record AreMachineLets (kind : Kind) (bytes : List ℕ) (names : List (Vec ℕ Global)) :

@@ -4,7 +4,7 @@ ghost use Rattle.bd_model.specs.DesignView.{design_view};
 ghost use Rattle.bd_model.specs.Lawful.{IsLawful};
 ghost use Rattle.bd_app.specs.Meaning.{files_seen};
 ghost use Rattle.bd_show.specs.Files.{names_of};
-ghost use Rattle.bd_show.specs.LetNames.{AreGivenLets};
+ghost use Rattle.bd_show.specs.LetNames.{AreGivenLets, AreReadable, IsInvariantTextIf};
 ghost use Rattle.bd_show.specs.Meaning.{Question, Says};
 ghost use Rattle.bd_show.specs.inner.Answered.{IsDoneOn, IsOfDesign};
 ghost use Rattle.bd_show.specs.inner.Loaded.{AreFew, bytes_of, texts_view};
@@ -22,6 +22,7 @@ use std::alloc::{AllocError, Global};
 
 /// The names of the lets of an invariant, where there is one.
 fn given_lets(alloc: Global, inv: &Option<Vec<u8>>) -> Result<Vec<Vec<u8>>, AllocError>
+    requires { IsInvariantTextIf (bytes_of inv.now) }
     ensures { IfOk result (λ names. AreGivenLets (bytes_of inv.now) names.items) }
 {
     match inv {
@@ -32,7 +33,8 @@ fn given_lets(alloc: Global, inv: &Option<Vec<u8>>) -> Result<Vec<Vec<u8>>, Allo
 
 /// What is said of the design of texts.
 fn described(alloc: Global, texts: &Texts, design: Design) -> Result<Answer, AllocError>
-    requires { IsLawful (design_view design) }
+    requires lawful { IsLawful (design_view design) }
+    requires readable { AreReadable (texts_view texts.now) }
     ensures { IfOk result (λ a.
         IsOfDesign (texts_view texts.now) (design_view design) a.ended a.text.items) }
 {

@@ -5,6 +5,7 @@ ghost use Rattle.bd_model.specs.Lawful.{IsLawful};
 ghost use Rattle.bd_about.specs.Findings.{finding_of};
 ghost use Rattle.bd_app.specs.Meaning.{files_seen};
 ghost use Rattle.bd_app.specs.Verdicts.{IsVerdict, verdict_words};
+ghost use Rattle.bd_show.specs.LetNames.{AreReadable};
 ghost use Rattle.bd_show.specs.Meaning.{IsShownOf, Says, asked_of, check};
 ghost use Rattle.bd_show.specs.inner.Answered.{IsDoneOn, IsOfVerdict, check_of};
 ghost use Rattle.bd_show.specs.inner.Loaded.{AreFew, texts_view};
@@ -101,7 +102,9 @@ fn shown_case(
     design: &Design,
     verdict: &Verdict,
 ) -> Result<Vec<u8>, AllocError>
-    requires { IsVerdict (design_view design.now) (asked_of (check_of options)) verdict.now }
+    requires verdict { IsVerdict (design_view design.now)
+        (asked_of (check_of options)) verdict.now }
+    requires readable { AreReadable (texts_view texts.now) }
     ensures { IfOk result (λ text. IsShownOf (design_view design.now) verdict.now text.items) }
 {
     match verdict {
@@ -123,7 +126,9 @@ fn report(
     design: &Design,
     verdict: &Verdict,
 ) -> Result<Answer, AllocError>
-    requires { IsVerdict (design_view design.now) (asked_of (check_of options)) verdict.now }
+    requires verdict { IsVerdict (design_view design.now)
+        (asked_of (check_of options)) verdict.now }
+    requires readable { AreReadable (texts_view texts.now) }
     ensures { IfOk result (λ a. IsOfVerdict (check_of options.entry) (design_view design.now)
         a.ended a.text.items) }
 {
@@ -143,7 +148,8 @@ fn on_design(
     texts: &Texts,
     design: &Design,
 ) -> Result<Answer, AllocError>
-    requires { IsLawful (design_view design.now) }
+    requires lawful { IsLawful (design_view design.now) }
+    requires readable { AreReadable (texts_view texts.now) }
     ensures { IfOk result (λ a. IsOfVerdict (check_of options.entry) (design_view design.now)
         a.ended a.text.items) }
 {

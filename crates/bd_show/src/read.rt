@@ -5,6 +5,7 @@ ghost use Rattle.std.specs.Prelude.{◌≡◌, ◌==◌, ◌||◌, if◌then◌e
 ghost use Rattle.bd_model.specs.DesignView.{design_view};
 ghost use Rattle.bd_model.specs.Lawful.{IsLawful};
 ghost use Rattle.bd_show.specs.Files.{AreCase, AreDesign, commented};
+ghost use Rattle.bd_show.specs.LetNames.{AreReadable};
 ghost use Rattle.bd_show.specs.inner.Loaded.{AreFew, texts_view};
 ghost use Rattle.bd_show.specs.inner.Read.{AreRefused};
 
@@ -19,6 +20,7 @@ pub fn design(alloc: Global, texts: &Texts) -> Result<Design, DesignFault>
     requires { AreFew (texts_view texts.now) }
     ensures read { IfOk result (λ d. AreDesign (texts_view texts.now) (Ok (design_view d))) }
     ensures lawful { IfOk result (λ d. IsLawful (design_view d)) }
+    ensures readable { IfOk result (λ _. AreReadable (texts_view texts.now)) }
     ensures refused { IfErr result (AreRefused (texts_view texts.now)) }
 {
     let inv = match &texts.inv {

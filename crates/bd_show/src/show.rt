@@ -9,6 +9,7 @@ ghost use Rattle.bd_app.specs.Words.{given};
 ghost use Rattle.bd_picture.specs.Page.{IsPage};
 ghost use Rattle.bd_picture.specs.Sentence.{sentence};
 ghost use Rattle.bd_show.specs.Files.{AreDesign, names_of};
+ghost use Rattle.bd_show.specs.LetNames.{AreReadable};
 ghost use Rattle.bd_show.specs.Meaning.{IsLeft, IsShown, Question, Says};
 ghost use Rattle.bd_show.specs.inner.Answered.{IsDoneOn, IsDrawn, IsSaved, show_of};
 ghost use Rattle.bd_show.specs.inner.Loaded.{AreFew, bytes_of, texts_view};
@@ -150,6 +151,7 @@ fn on_design(
 ) -> Result<Seen, AllocError>
     requires design { AreDesign (texts_view texts.now) (Ok (design_view design.now)) }
     requires lawful { IsLawful (design_view design.now) }
+    requires readable { AreReadable (texts_view texts.now) }
     ensures says { IfOk result (λ r. Says (Question.show (show_of options.entry))
         (texts_view texts.now) r.answer.ended r.answer.text.items) }
     ensures drawn { IfOk result (λ r.

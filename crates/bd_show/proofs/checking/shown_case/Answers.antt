@@ -7,4 +7,4 @@ use Rattle.bd_show.proofs.checking.shown_case.Goals as goal
 
 pub pictured-requires-clause-judged : goal.pictured-requires-clause-judged
 pictured-requires-clause-judged c =
-    (subst (IsTrueVerdict (design_view c.args.design.now) (asked_of (check_of c.args.options)).given) c.in-Wrong.is c.requires.is_true).1
+    (subst (IsTrueVerdict (design_view c.args.design.now) (asked_of (check_of c.args.options)).given) c.in-Wrong.is c.requires.verdict.is_true).1
