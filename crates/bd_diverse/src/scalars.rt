@@ -5,10 +5,11 @@ ghost use Rattle.bd_model.specs.Value.{scalar_truth, scalar_word};
 ghost use Rattle.bd_terms.specs.declared.node.Sym.{Sym as TheSym};
 ghost use Rattle.bd_terms.specs.Denotation.{applied};
 ghost use Rattle.bd_function.specs.Tables.{world_of_tables};
-ghost use Rattle.bd_function.specs.inner.Scalars.{scalar_at, truth_at, word_at};
+ghost use Rattle.bd_function.specs.inner.Scalars.{word_at};
 ghost use Rattle.bd_diverse.specs.inner.Valued.{IsValued, connective, scalar_in};
 
 use bd_function::SymTable;
+use bd_function::scalars::{scalar_at, truth_at, word_at};
 use bd_model::Scalar;
 use bd_terms::{Graph, Id, Node, Sym};
 use std::alloc::{AllocError, Global};
@@ -113,22 +114,4 @@ pub(crate) fn greatest_constant(tables: &[SymTable]) -> u64
         most = most.max(table.table.at(&[]).word());
     }
     most
-}
-
-fn scalar_at(done: &[Scalar], id: Id) -> Scalar
-    ensures { result ≡ scalar_at done.now id }
-{
-    done.get(id.index()).copied().unwrap_or(Scalar::Bool(false))
-}
-
-fn truth_at(done: &[Scalar], id: Id) -> bool
-    ensures { result ≡ truth_at done.now id }
-{
-    scalar_at(done, id).truth()
-}
-
-fn word_at(done: &[Scalar], id: Id) -> u64
-    ensures { result ≡ word_at done.now id }
-{
-    scalar_at(done, id).word()
 }

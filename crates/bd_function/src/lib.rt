@@ -5,6 +5,7 @@
 mod eliminate;
 mod flat;
 mod nested;
+pub mod scalars;
 mod symbol_tables;
 mod values;
 

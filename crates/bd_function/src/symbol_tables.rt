@@ -7,9 +7,10 @@ ghost use Rattle.bd_terms.specs.Denotation.{values as denotations};
 ghost use Rattle.bd_function.specs.Flat.{IsFlat, KeepsFirst, under};
 ghost use Rattle.bd_function.specs.Tables.{default_of, sym_tables, world_of_tables, zero_like};
 ghost use Rattle.bd_function.specs.Values.{scalar_of};
-ghost use Rattle.bd_function.specs.inner.Scalars.{as_denoted, node_scalar, row_from, scalar_at, sym_table_from, symbol_value, truth_at, word_at};
+ghost use Rattle.bd_function.specs.inner.Scalars.{as_denoted, node_scalar, row_from, sym_table_from, symbol_value};
 
 use crate::flat::{Flat, FlatRow, FlatSym};
+use crate::scalars::{scalar_at, truth_at, word_at};
 use crate::values::Values;
 use bd_list::Sequence;
 use bd_model::{Row, Rows, Scalar, Table, Words};
@@ -83,24 +84,6 @@ fn symbol_value(values: &Values, sym: Sym) -> Scalar
         Sym::Var(var) => values.value(var),
         _ => Scalar::Bool(false),
     }
-}
-
-fn scalar_at(done: &[Scalar], id: Id) -> Scalar
-    ensures { result ≡ scalar_at done.now id }
-{
-    done.get(id.index()).copied().unwrap_or(Scalar::Bool(false))
-}
-
-fn truth_at(done: &[Scalar], id: Id) -> bool
-    ensures { result ≡ truth_at done.now id }
-{
-    scalar_at(done, id).truth()
-}
-
-fn word_at(done: &[Scalar], id: Id) -> u64
-    ensures { result ≡ word_at done.now id }
-{
-    scalar_at(done, id).word()
 }
 
 // The table of a symbol's rows.
