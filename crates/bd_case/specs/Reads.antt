@@ -4,8 +4,8 @@ use Rattle.bd_text.specs.Faults.{HasNoFault, IsFirstFault}
 use Rattle.bd_text.specs.Grammar.{Spells}
 use Rattle.bd_text.specs.Nodes.{Nodes}
 use Rattle.bd_syntax.specs.Reading.{Fault}
-use Rattle.bd_syntax.specs.declared.fault.FormFault.{FormFault}
-use Rattle.bd_syntax.specs.declared.fault.FormFault.TheVariants as faults
+use Rattle.bd_text.specs.declared.fault.TextFault.{TextFault}
+use Rattle.bd_text.specs.declared.fault.TextFault.TheVariants as faults
 use Rattle.bd_model.specs.DesignView.{DesignView}
 use Rattle.bd_model.specs.declared.case.Case.{Case}
 use Rattle.bd_model.specs.declared.case.Trail.{Trail}
@@ -25,7 +25,7 @@ TextReads form source (Err fault) =
     IsFirstFault source fault.offset fault.code ⊎ TreesRead form source (Err fault)
 
 -- what reading answered is the reading of the text, unless memory ran out
-abbrev pub AnswerReads : {A : Type 0} → (Nodes → Result A Fault) → List ℕ → Result A FormFault → Type 0
+abbrev pub AnswerReads : {A : Type 0} → (Nodes → Result A Fault) → List ℕ → Result A TextFault → Type 0
 AnswerReads form source (Ok x) = TextReads form source (Ok x)
 AnswerReads form source (Err (faults.Bad offset code)) =
     TextReads form source (Err (record { offset = offset; code = code }))
@@ -35,12 +35,12 @@ AnswerReads form source (Err faults.Memory) = Unit {0}
 abbrev pub IsReading : DesignView → List ℕ → Result Case Fault → Type 0
 IsReading d source reading = TextReads (case_form d) source reading
 
-abbrev pub IsRead : DesignView → List ℕ → Result Case FormFault → Type 0
+abbrev pub IsRead : DesignView → List ℕ → Result Case TextFault → Type 0
 IsRead d source answer = AnswerReads (case_form d) source answer
 
 -- the text is that trail of the design, or has that first fault
 abbrev pub IsTrailReading : DesignView → List ℕ → Result Trail Fault → Type 0
 IsTrailReading d source reading = TextReads (trail_form d) source reading
 
-abbrev pub IsTrailRead : DesignView → List ℕ → Result Trail FormFault → Type 0
+abbrev pub IsTrailRead : DesignView → List ℕ → Result Trail TextFault → Type 0
 IsTrailRead d source answer = AnswerReads (trail_form d) source answer

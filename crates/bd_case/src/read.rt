@@ -18,7 +18,7 @@ use bd_model::{Case, Design, Table, Trail};
 use bd_syntax::atoms::number;
 use bd_syntax::lists::{end, headed, offset_of};
 use bd_syntax::{FormFault, bad};
-use bd_text::{Code, TextFault, Tree, Trees, read_trees};
+use bd_text::{Code, Tree, Trees, read_trees};
 use std::alloc::{AllocError, Global};
 
 /// The layout of a case, by the version that a tree is.
@@ -160,8 +160,7 @@ fn read_text(
 {
     match read_trees(alloc, bytes) {
         Ok(trees) => trail_of_trees(alloc, design, subject, &trees),
-        Err(TextFault::Bad { offset, code }) => Err(bad(offset, code)),
-        Err(TextFault::Memory) => Err(FormFault::Memory),
+        Err(fault) => Err(fault),
     }
 }
 

@@ -6,8 +6,8 @@ use Rattle.bd_text.specs.Nodes.{Node}
 use Rattle.bd_text.specs.View.{node_of, nodes_of_all}
 use Rattle.bd_text.specs.declared.tree.Tree.{Tree}
 use Rattle.bd_syntax.specs.Reading.{Fault, ◌>>=◌, Fails, each_form}
-use Rattle.bd_syntax.specs.declared.fault.FormFault.{FormFault}
-use Rattle.bd_syntax.specs.declared.fault.FormFault.TheVariants as faults
+use Rattle.bd_text.specs.declared.fault.TextFault.{TextFault}
+use Rattle.bd_text.specs.declared.fault.TextFault.TheVariants as faults
 
 -- what was read before, and what is still read
 abbrev pub with_front : {A : Type 0} → List A → Result (List A) Fault → Result (List A) Fault
@@ -32,7 +32,7 @@ module _ {A : Type 0} (form : Node → Result A Fault) (trees : List Tree) (fron
       sym one ∙ so_far
 
   -- a tree has a fault
-  pub ends : (fault : FormFault) → i < length trees → tree ≡ get_or trees i tree → Fails fault (form (node_of tree))
+  pub ends : (fault : TextFault) → i < length trees → tree ≡ get_or trees i tree → Fails fault (form (node_of tree))
       → with_front front (each_form form (nodes_of_all (drop i trees))) ≡ total → Fails fault total
   ends faults.Memory lt is h so_far = tt
   ends (faults.Bad offset code) lt is h so_far =

@@ -8,8 +8,8 @@ use Rattle.bd_text.proofs.Views.{nesting-part}
 use Rattle.bd_syntax.specs.Words.{operator_of}
 use Rattle.bd_syntax.specs.Forms.{Expression, application, Expressions, expression, expressions_from}
 use Rattle.bd_syntax.specs.Reading.{Fault, ◌>>=◌, each_form, first_form, others, operator_form, expression_form, argument_forms, expression_forms, Fails}
-use Rattle.bd_syntax.specs.declared.fault.FormFault.{FormFault}
-use Rattle.bd_syntax.specs.declared.fault.FormFault.TheVariants as faults
+use Rattle.bd_text.specs.declared.fault.TextFault.{TextFault}
+use Rattle.bd_text.specs.declared.fault.TextFault.TheVariants as faults
 use Rattle.bd_syntax.specs.declared.form.Spot.{Spot}
 
 abbrev done : List Expression → Result Expressions Fault
@@ -39,7 +39,7 @@ rebind offset head (Err fault) = refl
 
 -- a list whose first part has been tested
 module _ (offset : ℕ) (ts : Nodes) (head : Spot) (n : ℕ) (first : first_form offset ts ≡ Ok head) (count : node_count (others ts) ≡ n) where
-  pub application_fails : (fault : FormFault) → Fails fault (operator_form offset head n (operator_of head.text)) → Fails fault (expression_form (list offset ts))
+  pub application_fails : (fault : TextFault) → Fails fault (operator_form offset head n (operator_of head.text)) → Fails fault (expression_form (list offset ts))
   application_fails faults.Memory h = tt
   application_fails (faults.Bad at code) h = rw (first, count, h) refl
 
@@ -50,7 +50,7 @@ module _ (offset : ℕ) (ts : Nodes) (head : Spot) (n : ℕ) (first : first_form
       argument_forms-others ts ∙ ap expression_forms rest ∙ expression_forms-each us in
       rw (first, count, tested, inside) (rebind offset head (each_form expression_form us))
 
-  pub arguments_fail : (us : Nodes) (fault : FormFault) → others ts ≡ us → operator_form offset head n (operator_of head.text) ≡ Ok head
+  pub arguments_fail : (us : Nodes) (fault : TextFault) → others ts ≡ us → operator_form offset head n (operator_of head.text) ≡ Ok head
       → Fails fault (each_form expression_form us) → Fails fault (expression_form (list offset ts))
   arguments_fail us faults.Memory rest tested h = tt
   arguments_fail us (faults.Bad at code) rest tested h =

@@ -2,7 +2,7 @@
 use Rattle.std.proofs.Common.{◌≡◌, Bool, true, false, cond, Result, Ok, Err, refl}
 use Rattle.std.specs.Prelude.{IfOk, ◌&&◌}
 use Rattle.bd_syntax.specs.Reading.{Fault, ◌>>=◌, Gives}
-use Rattle.bd_syntax.specs.declared.fault.FormFault.{FormFault}
+use Rattle.bd_text.specs.declared.fault.TextFault.{TextFault}
 
 -- of a step, where what holds of the first value leads to what holds of the second
 pub holds_then : {A B : Type 0} (P : A → Type 0) (Q : B → Type 0) (r : Result A Fault) (f : A → Result B Fault) → IfOk r P → ((x : A) → P x → IfOk (f x) Q) → IfOk (r >>= f) Q
@@ -25,7 +25,7 @@ anything (Ok x) = tt
 anything (Err fault) = tt
 
 -- what was given is what reading gives
-pub given_holds : {A B : Type 0} (view : A → B) (P : B → Type 0) (result : Result A FormFault) (reading : Result B Fault) → Gives view result reading → IfOk reading P → IfOk result (λ x. P (view x))
+pub given_holds : {A B : Type 0} (view : A → B) (P : B → Type 0) (result : Result A TextFault) (reading : Result B Fault) → Gives view result reading → IfOk reading P → IfOk result (λ x. P (view x))
 given_holds view P (Ok x) reading gives holds = rw gives at holds
 given_holds view P (Err fault) reading gives holds = tt
 

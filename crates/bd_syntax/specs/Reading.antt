@@ -10,8 +10,8 @@ use Rattle.bd_syntax.specs.Name.{is_name}
 use Rattle.bd_syntax.specs.Words.{same_text, is_truth, head_of, head_takes, is_item_of, operator_of, operator_takes}
 use Rattle.bd_syntax.specs.Forms.{Expression, leaf, application, Expressions, no_expressions, expression, ItemView, latch_item, memory_item, input_item, function_item, predicate_item, let_item, next_item, flush_item, steps_item, exact_item, distinct_item, AstView, InvView}
 use Rattle.bd_syntax.specs.declared.form.Spot.{Spot}
-use Rattle.bd_syntax.specs.declared.fault.FormFault.{FormFault}
-use Rattle.bd_syntax.specs.declared.fault.FormFault.TheVariants as faults
+use Rattle.bd_text.specs.declared.fault.TextFault.{TextFault}
+use Rattle.bd_text.specs.declared.fault.TextFault.TheVariants as faults
 use Rattle.bd_syntax.specs.declared.head.Head.{Head}
 use Rattle.bd_syntax.specs.declared.head.Head.TheVariants as heads
 use Rattle.bd_syntax.specs.declared.head.Place.{Place}
@@ -38,11 +38,11 @@ abbrev pub refused : {A : Type 0} → ℕ → Code → Result A Fault
 refused offset code = Err (record { offset = offset; code = code })
 
 -- What a function returned, as its view shows it, is what reading gives, unless memory ran out.
-abbrev pub Fails : {B : Type 0} → FormFault → Result B Fault → Type 0
+abbrev pub Fails : {B : Type 0} → TextFault → Result B Fault → Type 0
 Fails (faults.Bad offset code) reading = reading ≡ Err (record { offset = offset; code = code })
 Fails faults.Memory reading = Unit {0}
 
-abbrev pub Gives : {A B : Type 0} → (A → B) → Result A FormFault → Result B Fault → Type 0
+abbrev pub Gives : {A B : Type 0} → (A → B) → Result A TextFault → Result B Fault → Type 0
 Gives view (Ok x) reading = reading ≡ Ok (view x)
 Gives view (Err fault) reading = Fails fault reading
 

@@ -6,8 +6,6 @@ use Rattle.bd_text.specs.declared.code.Code.{Code}
 use Rattle.bd_text.specs.declared.fault.TextFault.{TextFault}
 use Rattle.bd_text.specs.declared.fault.TextFault.TheVariants as texts
 use Rattle.bd_syntax.specs.Reading.{Fault, Gives}
-use Rattle.bd_syntax.specs.declared.fault.FormFault.{FormFault}
-use Rattle.bd_syntax.specs.declared.fault.FormFault.TheVariants as forms
 use Rattle.bd_typer.specs.declared.fault.Text.{Text}
 use Rattle.bd_typer.specs.declared.fault.TypeFault.{TypeFault}
 use Rattle.bd_typer.specs.declared.fault.TypeFault.TheVariants as faults
@@ -15,16 +13,16 @@ use Rattle.bd_typer.specs.Faults.{◌>>=◌, FileFault, in_file, FailsIn, GivesI
 use Rattle.bd_typer.specs.inner.Located.{located, text_located, OnText}
 
 -- a step on a file gives what its definition gives
-pub located_gives : {A B : Type 0} (view : A → B) (file : Text) (step : Result A FormFault) (reading : Result B Fault) → Gives view step reading → GivesIn view (located file step) (in_file file reading)
+pub located_gives : {A B : Type 0} (view : A → B) (file : Text) (step : Result A TextFault) (reading : Result B Fault) → Gives view step reading → GivesIn view (located file step) (in_file file reading)
 located_gives view file (Ok x) reading h = rw h refl
-located_gives view file (Err forms.Memory) reading h = tt
-located_gives view file (Err (forms.Bad offset code)) reading h = rw h refl
+located_gives view file (Err texts.Memory) reading h = tt
+located_gives view file (Err (texts.Bad offset code)) reading h = rw h refl
 
 -- what holds of what a step gives
-pub located_holds : {A : Type 0} (P : A → Type 0) (file : Text) (step : Result A FormFault) → IfOk step P → IfOk (located file step) P
+pub located_holds : {A : Type 0} (P : A → Type 0) (file : Text) (step : Result A TextFault) → IfOk step P → IfOk (located file step) P
 located_holds P file (Ok x) h = h
-located_holds P file (Err forms.Memory) h = tt
-located_holds P file (Err (forms.Bad offset code)) h = tt
+located_holds P file (Err texts.Memory) h = tt
+located_holds P file (Err (texts.Bad offset code)) h = tt
 
 -- the definition goes on where the step does
 pub given_is : {A B : Type 0} (view : A → B) (r : Result A TypeFault) (x : A) (given : Result B FileFault) → GivesIn view r given → r ≡ Ok x → given ≡ Ok (view x)

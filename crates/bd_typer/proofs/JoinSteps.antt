@@ -8,7 +8,7 @@ use Rattle.bd_model.specs.ExprView.{ExprView, Truth}
 use Rattle.bd_syntax.specs.Completion.{CompView}
 use Rattle.bd_syntax.specs.Forms.{ItemView, InvView}
 use Rattle.bd_syntax.specs.Reading.{Fails}
-use Rattle.bd_syntax.specs.declared.fault.FormFault.{FormFault}
+use Rattle.bd_text.specs.declared.fault.TextFault.{TextFault}
 use Rattle.bd_typer.specs.Completions.{typed_abstracts}
 use Rattle.bd_typer.specs.Faults.{◌>>=◌}
 use Rattle.bd_typer.specs.NameMap.{NameMap, Scope, scope_of}
@@ -21,7 +21,7 @@ module _ (others : NameMap) (symbols : List symbol.Symbol) (items : List ItemVie
   begins : first ≡ start (scope_of others symbols items).names (length (scope_of others symbols items).entries)
   begins = first-is ∙ ap (λ (s : Scope). start s.names (length s.entries)) scope-is
 
-  pub machine_fails : (fault : FormFault) → Fails fault (typed_items true first items) → Fails fault (typed_machine others symbols items)
+  pub machine_fails : (fault : TextFault) → Fails fault (typed_items true first items) → Fails fault (typed_machine others symbols items)
   unfolding typed_machine
   machine_fails fault h = fails_then fault _ _ (subst (λ t. Fails fault (typed_items true t items)) begins h)
 
@@ -32,7 +32,7 @@ module _ (others : NameMap) (symbols : List symbol.Symbol) (items : List ItemVie
       ∙ ap (λ (s : Scope). Ok (record { entries = s.entries; symbols = s.symbols; typed = t })) (sym scope-is)
 
 module _ (names : NameMap) (inv : InvView) (first : Typed) (first-is : first ≡ start names 0) where
-  pub lets_fail : (fault : FormFault) → Fails fault (typed_items false first inv.items) → Fails fault (typed_inv names (Some inv))
+  pub lets_fail : (fault : TextFault) → Fails fault (typed_items false first inv.items) → Fails fault (typed_inv names (Some inv))
   unfolding typed_inv
   lets_fail fault h = fails_then fault _ _ (subst (λ t. Fails fault (typed_items false t inv.items)) first-is h)
 
@@ -40,7 +40,7 @@ module _ (names : NameMap) (inv : InvView) (first : Typed) (first-is : first ≡
     walked : typed_items false (start names 0) inv.items ≡ Ok t
     walked = subst (λ u. typed_items false u inv.items ≡ Ok t) first-is lets
 
-    pub value_fails : (fault : FormFault) → Fails fault (typed t.names false sorts.Bool inv.value) → Fails fault (typed_inv names (Some inv))
+    pub value_fails : (fault : TextFault) → Fails fault (typed t.names false sorts.Bool inv.value) → Fails fault (typed_inv names (Some inv))
     unfolding typed_inv
     value_fails fault h = rw walked (fails_then fault (typed t.names false sorts.Bool inv.value) (λ e. Ok (record { locals = t.locals; value = e })) h)
 
@@ -49,7 +49,7 @@ module _ (names : NameMap) (inv : InvView) (first : Typed) (first-is : first ≡
     inv_done e h = rw (walked, h) refl
 
 module _ (names spec : NameMap) (entries : ℕ) (comp : CompView) (first : Typed) (first-is : first ≡ start names 0) where
-  pub completion_lets_fail : (fault : FormFault) → Fails fault (typed_items false first comp.lets) → Fails fault (typed_completion names spec entries (Some comp))
+  pub completion_lets_fail : (fault : TextFault) → Fails fault (typed_items false first comp.lets) → Fails fault (typed_completion names spec entries (Some comp))
   unfolding typed_completion
   completion_lets_fail fault h = fails_then fault _ _ (subst (λ t. Fails fault (typed_items false t comp.lets)) first-is h)
 
@@ -57,7 +57,7 @@ module _ (names spec : NameMap) (entries : ℕ) (comp : CompView) (first : Typed
     lets_walked : typed_items false (start names 0) comp.lets ≡ Ok t
     lets_walked = subst (λ u. typed_items false u comp.lets ≡ Ok t) first-is lets
 
-    pub parts_fail : (fault : FormFault) → Fails fault (typed_abstracts t.names spec (replicate entries (Truth false)) comp.parts) → Fails fault (typed_completion names spec entries (Some comp))
+    pub parts_fail : (fault : TextFault) → Fails fault (typed_abstracts t.names spec (replicate entries (Truth false)) comp.parts) → Fails fault (typed_completion names spec entries (Some comp))
     unfolding typed_completion
     parts_fail fault h = rw lets_walked (fails_then fault (typed_abstracts t.names spec (replicate entries (Truth false)) comp.parts) (λ parts. Ok (given t.locals parts)) h)
 

@@ -2,8 +2,8 @@
 use Rattle.std.proofs.Common.{◌≡◌, List, [], ◌∷◌, ◌++◌, Result, Ok, Err, refl, ap, sym, ◌∙◌, append_assoc}
 use Rattle.std.proofs.lemmas.List.{append-nil}
 use Rattle.bd_syntax.specs.Reading.{Fault, Fails}
-use Rattle.bd_syntax.specs.declared.fault.FormFault.{FormFault}
-use Rattle.bd_syntax.specs.declared.fault.FormFault.TheVariants as faults
+use Rattle.bd_text.specs.declared.fault.TextFault.{TextFault}
+use Rattle.bd_text.specs.declared.fault.TextFault.TheVariants as faults
 use Rattle.bd_typer.specs.Faults.{◌>>=◌}
 
 abbrev pub with_front : {A : Type 0} → List A → Result (List A) Fault → Result (List A) Fault
@@ -19,7 +19,7 @@ module _ {A : Type 0} (front : List A) (now total : Result (List A) Fault) (so_f
   goes_on x rest is = sym (regroup front x rest) ∙ ap (with_front front) (sym is) ∙ so_far
 
   -- one has a fault
-  pub ends : (fault : FormFault) → Fails fault now → Fails fault total
+  pub ends : (fault : TextFault) → Fails fault now → Fails fault total
   ends faults.Memory h = tt
   ends (faults.Bad offset code) h = sym so_far ∙ ap (with_front front) h
 
@@ -28,6 +28,6 @@ module _ {A : Type 0} (front : List A) (now total : Result (List A) Fault) (so_f
   is_done h = sym so_far ∙ ap (with_front front) h ∙ ap Ok (append-nil front)
 
 -- a step that fails
-pub fails_then : {A B : Type 0} (fault : FormFault) (r : Result A Fault) (f : A → Result B Fault) → Fails fault r → Fails fault (r >>= f)
+pub fails_then : {A B : Type 0} (fault : TextFault) (r : Result A Fault) (f : A → Result B Fault) → Fails fault r → Fails fault (r >>= f)
 fails_then faults.Memory r f h = tt
 fails_then (faults.Bad offset code) r f h = ap (λ s. s >>= f) h

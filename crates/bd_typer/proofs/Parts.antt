@@ -9,7 +9,7 @@ use Rattle.bd_syntax.specs.WellFormed.{expression_nesting, nesting_of_all}
 use Rattle.bd_syntax.specs.Reading.{Fails}
 use Rattle.bd_syntax.specs.declared.form.Form.{Form}
 use Rattle.bd_syntax.specs.declared.form.Spot.{Spot}
-use Rattle.bd_syntax.specs.declared.fault.FormFault.{FormFault}
+use Rattle.bd_text.specs.declared.fault.TextFault.{TextFault}
 use Rattle.bd_typer.specs.declared.operation.Operation.{Operation}
 use Rattle.bd_typer.specs.Faults.{◌>>=◌}
 use Rattle.bd_typer.specs.NameMap.{NameMap}
@@ -24,10 +24,10 @@ nesting-part (f ∷ forms) (suc i) d lt = omega (arith, nesting-part forms i d (
 
 -- a list whose operation is known
 module _ (names : NameMap) (inputs : Bool) (want : Sort) (offset : ℕ) (head : Spot) (parts : Expressions) where
-  pub no_operation : (fault : FormFault) → Fails fault (operation names want offset head (expression_count parts) (operator_of head.text)) → Fails fault (typed names inputs want (application offset head parts))
+  pub no_operation : (fault : TextFault) → Fails fault (operation names want offset head (expression_count parts) (operator_of head.text)) → Fails fault (typed names inputs want (application offset head parts))
   no_operation fault h = fails_then fault _ _ h
 
-  pub parts_fail : (how : Operation) (fault : FormFault) → operation names want offset head (expression_count parts) (operator_of head.text) ≡ Ok how → Fails fault (typed_parts names inputs how want 0 parts)
+  pub parts_fail : (how : Operation) (fault : TextFault) → operation names want offset head (expression_count parts) (operator_of head.text) ≡ Ok how → Fails fault (typed_parts names inputs how want 0 parts)
       → Fails fault (typed names inputs want (application offset head parts))
   parts_fail how fault is h = rw is (fails_then fault (typed_parts names inputs how want 0 parts) (λ xs. Ok (built how xs)) h)
 
@@ -42,7 +42,7 @@ module _ (names : NameMap) (inputs : Bool) (how : Operation) (want : Sort) (plac
       at_drop_more (λ fs. typed_parts names inputs how want place (expressions_of_all fs)) forms i form lt
       ∙ ap (λ f. typed names inputs (part_sort how want place) (expression_of f) >>= λ x. typed_parts names inputs how want (place + 1) (expressions_of_all (drop (i + 1) forms)) >>= λ xs. Ok (x ∷ xs)) (sym is)
 
-  pub part_fails : (fault : FormFault) → Fails fault (typed names inputs (part_sort how want place) (expression_of form)) → Fails fault (typed_parts names inputs how want place (expressions_of_all (drop i forms)))
+  pub part_fails : (fault : TextFault) → Fails fault (typed names inputs (part_sort how want place) (expression_of form)) → Fails fault (typed_parts names inputs how want place (expressions_of_all (drop i forms)))
   part_fails fault h = subst (Fails fault) (sym part_first) (fails_then fault (typed names inputs (part_sort how want place) (expression_of form)) _ h)
 
   pub part_done : (x : ExprView) → typed names inputs (part_sort how want place) (expression_of form) ≡ Ok x

@@ -10,8 +10,8 @@ use Rattle.bd_syntax.specs.WellFormed.{AreWithinLimits, IsAst, AreLimited, IsInv
 use Rattle.bd_syntax.specs.declared.ast.Kind.{Kind}
 use Rattle.bd_syntax.specs.declared.ast.Ast.{Ast}
 use Rattle.bd_syntax.specs.declared.ast.InvAst.{InvAst}
-use Rattle.bd_syntax.specs.declared.fault.FormFault.{FormFault}
-use Rattle.bd_syntax.specs.declared.fault.FormFault.TheVariants as forms
+use Rattle.bd_text.specs.declared.fault.TextFault.{TextFault}
+use Rattle.bd_text.specs.declared.fault.TextFault.TheVariants as forms
 use Rattle.bd_syntax.proofs.WellFormed.{machine_holds, invariant_holds}
 use Rattle.bd_typer.specs.Denotes.{premise_form, premise_head}
 use Rattle.bd_typer.specs.declared.premise.Premise.{Premise}
@@ -41,20 +41,20 @@ inv_file head trees inv within h =
     record { formed = holds.0; limited = holds.1 within }
 
 -- what reading a machine's trees gives
-pub machine_formed : (kind : Kind) (trees : Nodes) (read : Result Ast FormFault) → AreWithinLimits trees → Gives ast_view read (machine_form kind trees) → IfOk read (λ ast. IsMachineFile kind (ast_view ast))
+pub machine_formed : (kind : Kind) (trees : Nodes) (read : Result Ast TextFault) → AreWithinLimits trees → Gives ast_view read (machine_form kind trees) → IfOk read (λ ast. IsMachineFile kind (ast_view ast))
 machine_formed kind trees (Ok ast) within h = machine_file kind trees (ast_view ast) within h
 machine_formed kind trees (Err fault) within h = tt
 
-pub inv_formed : (head : List ℕ) (trees : Nodes) (read : Result InvAst FormFault) → AreWithinLimits trees → Gives invariant_view read (invariant_form head trees) → IfOk read (λ inv. IsInvFile (invariant_view inv))
+pub inv_formed : (head : List ℕ) (trees : Nodes) (read : Result InvAst TextFault) → AreWithinLimits trees → Gives invariant_view read (invariant_form head trees) → IfOk read (λ inv. IsInvFile (invariant_view inv))
 inv_formed head trees (Ok inv) within h = inv_file head trees (invariant_view inv) within h
 inv_formed head trees (Err fault) within h = tt
 
 -- a third file that is given
-pub third_gives : (premise : Premise) (trees : Nodes) (read : Result InvAst FormFault) → Gives invariant_view read (invariant_form (premise_head premise) trees) → Gives (λ (inv : InvAst). Some (invariant_view inv)) read (premise_form premise (Some trees))
+pub third_gives : (premise : Premise) (trees : Nodes) (read : Result InvAst TextFault) → Gives invariant_view read (invariant_form (premise_head premise) trees) → Gives (λ (inv : InvAst). Some (invariant_view inv)) read (premise_form premise (Some trees))
 third_gives premise trees (Ok inv) h = rw h refl
 third_gives premise trees (Err forms.Memory) h = tt
 third_gives premise trees (Err (forms.Bad offset code)) h = rw h refl
 
-pub comp_formed : (read : Result CompAst FormFault) → IfOk read (λ comp. IsCompAst (completion_view comp)) → IfOk read (λ comp. IsLimitedCompAst (completion_view comp)) → IfOk read (λ comp. IsCompFile (completion_view comp))
+pub comp_formed : (read : Result CompAst TextFault) → IfOk read (λ comp. IsCompAst (completion_view comp)) → IfOk read (λ comp. IsLimitedCompAst (completion_view comp)) → IfOk read (λ comp. IsCompFile (completion_view comp))
 comp_formed (Ok comp) formed limited = record { formed = formed; limited = limited }
 comp_formed (Err fault) formed limited = tt

@@ -4,7 +4,6 @@ ghost use Rattle.std.specs.Prelude.{◌≡◌};
 ghost use Rattle.bd_typer.specs.declared.fault.TypeFault.TheVariants.{Memory};
 ghost use Rattle.bd_typer.specs.inner.Located.{located, text_located};
 
-use bd_syntax::FormFault;
 use bd_text::{Code, TextFault};
 use std::alloc::{AllocError, AllocFailed};
 use thiserror::Error;
@@ -68,13 +67,12 @@ impl<T: Drop> From<AllocFailed<T>> for TypeFault {
 }
 
 /// What a step on a file gave, a fault with the file.
-pub fn located<T>(file: Text, step: Result<T, FormFault>) -> Result<T, TypeFault>
+pub fn located<T>(file: Text, step: Result<T, TextFault>) -> Result<T, TypeFault>
     ensures { result ≡ located file step }
 {
     match step {
         Ok(value) => Ok(value),
-        Err(FormFault::Bad { offset, code }) => Err(TypeFault::Bad { file, offset, code }),
-        Err(FormFault::Memory) => Err(TypeFault::Memory),
+        Err(fault) => Err(text_located(file, fault)),
     }
 }
 

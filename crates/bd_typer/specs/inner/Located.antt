@@ -6,20 +6,17 @@ use Rattle.bd_syntax.specs.Reading.{Fault}
 use Rattle.bd_typer.specs.Faults.{fault}
 use Rattle.bd_text.specs.declared.fault.TextFault.{TextFault}
 use Rattle.bd_text.specs.declared.fault.TextFault.TheVariants as texts
-use Rattle.bd_syntax.specs.declared.fault.FormFault.{FormFault}
-use Rattle.bd_syntax.specs.declared.fault.FormFault.TheVariants as forms
 use Rattle.bd_typer.specs.declared.fault.Text.{Text}
 use Rattle.bd_typer.specs.declared.fault.TypeFault.{TypeFault}
 use Rattle.bd_typer.specs.declared.fault.TypeFault.TheVariants as faults
 
-abbrev pub located : {A : Type 0} → Text → Result A FormFault → Result A TypeFault
-located file (Ok x) = Ok x
-located file (Err (forms.Bad offset code)) = Err (faults.Bad file offset code)
-located file (Err forms.Memory) = Err faults.Memory
-
 abbrev pub text_located : Text → TextFault → TypeFault
 text_located file (texts.Bad offset code) = faults.Bad file offset code
 text_located file texts.Memory = faults.Memory
+
+abbrev pub located : {A : Type 0} → Text → Result A TextFault → Result A TypeFault
+located file (Ok x) = Ok x
+located file (Err fault) = Err (text_located file fault)
 
 -- what holds of the offset and the code of a fault of that file
 abbrev pub OnText : Text → TypeFault → (ℕ → Code → Type 0) → Type 0
