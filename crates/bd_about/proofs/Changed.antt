@@ -6,6 +6,7 @@ use Rattle.bd_model.specs.ExprView.{ExprView, Truth}
 use Rattle.bd_model.specs.Lawful.{HasSort, IsLawful, IsLawfulExact, IsLawfulGroup, IsLawfulMachine, IsLawfulPort, IsWithinLimits, LetsHaveSorts, inv_context, without_lets}
 use Rattle.bd_model.specs.declared.design.Sort.TheVariants as sort
 use Rattle.bd_about.specs.Changed.{less_flushed, more_flushed, more_steps, without_invariant, without_steps}
+use Rattle.bd_model.specs.Limits.{most_items}
 
 each_still : {X : Type 0} (P Q : X → Type 0) → ((x : X) → P x → Q x) → (xs : List X) → AllByRecursion P xs → AllByRecursion Q xs
 each_still P Q f [] h = tt
@@ -25,8 +26,8 @@ machine_still d f s x ls i m h = record { locals = h.locals; nexts = h.nexts; lo
 exacts_still : (d : DesignView) (f s : ℕ) (x : List ExactView) (ls : List LocalView) (i : ExprView) (es : List ExactView) → AllByRecursion (IsLawfulExact d) es → AllByRecursion (IsLawfulExact (changed d f s x ls i)) es
 exacts_still d f s x ls i es h = each_still (IsLawfulExact d) (IsLawfulExact (changed d f s x ls i)) (λ e p. record { count = p.count; when = p.when; limits = p.limits }) es h
 
-changed_lawful : (d : DesignView) (f s : ℕ) (x : List ExactView) (ls : List LocalView) (i : ExprView) → IsLawful d → f ≤ 64 → s ≤ 8 → AllByRecursion (IsLawfulExact d) x → length x ≤ 2097152
-    → LetsHaveSorts (without_lets (inv_context d)) ls → HasSort (inv_context (changed d f s x ls i)) i sort.Bool → AllByRecursion (λ (l : LocalView). IsWithinLimits l.value) ls → IsWithinLimits i → length ls ≤ 2097152
+changed_lawful : (d : DesignView) (f s : ℕ) (x : List ExactView) (ls : List LocalView) (i : ExprView) → IsLawful d → f ≤ 64 → s ≤ 8 → AllByRecursion (IsLawfulExact d) x → length x ≤ most_items
+    → LetsHaveSorts (without_lets (inv_context d)) ls → HasSort (inv_context (changed d f s x ls i)) i sort.Bool → AllByRecursion (λ (l : LocalView). IsWithinLimits l.value) ls → IsWithinLimits i → length ls ≤ most_items
     → IsLawful (changed d f s x ls i)
 changed_lawful d f s x ls i h flush steps exact few lets inv let_limits inv_limits few_lets = record {
   pipe = machine_still d f s x ls i d.pipe h.pipe;
@@ -67,7 +68,7 @@ pub without_invariant_lawful : (d : DesignView) → IsLawful d → IsLawful (wit
 without_invariant_lawful d h =
     changed_lawful d d.flush d.steps d.exact [] (Truth true) h h.flush h.steps h.exact h.short.2 tt refl tt (omega arith, omega arith) (omega arith)
 
-pub without_steps_lawful : (d : DesignView) → IsLawful d → length d.exact < 2097152 → IsLawful (without_steps d)
+pub without_steps_lawful : (d : DesignView) → IsLawful d → length d.exact < most_items → IsLawful (without_steps d)
 without_steps_lawful d h room =
     let item : ExactView = record { count = 0; when = Truth true } in
     changed_lawful d d.flush d.steps (d.exact ++ item ∷ []) d.inv_locals d.inv h h.flush h.steps

@@ -21,6 +21,7 @@ use Rattle.bd_about.specs.Findings.{IsFinding, NeverSteps, finding_of}
 use Rattle.bd_about.specs.declared.asking.Finding.{Finding}
 use Rattle.bd_about.specs.declared.asking.Finding.TheVariants as finding
 use Rattle.bd_about.proofs.Changed.{without_steps_lawful}
+use Rattle.bd_model.specs.Limits.{most_items}
 
 front : {X : Type 0} (P : X → Type 0) (xs ys : List X) → AllByRecursion P (xs ++ ys) → AllByRecursion P xs
 front P [] ys h = tt
@@ -37,7 +38,7 @@ stands_still d c j h =
     let now : StandsFor (without_steps d) c.interp c.state c.inputs 0 = subst (λ k. StandsFor (without_steps d) c.interp c.state c.inputs k) (sym none) h in
     (front (AllowsCount (env_of d.pipe.locals c.interp c.state c.inputs) 0) d.exact (item ∷ []) now.0, now.1)
 
-pub never_steps : (d : DesignView) → IsLawful d → length d.exact < 2097152 → IsRight (without_steps d) → NeverSteps d
+pub never_steps : (d : DesignView) → IsLawful d → length d.exact < most_items → IsRight (without_steps d) → NeverSteps d
 never_steps d lawful room right c fits inside =
     let e = without_steps d in
     let fits_still : Fits e c = record { interp = record { tables = fits.interp.tables; apart = fits.interp.apart }; state = fits.state; inputs = fits.inputs } in
@@ -52,5 +53,5 @@ right_of d given (verdict.Wrong which c work) is says = absurd (cc is)
 right_of d given (verdict.Void work) is says = absurd (cc is)
 right_of d given (verdict.Undecided asked work) is says = absurd (cc is)
 
-pub found_still : (d : DesignView) (given : Bool) (f : Finding) → IsLawful d → length d.exact < 2097152 → IsFinding (without_steps d) given f → f ≡ finding.Right → NeverSteps d
+pub found_still : (d : DesignView) (given : Bool) (f : Finding) → IsLawful d → length d.exact < most_items → IsFinding (without_steps d) given f → f ≡ finding.Right → NeverSteps d
 found_still d given f lawful room found is = never_steps d lawful room (right_of (without_steps d) given found.verdict (sym is ∙ found.is) found.says)

@@ -13,6 +13,7 @@ use Rattle.bd_about.specs.Reset.{reset_meets}
 use Rattle.bd_about.specs.declared.asking.Finding.{Finding}
 use Rattle.bd_about.specs.declared.asking.Finding.TheVariants as finding
 use Rattle.bd_about.specs.declared.asking.Findings.{Findings}
+use Rattle.bd_model.specs.Limits.{most_items}
 
 abbrev pub finding_of : Verdict → Finding
 finding_of (verdict.Correct c work) = finding.Right
@@ -52,6 +53,6 @@ pub record AreFindings (d : DesignView) (given : Bool) (r : Findings) : Type 0 w
       (λ f. (given ≡ true) × IsFinding (without_invariant d) false f)
   pub reset : MatchOption r.reset (given ≡ false)
       (λ meets. (given ≡ true) × (meets ≡ reset_meets d))
-  pub without_steps : MatchOption r.without_steps (2097152 ≤ length d.exact)
-      (λ f. (length d.exact < 2097152) × IsFinding (without_steps d) given f)
+  pub without_steps : MatchOption r.without_steps (most_items ≤ length d.exact)
+      (λ f. (length d.exact < most_items) × IsFinding (without_steps d) given f)
   pub never_steps : r.without_steps ≡ Some finding.Right → NeverSteps d

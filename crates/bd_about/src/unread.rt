@@ -8,6 +8,7 @@ ghost use Rattle.bd_about.specs.Marked.{Adds, is_marked};
 ghost use Rattle.bd_about.specs.Reached.{pipe_roots};
 ghost use Rattle.bd_about.specs.Unread.{IsUnread};
 ghost use Rattle.bd_about.specs.inner.Marking.{AreMarked, AreReached, LeadsOn, UseEarlier, unset_below};
+ghost use Rattle.bd_model.specs.Limits.{most_items};
 
 use crate::marks::{Marks, add_expr, add_exprs, is_set};
 use crate::named::Named;
@@ -138,7 +139,7 @@ fn unset(
     second: &[bool],
     third: &[bool],
 ) -> Result<Places, AllocError>
-    requires { count ≤ 2097152 }
+    requires { count ≤ most_items }
     ensures { IfOk result (λ places. places ≡ unset_below
         (λ i. (slice_index_or first.now i false || slice_index_or second.now i false)
         || slice_index_or third.now i false) count) }

@@ -19,6 +19,7 @@ use Rattle.bd_app.specs.declared.answer.Which.TheVariants as which
 use Rattle.bd_app.specs.inner.Loaded.{IsLoadFault, Loads}
 use Rattle.bd_app.proofs.Calls.{called_then, fails_before, fails_next}
 use Rattle.bd_app.proofs.Results.{IfSome-both, IfSome-weaker, OnOk-weaker, no_error, passed, rose_after, same_error}
+use Rattle.bd_model.specs.Limits.{longest_text}
 
 -- ---- what was loaded of a file
 
@@ -181,7 +182,7 @@ all_held None names s same a b c = tt
 all_held (Some h) names s same a b c = record { pipe_held = a; spec_held = b; same_premise = same; third_held = c }
 
 -- a third file is no proof
-pub few_third : (premise : Premise) (bytes : Option (List ℕ)) → IfSome bytes (λ b. length b ≤ most_bytes (premise_file premise)) → IfSome bytes (λ b. length b ≤ 1048576)
+pub few_third : (premise : Premise) (bytes : Option (List ℕ)) → IfSome bytes (λ b. length b ≤ most_bytes (premise_file premise)) → IfSome bytes (λ b. length b ≤ longest_text)
 few_third premises.Invariant bytes few = few
 few_third premises.Start bytes few = few
 

@@ -4,6 +4,7 @@ use Rattle.std.specs.Prelude.{◌≡◌, ◌≤◌, ℕ, List, [], ◌∷◌, �
 use Rattle.std.specs.Fmt.{decimal}
 use Rattle.clap.specs.Simple.{Shape}
 use Rattle.clap.specs.Walk.{Row}
+use Rattle.bd_model.specs.Limits.{most_cycles}
 use Rattle.bd_model.specs.DesignView.{DesignView}
 use Rattle.bd_model.specs.declared.case.Trail.{Trail}
 use Rattle.bd_bounded.specs.Answer.{HasWork, Says}
@@ -27,10 +28,6 @@ pub record BoundedRun : Type 0 where
   pub budget : ℕ
 
 -- ---- its words
-
--- the most cycles of a bounded run
-abbrev pub most_cycles : ℕ
-most_cycles = 16
 
 -- bounded PIPE SPEC START C [--budget N]
 abbrev pub bounded_command : Shape

@@ -15,6 +15,7 @@ use Rattle.bd_typer.specs.declared.fault.Text.{Text}
 use Rattle.bd_typer.specs.declared.fault.Text.TheVariants.{Pipe, Spec, Proof}
 use Rattle.bd_typer.specs.declared.premise.Premise.{Premise}
 use Rattle.bd_typer.specs.declared.premise.Premise.TheVariants.{Invariant, Start}
+use Rattle.bd_model.specs.Limits.{longest_text}
 
 -- ---- files that are read
 
@@ -75,7 +76,7 @@ text_files text names =
 -- the most bytes of a file
 abbrev pub most_bytes : Text → ℕ
 most_bytes Proof = 67108864
-most_bytes _ = 1048576
+most_bytes _ = longest_text
 
 -- these bytes are held under the file's name, not too many
 abbrev pub HoldsShort : Held → File → List ℕ → Type 0

@@ -9,6 +9,7 @@ use Rattle.bd_case.specs.Text.{text_of, trail_text_of}
 use Rattle.bd_syntax.specs.Reading.{Fault}
 use Rattle.bd_typer.specs.declared.fault.Text.{Text}
 use Rattle.bd_typer.specs.declared.fault.Text.TheVariants as text
+use Rattle.bd_model.specs.Limits.{most_cycles}
 
 -- a kind of text: its file, how one is written, what bytes read as, and what is read of them
 pub record TextKind (V : Type 0) : Type 1 where
@@ -24,7 +25,7 @@ case_kind =
 -- a trail of at most 16 cycles
 pub record TrailFitsShort (d : DesignView) (t : Trail) : Type 0 where
   pub fits : TrailFits d t
-  pub short : length t.inputs ≤ 16
+  pub short : length t.inputs ≤ most_cycles
 
 abbrev pub trail_kind : TextKind Trail
 trail_kind = record {

@@ -13,6 +13,7 @@ ghost use Rattle.bd_app.specs.Texts.{TrailFitsShort, case_kind, trail_kind};
 ghost use Rattle.bd_app.specs.inner.Loaded.{AreFew, sources_view};
 ghost use Rattle.bd_app.specs.inner.Completed.{AreCompletion, AreNoCompletion};
 ghost use Rattle.bd_app.specs.inner.Done.{AreDesign, AreRefused, IsTextRefused};
+ghost use Rattle.bd_model.specs.Limits.{longest_text};
 
 use crate::answer::Ended;
 use crate::load::{Sources, TextBytes};
@@ -48,7 +49,7 @@ pub fn design(alloc: Global, sources: &Sources) -> Result<Design, Ended>
 /// The design of sources, and the completion function of bytes.
 pub fn completion(alloc: Global, bytes: &TextBytes) -> Result<Joined, Ended>
     requires sources { AreFew (sources_view bytes.now.sources) }
-    requires text { length bytes.now.text.items ≤ 1048576 }
+    requires text { length bytes.now.text.items ≤ longest_text }
     ensures read { IfOk result (λ j. AreCompletion (sources_view bytes.now.sources)
         bytes.now.text.items (design_view j.design) (abstraction_view j.abs)) }
     ensures lawful { IfOk result (λ j. IsLawful (design_view j.design)) }

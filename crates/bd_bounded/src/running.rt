@@ -6,6 +6,7 @@ ghost use Rattle.bd_model.specs.TrailJudged.{IsTrailJudged};
 ghost use Rattle.bd_goal.specs.Bounded.{IsBroken};
 ghost use Rattle.bd_bounded.specs.Answer.{HasWork, IsAnswerSaid, Says};
 ghost use Rattle.bd_bounded.specs.Kept.{IsRunRoot};
+ghost use Rattle.bd_model.specs.Limits.{most_cycles};
 
 use crate::answer::Bounded;
 use bd_cdcl::HonestSolver;
@@ -26,7 +27,7 @@ pub fn bounded<S: HonestSolver>(
     budget: u32,
 ) -> Result<Bounded, AllocError>
     requires lawful { IsLawful (design_view design.now) }
-    requires few { cycles ≤ 16 }
+    requires few { cycles ≤ most_cycles }
     ensures says { IfOk result (Says (design_view design.now) cycles) }
     ensures work { IfOk result (HasWork (design_view design.now) cycles budget) }
     ensures asked { IfOk result (IsAnswerSaid (S.says solver.old) budget) }
@@ -52,7 +53,7 @@ fn run_root(
     cycles: u32,
 ) -> Result<Id, AllocError>
     requires lawful { IsLawful (design_view design.now) }
-    requires few { cycles ≤ 16 }
+    requires few { cycles ≤ most_cycles }
     requires empty { graph.old ≡ [] }
     ensures { IfOk result (IsRunRoot (design_view design.now) cycles graph.new) }
 {
@@ -63,7 +64,7 @@ fn run_root(
 // The first cycle that breaks, of a trail of which one does.
 fn broken_cycle(alloc: Global, design: &Design, trail: &Trail) -> Result<u32, AllocError>
     requires broken { IsBroken (design_view design.now) trail.now }
-    requires short { length trail.now.inputs ≤ 16 }
+    requires short { length trail.now.inputs ≤ most_cycles }
     ensures { IfOk result (λ cycle.
         IsTrailJudged (design_view design.now) trail.now (TrailJudged.Broken cycle)) }
 {

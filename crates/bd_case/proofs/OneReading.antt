@@ -27,6 +27,7 @@ use Rattle.bd_case.proofs.Inputs.{short_inputs}
 use Rattle.bd_case.proofs.ReadsBack.{text_node, version_reads, cycles_read, text_form-laid}
 use Rattle.bd_case.proofs.Laid.{IsAtom, version_bytes, heading, text_laid, text_flat}
 use Rattle.bd_case.proofs.WhatIsReadFits.{both_all, fits_once}
+use Rattle.bd_model.specs.Limits.{most_cycles}
 
 same_fault : (e f : Fault) → e.offset ≡ f.offset → e.code ≡ f.code → e ≡ f
 same_fault e f p q = λ j. record { offset = p j; code = q j }
@@ -68,12 +69,12 @@ tables_short d t short =
     both_all IsShortTable (t.interp ++ map table_of_value t.state) (input_tables 0 d.pipe.ports t.inputs)
     (both_all IsShortTable t.interp (map table_of_value t.state) short.tables short.values) (short_inputs 0 d.pipe.ports t.inputs short.inputs)
 
-pub written_trail_reads : (d : DesignView) (t : Trail) → IsLawful d → TrailFits d t → AllByRecursion IsShortTable (tables_of d t) → length t.inputs ≤ 16 → IsTrailReading d (trail_text_of d t) (Ok t)
+pub written_trail_reads : (d : DesignView) (t : Trail) → IsLawful d → TrailFits d t → AllByRecursion IsShortTable (tables_of d t) → length t.inputs ≤ most_cycles → IsTrailReading d (trail_text_of d t) (Ok t)
 written_trail_reads d t lawful fits short few =
     let cycles = length t.inputs in
     text_reads subjects.Trail (decimal cycles) (record { version = Two; cycles = cycles }) d t lawful fits short refl (decimal_bytes cycles (omega (arith, few))) (λ u e. cycles_read cycles u few e)
 
-pub trail_reads : (d : DesignView) (t : Trail) → IsLawful d → TrailFits d t → HasShortWords t → length t.inputs ≤ 16 → IsTrailReading d (trail_text_of d t) (Ok t)
+pub trail_reads : (d : DesignView) (t : Trail) → IsLawful d → TrailFits d t → HasShortWords t → length t.inputs ≤ most_cycles → IsTrailReading d (trail_text_of d t) (Ok t)
 trail_reads d t lawful fits short few = written_trail_reads d t lawful fits (tables_short d t short) few
 
 -- ---- a case is what is read as a trail of one cycle

@@ -42,6 +42,7 @@ use Rattle.bd_case.proofs.Rows.{table_form-table}
 use Rattle.bd_case.proofs.Inputs.{values_back}
 use Rattle.bd_case.proofs.Contents.{IsTabled, IsContent, input_known, symbol_head-tabled, trail_contents, trail_from-tables_of}
 use Rattle.bd_case.proofs.Constants.{distinct_form-fits}
+use Rattle.bd_model.specs.Limits.{most_cycles}
 
 -- ---- places of names
 
@@ -394,7 +395,7 @@ version_reads One (atom offset text) e = let same : text ≡ codes "1" = cc in r
 version_reads Two (list offset parts) e = absurd (cc)
 version_reads Two (atom offset text) e = let same : text ≡ codes "2" = cc in rw same refl
 
-pub cycles_read : (cycles : ℕ) (u : Node) → cycles ≤ 16 → without_offsets u ≡ atom 0 (decimal cycles) → cycles_part (offset_of u) (number_form 16 u) ≡ Ok (record { version = Two; cycles = cycles })
+pub cycles_read : (cycles : ℕ) (u : Node) → cycles ≤ most_cycles → without_offsets u ≡ atom 0 (decimal cycles) → cycles_part (offset_of u) (number_form most_cycles u) ≡ Ok (record { version = Two; cycles = cycles })
 cycles_read cycles u few e = let read = number_form-word_node 16 cycles u few (omega arith) e in rw read refl
 
 -- the file of a tree that is laid out so

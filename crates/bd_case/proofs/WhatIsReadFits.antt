@@ -39,6 +39,7 @@ use Rattle.bd_case.proofs.Rows.{IsRowOf, IsTableOf}
 use Rattle.bd_case.proofs.Constants.{or_false, or_left, or_right, repeats-differ}
 use Rattle.bd_case.proofs.Contents.{symbol_head-tabled}
 use Rattle.bd_case.proofs.ReadsBack.{length-symbol_kinds, sort_tabled}
+use Rattle.bd_model.specs.Limits.{most_cycles}
 
 -- ---- values, rows and tables
 
@@ -410,7 +411,7 @@ number_within most (list offset parts) = tt
 number_within most (atom offset text) =
     holds_if (λ n. n ≤ most) (is_number text && nat_le (number_of text) most) (number_of text) _ (λ e. leb-true _ _ (split_and (is_number text) (nat_le (number_of text) most) e).1)
 
-cycles_within : (offset : ℕ) (r : Result ℕ Fault) → IfOk r (λ n. n ≤ 16) → IfOk (cycles_part offset r) (λ l. HasCycles subjects.Trail l.cycles)
+cycles_within : (offset : ℕ) (r : Result ℕ Fault) → IfOk r (λ n. n ≤ most_cycles) → IfOk (cycles_part offset r) (λ l. HasCycles subjects.Trail l.cycles)
 cycles_within offset (Ok n) h = h
 cycles_within offset (Err e) h = tt
 
@@ -422,7 +423,7 @@ version_cycles (atom offset text) =
 
 part_cycles : (subject : Subject) (t : Node) → IfOk (layout_part subject t) (λ l. HasCycles subject l.cycles)
 part_cycles subjects.Case t = version_cycles t
-part_cycles subjects.Trail t = cycles_within (offset_of t) (number_form 16 t) (number_within 16 t)
+part_cycles subjects.Trail t = cycles_within (offset_of t) (number_form most_cycles t) (number_within most_cycles t)
 
 layout_cycles : (subject : Subject) (offset : ℕ) (ts : Nodes) → IfOk (layout_form subject offset ts) (λ p. HasCycles subject p.0.cycles)
 layout_cycles subject offset no_nodes = tt

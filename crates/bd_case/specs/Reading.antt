@@ -27,6 +27,7 @@ use Rattle.bd_case.specs.declared.kind.Layout.{Layout}
 use Rattle.bd_case.specs.declared.kind.EntryHead.{EntryHead}
 use Rattle.bd_case.specs.declared.kind.EntryHead.TheVariants as heads
 use Rattle.bd_case.specs.declared.kind.EntryKind.{EntryKind}
+use Rattle.bd_model.specs.Limits.{most_cycles}
 
 -- ---- values and rows
 
@@ -207,12 +208,12 @@ cycles_part offset (Err fault) = refused offset WrongHead
 
 abbrev pub layout_part : Subject → Node → Result Layout Fault
 layout_part ACase t = version_part t
-layout_part ATrail t = cycles_part (offset_of t) (number_form 16 t)
+layout_part ATrail t = cycles_part (offset_of t) (number_form most_cycles t)
 
 -- how many cycles there may be
 abbrev pub HasCycles : Subject → ℕ → Type 0
 HasCycles ACase cycles = cycles ≡ 1
-HasCycles ATrail cycles = cycles ≤ 16
+HasCycles ATrail cycles = cycles ≤ most_cycles
 
 -- the layout of a text, and the entries after it
 abbrev pub layout_form : Subject → ℕ → Nodes → Result (Layout × Nodes) Fault

@@ -10,6 +10,7 @@ ghost use Rattle.bd_model.specs.declared.case.Trail.{Trail as TheTrail};
 ghost use Rattle.bd_case.specs.Content.{Has64Bits, HasShortWords};
 ghost use Rattle.bd_case.specs.Reads.{IsReading, IsTrailReading};
 ghost use Rattle.bd_case.specs.Text.{text_of, trail_text_of};
+ghost use Rattle.bd_model.specs.Limits.{most_cycles};
 
 /// A text has at most one reading as a case.
 pub fn one_case()
@@ -32,5 +33,5 @@ pub fn one_trail()
 /// What is written of a trail of at most 16 cycles reads as that trail.
 pub fn trail_reads_back()
     ensures { (d : DesignView) (t : TheTrail) → IsLawful d → TrailFits d t → HasShortWords t →
-        length t.inputs ≤ 16 → IsTrailReading d (trail_text_of d t) (Ok t) }
+        length t.inputs ≤ most_cycles → IsTrailReading d (trail_text_of d t) (Ok t) }
 {}

@@ -8,6 +8,7 @@ ghost use Rattle.bd_model.specs.Fits.{Fits, TrailFits};
 ghost use Rattle.bd_model.specs.Lawful.{IsLawful};
 ghost use Rattle.bd_case.specs.Reading.{HasCycles, cycles_part, file_form, layout_form, nothing_given, text_form, version_part, walk_form};
 ghost use Rattle.bd_case.specs.Reads.{AnswerReads, IsRead, IsTrailRead};
+ghost use Rattle.bd_model.specs.Limits.{most_cycles};
 
 use crate::entry::entries;
 use crate::frame::Frame;
@@ -45,7 +46,7 @@ fn version_of(tree: &Tree) -> Result<Layout, FormFault>
 /// The layout of a trail, by the number of cycles that a tree is.
 fn cycles_of(tree: &Tree) -> Result<Layout, FormFault>
     ensures { Gives (λ l. l) result
-        (cycles_part (offset_of (node_of tree.now)) (number_form 16 (node_of tree.now))) }
+        (cycles_part (offset_of (node_of tree.now)) (number_form most_cycles (node_of tree.now))) }
 {
     match number(tree, 16) {
         Ok(cycles) => Ok(Layout {
@@ -189,7 +190,7 @@ pub fn read_trail(alloc: Global, design: &Design, bytes: &[u8]) -> Result<Trail,
     ensures exact { IsTrailRead (design_view design.now) bytes.now result }
     ensures fits { IsLawful (design_view design.now)
         → IfOk result (λ t. TrailFits (design_view design.now) t) }
-    ensures cycles { IfOk result (λ t. length t.inputs ≤ 16) }
+    ensures cycles { IfOk result (λ t. length t.inputs ≤ most_cycles) }
 {
     read_text(alloc, design, Subject::Trail, bytes)
 }

@@ -10,6 +10,7 @@ ghost use Rattle.bd_case.specs.Kinds.{is_apart, version_of};
 ghost use Rattle.bd_case.specs.Content.{IsShortTable, input_tables, table_of_value, tables_of};
 ghost use Rattle.bd_case.specs.Reads.{IsReading, IsTrailReading};
 ghost use Rattle.bd_case.specs.Text.{entry_line, input_nodes, state_line, state_nodes, state_text, symbol_nodes, text_of, text_with, trail_nodes, trail_text_of, version_text};
+ghost use Rattle.bd_model.specs.Limits.{most_cycles};
 
 use crate::frame::apart;
 use crate::kind::{EntryKind, Version};
@@ -157,7 +158,7 @@ pub fn trail_text(alloc: Global, design: &Design, trail: &Trail) -> Result<Vec<u
     ensures exact { IfOk result (λ text.
         text.items ≡ trail_text_of (design_view design.now) trail.now) }
     ensures reads_back { IsLawful (design_view design.now)
-        → TrailFits (design_view design.now) trail.now → length trail.now.inputs ≤ 16
+        → TrailFits (design_view design.now) trail.now → length trail.now.inputs ≤ most_cycles
         → IfOk result (λ text.
         IsTrailReading (design_view design.now) text.items (Ok trail.now)) }
 {

@@ -38,6 +38,7 @@ use Rattle.bd_goal.proofs.Counting.{memories_in}
 use Rattle.bd_goal.proofs.Lists.{drop-there, zip-length, zip-there}
 use Rattle.bd_goal.proofs.Known.{KeepsAddresses-Known, Known-by, Known-none, Known-trans}
 use Rattle.bd_goal.proofs.Showing.{truth-later}
+use Rattle.bd_model.specs.Limits.{most_items}
 
 -- the value that a term of a sort denotes is of that sort
 denoted_sort-value : (v : Value) → denoted_sort (denotes_value v) ≡ value_sort v
@@ -307,7 +308,7 @@ advance-le sort.Memory stride = omega arith
 -- no address overflows
 pub address-fits : (d : DesignView) (old cur : List Node) (ours theirs : List ℕ) (first stride i all address : ℕ) → IsLawful d → stride ≤ 9 → Equalled d old cur ours theirs first stride i all address → address ≤ 18874368 + first
 address-fits d old cur ours theirs first stride i all address lawful few h =
-    let total : memory_count d ≤ 2097152 = omega (arith, count_by-le-length (λ (x : entry.Entry). is_memory x.sort) d.spec.entries, lawful.spec.short.0) in
-    let count : h.count ≤ 2097152 = omega (arith, h.counted, total) in
-    let product : h.count * stride ≤ 2097152 * 9 = mul-le-mul count few in
+    let total : memory_count d ≤ most_items = omega (arith, count_by-le-length (λ (x : entry.Entry). is_memory x.sort) d.spec.entries, lawful.spec.short.0) in
+    let count : h.count ≤ most_items = omega (arith, h.counted, total) in
+    let product : h.count * stride ≤ most_items * 9 = mul-le-mul count few in
     omega (arith, product, h.number)

@@ -32,6 +32,7 @@ use Rattle.bd_goal.specs.inner.Shown.{Says, StandsFor, StandsUpTo}
 use Rattle.bd_goal.proofs.Joining.{next-denotes}
 use Rattle.bd_goal.proofs.Runs.{inputs-fit, inputs-there, state_after-next}
 use Rattle.bd_goal.proofs.Showing.{DenotesState-later, HaveSorts-later, IsVisible-later, Says-and, Says-implies, Says-later, Says-same, Says-true, StateHasSorts-later, values-later}
+use Rattle.bd_model.specs.Limits.{most_cycles, most_items}
 
 -- growth by the symbols of fewer cycles is growth by those of more
 pub Known-wider : (d : DesignView) (n m k l : ℕ) (old new : List Node) → n ≤ m → k ≤ l → GrowsKnown (widened d n) k old new → GrowsKnown (widened d m) l old new
@@ -189,18 +190,18 @@ running-claimed d cycles old cur new inside run n (Ok id) some all h is = runnin
 running-claimed d cycles old cur new inside run n (Err e) some all h is = tt
 
 -- no number of an address is too large
-pub each-fit : (d : DesignView) (count : ℕ) → IsLawful d → count ≤ 2097152 → count * (d.steps + 1) ≤ 18874368
+pub each-fit : (d : DesignView) (count : ℕ) → IsLawful d → count ≤ most_items → count * (d.steps + 1) ≤ 18874368
 each-fit d count lawful small =
     let more : d.steps + 1 ≤ 9 = omega (arith, lawful.steps) in
-    let one : count * (d.steps + 1) ≤ 2097152 * 9 = mul-le-mul small more in
+    let one : count * (d.steps + 1) ≤ most_items * 9 = mul-le-mul small more in
     omega (arith, one)
 
-pub all-fit : (d : DesignView) (cycles count : ℕ) → IsLawful d → cycles ≤ 16 → count ≤ 2097152 → cycles * (count * (d.steps + 1)) ≤ 301989888
+pub all-fit : (d : DesignView) (cycles count : ℕ) → IsLawful d → cycles ≤ most_cycles → count ≤ most_items → cycles * (count * (d.steps + 1)) ≤ 301989888
 all-fit d cycles count lawful few small =
     let all : cycles * (count * (d.steps + 1)) ≤ 16 * 18874368 = mul-le-mul few (each-fit d count lawful small) in
     omega (arith, all)
 
-pub first-fits : (d : DesignView) (cycle count : ℕ) → IsLawful d → cycle < 16 → count ≤ 2097152 → cycle * (count * (d.steps + 1)) ≤ 283115520
+pub first-fits : (d : DesignView) (cycle count : ℕ) → IsLawful d → cycle < most_cycles → count ≤ most_items → cycle * (count * (d.steps + 1)) ≤ 283115520
 first-fits d cycle count lawful few small =
     let less : cycle ≤ 15 = omega (arith, few) in
     let all : cycle * (count * (d.steps + 1)) ≤ 15 * 18874368 = mul-le-mul less (each-fit d count lawful small) in

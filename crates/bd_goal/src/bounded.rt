@@ -13,6 +13,7 @@ ghost use Rattle.bd_goal.specs.Bounded.{ClaimsRuns};
 ghost use Rattle.bd_goal.specs.Formula.{address_count};
 ghost use Rattle.bd_goal.specs.Symbols.{AppliesKnown, GrowsKnown, KeepsAddresses, ReachesKnown};
 ghost use Rattle.bd_goal.specs.inner.Run.{IsRun, StartsRun};
+ghost use Rattle.bd_model.specs.Limits.{most_cycles};
 
 use crate::abstracted::abstracted;
 use crate::commute::commutes;
@@ -35,7 +36,7 @@ pub fn bounded_goal(
     cycles: u32,
 ) -> Result<Goal, AllocError>
     requires lawful { IsLawful (design_view design.now) }
-    requires few { cycles ≤ 16 }
+    requires few { cycles ≤ most_cycles }
     requires keeps { KeepsDesign (widened (design_view design.now) cycles) graph.old }
     requires words { KeepsAddresses graph.old }
     ensures sorted { IfOk result (λ goal. HasSort graph.new goal.root sort.Bool) }
@@ -76,7 +77,7 @@ fn right_run(
 ) -> Result<Id, AllocError>
     requires lawful { IsLawful (design_view design.now) }
     requires some { 1 ≤ cycles }
-    requires few { cycles ≤ 16 }
+    requires few { cycles ≤ most_cycles }
     requires keeps { KeepsDesign (widened (design_view design.now) cycles) graph.old }
     requires words { KeepsAddresses graph.old }
     ensures sorted { IfOk result (λ id. HasSort graph.new id sort.Bool) }
@@ -121,7 +122,7 @@ fn one_cycle_more(
     cycle: u32,
 ) -> Result<Run, AllocError>
     requires lawful { IsLawful (design_view design.now) }
-    requires few { cycle < 16 }
+    requires few { cycle < most_cycles }
     requires keeps { KeepsDesign (widened (design_view design.now) (cycle + 1)) graph.old }
     requires words { KeepsAddresses graph.old }
     requires run { IsRun (design_view design.now) graph.old cycle run }

@@ -14,7 +14,7 @@ ghost use Rattle.bd_symbolic.specs.DesignSymbols.{GrowsWithin, KeepsDesign};
 ghost use Rattle.bd_symbolic.specs.States.{DenotesState, StateHasSorts};
 ghost use Rattle.bd_goal.specs.Formula.{address_count, address_number};
 ghost use Rattle.bd_goal.specs.Symbols.{GrowsKnown, KeepsAddresses};
-ghost use Rattle.bd_goal.specs.inner.Shown.{AreConditions, DenoteConditions, EqualIn, IsVisible, Says, StandsUpTo};
+ghost use Rattle.bd_goal.specs.inner.Shown.{AreConditions, DenoteConditions, EqualIn, IsVisible, most_first_address, Says, StandsUpTo};
 
 use crate::equal::equal;
 use bd_list::Sequence;
@@ -40,7 +40,7 @@ pub(crate) fn commutes(
     requires state { StateHasSorts (design_view design.now).pipe graph.old state.now }
     requires before { IsVisible (design_view design.now) graph.old before }
     requires after { IsVisible (design_view design.now) graph.old after.now }
-    requires start { first ≤ 300000000 }
+    requires start { first ≤ most_first_address }
     ensures sorted { IfOk result (λ id. HasSort graph.new id sort.Bool) }
     ensures says { IfOk result (λ id. (w : World) (interp : List Table) (values : List Value)
         (inputs : List Scalar) (a b : List Value)
@@ -94,7 +94,7 @@ fn stands(
     requires whens { AreConditions (design_view design.now) graph.old whens.now }
     requires after { HaveSorts graph.old after.now (entry_sorts (design_view design.now).spec) }
     requires joined { HaveSorts graph.old joined.now (entry_sorts (design_view design.now).spec) }
-    requires start { first ≤ 300000000 }
+    requires start { first ≤ most_first_address }
     requires few { j ≤ design.now.steps }
     ensures sorted { IfOk result (λ id. HasSort graph.new id sort.Bool) }
     ensures says { IfOk result (λ id. (w : World) (interp : List Table) (values : List Value)

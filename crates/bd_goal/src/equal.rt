@@ -11,6 +11,7 @@ ghost use Rattle.bd_symbolic.specs.Symbolic.{DenoteValues, HaveSorts};
 ghost use Rattle.bd_goal.specs.Formula.{is_memory, memory_count};
 ghost use Rattle.bd_goal.specs.Symbols.{GrowsKnown, KeepsAddresses};
 ghost use Rattle.bd_goal.specs.inner.Shown.{EqualIn, EqualTerms, Says};
+ghost use Rattle.bd_model.specs.Limits.{most_items};
 
 use bd_model::{Design, Sort};
 use bd_symbolic::TermIds;
@@ -21,7 +22,7 @@ use std::alloc::AllocError;
 pub(crate) fn memory_count(design: &Design) -> u32
     requires { IsLawful (design_view design.now) }
     ensures count { result ≡ memory_count (design_view design.now) }
-    ensures few { result ≤ 2097152 }
+    ensures few { result ≤ most_items }
 {
     let mut count = 0;
     for entry in design.spec.entries.as_slice() {

@@ -10,6 +10,7 @@ use Rattle.bd_model.specs.declared.design.Sort.{Sort}
 use Rattle.bd_model.specs.declared.design.Sort.TheVariants as sort
 use Rattle.bd_model.specs.declared.design.Symbol.{Symbol}
 use Rattle.bd_model.specs.declared.design.Entry as entry
+use Rattle.bd_model.specs.Limits.{most_items}
 
 -- the sorts of the names in force
 pub record Context : Type 0 where
@@ -80,10 +81,10 @@ input_flags locals = grown (λ earlier (l : LocalView). uses_input earlier l.val
 
 -- the most parts of any list, and the deepest nesting
 abbrev pub IsWithinLimits : ExprView → Type 0
-IsWithinLimits e = (depth e ≤ 200) × (width e ≤ 2097152)
+IsWithinLimits e = (depth e ≤ 200) × (width e ≤ most_items)
 
 abbrev pub IsShort : {X : Type 0} → List X → Type 0
-IsShort xs = length xs ≤ 2097152
+IsShort xs = length xs ≤ most_items
 
 abbrev pub entry_sorts : MachineView → List Sort
 entry_sorts m = map (λ (x : entry.Entry). x.sort) m.entries

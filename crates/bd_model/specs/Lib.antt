@@ -5,6 +5,7 @@ pub mod Value
 pub mod Cycle
 pub mod Fits
 pub mod Name
+pub mod Limits
 pub mod Lawful
 pub mod Same
 pub mod Conditions

@@ -1,5 +1,6 @@
 //! What trails show of designs.
 ghost use Rattle.std.specs.Prelude.{◌≤◌, length};
+ghost use Rattle.bd_model.specs.Limits.{most_cycles};
 
 use TrailJudged::{Broken, Holds, Outside};
 use bd_examples::build::{design, trail};
@@ -26,7 +27,7 @@ fn shown(alloc: Global, of: &DesignDraft, by: &TrailDraft) -> Result<TrailJudged
 }
 
 fn shown_by(alloc: Global, of: &DesignDraft, trail: &Trail) -> Result<TrailJudged, AllocError>
-    requires { length trail.now.inputs ≤ 16 }
+    requires { length trail.now.inputs ≤ most_cycles }
 {
     let design = design(alloc, of)?;
     judge_trail(alloc, &design, trail)

@@ -3,6 +3,7 @@
 ghost use Rattle.std.specs.Prelude.{◌≤◌, IfOk, length};
 ghost use Rattle.bd_model.specs.DesignView.{design_view};
 ghost use Rattle.bd_model.specs.TrailJudged.{IsTrailJudged};
+ghost use Rattle.bd_model.specs.Limits.{most_cycles};
 
 use crate::cycle::{flushed, step};
 use crate::judgement::{meets_invariant, steps_join};
@@ -11,7 +12,7 @@ use std::alloc::{AllocError, Global};
 
 /// What the trail shows of the design, whose invariant counts in the first state alone. A cycle's number counts from 1.
 pub fn judge_trail(alloc: Global, design: &Design, trail: &Trail) -> Result<TrailJudged, AllocError>
-    requires short { length trail.now.inputs ≤ 16 }
+    requires short { length trail.now.inputs ≤ most_cycles }
     ensures { IfOk result (λ j. IsTrailJudged (design_view design.now) trail.now j) }
 {
     if !meets_invariant(alloc, design, &trail.interp, &trail.state)? {

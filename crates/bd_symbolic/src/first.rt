@@ -10,6 +10,7 @@ ghost use Rattle.bd_symbolic.specs.States.{DenotesCases, DenotesEntries, Denotes
 ghost use Rattle.bd_symbolic.specs.Symbolic.{HaveSorts};
 ghost use Rattle.bd_symbolic.specs.Widened.{widened};
 ghost use Rattle.bd_symbolic.specs.inner.First.{FirstTerms, IsFirstTerm, KeepsUse};
+ghost use Rattle.bd_model.specs.Limits.{most_cycles};
 
 use crate::state::{SymState, TermIds};
 use bd_list::Sequence;
@@ -53,7 +54,7 @@ pub fn sym_inputs(
     cycle: u32,
 ) -> Result<TermIds, AllocError>
     requires lawful { IsLawful (design_view design.now) }
-    requires few { cycle < 16 }
+    requires few { cycle < most_cycles }
     requires keeps { KeepsDesign (widened (design_view design.now) (cycle + 1)) graph.old }
     ensures sorted { IfOk result (λ ids.
         HaveSorts graph.new ids (port_sorts (design_view design.now).pipe)) }
@@ -88,7 +89,7 @@ fn first_inputs(
     cycle: u32,
 ) -> Result<TermIds, AllocError>
     requires lawful { IsLawful (design_view design.now) }
-    requires few { cycle < 16 }
+    requires few { cycle < most_cycles }
     requires keeps { KeepsDesign (widened (design_view design.now) (cycle + 1)) graph.old }
     ensures terms { IfOk result (λ ids.
         FirstTerms symbol.Input graph.new (cycle * length (design_view design.now).pipe.ports)

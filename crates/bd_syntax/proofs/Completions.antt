@@ -17,6 +17,7 @@ use Rattle.bd_syntax.specs.declared.head.Head.{Head}
 use Rattle.bd_syntax.specs.declared.head.Place.TheVariants as places
 use Rattle.bd_syntax.proofs.Results.{holds_then, anything}
 use Rattle.bd_syntax.proofs.WellFormed.{Keeps, AreWithin, AreWithin-others, AreWithin-inside, AllRead, AreItems, IsInside, IsLimited-kept, name_holds, expression_holds, each_holds, items_hold, file_holds, length-AllRead, All-AllRead}
+use Rattle.bd_model.specs.Limits.{longest_text}
 
 -- ---- where the abstracts begin
 
@@ -61,7 +62,7 @@ abstracted-malformed offset (t ∷ u ∷ v ∷ ts) h = refl
 
 -- an abstract that was read from a tree
 abbrev IsReadFrom : Node → AbstractView → Type 0
-IsReadFrom t part = IsAbstract part × (nesting t ≤ 200 → IsShort 1048576 t → IsLimited part.value)
+IsReadFrom t part = IsAbstract part × (nesting t ≤ 200 → IsShort longest_text t → IsLimited part.value)
 
 abstracted_holds : (offset : ℕ) (ts : Nodes) → IfOk (abstracted_form offset ts) (λ part. IsAbstract part × (AreWithin ts → IsLimited part.value))
 unfolding abstracted_form
@@ -92,7 +93,7 @@ abstract_holds (list offset parts) =
         (λ part read. (read.0, λ deep short. read.1 (AreWithin-others parts (AreWithin-inside offset parts deep short)))) (abstracted_holds offset (others parts))
     either false text = misplaced_holds offset text (node_count (others parts)) (IsReadFrom (list offset parts))
 
-limited_parts : (ts : Nodes) (parts : List AbstractView) → nesting_inside ts ≤ 200 → AreShort 1048576 ts → AllRead IsReadFrom ts parts → AllByRecursion (λ (part : AbstractView). IsLimited part.value) parts
+limited_parts : (ts : Nodes) (parts : List AbstractView) → nesting_inside ts ≤ 200 → AreShort longest_text ts → AllRead IsReadFrom ts parts → AllByRecursion (λ (part : AbstractView). IsLimited part.value) parts
 limited_parts no_nodes [] deep short h = tt
 limited_parts no_nodes (x ∷ xs) deep short h = absurd h
 limited_parts (node t ts) [] deep short h = absurd h

@@ -5,6 +5,7 @@ use Rattle.bd_text.specs.Faults.{HasNoFault}
 use Rattle.bd_text.specs.Grammar.{TreeAt, TreesAt, Spells}
 use Rattle.bd_text.proofs.Readable.{spelled_readable}
 use Rattle.bd_syntax.specs.WellFormed.{IsShort, AreShort, AreWithinLimits}
+use Rattle.bd_model.specs.Limits.{longest_text}
 
 mutual
   tree_short : (s : List ℕ) (i j most : ℕ) (t : Node) → TreeAt s i j t → j ≤ most → (i < j) × IsShort most t
@@ -20,8 +21,8 @@ mutual
       let first = tree_short s h.0 h.1 most t h.3 (omega (arith, rest.0)) in
       (omega (arith, h.2.ordered, first.0, rest.0), (first.1, rest.1))
 
-pub spelled_within_limits : (source : List ℕ) (trees : Nodes) → length source ≤ 1048576 → HasNoFault source → Spells source trees → AreWithinLimits trees
+pub spelled_within_limits : (source : List ℕ) (trees : Nodes) → length source ≤ longest_text → HasNoFault source → Spells source trees → AreWithinLimits trees
 spelled_within_limits source trees room fine spelled =
     let readable = spelled_readable source trees fine spelled in
-    let short = trees_short source 0 (length source) 1048576 trees spelled room in
+    let short = trees_short source 0 (length source) longest_text trees spelled room in
     (readable.1, short.1)

@@ -22,6 +22,7 @@ use Rattle.bd_syntax.specs.declared.ast.Kind.{Kind}
 use Rattle.bd_text.specs.declared.code.Code.TheVariants.{WrongHead, Malformed, NotName, NotNumber, NotOfThisFile}
 use Rattle.bd_syntax.proofs.Names.{is_name-true}
 use Rattle.bd_syntax.proofs.Results.{holds_then, holds_if, holds_if_both, anything, split_and}
+use Rattle.bd_model.specs.Limits.{longest_text}
 
 -- ---- atoms
 
@@ -126,21 +127,21 @@ mutual
 -- trees within the limits
 pub record AreWithin (ts : Nodes) : Type 0 where
   pub nesting : nesting_inside ts ≤ 200
-  pub count : node_count ts ≤ 1048576
-  pub short : AreShort 1048576 ts
+  pub count : node_count ts ≤ longest_text
+  pub short : AreShort longest_text ts
 
 pub AreWithin-others : (ts : Nodes) → AreWithin ts → AreWithin (others ts)
 AreWithin-others ts h = record {
   nesting = omega (arith, h.nesting, nesting_inside-others ts);
   count = omega (arith, h.count, node_count-others ts);
-  short = AreShort-others 1048576 ts h.short;
+  short = AreShort-others longest_text ts h.short;
 }
 
-pub AreWithin-inside : (offset : ℕ) (ts : Nodes) → nesting (list offset ts) ≤ 200 → IsShort 1048576 (list offset ts) → AreWithin ts
+pub AreWithin-inside : (offset : ℕ) (ts : Nodes) → nesting (list offset ts) ≤ 200 → IsShort longest_text (list offset ts) → AreWithin ts
 AreWithin-inside offset ts deep short = record { nesting = omega (arith, deep); count = short.0; short = short.1 }
 
-pub IsLimited-kept : (t : Node) (e : Expression) → Keeps t e → nesting t ≤ 200 → IsShort 1048576 t → IsLimited e
-IsLimited-kept t e keeps deep short = record { nesting = omega (arith, keeps.nesting, deep); parts = keeps.few 1048576 short }
+pub IsLimited-kept : (t : Node) (e : Expression) → Keeps t e → nesting t ≤ 200 → IsShort longest_text t → IsLimited e
+IsLimited-kept t e keeps deep short = record { nesting = omega (arith, keeps.nesting, deep); parts = keeps.few longest_text short }
 
 sort_holds : (t : Node) → IfOk (sort_form t) (λ _. Unit {0})
 sort_holds t = anything (sort_form t)
@@ -272,7 +273,7 @@ head_holds place offset n (Some head) =
 
 -- an item that was read from a tree
 abbrev IsReadFrom : Place → Node → ItemView → Type 0
-IsReadFrom place t item = IsItem place item × (nesting t ≤ 200 → IsShort 1048576 t → IsLimitedItem item)
+IsReadFrom place t item = IsItem place item × (nesting t ≤ 200 → IsShort longest_text t → IsLimitedItem item)
 
 item_holds : (place : Place) (t : Node) → IfOk (item_form place t) (IsReadFrom place t)
 unfolding item_form
@@ -286,7 +287,7 @@ item_holds place (list offset parts) =
     (λ item read. (read.0, λ deep short. read.1 (AreWithin-others parts (AreWithin-inside offset parts deep short))))
     (parts_hold place offset head (others parts) takes.1 takes.0)))
 
-limited_items : (place : Place) (ts : Nodes) (items : List ItemView) → nesting_inside ts ≤ 200 → AreShort 1048576 ts → AllRead (IsReadFrom place) ts items → AllByRecursion IsLimitedItem items
+limited_items : (place : Place) (ts : Nodes) (items : List ItemView) → nesting_inside ts ≤ 200 → AreShort longest_text ts → AllRead (IsReadFrom place) ts items → AllByRecursion IsLimitedItem items
 limited_items place no_nodes [] deep short h = tt
 limited_items place no_nodes (x ∷ xs) deep short h = absurd h
 limited_items place (node t ts) [] deep short h = absurd h

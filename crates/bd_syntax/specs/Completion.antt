@@ -12,6 +12,7 @@ use Rattle.bd_syntax.specs.declared.form.Spot.{Spot}
 use Rattle.bd_syntax.specs.declared.head.Place.TheVariants as places
 use Rattle.bd_syntax.specs.declared.ast.Abstract.{Abstract}
 use Rattle.bd_syntax.specs.declared.ast.CompAst.{CompAst}
+use Rattle.bd_model.specs.Limits.{longest_text}
 
 -- (abstract NAME EXPR): the offset of its parenthesis, the name of the entry, and the expression
 pub record AbstractView : Type 0 where
@@ -98,5 +99,5 @@ pub record IsCompAst (ast : CompView) : Type 0 where
 
 pub record IsLimitedCompAst (ast : CompView) : Type 0 where
   pub lets : AreLimited ast.lets
-  pub count : length ast.parts ≤ 1048576
+  pub count : length ast.parts ≤ longest_text
   pub each : AllByRecursion (λ (part : AbstractView). IsLimited part.value) ast.parts

@@ -16,6 +16,7 @@ use Rattle.bd_syntax.specs.declared.head.Place.TheVariants as places
 use Rattle.bd_syntax.specs.declared.operator.Operator.{Operator}
 use Rattle.bd_model.specs.declared.design.Sort.{Sort}
 use Rattle.bd_model.specs.declared.design.Sort.TheVariants as sorts
+use Rattle.bd_model.specs.Limits.{longest_text}
 
 -- an operator with as many parts as it takes, or a name
 abbrev pub IsHead : List ℕ → ℕ → Option Operator → Type 0
@@ -96,7 +97,7 @@ abbrev mutual
 -- trees as a text of at most 1,048,576 bytes has them: at most 200 lists are open at once, and none is
 -- longer than the text may be
 abbrev pub AreWithinLimits : Nodes → Type 0
-AreWithinLimits trees = AreShallow trees × AreShort 1048576 trees
+AreWithinLimits trees = AreShallow trees × AreShort longest_text trees
 
 -- how many lists are open at most inside an expression
 abbrev mutual
@@ -122,18 +123,18 @@ abbrev mutual
 -- an expression nests at most 200 deep, with lists of at most 1,048,576 parts
 pub record IsLimited (e : Expression) : Type 0 where
   pub nesting : expression_nesting e ≤ 200
-  pub parts : HasFewParts 1048576 e
+  pub parts : HasFewParts longest_text e
 
 abbrev pub IsLimitedItem : ItemView → Type 0
 IsLimitedItem (input_item offset name sort idle) = IsLimited idle
 IsLimitedItem (let_item offset name sort value) = IsLimited value
 IsLimitedItem (next_item offset name value) = IsLimited value
 IsLimitedItem (exact_item offset count when) = IsLimited when
-IsLimitedItem (distinct_item offset names) = length names ≤ 1048576
+IsLimitedItem (distinct_item offset names) = length names ≤ longest_text
 IsLimitedItem _ = Unit {0}
 
 pub record AreLimited (items : List ItemView) : Type 0 where
-  pub count : length items ≤ 1048576
+  pub count : length items ≤ longest_text
   pub each : AllByRecursion IsLimitedItem items
 
 pub record IsLimitedInvAst (ast : InvView) : Type 0 where

@@ -29,6 +29,7 @@ use Rattle.bd_typer.proofs.Faultless.{in_file_ok}
 use Rattle.bd_typer.proofs.Lawfulness.{both_lawful, joined_lawful}
 use Rattle.bd_typer.proofs.ReadFiles.{machine_file, inv_file}
 use Rattle.bd_typer.proofs.Sound.{then_ok}
+use Rattle.bd_model.specs.Limits.{longest_text}
 
 -- what joining returns is lawful
 pub given_lawful : (result : Result Design TypeFault) (pipe spec : AstView) (inv : Option InvView) → IsMachineFile kinds.Pipeline pipe → IsMachineFile kinds.Specification spec → IfSome inv IsInvFile
@@ -74,29 +75,29 @@ trees_lawful premise pipe spec third d pipe_within spec_within third_within h =
     (read_third premise third t.0 third_within (in_file_ok file (premise_form premise third) t.0 t.1)) (with_ok premise (joined p.0 s.0 t.0) d t.2)
 
 -- a text that is no fault spells trees within the limits, of which the rest holds
-reads_lawful : (file : Text) (source : List ℕ) (d : DesignView) (Rest : Nodes → Type 0) → length source ≤ 1048576 → ((trees : Nodes) → AreWithinLimits trees → Rest trees → IsLawful d) → Reads file source (Ok d) Rest → IsLawful d
+reads_lawful : (file : Text) (source : List ℕ) (d : DesignView) (Rest : Nodes → Type 0) → length source ≤ longest_text → ((trees : Nodes) → AreWithinLimits trees → Rest trees → IsLawful d) → Reads file source (Ok d) Rest → IsLawful d
 reads_lawful file source d Rest short then (inl (offset, code, first, is)) = absurd (cc is)
 reads_lawful file source d Rest short then (inr (fine, (trees, spells, rest))) = then trees (spelled_within_limits source trees short fine spells) rest
 
-third_lawful : (file : Text) (third : Option (List ℕ)) (d : DesignView) (Rest : Option Nodes → Type 0) → IfSome third (λ source. length source ≤ 1048576) → ((trees : Option Nodes) → IfSome trees AreWithinLimits → Rest trees → IsLawful d)
+third_lawful : (file : Text) (third : Option (List ℕ)) (d : DesignView) (Rest : Option Nodes → Type 0) → IfSome third (λ source. length source ≤ longest_text) → ((trees : Option Nodes) → IfSome trees AreWithinLimits → Rest trees → IsLawful d)
     → ReadsIf file third (Ok d) Rest → IsLawful d
 third_lawful file None d Rest short then h = then None tt h
 third_lawful file (Some source) d Rest short then h = reads_lawful file source d (λ trees. Rest (Some trees)) short (λ trees. then (Some trees)) h
 
-pub denotes_lawful : (premise : Premise) (pipe spec : List ℕ) (third : Option (List ℕ)) (d : DesignView) → length pipe ≤ 1048576 → length spec ≤ 1048576 → IfSome third (λ source. length source ≤ 1048576)
+pub denotes_lawful : (premise : Premise) (pipe spec : List ℕ) (third : Option (List ℕ)) (d : DesignView) → length pipe ≤ longest_text → length spec ≤ longest_text → IfSome third (λ source. length source ≤ longest_text)
     → DenotesWith premise pipe spec third (Ok d) → IsLawful d
 denotes_lawful premise pipe spec third d pipe_short spec_short third_short h =
     reads_lawful Pipe pipe d _ pipe_short (λ p p_within. reads_lawful Spec spec d _ spec_short (λ s s_within. third_lawful (premise_file premise) third d _ third_short (λ t t_within is. trees_lawful premise p s t d p_within s_within t_within (sym is)))) h
 
 abbrev IsShortText : Bor (List ℕ) → Type 0
-IsShortText text = length text.now ≤ 1048576
+IsShortText text = length text.now ≤ longest_text
 
-seen_text : (third : Option (Bor (List ℕ))) → IfSome third IsShortText → IfSome (option_map (λ (text : Bor (List ℕ)). text.now) third) (λ source. length source ≤ 1048576)
+seen_text : (third : Option (Bor (List ℕ))) → IfSome third IsShortText → IfSome (option_map (λ (text : Bor (List ℕ)). text.now) third) (λ source. length source ≤ longest_text)
 seen_text None h = tt
 seen_text (Some text) h = h
 
 -- what reading texts returns is lawful
-pub read_lawful : (result : Result Design TypeFault) (premise : Premise) (pipe spec : List ℕ) (third : Option (Bor (List ℕ))) → length pipe ≤ 1048576 → length spec ≤ 1048576 → IfSome third (λ (text : Bor (List ℕ)). length text.now ≤ 1048576)
+pub read_lawful : (result : Result Design TypeFault) (premise : Premise) (pipe spec : List ℕ) (third : Option (Bor (List ℕ))) → length pipe ≤ longest_text → length spec ≤ longest_text → IfSome third (λ (text : Bor (List ℕ)). length text.now ≤ longest_text)
     → OnDesign result (DenotesWith premise pipe spec (option_map (λ (text : Bor (List ℕ)). text.now) third)) → IfOk result (λ d. IsLawful (design_view d))
 read_lawful (Ok d) premise pipe spec third p s t h = denotes_lawful premise pipe spec (option_map (λ (text : Bor (List ℕ)). text.now) third) (design_view d) p s (seen_text third t) h
 read_lawful (Err fault) premise pipe spec third p s t h = tt

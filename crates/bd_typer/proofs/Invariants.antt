@@ -24,6 +24,7 @@ use Rattle.bd_typer.specs.Walk.{Typed, with_local, typed_let, typed_item, typed_
 use Rattle.bd_typer.proofs.Lists.{get-left, get-end}
 use Rattle.bd_typer.proofs.Sound.{Fits, NamesFit, then_ok}
 use Rattle.bd_typer.proofs.TypedItems.{local_sorts, local_end, map_append, lets-push, all-push, typed_within}
+use Rattle.bd_model.specs.Limits.{longest_text}
 
 -- the names that an invariant may use
 abbrev pub inv_names : List symbol.Symbol → List Sort → List LocalView → Context
@@ -35,7 +36,7 @@ pub record InvIs (symbols : List symbol.Symbol) (entries : List Sort) (locals : 
   pub let_limits : AllByRecursion (λ (l : LocalView). IsWithinLimits l.value) locals
   pub sort : HasSort (inv_names symbols entries locals) value sorts.Bool
   pub limits : IsWithinLimits value
-  pub count : length locals ≤ 1048576
+  pub count : length locals ≤ longest_text
 
 module _ (symbols : List symbol.Symbol) (entries : List Sort) where
   -- the lets so far

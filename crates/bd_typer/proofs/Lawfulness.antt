@@ -35,6 +35,7 @@ use Rattle.bd_typer.proofs.DesignNames.{all_append, arities_small, names_well, n
 use Rattle.bd_typer.proofs.DeclaredNames.{declared_entry, input_entry}
 use Rattle.bd_typer.proofs.Sound.{NamesFit, then_ok}
 use Rattle.bd_typer.proofs.TypedItems.{IsPort, IsExact, IsGroup, port_entry, sorts_of, fits_now}
+use Rattle.bd_model.specs.Limits.{longest_text}
 
 -- the items of a machine file have their parts
 parts_of : (place : Place) (items : List ItemView) → AllByRecursion (IsItem place) items → AllByRecursion HasParts items
@@ -112,7 +113,7 @@ module _ (pipe_items spec_items : List ItemView) (pipe spec : TypedMachine) (i :
   spec_ports : filter_map input_entry spec_items ≡ [] → spec.typed.ports ≡ []
   spec_ports none = map_empty port_entry spec.typed.ports (s.ports ∙ none)
 
-  design_lawful : length pipe_items ≤ 1048576 → length spec_items ≤ 1048576 → AllByRecursion HasParts pipe_items → filter_map input_entry spec_items ≡ []
+  design_lawful : length pipe_items ≤ longest_text → length spec_items ≤ longest_text → AllByRecursion HasParts pipe_items → filter_map input_entry spec_items ≡ []
       → AllByRecursion (IsShared pipe.typed.names) spec.entries → IsLawful d
   design_lawful few fewer parts none shared = record {
     pipe = machine_lawful d no_names [] pipe_items pipe p few;

@@ -23,6 +23,7 @@ use Rattle.bd_typer.proofs.Faultless.{IsDeclared, IsShared, entries_given}
 use Rattle.bd_typer.proofs.DeclaredNames.{Stands, OthersStand, Agrees, IsScope, ScopeIs, scope_done, input_entry, declared_entry, entries_are, symbols_within}
 use Rattle.bd_typer.proofs.Sound.{then_ok, same_sort-true}
 use Rattle.bd_typer.proofs.TypedItems.{Fixed, FixedStands, IsLetNow, WalkIs, IsTyped, context, sorts_of, local_sorts, port_entry, items_are, items_add}
+use Rattle.bd_model.specs.Limits.{longest_text}
 
 pub at_place : {X : Type 0} (P : X → Type 0) (xs : List X) (n : ℕ) (x : X) → AllByRecursion P xs → slice_get xs n ≡ Some x → P x
 at_place P [] n x h there = absurd (cc there)
@@ -220,7 +221,7 @@ module _ (d : DesignView) (others : NameMap) (first : List symbol.Symbol) (items
   pub has_sort : (e : ExprView) (s : Sort) → HasSort (context (fixed_of d.symbols items m is.names) m.typed.locals) e s → HasSort (context_of d (machine_of m)) e s
   has_sort e s h = subst (λ c. HasSort c e s) (context_is m.typed.locals) h
 
-  pub machine_lawful : length items ≤ 1048576 → IsLawfulMachine d (machine_of m)
+  pub machine_lawful : length items ≤ longest_text → IsLawfulMachine d (machine_of m)
   machine_lawful few =
       let next : entry.Entry → ExprView → Type 0 = λ x e. IsTyped (context (fixed_of d.symbols items m is.names) m.typed.locals) m.typed.flags true x.sort e in
       let nexts : AllZip next m.entries m.typed.nexts = nexts_typed d.symbols others first items m is in

@@ -35,6 +35,7 @@ use Rattle.bd_typer.specs.Repeats.{NameSet, no_texts, with_text, with_names}
 use Rattle.bd_typer.proofs.DeclaredNames.{Stands, LetIsLater, input_entry}
 use Rattle.bd_text.specs.declared.code.Code.TheVariants.{DeclaredTwice}
 use Rattle.bd_typer.proofs.Sound.{Fits, NamesFit, typed_sound, then_ok, passes}
+use Rattle.bd_model.specs.Limits.{longest_text, most_items}
 
 -- an expression of a sort, that uses no input where none may be used, within the limits
 pub record IsTyped (c : Context) (flags : List Bool) (inputs : Bool) (s : Sort) (e : ExprView) : Type 0 where
@@ -48,7 +49,7 @@ typed_within c flags names inputs want source e fits is limited h =
     let s = typed_sound c flags names inputs want source e fits is h in record {
       sort = s.sort;
       no_input = s.no_input;
-      limits = (omega (arith, s.deep, limited.nesting), omega (arith, s.wide 1048576 limited.parts));
+      limits = (omega (arith, s.deep, limited.nesting), omega (arith, s.wide longest_text limited.parts));
     }
 
 -- one let more
@@ -101,7 +102,7 @@ pub record IsGroup (symbols : List symbol.Symbol) (group : List ℕ) : Type 0 wh
   pub two : 2 ≤ length group
   pub different : AllPairs ◌≢◌ group
   pub constants : AllByRecursion (λ i. (y : symbol.Symbol) × (slice_get symbols i ≡ Some y) × (y.arity ≡ 0) × (y.predicate ≡ false)) group
-  pub short : length group ≤ 2097152
+  pub short : length group ≤ most_items
 
 get-map : {X Y : Type 0} (g : X → Y) (xs : List X) (n : ℕ) (x : X) → slice_get xs n ≡ Some x → slice_get (map g xs) n ≡ Some (g x)
 get-map g [] n x h = absurd (cc h)
@@ -453,7 +454,7 @@ module _ (f : Fixed) (stands : FixedStands f) (final t : Typed) (given : NameSet
       })
 
   -- a distinct item
-  distinct_is : (names : List Spot) (u : Typed) → 2 ≤ length names → length names ≤ 1048576 → typed_distinct t names ≡ Ok u → WalkIs f final u given
+  distinct_is : (names : List Spot) (u : Typed) → 2 ≤ length names → length names ≤ longest_text → typed_distinct t names ≡ Ok u → WalkIs f final u given
   unfolding typed_distinct
   distinct_is names u two short h =
       let p = then_ok (constants t.names no_texts names) (λ group. Ok (record t { distinct = t.distinct ++ group ∷ [] })) u h in

@@ -19,6 +19,7 @@ ghost use Rattle.bd_typer.specs.Faults.{GivesIn, in_file};
 ghost use Rattle.bd_typer.specs.Given.{IsCompFile, IsInvFile, IsMachineFile};
 ghost use Rattle.bd_typer.specs.Joined.{joined_view};
 ghost use Rattle.bd_typer.specs.inner.Located.{OnText};
+ghost use Rattle.bd_model.specs.Limits.{longest_text};
 
 use crate::fault::{DesignFault, Text, TypeFault, located, text_located};
 use crate::joining::{Joined, join, join_completion};
@@ -33,7 +34,7 @@ use std::alloc::Global;
 
 /// The trees of a text.
 fn trees(alloc: Global, file: Text, bytes: &[u8]) -> Result<Trees, TypeFault>
-    requires { length bytes.now ≤ 1048576 }
+    requires { length bytes.now ≤ longest_text }
     ensures no_fault { IfOk result (λ _. HasNoFault bytes.now) }
     ensures trees { IfOk result (λ trees. Spells bytes.now (nodes_of trees)) }
     ensures limits { IfOk result (λ trees. AreWithinLimits (nodes_of trees)) }
@@ -152,7 +153,7 @@ fn denoted_third(
 ) -> Result<Design, TypeFault>
     requires pipe { AreWithinLimits (nodes_of pipe.now) }
     requires spec { AreWithinLimits (nodes_of spec.now) }
-    requires third { IfSome third (λ third. length third.now ≤ 1048576) }
+    requires third { IfSome third (λ third. length third.now ≤ longest_text) }
     ensures { OnDesign result (DenotesThird premise (nodes_of pipe.now) (nodes_of spec.now)
         (option_map (λ third. third.now) third.entry)) }
 {
@@ -173,9 +174,9 @@ fn denoted(
     premise: Premise,
     third: Option<&[u8]>,
 ) -> Result<Design, TypeFault>
-    requires pipe { length pipe.now ≤ 1048576 }
-    requires spec { length spec.now ≤ 1048576 }
-    requires third { IfSome third (λ third. length third.now ≤ 1048576) }
+    requires pipe { length pipe.now ≤ longest_text }
+    requires spec { length spec.now ≤ longest_text }
+    requires third { IfSome third (λ third. length third.now ≤ longest_text) }
     ensures { OnDesign result (DenotesWith premise pipe.now spec.now
         (option_map (λ third. third.now) third.entry)) }
 {
@@ -197,9 +198,9 @@ pub fn design_with(
     premise: Premise,
     third: Option<&[u8]>,
 ) -> Result<Design, DesignFault>
-    requires pipe { length pipe.now ≤ 1048576 }
-    requires spec { length spec.now ≤ 1048576 }
-    requires third { IfSome third (λ third. length third.now ≤ 1048576) }
+    requires pipe { length pipe.now ≤ longest_text }
+    requires spec { length spec.now ≤ longest_text }
+    requires third { IfSome third (λ third. length third.now ≤ longest_text) }
     ensures exact { OnDesign result (DenotesWith premise pipe.now spec.now
         (option_map (λ third. third.now) third.entry)) }
     ensures lawful { IfOk result (λ d. IsLawful (design_view d)) }
@@ -214,9 +215,9 @@ pub fn design_of(
     spec: &[u8],
     inv: Option<&[u8]>,
 ) -> Result<Design, DesignFault>
-    requires pipe { length pipe.now ≤ 1048576 }
-    requires spec { length spec.now ≤ 1048576 }
-    requires inv { IfSome inv (λ inv. length inv.now ≤ 1048576) }
+    requires pipe { length pipe.now ≤ longest_text }
+    requires spec { length spec.now ≤ longest_text }
+    requires inv { IfSome inv (λ inv. length inv.now ≤ longest_text) }
     ensures exact { OnDesign result
         (Denotes pipe.now spec.now (option_map (λ inv. inv.now) inv.entry)) }
     ensures lawful { IfOk result (λ d. IsLawful (design_view d)) }
@@ -313,7 +314,7 @@ fn completed_with(
     requires pipe { AreWithinLimits (nodes_of pipe.now) }
     requires spec { AreWithinLimits (nodes_of spec.now) }
     requires comp { AreWithinLimits (nodes_of comp.now) }
-    requires inv { IfSome inv (λ inv. length inv.now ≤ 1048576) }
+    requires inv { IfSome inv (λ inv. length inv.now ≤ longest_text) }
     ensures exact { OnJoined result (CompletesTrees (nodes_of pipe.now) (nodes_of spec.now)
         (nodes_of comp.now) (option_map (λ inv. inv.now) inv.entry)) }
     ensures lawful { IfOk result (λ joined. IsLawful (design_view joined.design)) }
@@ -340,8 +341,8 @@ fn completed_machines(
 ) -> Result<Joined, TypeFault>
     requires pipe { AreWithinLimits (nodes_of pipe.now) }
     requires spec { AreWithinLimits (nodes_of spec.now) }
-    requires comp { length comp.now ≤ 1048576 }
-    requires inv { IfSome inv (λ inv. length inv.now ≤ 1048576) }
+    requires comp { length comp.now ≤ longest_text }
+    requires inv { IfSome inv (λ inv. length inv.now ≤ longest_text) }
     ensures exact { OnJoined result (CompletesMachines (nodes_of pipe.now) (nodes_of spec.now)
         comp.now (option_map (λ inv. inv.now) inv.entry)) }
     ensures lawful { IfOk result (λ joined. IsLawful (design_view joined.design)) }
@@ -361,10 +362,10 @@ pub fn completed_design(
     comp: &[u8],
     inv: Option<&[u8]>,
 ) -> Result<Joined, DesignFault>
-    requires pipe { length pipe.now ≤ 1048576 }
-    requires spec { length spec.now ≤ 1048576 }
-    requires comp { length comp.now ≤ 1048576 }
-    requires inv { IfSome inv (λ inv. length inv.now ≤ 1048576) }
+    requires pipe { length pipe.now ≤ longest_text }
+    requires spec { length spec.now ≤ longest_text }
+    requires comp { length comp.now ≤ longest_text }
+    requires inv { IfSome inv (λ inv. length inv.now ≤ longest_text) }
     ensures exact { OnJoined result (DenotesCompleted pipe.now spec.now comp.now
         (option_map (λ inv. inv.now) inv.entry)) }
     ensures lawful { IfOk result (λ joined. IsLawful (design_view joined.design)) }

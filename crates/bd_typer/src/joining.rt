@@ -19,6 +19,7 @@ ghost use Rattle.bd_typer.specs.Given.{IsCompFile, IsInvFile, IsMachineFile};
 ghost use Rattle.bd_typer.specs.Joined.{assembled, claimed, declared, declared_comp, entry_place, joined, joined_completion, joined_items, joined_machines, joined_onto, joined_view, joined_with, machine_of, tested_inv, typed_inv, typed_machine};
 ghost use Rattle.bd_typer.specs.inner.Held.{claims_view, inv_view, machine_view, meanings};
 ghost use Rattle.bd_typer.specs.NameMap.{no_names, shared_names};
+ghost use Rattle.bd_model.specs.Limits.{longest_text, most_items};
 
 use crate::across::test_across;
 use crate::completions::typed_completion;
@@ -88,7 +89,7 @@ fn typed_machine<'a>(
     symbols: &mut Symbols,
     items: &'a [Item],
 ) -> Result<TypedMachine<'a>, FormFault>
-    requires { length symbols.old + length items.now ≤ 2097152 }
+    requires { length symbols.old + length items.now ≤ most_items }
     ensures exact { Gives (λ m. machine_view m symbols.new) result
         (typed_machine (meanings others.now) symbols.old (map item_view items.now)) }
     ensures room { OnOk result (length symbols.new ≤ length symbols.old + length items.now) }
@@ -338,7 +339,7 @@ fn typed_pipe<'a>(
     symbols: &mut Symbols,
     items: &'a [Item],
 ) -> Result<TypedMachine<'a>, TypeFault>
-    requires { length symbols.old + length items.now ≤ 2097152 }
+    requires { length symbols.old + length items.now ≤ most_items }
     ensures exact { GivesIn (λ m. machine_view m symbols.new) result
         (in_file Pipe (typed_machine no_names symbols.old (map item_view items.now))) }
     ensures room { OnOk result (length symbols.new ≤ length symbols.old + length items.now) }
@@ -358,7 +359,7 @@ fn joined_onto(
     comp: Option<&CompAst>,
     inv: Option<&InvAst>,
 ) -> Result<Joined, TypeFault>
-    requires room { length symbols + length spec_items.now ≤ 2097152 }
+    requires room { length symbols + length spec_items.now ≤ most_items }
     requires comp { IfSome comp (λ comp. IsLimitedCompAst (completion_view comp.now)) }
     requires inv { IfSome inv (λ inv. IsLimitedInvAst (invariant_view inv.now)) }
     ensures { GivesIn joined_view result (joined_onto
@@ -386,8 +387,8 @@ fn joined_items(
     comp: Option<&CompAst>,
     inv: Option<&InvAst>,
 ) -> Result<Joined, TypeFault>
-    requires pipe { length pipe_items.now ≤ 1048576 }
-    requires spec { length spec_items.now ≤ 1048576 }
+    requires pipe { length pipe_items.now ≤ longest_text }
+    requires spec { length spec_items.now ≤ longest_text }
     requires comp { IfSome comp (λ comp. IsLimitedCompAst (completion_view comp.now)) }
     requires inv { IfSome inv (λ inv. IsLimitedInvAst (invariant_view inv.now)) }
     ensures { GivesIn joined_view result (joined_items
@@ -409,8 +410,8 @@ fn joined_with(
     comp: Option<&CompAst>,
     inv: Option<&InvAst>,
 ) -> Result<Joined, TypeFault>
-    requires pipe { length pipe.now.items ≤ 1048576 }
-    requires spec { length spec.now.items ≤ 1048576 }
+    requires pipe { length pipe.now.items ≤ longest_text }
+    requires spec { length spec.now.items ≤ longest_text }
     requires comp { IfSome comp (λ comp. IsLimitedCompAst (completion_view comp.now)) }
     requires inv { IfSome inv (λ inv. IsLimitedInvAst (invariant_view inv.now)) }
     ensures { GivesIn joined_view result (joined_with (ast_view pipe.now) (ast_view spec.now)
@@ -430,8 +431,8 @@ fn joined_design(
     spec: &Ast,
     inv: Option<&InvAst>,
 ) -> Result<Design, TypeFault>
-    requires pipe { length pipe.now.items ≤ 1048576 }
-    requires spec { length spec.now.items ≤ 1048576 }
+    requires pipe { length pipe.now.items ≤ longest_text }
+    requires spec { length spec.now.items ≤ longest_text }
     requires inv { IfSome inv (λ inv. IsLimitedInvAst (invariant_view inv.now)) }
     ensures { GivesIn design_view result (joined (ast_view pipe.now) (ast_view spec.now)
         (option_map (λ inv. invariant_view inv.now) inv.entry)) }

@@ -4,6 +4,7 @@ ghost use Rattle.std.specs.Prelude.{◌≡◌, ◌<◌, ◌≤◌, ◌+◌, List
 ghost use Rattle.bd_syntax.specs.Forms.{item_view};
 ghost use Rattle.bd_typer.specs.NameMap.{scope_of, with_entry, with_input, with_item, with_symbol};
 ghost use Rattle.bd_typer.specs.inner.Held.{meanings, scope_view};
+ghost use Rattle.bd_model.specs.Limits.{most_items};
 
 use crate::names::{Meaning, NameMap};
 use bd_model::{Entries, Entry, Name, Sort, Symbol, Symbols};
@@ -28,7 +29,7 @@ pub fn copied(alloc: Global, name: &Spot) -> Result<Name, AllocError>
 impl<'a> Scope<'a> {
     /// A latch or memory.
     fn entry(&mut self, alloc: Global, name: &'a Spot, sort: Sort) -> Result<(), AllocError>
-        requires { length self.old.entries < 2097152 }
+        requires { length self.old.entries < most_items }
         ensures { (all : List Symbol) → OnOk result
             (scope_view self.new all ≡ with_entry (scope_view self.old all) name.now.text sort) }
     {
@@ -42,7 +43,7 @@ impl<'a> Scope<'a> {
 
     /// An input.
     fn input(&mut self, name: &'a Spot, sort: Sort) -> Result<(), AllocError>
-        requires { self.old.inputs < 2097152 }
+        requires { self.old.inputs < most_items }
         ensures { (all : List Symbol) → OnOk result
             (scope_view self.new all ≡ with_input (scope_view self.old all) name.now.text sort) }
     {
@@ -64,7 +65,7 @@ impl<'a> Scope<'a> {
         name: &'a Spot,
         symbol: (u32, bool),
     ) -> Result<(), AllocError>
-        requires { length symbols.old < 2097152 }
+        requires { length symbols.old < most_items }
         ensures { OnOk result (scope_view self.new symbols.new
             ≡ with_symbol (scope_view self.old symbols.old) name.now.text symbol.0 symbol.1
             (meanings others.now name.now.text)) }
@@ -100,9 +101,9 @@ impl<'a> Scope<'a> {
         symbols: &mut Symbols,
         item: &'a Item,
     ) -> Result<(), AllocError>
-        requires entries { length self.old.entries < 2097152 }
-        requires inputs { self.old.inputs < 2097152 }
-        requires symbols { length symbols.old < 2097152 }
+        requires entries { length self.old.entries < most_items }
+        requires inputs { self.old.inputs < most_items }
+        requires symbols { length symbols.old < most_items }
         ensures { OnOk result (scope_view self.new symbols.new
             ≡ with_item (meanings others.now) (scope_view self.old symbols.old)
             (item_view item.now)) }
@@ -130,7 +131,7 @@ pub fn scope_of<'a>(
     symbols: &mut Symbols,
     items: &'a [Item],
 ) -> Result<Scope<'a>, AllocError>
-    requires { length symbols.old + length items.now ≤ 2097152 }
+    requires { length symbols.old + length items.now ≤ most_items }
     ensures view { IfOk result (λ scope. scope_view scope symbols.new
         ≡ scope_of (meanings others.now) symbols.old (map item_view items.now)) }
     ensures room { OnOk result (length symbols.new ≤ length symbols.old + length items.now) }

@@ -6,6 +6,7 @@ use Rattle.bd_about.specs.Findings.{IsFinding, NeverSteps, is_wrong}
 use Rattle.bd_about.specs.Reset.{reset_meets}
 use Rattle.bd_about.specs.declared.asking.Finding.{Finding}
 use Rattle.bd_about.specs.declared.asking.Finding.TheVariants.{Right}
+use Rattle.bd_model.specs.Limits.{most_items}
 
 -- the design with so many flush cycles and steps
 abbrev pub with_counts : DesignView → (flush steps : ℕ) → DesignView
@@ -29,6 +30,6 @@ pub record IsReset (d : DesignView) (given : Bool) (meets : Option Bool) : Type 
   pub met : MatchOption meets (given ≡ false) (λ m. (given ≡ true) × (m ≡ reset_meets d))
 
 pub record IsWithoutSteps (d : DesignView) (given : Bool) (found : Option Finding) : Type 0 where
-  pub finding : MatchOption found (2097152 ≤ length d.exact)
-      (λ f. (length d.exact < 2097152) × IsFinding (without_steps d) given f)
+  pub finding : MatchOption found (most_items ≤ length d.exact)
+      (λ f. (length d.exact < most_items) × IsFinding (without_steps d) given f)
   pub never_steps : found ≡ Some Right → NeverSteps d

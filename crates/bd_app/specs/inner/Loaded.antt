@@ -10,6 +10,7 @@ use Rattle.bd_app.specs.declared.answer.Which.TheVariants as which
 use Rattle.bd_app.specs.declared.answer.Ended.{Ended}
 use Rattle.bd_app.specs.declared.answer.Ended.TheVariants.{Refused, Device, Memory}
 use Rattle.bd_app.specs.declared.load.Sources.{Sources as LoadedSources}
+use Rattle.bd_model.specs.Limits.{longest_text}
 
 abbrev pub bytes_of : Option (Vec ℕ Global) → Option (List ℕ)
 bytes_of = option_map (λ bytes. bytes.items)
@@ -20,9 +21,9 @@ sources_view s =
 
 -- few enough bytes for their readers
 pub record AreFew (s : Sources) : Type 0 where
-  pub pipe : length s.pipe ≤ 1048576
-  pub spec : length s.spec ≤ 1048576
-  pub third : IfSome s.third (λ bytes. length bytes ≤ 1048576)
+  pub pipe : length s.pipe ≤ longest_text
+  pub spec : length s.spec ≤ longest_text
+  pub third : IfSome s.third (λ bytes. length bytes ≤ longest_text)
 
 -- what a load that gave no bytes says of files that are loaded in this order
 abbrev pub IsLoadFault : Option Held → List File → Ended → Type 0

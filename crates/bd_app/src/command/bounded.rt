@@ -7,12 +7,13 @@ ghost use Rattle.clap.specs.declared.builder.command.Command.TheViews.{out-Comma
 ghost use Rattle.bd_model.specs.DesignView.{design_view};
 ghost use Rattle.bd_model.specs.Lawful.{IsLawful};
 ghost use Rattle.bd_bounded.specs.Answer.{HasWork, Says};
-ghost use Rattle.bd_app.specs.Bounded.{bounded_command, bounded_meaning, bounded_of, bounded_question, bounded_words, most_cycles, shown_trail, HasFewCycles, IsBoundedReport};
+ghost use Rattle.bd_app.specs.Bounded.{bounded_command, bounded_meaning, bounded_of, bounded_question, bounded_words, shown_trail, HasFewCycles, IsBoundedReport};
 ghost use Rattle.bd_app.specs.Meaning.{files_seen};
 ghost use Rattle.bd_app.specs.Texts.{IsTextOfIf, TrailFitsShort, trail_kind};
 ghost use Rattle.bd_app.specs.Words.{in_range, required};
 ghost use Rattle.bd_app.specs.inner.Loaded.{AreFew, sources_view};
 ghost use Rattle.bd_app.specs.inner.Done.{IsDone, IsShownRun, OnDesign};
+ghost use Rattle.bd_model.specs.Limits.{most_cycles};
 
 use crate::answer::{Answer, Ended};
 use crate::load::{DesignFiles, Sources, load_sources};
@@ -108,7 +109,7 @@ fn text_of(alloc: Global, design: &Design, trail: Option<&Trail>) -> Result<Vec<
 /// What a design is found to be over so many cycles.
 fn decide(alloc: Global, design: &Design, cycles: u32, budget: u32) -> Result<Bounded, Ended>
     requires lawful { IsLawful (design_view design.now) }
-    requires few { cycles ≤ 16 }
+    requires few { cycles ≤ most_cycles }
     ensures says { IfOk result (Says (design_view design.now) cycles) }
     ensures work { IfOk result (HasWork (design_view design.now) cycles budget) }
     ensures fault { IfErr result (λ e. e ≡ Ended.Memory) }
@@ -123,7 +124,7 @@ fn decide(alloc: Global, design: &Design, cycles: u32, budget: u32) -> Result<Bo
 /// The same, with the text of its trail.
 fn shown_run(alloc: Global, design: &Design, cycles: u32, budget: u32) -> Result<ShownRun, Ended>
     requires lawful { IsLawful (design_view design.now) }
-    requires few { cycles ≤ 16 }
+    requires few { cycles ≤ most_cycles }
     ensures shown { IfOk result (IsShownRun (design_view design.now) cycles budget) }
     ensures fault { IfErr result (λ e. e ≡ Ended.Memory) }
 {
@@ -176,7 +177,7 @@ fn report(
 /// The answer on a design.
 fn run_on(alloc: Global, design: &Design, cycles: u32, budget: u32) -> Result<Answer, Ended>
     requires lawful { IsLawful (design_view design.now) }
-    requires few { cycles ≤ 16 }
+    requires few { cycles ≤ most_cycles }
     ensures report { IfOk result (λ a.
         IsBoundedReport cycles budget (design_view design.now) a.ended a.report.items) }
     ensures fault { IfErr result (λ e. e ≡ Ended.Memory) }
@@ -199,7 +200,7 @@ fn run_on_sources(
     budget: u32,
 ) -> Result<Answer, Ended>
     requires sources { AreFew (sources_view sources.now) }
-    requires few { cycles ≤ 16 }
+    requires few { cycles ≤ most_cycles }
     ensures { OnDesign (IsBoundedReport cycles budget) (sources_view sources.now) result }
 {
     let design = design(alloc, sources)?;

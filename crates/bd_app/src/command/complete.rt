@@ -14,6 +14,7 @@ ghost use Rattle.bd_app.specs.Texts.{IsTextOfIf, case_kind};
 ghost use Rattle.bd_app.specs.inner.Loaded.{AreFew, sources_view};
 ghost use Rattle.bd_app.specs.inner.Completed.{IsShownBreak, OnCompletion};
 ghost use Rattle.bd_app.specs.inner.Done.{IsDone};
+ghost use Rattle.bd_model.specs.Limits.{longest_text};
 
 use crate::answer::{Answer, Ended};
 use crate::load::{DesignFiles, TextBytes, TextFiles, load_text};
@@ -191,7 +192,7 @@ fn answer_on_bytes(
     budget: u32,
 ) -> Result<Answer, Ended>
     requires sources { AreFew (sources_view bytes.now.sources) }
-    requires text { length bytes.now.text.items ≤ 1048576 }
+    requires text { length bytes.now.text.items ≤ longest_text }
     ensures { OnCompletion (IsCompleteReport agree budget) (sources_view bytes.now.sources)
         bytes.now.text.items result }
 {

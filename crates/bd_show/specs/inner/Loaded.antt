@@ -13,6 +13,7 @@ use Rattle.bd_show.specs.Files.{BlamesLoad, Names, Texts, files_of}
 use Rattle.bd_show.specs.declared.load.LoadFault.{LoadFault}
 use Rattle.bd_show.specs.declared.load.LoadFault.TheVariants.{Failed, TooLong, Memory}
 use Rattle.bd_show.specs.declared.load.Texts.{Texts as LoadedTexts}
+use Rattle.bd_model.specs.Limits.{longest_text}
 
 abbrev pub bytes_of : Option (Vec ℕ Global) → Option (List ℕ)
 bytes_of = option_map (λ bytes. bytes.items)
@@ -31,8 +32,8 @@ abbrev pub IsFewIf : Text → Option (List ℕ) → Type 0
 IsFewIf file bytes = IfSome bytes (λ b. length b ≤ most_bytes file)
 
 pub record AreFew (t : Texts) : Type 0 where
-  pub pipe : length t.pipe ≤ 1048576
-  pub spec : length t.spec ≤ 1048576
+  pub pipe : length t.pipe ≤ longest_text
+  pub spec : length t.spec ≤ longest_text
   pub inv : IsFewIf Inv t.inv
 
 -- why one file gave no bytes

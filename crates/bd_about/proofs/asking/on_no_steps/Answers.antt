@@ -7,6 +7,7 @@ use Rattle.bd_about.specs.declared.asking.Finding.TheVariants.{Right}
 use Rattle.bd_about.proofs.Changed.{without_steps_lawful}
 use Rattle.bd_about.proofs.Steps.{found_still}
 use Rattle.bd_about.proofs.asking.on_no_steps.Goals as goal
+use Rattle.bd_model.specs.Limits.{most_items}
 
 pub found-requires : goal.found-requires
 found-requires c =
@@ -16,7 +17,7 @@ pub returns : goal.returns
 returns c =
     let d = design_view c.args.design in
     let f = c.in_ok-found.field-0 in
-    let room : length d.exact < 2097152 = omega (arith, length-map c.args.design.exact exact_view) in
+    let room : length d.exact < most_items = omega (arith, length-map c.args.design.exact exact_view) in
     let finding : IsFinding (without_steps d) c.args.given f = subst (λ e. IsFinding e c.args.given f) c.in_ok-changed.ensures c.in_ok-found.ensures in
     record {
       finding = (room, finding);

@@ -8,6 +8,7 @@ use Rattle.bd_verify.specs.Decided.{IsDecided}
 use Rattle.bd_verify.specs.declared.verdict.Mode.TheVariants.{Plain}
 use Rattle.bd_bounded.proofs.Answering.{false-broken, run-known, run-work, valid-right}
 use Rattle.bd_bounded.proofs.running.bounded.Goals as goal
+use Rattle.bd_model.specs.Limits.{most_cycles}
 
 pub decide-requires-clause-lawful : goal.decide-requires-clause-lawful
 decide-requires-clause-lawful g c = lawful-symbols (design_view c.args.design.now) c.requires.lawful
@@ -37,7 +38,7 @@ pub broken_cycle-requires-clause-short : goal.broken_cycle-requires-clause-short
 broken_cycle-requires-clause-short g c =
     let d = design_view c.args.design.now in
     let h = subst (IsDecided d c.args.cycles c.run_root.new.graph c.in_ok-root.root Plain c.args.budget) c.in-False.is c.in_ok-work.ensures.decided in
-    subst (λ count. count ≤ 16) (sym h.0.counted) c.requires.few
+    subst (λ count. count ≤ most_cycles) (sym h.0.counted) c.requires.few
 
 pub returns-in-False-clause-says : goal.returns-in-False-clause-says
 returns-in-False-clause-says g c =
