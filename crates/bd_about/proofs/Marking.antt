@@ -9,14 +9,11 @@ use Rattle.bd_about.specs.Marked.{Adds, is_marked}
 use Rattle.bd_about.specs.inner.Marking.{AreMarked}
 use Rattle.bd_about.specs.declared.named.Named.{Named}
 use Rattle.bd_about.specs.declared.marks.Marks.{Marks}
+use Rattle.bd_list.proofs.Truths.{or_assoc}
 
 pub or_false : (b : Bool) → (b || false) ≡ b
 or_false true = refl
 or_false false = refl
-
-pub or_assoc : (a b c : Bool) → ((a || b) || c) ≡ (a || (b || c))
-or_assoc true b c = refl
-or_assoc false b c = refl
 
 -- a flag that isn't set at the end changes nothing
 pub get_or-push_false : (xs : List Bool) (k : ℕ) → get_or (xs ++ false ∷ []) k false ≡ get_or xs k false

@@ -12,18 +12,11 @@ use Rattle.bd_about.specs.inner.Marking.{AreMarked, LeadsOn, UseEarlier}
 use Rattle.bd_about.specs.declared.named.Named.{Named}
 use Rattle.bd_about.specs.declared.named.Named.TheVariants as named
 use Rattle.bd_about.specs.declared.marks.Marks.{Marks}
+use Rattle.bd_list.proofs.Truths.{or_left, or_right}
 
 pub or_cases : (a b : Bool) → (a || b) ≡ true → (a ≡ true) ⊎ (b ≡ true)
 or_cases true b h = inl refl
 or_cases false b h = inr h
-
-or_left : (a b : Bool) → a ≡ true → (a || b) ≡ true
-or_left true b h = refl
-or_left false b h = absurd (cc h)
-
-or_right : (a b : Bool) → b ≡ true → (a || b) ≡ true
-or_right true b h = refl
-or_right false b h = h
 
 -- the lets from the i-th on were passed
 pub record Passed (lets : List LocalView) (first now : Marks) (i : ℕ) : Type 0 where

@@ -1,5 +1,5 @@
 -- Constants that are kept apart have different values, and the test of it says so.
-use Rattle.std.proofs.Common.{◌≡◌, ◌≢◌, ℕ, zero, suc, ◌<◌, Bool, true, false, List, [], ◌∷◌, ◌++◌, length, get_or, Ok, refl, sym, ap, ◌∙◌, arith}
+use Rattle.std.proofs.Common.{◌≡◌, ◌≢◌, ℕ, zero, suc, ◌<◌, Bool, false, List, [], ◌∷◌, ◌++◌, length, get_or, Ok, refl, sym, ap, ◌∙◌, arith}
 use Rattle.std.specs.Prelude.{◌||◌, nat_eq}
 use Rattle.std.specs.List.{AllByRecursion, AllZip, AllPairs, list_any}
 use Rattle.std.proofs.lemmas.List.{length-map, get_or-map}
@@ -18,6 +18,7 @@ use Rattle.bd_model.specs.declared.case.Trail.{Trail}
 use Rattle.bd_model.proofs.Pairs.{AllZip-at}
 use Rattle.bd_model.specs.Value.{scalar_word}
 use Rattle.bd_case.specs.Reading.{repeats, constants, distinct_form}
+use Rattle.bd_list.proofs.Truths.{neither}
 
 -- ---- a list without repeats
 
@@ -50,36 +51,24 @@ none_of_nothing : (xs : List ℕ) → NoneOf [] xs
 none_of_nothing [] = tt
 none_of_nothing (x ∷ xs) = (refl, none_of_nothing xs)
 
-pub or_false : (a b : Bool) → (a || b) ≡ false → (a ≡ false) × (b ≡ false)
-or_false true b e = absurd (cc)
-or_false false b e = (refl, e)
-
-pub or_right : (a b : Bool) → b ≡ true → (a || b) ≡ true
-or_right true b e = refl
-or_right false b e = e
-
-pub or_left : (a b : Bool) → a ≡ true → (a || b) ≡ true
-or_left true b e = refl
-or_left false b e = absurd (cc)
-
 fewer_before : (before : List ℕ) (x : ℕ) (xs : List ℕ) → NoneOf (before ++ x ∷ []) xs → AllByRecursion (λ y. x ≢ y) xs × NoneOf before xs
 fewer_before before x [] none = (tt, tt)
 fewer_before before x (y ∷ ys) none =
-    let split = or_false (list_any (nat_eq y) before) (nat_eq y x || false) (sym (list_any-append (nat_eq y) before (x ∷ [])) ∙ none.0) in
-    let differs = (or_false (nat_eq y x) false split.1).0 in
+    let split = neither (list_any (nat_eq y) before) (nat_eq y x || false) (sym (list_any-append (nat_eq y) before (x ∷ [])) ∙ none.0) in
+    let differs = (neither (nat_eq y x) false split.1).0 in
     let rest = fewer_before before x ys none.1 in
     (((λ e. absurd (grind (arith, differs))), rest.0), (split.0, rest.1))
 
 repeats-none : (before xs : List ℕ) → repeats before xs ≡ false → NoneOf before xs
 repeats-none before [] e = tt
 repeats-none before (x ∷ xs) e =
-    let split = or_false (list_any (nat_eq x) before) (repeats (before ++ x ∷ []) xs) e in
+    let split = neither (list_any (nat_eq x) before) (repeats (before ++ x ∷ []) xs) e in
     (split.0, (fewer_before before x xs (repeats-none (before ++ x ∷ []) xs split.1)).1)
 
 repeats-different : (before xs : List ℕ) → repeats before xs ≡ false → AllPairs ◌≢◌ xs
 repeats-different before [] e = λ i j d below within. absurd (omega arith)
 repeats-different before (x ∷ xs) e =
-    let split = or_false (list_any (nat_eq x) before) (repeats (before ++ x ∷ []) xs) e in
+    let split = neither (list_any (nat_eq x) before) (repeats (before ++ x ∷ []) xs) e in
     let others = (fewer_before before x xs (repeats-none (before ++ x ∷ []) xs split.1)).0 in
     AllPairs-cons ◌≢◌ x xs (All-from_recursion (λ y. x ≢ y) xs others) (repeats-different (before ++ x ∷ []) xs split.1)
 

@@ -36,10 +36,11 @@ use Rattle.bd_case.specs.declared.kind.Version.{Version}
 use Rattle.bd_case.specs.declared.kind.EntryHead.{EntryHead}
 use Rattle.bd_case.specs.declared.kind.EntryKind.{EntryKind}
 use Rattle.bd_case.proofs.Rows.{IsRowOf, IsTableOf}
-use Rattle.bd_case.proofs.Constants.{or_false, or_left, or_right, repeats-differ}
+use Rattle.bd_case.proofs.Constants.{repeats-differ}
 use Rattle.bd_case.proofs.Contents.{symbol_head-tabled}
 use Rattle.bd_case.proofs.ReadsBack.{length-symbol_kinds, sort_tabled}
 use Rattle.bd_model.specs.Limits.{most_cycles}
+use Rattle.bd_list.proofs.Truths.{or_left, or_right, neither}
 
 -- ---- values, rows and tables
 
@@ -332,7 +333,7 @@ module _ (version : Version) (d : DesignView) (interp : List Table) (tables : Al
       → ((f : ℕ) → is_apart groups f ≡ true → is_apart d.distinct f ≡ true) → AllByRecursion (KeepsApart interp) groups
   groups_apart [] lawful none inside = tt
   groups_apart (g ∷ gs) lawful none inside =
-      let split = or_false (repeats [] (constants interp g)) (list_any (λ group. repeats [] (constants interp group)) gs) none in (
+      let split = neither (repeats [] (constants interp g)) (list_any (λ group. repeats [] (constants interp group)) gs) none in (
         record {
           no_rows = members_without_rows g lawful.0.constants (λ f e. inside f (or_left (list_any (nat_eq f) g) (is_apart gs f) e));
           different = repeats-differ interp g split.0;

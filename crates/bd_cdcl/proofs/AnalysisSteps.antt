@@ -11,13 +11,13 @@ use Rattle.bd_cnf.specs.Literal.{Literal, negate, literal_eq, has_literal, has_v
 use Rattle.bd_cnf.specs.Clause.{IsRising}
 use Rattle.bd_cnf.specs.Standing.{Standing}
 use Rattle.bd_cnf.specs.Trail.{is_false, open_literals, IsClosed, IsPartOf}
-use Rattle.bd_cnf.proofs.Literals.{literal_eq-true, any_has, has_at}
+use Rattle.bd_cnf.proofs.Literals.{literal_eq-true, any_has, has_at, negate_twice}
 use Rattle.bd_cnf.proofs.Closed.{has_variable_of, part_variable, part_push, part_not_false}
 use Rattle.bd_lrat.specs.declared.line.Hint.TheVariants as hint
 use Rattle.bd_lrat.specs.Propagation.{Conflict, propagate}
 use Rattle.bd_watch.specs.Levels.{Assigned, assigned, literals, decisions, reasons, IsReason, IsPlaced, IsComplete}
 use Rattle.bd_watch.specs.Watching.{front}
-use Rattle.bd_watch.proofs.Parts.{has_here, has_single, has_left, has_right, has_either, part_nil, negate_twice, literal_of, open_has, open_from}
+use Rattle.bd_watch.proofs.Parts.{has_here, has_single, has_left, has_right, has_either, part_nil, literal_of, open_has, open_from}
 use Rattle.bd_watch.proofs.Placed.{complete_at, complete_consistent}
 use Rattle.bd_watch.proofs.Fronts.{in_front, place_in_front, place_of, front_within}
 use Rattle.bd_watch.proofs.Guards.{front_part, unit_besides, apart_from}

@@ -16,9 +16,10 @@ use Rattle.bd_watch.specs.Levels.{Assigned, assigned, literals, decided, decisio
 use Rattle.bd_watch.specs.Trails.{IsLastDecision}
 use Rattle.bd_watch.specs.Watching.{IsAsserting}
 use Rattle.bd_watch.proofs.AssertedLiterals.{two_free_closed}
-use Rattle.bd_watch.proofs.Parts.{has_here, has_left, has_right, has_either, has_single, negate_twice, has_negated, negated_has}
+use Rattle.bd_watch.proofs.Parts.{has_here, has_left, has_right, has_either, has_single, has_negated, negated_has}
 use Rattle.bd_watch.proofs.Placed.{literals-append, decisions-append, decisions_part, complete_front, complete_at, IsClosedAtDecisions}
 use Rattle.bd_cdcl.proofs.Replay.{replay_conflict}
+use Rattle.bd_cnf.proofs.Literals.{negate_twice}
 
 -- where that end is closed, the clause is fresh
 pub asserting_fresh : (standing : Standing) (front : List Literal) (earlier : List (List Literal)) (clause : List Literal) (u : Literal) → IsConsistent front → AreClosed standing front → All (λ other. IsRising other × IsClosed front other) earlier → IsAsserting front clause u → IsFreshClause standing earlier clause

@@ -97,7 +97,7 @@ single n (l ∷ m ∷ ls) u up all =
     or_more true b h = refl
     or_more false b h = h
 
-rises_filter : (p : Literal → Bool) (n : ℕ) (ls : List Literal) → RisesAbove n ls → RisesAbove n (filter p ls)
+pub rises_filter : (p : Literal → Bool) (n : ℕ) (ls : List Literal) → RisesAbove n ls → RisesAbove n (filter p ls)
 rises_filter p n [] up = tt
 rises_filter p n (l ∷ ls) up = first (rises_filter p l.var ls up.1) (p l)
   where

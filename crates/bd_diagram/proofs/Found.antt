@@ -10,15 +10,12 @@ use Rattle.bd_model.specs.declared.table.Slot.{Slot}
 use Rattle.bd_model.specs.declared.table.Memory.{Memory}
 use Rattle.bd_diagram.specs.Differs.{with_differing, differing_after, differing}
 use Rattle.bd_diagram.specs.Laws.{IsInNoRow, FindsWhereDiffer, AddressesFound}
+use Rattle.bd_list.proofs.Truths.{neither}
 
 choose : (P : List ℕ → Type 0) (t u : Bool) (xs ys : List ℕ) → P xs → (t ≡ false → u ≡ false → P ys) → P (if t || u then xs else ys)
 choose P true u xs ys h g = h
 choose P false true xs ys h g = h
 choose P false false xs ys h g = g refl refl
-
-or_false : (s t : Bool) → (s || t) ≡ false → (s ≡ false) × (t ≡ false)
-or_false true t h = absurd (cc h)
-or_false false t h = (refl, h)
 
 unequal : (x y : ℕ) → (x == y) ≡ false → x ≢ y
 unequal x y h = λ e. let yes = eq-eqb x y e in absurd (cc)
@@ -27,7 +24,7 @@ unequal x y h = λ e. let yes = eq-eqb x y e in absurd (cc)
 not_any : (a : ℕ) (xs : List ℕ) → list_any (λ b. b == a) xs ≡ false → All (λ b. b ≢ a) xs
 not_any a [] h = All-nil (λ b. b ≢ a)
 not_any a (x ∷ xs) h =
-    let both = or_false (x == a) (list_any (λ b. b == a) xs) h in
+    let both = neither (x == a) (list_any (λ b. b == a) xs) h in
     All-cons (λ b. b ≢ a) x xs (unequal x a both.0) (not_any a xs both.1)
 
 contains_cons : (x a : ℕ) (xs : List ℕ) → Contains xs a → Contains (x ∷ xs) a

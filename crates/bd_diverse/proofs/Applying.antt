@@ -14,7 +14,9 @@ use Rattle.bd_diverse.specs.declared.ways.Ways.{Ways}
 use Rattle.bd_diverse.specs.Positive.{Applies, Compared, IsPositive, Walks, Way}
 use Rattle.bd_diverse.specs.inner.Walked.{is_any, has_way, ways_at}
 use Rattle.bd_diverse.specs.inner.Applied.{AppliesBelow, AppliesSymbol, is_compared, is_reached}
-use Rattle.bd_diverse.proofs.Walking.{Contains-cons, Contains-none, any_from, or-left, or-right, some_way}
+use Rattle.bd_diverse.proofs.Walking.{any_from, some_way}
+use Rattle.bd_list.proofs.Membership.{Contains-cons, Contains-none}
+use Rattle.bd_list.proofs.Truths.{or_left, or_right}
 
 -- the derived `==`
 abbrev pub sym_eq : Sym → Sym → Bool
@@ -23,8 +25,8 @@ sym_eq = eq-value.it
 list_any-Contains : (ks : List Sym) (s : Sym) → Contains ks s → list_any (sym_eq s) ks ≡ true
 list_any-Contains [] s h = absurd (Contains-none s h)
 list_any-Contains (k ∷ ks) s h = elim (Contains-cons k ks s h) [
-  | inl e ↦ or-left (sym_eq s k) (list_any (sym_eq s) ks) (ap (sym_eq s) e ∙ laws-law.refl s)
-  | inr q ↦ or-right (sym_eq s k) (list_any (sym_eq s) ks) (list_any-Contains ks s q)
+  | inl e ↦ or_left (sym_eq s k) (list_any (sym_eq s) ks) (ap (sym_eq s) e ∙ laws-law.refl s)
+  | inr q ↦ or_right (sym_eq s k) (list_any (sym_eq s) ks) (list_any-Contains ks s q)
 ]
 
 -- the set's test

@@ -26,12 +26,13 @@ use Rattle.bd_diverse.specs.Diverse.{IsDiverse}
 use Rattle.bd_diverse.specs.inner.Walked.{flows, has_way, is_any, no_way, only_even, ways_at, with_flows}
 use Rattle.bd_diverse.specs.inner.Applied.{AppliesSymbol, is_compared, is_reached}
 use Rattle.bd_diverse.specs.inner.Spread.{Spreading, is_among, read_as, start, symbol_args, with_row}
-use Rattle.bd_diverse.proofs.Walking.{Contains-cons, Contains-none, any_from, first, some_way}
+use Rattle.bd_diverse.proofs.Walking.{any_from, some_way}
 use Rattle.bd_diverse.proofs.Passing.{IsWalked, IsWalked-exact, IsWalked-mark, IsWalked-pass, IsWalked-root, Walks-reaches, has_inside, reached-walked}
 use Rattle.bd_diverse.proofs.Applying.{AppliesSymbol-one, Collects, Collects-more, Collects-none, Collects-passed, positive_exact}
 use Rattle.bd_diverse.proofs.Reading.{spread-apart, spread-diverse, spread-false}
 use Rattle.bd_diverse.proofs.Spreading.{Spreading-other, Spreading-skip, Spreading-start, Spreading-use, at-denoted, lt-cases, row_for}
 use Rattle.bd_diverse.proofs.Settling.{among-exact, settled-IsSpread}
+use Rattle.bd_list.proofs.Membership.{first, Contains-cons, Contains-none}
 
 -- marks of a whole pass downwards
 record Walked (nodes : List Node) (root : ℕ) : Type 0 where

@@ -7,7 +7,7 @@ use Rattle.bd_function.specs.declared.flat.FlatRow.{FlatRow}
 use Rattle.bd_function.specs.declared.flat.FlatSym.{FlatSym}
 use Rattle.bd_function.specs.Values.{is_marked}
 use Rattle.bd_diverse.specs.Marked.{HasMarkedRow, HasVariable}
-use Rattle.bd_diverse.proofs.Walking.{Contains-none}
+use Rattle.bd_list.proofs.Membership.{Contains-none}
 
 module _ (old new : List ℕ) (var : ℕ) (is : (v : ℕ) → is_marked new v ≡ (if var == v then true else is_marked old v)) where
   came_by : (x : ℕ) (b : Bool) → (var == x) ≡ b → is_marked new x ≡ true → (is_marked old x ≡ true) ⊎ (var ≡ x)

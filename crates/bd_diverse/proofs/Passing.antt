@@ -10,7 +10,10 @@ use Rattle.bd_terms.proofs.Reaching.{children-below}
 use Rattle.bd_diverse.specs.declared.ways.Ways.{Ways}
 use Rattle.bd_diverse.specs.Positive.{Way, Even, Odd, Control, Compared, Free, Walks, Root, Step, steps}
 use Rattle.bd_diverse.specs.inner.Walked.{flows, freely, only_free, has_way, is_any, joined, no_way, only_even, ways_at, with_flows, with_ways}
-use Rattle.bd_diverse.proofs.Walking.{Contains-cons, Contains-none, Hands, any_from, child_step, first, flow_complete, flow_sound, or-cases, or-left, or-right, step_child}
+use Rattle.bd_diverse.proofs.Walking.{Hands, any_from, child_step, flow_complete, flow_sound, step_child}
+use Rattle.bd_list.proofs.Membership.{first, Contains-cons, Contains-none}
+use Rattle.bd_list.proofs.Numbers.{le-cases}
+use Rattle.bd_list.proofs.Truths.{or_left, or_right, or_cases}
 
 -- whether the mark at a place has the way
 abbrev pub has_at : List Ways → ℕ → Way → Bool
@@ -42,7 +45,7 @@ module _ (marks : List Ways) (c : ℕ) (w : Ways) (k : ℕ) (way : Way) where
       let inside : k < length marks = let lt = has_inside (with_ways marks c w) k way h in omega (arith, lt, length-set marks c (joined (ways_at marks c) w)) in
       let new : ways_at (with_ways marks c w) k ≡ joined (ways_at marks c) w =
       subst (λ j. slice_index_or (slice_set marks j (joined (ways_at marks c) w)) k no_way ≡ joined (ways_at marks c) w) (sym same) (get_or-set_same marks k (joined (ways_at marks c) w) no_way inside) in
-      elim (or-cases (has_way (ways_at marks c) way) (has_way w way) (sym (has-joined (ways_at marks c) w way) ∙ ap (λ x. has_way x way) (sym new) ∙ h)) [
+      elim (or_cases (has_way (ways_at marks c) way) (has_way w way) (sym (has-joined (ways_at marks c) w way) ∙ ap (λ x. has_way x way) (sym new) ∙ h)) [
         | inl p ↦ inl (ap (λ j. has_at marks j way) (sym same) ∙ p)
         | inr p ↦ inr (same, p)
       ]
@@ -61,7 +64,7 @@ module _ (marks : List Ways) (c : ℕ) (w : Ways) (k : ℕ) (way : Way) where
       ∙ has-joined (ways_at marks k) w way
 
   set-stays_by : (b : Bool) → (c == k) ≡ b → has_at marks k way ≡ true → has_at (with_ways marks c w) k way ≡ true
-  set-stays_by true e h = set-new (eqb-true c k e) (has_inside marks k way h) ∙ or-left (has_at marks k way) (has_way w way) h
+  set-stays_by true e h = set-new (eqb-true c k e) (has_inside marks k way h) ∙ or_left (has_at marks k way) (has_way w way) h
   set-stays_by false e h =
       let other : k ≢ c = λ same. true≢false (sym (eq-eqb c k (sym same)) ∙ e) in
       ap (λ x. has_way x way) (get_or-set_other marks c k (joined (ways_at marks c) w) no_way other) ∙ h
@@ -70,7 +73,7 @@ module _ (marks : List Ways) (c : ℕ) (w : Ways) (k : ℕ) (way : Way) where
   set-stays h = set-stays_by (c == k) refl h
 
   pub set-there : c ≡ k → k < length marks → has_way w way ≡ true → has_at (with_ways marks c w) k way ≡ true
-  set-there same inside h = set-new same inside ∙ or-right (has_at marks k way) (has_way w way) h
+  set-there same inside h = set-new same inside ∙ or_right (has_at marks k way) (has_way w way) h
 
 pub length-flows : (marks : List Ways) (fs : List (ℕ × Ways)) → length (with_flows marks fs) ≡ length marks
 length-flows marks [] = refl
@@ -152,12 +155,6 @@ IsWalked-root nodes root inside = record {
   sound = λ way k h. root_sound nodes root way k (root == k) refl h;
   closed = λ way k node le h there. absurd (none-some node (sym (slice_get_past nodes k le) ∙ there));
 }
-
-le-cases : (a b : ℕ) → a ≤ b → (suc a ≤ b) ⊎ (a ≡ b)
-le-cases zero zero h = inr refl
-le-cases zero (suc b) h = inl (omega arith)
-le-cases (suc a) zero h = absurd (omega arith)
-le-cases (suc a) (suc b) h = elim (le-cases a b (omega arith)) [ inl p ↦ inl (omega arith) | inr e ↦ inr (ap suc e) ]
 
 -- a place to which no walk comes is passed
 pub IsWalked-pass : (nodes : List Node) (root place : ℕ) (marks : List Ways) → IsWalked nodes root (suc place) marks → is_any (ways_at marks place) ≡ false → IsWalked nodes root place marks

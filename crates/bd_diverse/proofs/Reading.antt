@@ -19,8 +19,10 @@ use Rattle.bd_function.specs.Flat.{ReachesNoMemory}
 use Rattle.bd_function.proofs.Flattening.{plain_reached}
 use Rattle.bd_diverse.specs.Positive.{Way, Even, Odd, Control, Compared, Free, Applies, IsPositive, Walks, Root, Step, negated, side, steps}
 use Rattle.bd_diverse.specs.Diverse.{IsDiverse, IsReached}
-use Rattle.bd_diverse.proofs.Walking.{Contains-map, first, second, third, or-cases, or-left, or-right, step_child}
+use Rattle.bd_diverse.proofs.Walking.{Contains-map, step_child}
 use Rattle.bd_diverse.proofs.Passing.{Walks-reaches, reached-walked}
+use Rattle.bd_list.proofs.Membership.{first, second, third}
+use Rattle.bd_list.proofs.Truths.{or_left, or_right, or_cases}
 
 -- the value of its own that the application at a place has
 abbrev pub own : ℕ → ℕ → ℕ
@@ -68,7 +70,7 @@ and_mono : (a b c d : Bool) → (a ≡ true → c ≡ true) → (b ≡ true → 
 and_mono a b c d h k m = let p = and_parts a b m in and_from c d (h p.0) (k p.1)
 
 or_mono : (a b c d : Bool) → (a ≡ true → c ≡ true) → (b ≡ true → d ≡ true) → (a || b) ≡ true → (c || d) ≡ true
-or_mono a b c d h k m = elim (or-cases a b m) [ inl p ↦ or-left c d (h p) | inr p ↦ or-right c d (k p) ]
+or_mono a b c d h k m = elim (or_cases a b m) [ inl p ↦ or_left c d (h p) | inr p ↦ or_right c d (k p) ]
 
 -- what a new and an old truth value have to do with each other
 abbrev pub TruthClaim : Way → Bool → Bool → Type 0

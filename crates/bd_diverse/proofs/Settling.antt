@@ -26,28 +26,22 @@ use Rattle.bd_function.specs.inner.Taken.{IsPlain}
 use Rattle.bd_function.proofs.Tabling.{is_symbol-same, is_symbol-self}
 use Rattle.bd_diverse.specs.Positive.{IsPositive}
 use Rattle.bd_diverse.specs.inner.Spread.{IsUse, OwnRow, Placed, Spreading, is_among, spread_value, symbol_args}
-use Rattle.bd_diverse.proofs.Walking.{Contains-cons, Contains-none, first, or-left, or-right}
 use Rattle.bd_diverse.proofs.Reading.{FromTruth, FromWord, IsSpread, OwnConstant}
 use Rattle.bd_diverse.proofs.Spreading.{at-denoted, plain_value, use_children}
+use Rattle.bd_list.proofs.Membership.{first, Contains-cons, Contains-none}
+use Rattle.bd_list.proofs.Truths.{or_left, or_right}
+use Rattle.bd_function.proofs.Evaluating.{word_denoted}
 
 among-Contains : (ks : List Sym) (s : Sym) → Contains ks s → list_any (is_symbol s) ks ≡ true
 among-Contains [] s h = absurd (Contains-none s h)
 among-Contains (k ∷ ks) s h = elim (Contains-cons k ks s h) [
-  | inl e ↦ or-left (is_symbol s k) (list_any (is_symbol s) ks) (ap (is_symbol s) e ∙ is_symbol-self s)
-  | inr q ↦ or-right (is_symbol s k) (list_any (is_symbol s) ks) (among-Contains ks s q)
+  | inl e ↦ or_left (is_symbol s k) (list_any (is_symbol s) ks) (ap (is_symbol s) e ∙ is_symbol-self s)
+  | inr q ↦ or_right (is_symbol s k) (list_any (is_symbol s) ks) (among-Contains ks s q)
 ]
 
 -- being among symbols
 pub among-exact : (ks : List Sym) (s : Sym) → (is_among ks s ≡ true) ↔ Contains ks s
 among-exact ks s = (Contains-list_any is_symbol is_symbol-same ks s, among-Contains ks s)
-
-pub word_denoted : (x : Scalar) → word_of (as_denoted x) ≡ scalar_word x
-word_denoted (scalar.Bool b) = refl
-word_denoted (scalar.Word n) = refl
-
-pub truth_denoted : (x : Scalar) → truth_of (as_denoted x) ≡ scalar_truth x
-truth_denoted (scalar.Bool b) = refl
-truth_denoted (scalar.Word n) = refl
 
 -- no symbol is applied as a word and as a truth value
 pub one_sort : (nodes : List Node) → IsGraph nodes → (i j : ℕ) (s : Sym) (xs ys : List ℕ) → slice_get nodes i ≡ Some (App s xs) → slice_get nodes j ≡ Some (Pred s ys) → ⊥

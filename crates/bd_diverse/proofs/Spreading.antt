@@ -25,7 +25,8 @@ use Rattle.bd_function.proofs.Applying.{pointwise-same}
 use Rattle.bd_function.proofs.LaterVariables.{pointwise-equal}
 use Rattle.bd_function.proofs.Tabling.{is_symbol-same, is_symbol-self}
 use Rattle.bd_diverse.specs.inner.Spread.{IsUse, OwnRow, Placed, RowOf, Spreading, is_among, read_as, spread_value, start, symbol_args, with_row}
-use Rattle.bd_diverse.proofs.Walking.{Contains-cons, Contains-none, first, second, third}
+use Rattle.bd_list.proofs.Membership.{first, second, third, Contains-cons, Contains-none}
+use Rattle.bd_function.proofs.Evaluating.{at_denoted}
 
 -- what a term that applies no symbol denotes rests on what it stands over alone
 pub plain_value : (v w : World) (xs ys : List Denoted) (node : Node) → IsPlain node → symbol_args node ≡ None → ((c : ℕ) → Contains (children node) c → at_place xs c ≡ at_place ys c)
@@ -69,11 +70,6 @@ words-stay done x (a ∷ args) h =
     let head : word_at (done ++ x ∷ []) a ≡ word_at done a = ap scalar_word (scalar-stay done x a (h a (first a args))) in
     let tail = words-stay done x args (λ c p. h c (Contains-append_right (a ∷ []) args c p)) in
     λ i. head i ∷ tail i
-
-at_denoted : (done : List Scalar) (a : ℕ) → at_place (map as_denoted done) a ≡ as_denoted (scalar_at done a)
-at_denoted [] a = refl
-at_denoted (x ∷ xs) zero = refl
-at_denoted (x ∷ xs) (suc a) = at_denoted xs a
 
 pub denoted-stay : (done : List Scalar) (x : Scalar) (a : ℕ) → a < length done → at_place (map as_denoted (done ++ x ∷ [])) a ≡ at_place (map as_denoted done) a
 denoted-stay done x a h = at_denoted (done ++ x ∷ []) a ∙ ap as_denoted (scalar-stay done x a h) ∙ sym (at_denoted done a)

@@ -1,5 +1,5 @@
 -- Scalars are what terms denote that rest on no memory, and a term more spreads the world further.
-use Rattle.std.proofs.Common.{◌≡◌, ◌↔◌, inl, inr, ℕ, zero, suc, ◌+◌, ◌<◌, ◌≤◌, Bool, true, false, not, ◌&&◌, ◌||◌, ◌==◌, if◌then◌else◌, List, [], ◌∷◌, ◌++◌, length, map, slice_get, Option, Some, None, Contains, IsTrue, refl, ap, sym, ◌∙◌, subst, arith, length-append}
+use Rattle.std.proofs.Common.{◌≡◌, ◌↔◌, inl, inr, ℕ, zero, suc, ◌+◌, ◌<◌, ◌≤◌, Bool, false, not, ◌&&◌, ◌||◌, ◌==◌, if◌then◌else◌, List, [], ◌∷◌, ◌++◌, length, map, slice_get, Option, Some, None, Contains, IsTrue, refl, ap, sym, ◌∙◌, subst, arith, length-append}
 use Rattle.std.proofs.lemmas.Option.{slice_get_within}
 use Rattle.std.proofs.Math.Seq.{get_or-append_seam}
 use Rattle.bd_model.specs.declared.table.Scalar.{Scalar}
@@ -24,19 +24,16 @@ use Rattle.bd_diverse.specs.inner.Rows.{AddsTerm, AddsUse, IsOld, SpreadsAll}
 use Rattle.bd_diverse.specs.inner.Spread.{Spreading, read_as, symbol_args}
 use Rattle.bd_diverse.specs.inner.Valued.{IsValued, connective, scalar_in}
 use Rattle.bd_diverse.proofs.Reading.{IsSpread}
-use Rattle.bd_diverse.proofs.Settling.{args_denoted, settled-IsSpread, truth_denoted, word_denoted}
+use Rattle.bd_diverse.proofs.Settling.{args_denoted, settled-IsSpread}
 use Rattle.bd_diverse.proofs.Spreading.{Spreading-other, Spreading-use, at-denoted, lt-cases, plain_value, row_for, scalar-stay}
 use Rattle.std.proofs.lemmas.Option.{none-some}
+use Rattle.bd_function.proofs.Evaluating.{truth_denoted, word_denoted, as_denoted-if}
 
 truth_is : (done : List Scalar) (a : ℕ) → truth_of (at_place (map as_denoted done) a) ≡ truth_at done a
 truth_is done a = ap truth_of (at-denoted done a) ∙ truth_denoted (scalar_at done a)
 
 word_is : (done : List Scalar) (a : ℕ) → word_of (at_place (map as_denoted done) a) ≡ word_at done a
 word_is done a = ap word_of (at-denoted done a) ∙ word_denoted (scalar_at done a)
-
-as_denoted-if : (t : Bool) (x y : Scalar) → as_denoted (if t then x else y) ≡ (if t then as_denoted x else as_denoted y)
-as_denoted-if true x y = refl
-as_denoted-if false x y = refl
 
 connective_denoted : (w : World) (done : List Scalar) (node : Node) → IsPlain node → symbol_args node ≡ None → node_value w (map as_denoted done) node ≡ as_denoted (connective done node)
 connective_denoted w done True p n = refl

@@ -1,5 +1,5 @@
 -- What walks hand on from a term is what its ways hand on.
-use Rattle.std.proofs.Common.{◌≡◌, ℕ, zero, suc, ◌<◌, ◌⊎◌, inl, inr, Bool, true, false, ◌||◌, List, [], ◌∷◌, map, Contains, refl, ap, sym, ◌∙◌, subst, arith, true≢false}
+use Rattle.std.proofs.Common.{◌≡◌, ℕ, ◌<◌, ◌⊎◌, inl, inr, Bool, true, false, ◌||◌, List, [], ◌∷◌, map, Contains, refl, sym, ◌∙◌, subst, true≢false}
 use Rattle.std.proofs.lemmas.List.Elements.{Contains-append_right}
 use Rattle.bd_terms.specs.declared.node.Node.{Node}
 use Rattle.bd_terms.specs.declared.node.Node.TheVariants.{True, Not, And, Or, Ite, Eq, App, Pred, Read, Write, Init}
@@ -7,22 +7,8 @@ use Rattle.bd_terms.specs.Graph.{children}
 use Rattle.bd_diverse.specs.declared.ways.Ways.{Ways}
 use Rattle.bd_diverse.specs.Positive.{Way, Even, Odd, Control, Compared, Free, negated, side, steps}
 use Rattle.bd_diverse.specs.inner.Walked.{flows, freely, has_way, is_any, joined, negated_ways, no_way, only_control, only_free, side_ways}
-
-pub Contains-none : {X : Type 0} (x : X) → Contains [] x → ⊥
-Contains-none x (k, h, e) = absurd (omega arith)
-
-pub Contains-cons : {X : Type 0} (x : X) (xs : List X) (y : X) → Contains (x ∷ xs) y → (x ≡ y) ⊎ Contains xs y
-Contains-cons x xs y (zero, h, e) = inl e
-Contains-cons x xs y (suc k, h, e) = inr (k, omega arith, e)
-
-pub first : {X : Type 0} (x : X) (xs : List X) → Contains (x ∷ xs) x
-first x xs = (0, omega arith, refl)
-
-pub second : {X : Type 0} (x y : X) (xs : List X) → Contains (x ∷ y ∷ xs) y
-second x y xs = (1, omega arith, refl)
-
-pub third : {X : Type 0} (x y z : X) (xs : List X) → Contains (x ∷ y ∷ z ∷ xs) z
-third x y z xs = (2, omega arith, refl)
+use Rattle.bd_list.proofs.Membership.{first, second, third, Contains-cons, Contains-none}
+use Rattle.bd_list.proofs.Truths.{or_left, or_right, or_cases}
 
 -- one of two, and one of three
 pub one_of_two : {X : Type 0} (P : X → Type 0) (a b x : X) → P a → P b → Contains (a ∷ b ∷ []) x → P x
@@ -54,17 +40,6 @@ Contains-map f (y ∷ xs) x h = elim (Contains-cons y xs x h) [
   | inr q ↦ Contains-append_right (f y ∷ []) (map f xs) (f x) (Contains-map f xs x q)
 ]
 
-pub or-cases : (a b : Bool) → (a || b) ≡ true → (a ≡ true) ⊎ (b ≡ true)
-or-cases true b h = inl refl
-or-cases false b h = inr h
-
-pub or-left : (a b : Bool) → a ≡ true → (a || b) ≡ true
-or-left a b h = ap (λ x. x || b) h
-
-pub or-right : (a b : Bool) → b ≡ true → (a || b) ≡ true
-or-right true b h = refl
-or-right false b h = h
-
 -- some way is among them
 pub record Some_way (w : Ways) : Type 0 where
   pub way : Way
@@ -82,11 +57,11 @@ pub some_way : (w : Ways) → is_any w ≡ true → Some_way w
 some_way w h = some_by w w.even w.odd w.control w.compared w.free refl refl refl refl refl h
 
 pub any_from : (w : Ways) (way : Way) → has_way w way ≡ true → is_any w ≡ true
-any_from w Even h = or-left _ w.free (or-left _ w.compared (or-left _ w.control (or-left w.even w.odd h)))
-any_from w Odd h = or-left _ w.free (or-left _ w.compared (or-left _ w.control (or-right w.even w.odd h)))
-any_from w Control h = or-left _ w.free (or-left _ w.compared (or-right (w.even || w.odd) w.control h))
-any_from w Compared h = or-left _ w.free (or-right ((w.even || w.odd) || w.control) w.compared h)
-any_from w Free h = or-right (((w.even || w.odd) || w.control) || w.compared) w.free h
+any_from w Even h = or_left _ w.free (or_left _ w.compared (or_left _ w.control (or_left w.even w.odd h)))
+any_from w Odd h = or_left _ w.free (or_left _ w.compared (or_left _ w.control (or_right w.even w.odd h)))
+any_from w Control h = or_left _ w.free (or_left _ w.compared (or_right (w.even || w.odd) w.control h))
+any_from w Compared h = or_left _ w.free (or_right ((w.even || w.odd) || w.control) w.compared h)
+any_from w Free h = or_right (((w.even || w.odd) || w.control) || w.compared) w.free h
 
 -- where a way to a term comes from
 pub record Origin (w : Ways) (node : Node) (next : Way) (c : ℕ) : Type 0 where
@@ -116,12 +91,12 @@ from_side : (w : Ways) (a b c : ℕ) (next : Way) → ((way : Way) → Contains 
 from_side w a b c Even at h = absurd (true≢false (sym h))
 from_side w a b c Odd at h = absurd (true≢false (sym h))
 from_side w a b c Control at h = absurd (true≢false (sym h))
-from_side w a b c Compared at h = elim (or-cases w.odd w.control h) [
+from_side w a b c Compared at h = elim (or_cases w.odd w.control h) [
   | inl p ↦ record { way = Odd; has = p; step = at Odd }
   | inr p ↦ record { way = Control; has = p; step = at Control }
 ]
-from_side w a b c Free at h = elim (or-cases (w.even || w.compared) w.free h) [
-  | inl q ↦ elim (or-cases w.even w.compared q) [
+from_side w a b c Free at h = elim (or_cases (w.even || w.compared) w.free h) [
+  | inl q ↦ elim (or_cases w.even w.compared q) [
     | inl p ↦ record { way = Even; has = p; step = at Even }
     | inr p ↦ record { way = Compared; has = p; step = at Compared }
   ]
@@ -179,11 +154,11 @@ not_flow w a Compared h = record { ways = negated_ways w; flow = first (a, negat
 not_flow w a Free h = record { ways = negated_ways w; flow = first (a, negated_ways w) []; has = h }
 
 side_has : (w : Ways) (way : Way) → has_way w way ≡ true → has_way (side_ways w) (side way) ≡ true
-side_has w Even h = or-left (w.even || w.compared) w.free (or-left w.even w.compared h)
-side_has w Odd h = or-left w.odd w.control h
-side_has w Control h = or-right w.odd w.control h
-side_has w Compared h = or-left (w.even || w.compared) w.free (or-right w.even w.compared h)
-side_has w Free h = or-right (w.even || w.compared) w.free h
+side_has w Even h = or_left (w.even || w.compared) w.free (or_left w.even w.compared h)
+side_has w Odd h = or_left w.odd w.control h
+side_has w Control h = or_right w.odd w.control h
+side_has w Compared h = or_left (w.even || w.compared) w.free (or_right w.even w.compared h)
+side_has w Free h = or_right (w.even || w.compared) w.free h
 
 free_flow : (w : Ways) (node : Node) (args : List ℕ) → flows w node ≡ freely args → (step : Way × ℕ) → Contains (map (λ (c : ℕ). (Free, c)) args) step → Flowing w node step
 free_flow w node args is step p =

@@ -20,15 +20,7 @@ use Rattle.bd_function.specs.Flat.{IsFlat, is_variable, under}
 use Rattle.bd_equality.specs.Encoding.{IsVariable}
 use Rattle.bd_equality.specs.Made.{node_head, symbol_variable}
 use Rattle.bd_equality.specs.inner.Means.{node_variable}
-
-pub first : {X : Type 0} (x : X) (xs : List X) → Contains (x ∷ xs) x
-first x xs = (0, omega arith, refl)
-
-pub second : {X : Type 0} (x y : X) (xs : List X) → Contains (x ∷ y ∷ xs) y
-second x y xs = (1, omega arith, refl)
-
-pub third : {X : Type 0} (x y z : X) (xs : List X) → Contains (x ∷ y ∷ z ∷ xs) z
-third x y z xs = (2, omega arith, refl)
+use Rattle.bd_list.proofs.Membership.{first, second}
 
 sort_clash : sort.Bool ≡ sort.Word → ⊥
 sort_clash e = cc

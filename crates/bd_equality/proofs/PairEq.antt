@@ -8,6 +8,7 @@ use Rattle.bd_transitive.specs.declared.graph.Edge.{Edge}
 use Rattle.bd_equality.specs.contracts.pairs.VariablePairPartialEq.TheImpl.{eq-value}
 use Rattle.bd_equality.specs.declared.pairs.VariablePair.{VariablePair}
 use Rattle.bd_equality.specs.inner.Sets.{edge_of}
+use Rattle.bd_list.proofs.Membership.{Contains-cons}
 
 -- the derived `==`
 abbrev pub pair_eq : VariablePair → VariablePair → Bool
@@ -24,10 +25,6 @@ pair_same s t h = let p = and_parts (eqb s.from t.from) (eqb s.to t.to) h in (λ
 
 pair_itself : (s : VariablePair) → pair_eq s s ≡ true
 pair_itself s = and_from (eqb s.from s.from) (eqb s.to s.to) (eq-eqb s.from s.from refl) (eq-eqb s.to s.to refl)
-
-Contains-cons : {X : Type 0} (x : X) (xs : List X) (y : X) → Contains (x ∷ xs) y → (x ≡ y) ⊎ Contains xs y
-Contains-cons x xs y (zero, lt, e) = inl e
-Contains-cons x xs y (suc k, lt, e) = inr (k, omega arith, e)
 
 Contains-first : {X : Type 0} (x : X) (xs : List X) → Contains (x ∷ xs) x
 Contains-first x xs = (0, omega arith, refl)

@@ -15,7 +15,8 @@ use Rattle.bd_equality.specs.declared.split.Equation.{Equation}
 use Rattle.bd_equality.specs.Made.{Words, branch, head, node_branch, node_head}
 use Rattle.bd_equality.specs.inner.Means.{value_of}
 use Rattle.bd_equality.specs.inner.Split.{IsControl, IsPair, IsWord, between, equation, part}
-use Rattle.bd_equality.proofs.Flats.{first, second, third, word_ite}
+use Rattle.bd_equality.proofs.Flats.{word_ite}
+use Rattle.bd_list.proofs.Membership.{first, second, third}
 
 -- the two sides of a reached equation are words before it
 pub eq_words : (nodes : List Node) → IsGraph nodes → (root i a b : ℕ) → Reaches nodes root i → slice_get nodes i ≡ Some (Eq a b) → IsWord nodes root a × IsWord nodes root b

@@ -24,16 +24,10 @@ use Rattle.bd_terms.specs.Renamed.{id_at}
 use Rattle.bd_function.specs.inner.Nested.{chosen}
 use Rattle.bd_function.specs.inner.Taken.{IsRow, as_sort, row_sort, use_of, with_row}
 use Rattle.bd_function.proofs.Nesting.{words-Extends}
+use Rattle.bd_list.proofs.Membership.{Contains-none, Contains-one}
 
 pub Contains-later : {X : Type 0} → (x : X) (xs : List X) (y : X) → Contains xs y → Contains (x ∷ xs) y
 Contains-later x xs y p = Contains-append_right (x ∷ []) xs y p
-
-pub Contains-one : {X : Type 0} → (a u : X) → Contains (a ∷ []) u → a ≡ u
-Contains-one a u (zero, h, e) = e
-Contains-one a u (suc k, h, e) = absurd (omega arith)
-
-pub Contains-none : {X : Type 0} → (u : X) → Contains [] u → ⊥
-Contains-none u (k, h, e) = absurd (omega arith)
 
 pub pointwise-same : (args : List ℕ) → pointwise nat_eq args args ≡ true
 pointwise-same [] = refl

@@ -20,9 +20,10 @@ use Rattle.bd_function.specs.declared.flat.FlatRow.{FlatRow}
 use Rattle.bd_function.specs.declared.flat.FlatSym.{FlatSym}
 use Rattle.bd_function.specs.Flat.{IsChosen, IsFirst, IsFirstVariable, application, arguments, first_value, under}
 use Rattle.bd_function.specs.inner.Taken.{Chooses, IsApplied, IsVariableBelow, use_of, with_row}
-use Rattle.bd_function.proofs.Applying.{Contains-later, Contains-none, Contains-one, KeepsValues, KeepsValues-Extends, first_value-front, pointwise-same, rows-same, uses-Extends, with_row-cases, with_row-later, with_row-there}
+use Rattle.bd_function.proofs.Applying.{Contains-later, KeepsValues, KeepsValues-Extends, first_value-front, pointwise-same, rows-same, uses-Extends, with_row-cases, with_row-later, with_row-there}
 use Rattle.bd_function.proofs.Nesting.{words-Extends}
 use Rattle.bd_function.proofs.LaterVariables.{pointwise-equal, with_value, with_value-agree, with_value-other, with_value-same, words-agree}
+use Rattle.bd_list.proofs.Membership.{Contains-none, Contains-one}
 
 -- the first rows of the symbol are kept
 abbrev pub KeepsRows : World → (ℕ → Scalar) → List Node → FlatSym → Type 0

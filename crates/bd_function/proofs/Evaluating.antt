@@ -26,6 +26,8 @@ use Rattle.bd_function.specs.Flat.{IsFlat, ReachesNoMemory, is_variable, row_of,
 use Rattle.bd_function.specs.Tables.{sym_table, table_with}
 use Rattle.bd_function.specs.inner.Scalars.{as_denoted, node_scalar, row_from, scalar_at, sym_table_from, symbol_value, word_at}
 use Rattle.bd_function.specs.inner.Taken.{IsPlain}
+use Rattle.bd_list.proofs.Membership.{first, second}
+use Rattle.bd_list.proofs.Pushed.{map-push}
 
 -- a root of a graph in which no term is a memory reaches none
 pub ReachesNoMemory-all : (nodes : List Node) → IsGraph nodes → (root : ℕ) → root < length nodes → ((id : ℕ) → HasSort nodes id sort.Memory → ⊥) → ReachesNoMemory nodes root
@@ -34,12 +36,6 @@ ReachesNoMemory-all nodes g root inside none = record {
       let below = Reaches-below nodes g root id r in
       none id (record { inside = omega (arith, below, inside); sorted = m });
 }
-
-first : {X : Type 0} (x : X) (xs : List X) → Contains (x ∷ xs) x
-first x xs = (0, omega arith, refl)
-
-second : {X : Type 0} (x y : X) (xs : List X) → Contains (x ∷ y ∷ xs) y
-second x y xs = (1, omega arith, refl)
 
 -- a node whose children are no memories is none, where first contents aren't applied
 not_memory : (nodes : List Node) → IsGraph nodes → ((u : Use) → Contains (uses nodes) u → is_variable u.symbol ≡ true) → (i : ℕ) (node : Node) → slice_get nodes i ≡ Some node
@@ -85,16 +81,16 @@ pub IsFlat-plain : (nodes : List Node) (root : ℕ) (syms : List FlatSym) → Is
 IsFlat-plain nodes root syms g f = plain_by nodes g (no_memory nodes g f.variables)
 
 -- scalars as denotations
-at_denoted : (done : List Scalar) (a : ℕ) → at_place (map as_denoted done) a ≡ as_denoted (scalar_at done a)
+pub at_denoted : (done : List Scalar) (a : ℕ) → at_place (map as_denoted done) a ≡ as_denoted (scalar_at done a)
 at_denoted [] a = refl
 at_denoted (x ∷ xs) zero = refl
 at_denoted (x ∷ xs) (suc a) = at_denoted xs a
 
-truth_denoted : (x : Scalar) → truth_of (as_denoted x) ≡ scalar_truth x
+pub truth_denoted : (x : Scalar) → truth_of (as_denoted x) ≡ scalar_truth x
 truth_denoted (scalar.Bool b) = refl
 truth_denoted (scalar.Word n) = refl
 
-word_denoted : (x : Scalar) → word_of (as_denoted x) ≡ scalar_word x
+pub word_denoted : (x : Scalar) → word_of (as_denoted x) ≡ scalar_word x
 word_denoted (scalar.Bool b) = refl
 word_denoted (scalar.Word n) = refl
 
@@ -104,7 +100,7 @@ truth_is done a = ap truth_of (at_denoted done a) ∙ truth_denoted (scalar_at d
 word_is : (done : List Scalar) (a : ℕ) → word_of (at_place (map as_denoted done) a) ≡ scalar_word (scalar_at done a)
 word_is done a = ap word_of (at_denoted done a) ∙ word_denoted (scalar_at done a)
 
-as_denoted-if : (t : Bool) (x y : Scalar) → as_denoted (if t then x else y) ≡ (if t then as_denoted x else as_denoted y)
+pub as_denoted-if : (t : Bool) (x y : Scalar) → as_denoted (if t then x else y) ≡ (if t then as_denoted x else as_denoted y)
 as_denoted-if true x y = refl
 as_denoted-if false x y = refl
 
@@ -130,10 +126,6 @@ node_denoted v done (Pred s args) p = ap (λ x. Truth (scalar_truth x)) (at-unde
 node_denoted v done (Read m a) p = absurd p
 node_denoted v done (Write m a d) p = absurd p
 node_denoted v done (Init e) p = absurd p
-
-map-push : {X Y : Type 0} → (f : X → Y) (xs : List X) (x : X) → map f (xs ++ x ∷ []) ≡ map f xs ++ f x ∷ []
-map-push f [] x = refl
-map-push f (y ∷ xs) x = ap (λ l. f y ∷ l) (map-push f xs x)
 
 -- a node more
 pub evaluated-more : (v : ℕ → Scalar) (nodes : List Node) (i : ℕ) (node : Node) (done : List Scalar) → slice_get nodes i ≡ Some node → IsPlain node

@@ -28,18 +28,11 @@ use Rattle.bd_function.specs.declared.eliminate.Taken.{Taken}
 use Rattle.bd_function.specs.Flat.{AreApplications, Flattens, HasAllApplications, IsChosen, IsFlat, KeepsFirst, ReachesNoMemory, is_variable, under}
 use Rattle.bd_terms.specs.Renamed.{id_at, renamed}
 use Rattle.bd_function.specs.inner.Taken.{AreAlike, HasRow, HasUse, IsApplied, IsPlain, KeepsRow, IsTaken, row_sort, use_of}
-use Rattle.bd_function.proofs.Applying.{Contains-later, Contains-none, Contains-one}
+use Rattle.bd_function.proofs.Applying.{Contains-later}
 use Rattle.bd_terms.proofs.Places.{All-of}
 use Rattle.bd_function.proofs.Taking.{StepsNode}
-
-first : {X : Type 0} (x : X) (xs : List X) → Contains (x ∷ xs) x
-first x xs = (0, omega arith, refl)
-
-second : {X : Type 0} (x y : X) (xs : List X) → Contains (x ∷ y ∷ xs) y
-second x y xs = (1, omega arith, refl)
-
-third : {X : Type 0} (x y z : X) (xs : List X) → Contains (x ∷ y ∷ z ∷ xs) z
-third x y z xs = (2, omega arith, refl)
+use Rattle.bd_list.proofs.Membership.{first, second, third, Contains-none, Contains-one}
+use Rattle.bd_list.proofs.Numbers.{below_last}
 
 -- a row is that of a symbol that the root reaches, with its arity and sort
 pub record IsKnown (old : List Node) (root : ℕ) (t : Taken) (symbol : Sym) (r : FlatRow) : Type 0 where
@@ -159,12 +152,6 @@ alike_node old g root ids t f i node at = record {
       let same = (g.consistent k.applied (uses-get old k.reached.id k.reached.node k.reached.there k.applied k.reached.applies)).keeps u (uses-get old i node at u p) (sym (k.same ∙ e)) in
       (k.arity ∙ sym same.0, k.sorted ∙ sym same.1);
 }
-
-below_last : (k n : ℕ) → k < n + 1 → (k < n) ⊎ (k ≡ n)
-below_last zero zero h = inr refl
-below_last zero (suc n) h = inl (omega arith)
-below_last (suc k) zero h = absurd (omega arith)
-below_last (suc k) (suc n) h = elim (below_last k n (omega arith)) [ inl p ↦ inl (omega arith) | inr p ↦ inr (ap suc p) ]
 
 -- no nodes are a graph
 none-IsGraph : IsGraph []

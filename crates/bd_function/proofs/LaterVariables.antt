@@ -21,15 +21,13 @@ use Rattle.bd_function.specs.declared.flat.FlatRow.{FlatRow}
 use Rattle.bd_function.specs.declared.flat.FlatSym.{FlatSym}
 use Rattle.bd_function.specs.Flat.{under}
 use Rattle.bd_function.specs.inner.Taken.{IsVariableBelow, use_of}
-use Rattle.bd_function.proofs.Applying.{Contains-later, Contains-none, Contains-one, pointwise-same}
+use Rattle.bd_function.proofs.Applying.{Contains-later, pointwise-same}
 use Rattle.bd_function.proofs.Rows.{same-number}
+use Rattle.bd_list.proofs.Membership.{first, Contains-none, Contains-one}
 
 -- both worlds give these uses the same values at the same arguments
 abbrev pub AgreeOn : World → World → List Use → Type 0
 AgreeOn v w us = (u : Use) → Contains us u → (args : List ℕ) → at (v u.symbol) args ≡ at (w u.symbol) args
-
-first : {X : Type 0} (x : X) (xs : List X) → Contains (x ∷ xs) x
-first x xs = (0, omega arith, refl)
 
 node_value-agree : (v w : World) (done : List Denoted) (node : Node) → AgreeOn v w (node_uses node) → node_value v done node ≡ node_value w done node
 node_value-agree v w done True h = refl

@@ -1,5 +1,5 @@
 -- From what the terms of the flat graph are made, as the pass goes on.
-use Rattle.std.proofs.Common.{◌≡◌, ◌≢◌, ◌↔◌, ℕ, zero, suc, ◌+◌, ◌<◌, ◌⊎◌, inl, inr, List, [], ◌∷◌, ◌++◌, length, map, slice_get, Some, Contains, Result, Ok, Err, IfOk, refl, ap, sym, ◌∙◌, subst, arith, append_assoc, length-append}
+use Rattle.std.proofs.Common.{◌≡◌, ◌≢◌, ◌↔◌, ℕ, ◌+◌, ◌<◌, ◌⊎◌, inl, inr, List, [], ◌∷◌, ◌++◌, length, map, slice_get, Some, Contains, Result, Ok, Err, IfOk, refl, ap, sym, ◌∙◌, subst, arith, append_assoc, length-append}
 use Rattle.std.specs.declared.alloc.AllocError.{AllocError}
 use Rattle.std.proofs.lemmas.Option.{none-some, same_Some, slice_get_within}
 use Rattle.std.proofs.lemmas.List.{append-nil, get_or_append_left}
@@ -28,9 +28,11 @@ use Rattle.bd_function.specs.Flat.{application}
 use Rattle.bd_function.specs.Flattened.{AreRising, Flattened, IsChoice, IsMadeFlat, OfApplication, OfPlain, ReachesApplication, StandsFor}
 use Rattle.bd_function.specs.inner.Nested.{IsNestedChoice}
 use Rattle.bd_function.specs.inner.Taken.{AddsApplication, AddsSymbol, AddsVariable, AreAlike, AreInOrder, BuildsTerm, HasGrown, IsPlain, IsTaken, MakesTerm, use_of, with_row}
-use Rattle.bd_function.proofs.Applying.{Contains-none, Contains-one, with_row-cases, with_row-later, with_row-there}
+use Rattle.bd_function.proofs.Applying.{with_row-cases, with_row-later, with_row-there}
 use Rattle.bd_function.proofs.Nesting.{IsEquality-Extends}
 use Rattle.bd_function.proofs.Stepping.{Applies, Contains-old, HasRow-old, alike_row}
+use Rattle.bd_list.proofs.Membership.{Contains-none, Contains-one}
+use Rattle.bd_list.proofs.Numbers.{below_last}
 
 pub IsChoice-Extends : (a b : List Node) → Extends a b → (kind : Sort) (rows : List FlatRow) (args : List ℕ) (own id : ℕ) → IsChoice a kind rows args own id → IsChoice b kind rows args own id
 IsChoice-Extends a b e kind [] args own id h = h
@@ -175,12 +177,6 @@ IsMaking-start old root t r v = record {
   order = λ s p. absurd (Contains-none s (subst (λ l. Contains l s) r p));
   made = λ k h. absurd (omega (arith, h));
 }
-
-below_last : (k n : ℕ) → k < n + 1 → (k < n) ⊎ (k ≡ n)
-below_last zero zero h = inr refl
-below_last zero (suc n) h = inl (omega arith)
-below_last (suc k) zero h = absurd (omega arith)
-below_last (suc k) (suc n) h = elim (below_last k n (omega arith)) [ inl p ↦ inl (omega arith) | inr p ↦ inr (ap suc p) ]
 
 -- an application applies a symbol
 application-uses : (kind : Sort) (s : Sym) (args : List ℕ) → node_uses (application kind s args) ≢ []

@@ -26,7 +26,8 @@ use Rattle.bd_function.specs.inner.Nested.{AreEarlier, IsEarlier, IsNestedChoice
 use Rattle.bd_function.specs.inner.Taken.{AddsSymbol, AddsVariable, AreAlike, Chooses, HasRow, HasUse, IsApplied, IsRow, IsTaken, IsVariableBelow, Steps, as_sort, row_sort, use_of, with_row}
 use Rattle.bd_function.proofs.Nesting.{words-Extends}
 use Rattle.bd_function.proofs.Choosing.{AddsRow-IsChosen, Chooses-symbol}
-use Rattle.bd_function.proofs.Applying.{Contains-none, Contains-one, IsRow-later, Later, chosen-first, first_value-front, row_sort-later, rows_of-Extends, uses-Extends, with_row-cases, with_row-later, with_row-named, with_row-there}
+use Rattle.bd_function.proofs.Applying.{IsRow-later, Later, chosen-first, first_value-front, row_sort-later, rows_of-Extends, uses-Extends, with_row-cases, with_row-later, with_row-named, with_row-there}
+use Rattle.bd_list.proofs.Membership.{Contains-none, Contains-one}
 
 HasRow-empty : (ss : List FlatSym) (k symbol : Sym) (r : FlatRow) → HasRow (ss ++ (record { sym = k; rows = [] }) ∷ []) symbol r → HasRow ss symbol r
 HasRow-empty ss k symbol r h = elim (Contains-append_cases ss ((record { sym = k; rows = [] }) ∷ []) h.holder h.listed) [

@@ -13,7 +13,8 @@ use Rattle.bd_function.specs.declared.flat.FlatRow.{FlatRow}
 use Rattle.bd_function.specs.declared.flat.FlatSym.{FlatSym}
 use Rattle.bd_function.specs.Flat.{IsFlat, KeepsFirst, arguments, row_of}
 use Rattle.bd_function.specs.Tables.{default_of, is_symbol, sym_table, sym_tables, world_of_tables}
-use Rattle.bd_function.proofs.Applying.{Contains-none, pointwise-same}
+use Rattle.bd_function.proofs.Applying.{pointwise-same}
+use Rattle.bd_list.proofs.Membership.{Contains-none}
 
 pub is_symbol-self : (s : Sym) → is_symbol s s ≡ true
 is_symbol-self (Function a) = eq-eqb a a refl

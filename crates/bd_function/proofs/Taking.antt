@@ -20,10 +20,11 @@ use Rattle.bd_function.specs.Flat.{application, under}
 use Rattle.bd_function.specs.Flattened.{StandsFor}
 use Rattle.bd_terms.specs.Renamed.{id_at, renamed}
 use Rattle.bd_function.specs.inner.Taken.{AreAlike, Chooses, HasRow, IsPlain, IsRow, IsTaken, IsVariableBelow, Steps, as_sort, row_sort, use_of}
-use Rattle.bd_function.proofs.Applying.{Contains-none, Later-same, uses-Extends}
+use Rattle.bd_function.proofs.Applying.{Later-same, uses-Extends}
 use Rattle.bd_function.proofs.Choosing.{Chooses-Extends}
 use Rattle.bd_function.proofs.Nesting.{words-Extends}
 use Rattle.bd_function.proofs.Stepping.{first_before}
+use Rattle.bd_list.proofs.Membership.{Contains-none}
 
 pub same-length : {X Y : Type 0} → (f : X → Y) (xs : List X) → length (map f xs) ≡ length xs
 same-length f [] = refl

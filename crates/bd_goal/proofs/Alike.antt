@@ -2,7 +2,6 @@
 use Rattle.std.proofs.Common.{◌≡◌, ℕ, zero, suc, ◌<◌, false, List, [], ◌∷◌, length, slice_get, slice_index_or, map, Some, Contains, refl, ap, sym, ◌∙◌, arith}
 use Rattle.std.proofs.lemmas.Option.{slice_get-get_or}
 use Rattle.std.proofs.lemmas.List.{length-map}
-use Rattle.std.proofs.lemmas.List.Elements.{Contains-append_right}
 use Rattle.std.proofs.Math.Path.{fun_ext}
 use Rattle.bd_model.specs.Table.{at}
 use Rattle.bd_model.specs.Value.{scalar_truth, scalar_word}
@@ -18,6 +17,8 @@ use Rattle.bd_terms.specs.Denotation.{World, Denoted, Truth, Word, Contents, wor
 use Rattle.bd_terms.specs.Reaches.{Reaches, Root, Child, ReachesUse}
 use Rattle.bd_terms.proofs.Denotations.{denoted-get}
 use Rattle.bd_terms.proofs.Reaching.{children-below}
+use Rattle.bd_list.proofs.Membership.{first, second, third}
+use Rattle.bd_terms.proofs.Resting.{words-alike}
 
 -- a scalar as one of a sort
 abbrev pub as_sort : Sort → Scalar → Scalar
@@ -28,22 +29,6 @@ as_sort sort.Memory x = scalar.Bool false
 -- in both worlds the symbol gives one value to so many arguments as it is used with
 abbrev pub GivesSame : World → World → Use → Type 0
 GivesSame v w u = (args : List ℕ) → length args ≡ u.arity → as_sort u.sort (at (v u.symbol) args) ≡ as_sort u.sort (at (w u.symbol) args)
-
-first : {X : Type 0} (x : X) (xs : List X) → Contains (x ∷ xs) x
-first x xs = (0, omega arith, refl)
-
-second : {X : Type 0} (x y : X) (xs : List X) → Contains (x ∷ y ∷ xs) y
-second x y xs = (1, omega arith, refl)
-
-third : {X : Type 0} (x y z : X) (xs : List X) → Contains (x ∷ y ∷ z ∷ xs) z
-third x y z xs = (2, omega arith, refl)
-
-words-alike : (xs ys : List Denoted) (args : List ℕ) → ((c : ℕ) → Contains args c → at_place xs c ≡ at_place ys c) → map (λ a. word_of (at_place xs a)) args ≡ map (λ a. word_of (at_place ys a)) args
-words-alike xs ys [] h = refl
-words-alike xs ys (a ∷ args) h =
-    let head = h a (first a args) in
-    let tail = words-alike xs ys args (λ c p. h c (Contains-append_right (a ∷ []) args c p)) in
-    cc (head, tail)
 
 node_value-alike : (v w : World) (xs ys : List Denoted) (node : Node) → ((c : ℕ) → Contains (children node) c → at_place xs c ≡ at_place ys c)
     → ((u : Use) → Contains (node_uses node) u → GivesSame v w u) → node_value v xs node ≡ node_value w ys node

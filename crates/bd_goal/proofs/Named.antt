@@ -23,8 +23,9 @@ use Rattle.bd_symbolic.specs.DesignSymbols.{GrowsWithin, KeepsDesign}
 use Rattle.bd_symbolic.specs.Symbolic.{AreTerms, DenotesExpr, DenoteValues, HaveSorts, context_in, terms_of}
 use Rattle.bd_symbolic.specs.States.{DenoteLets, DenotesState, StateHasSorts, local_sorts, port_sorts}
 use Rattle.bd_symbolic.proofs.Growing.{Denote-Extends, Grows-trans, KeepsDesign-Grows}
-use Rattle.bd_goal.proofs.Lists.{map-push, take-next, zip-length}
+use Rattle.bd_goal.proofs.Lists.{take-next, zip-length}
 use Rattle.bd_goal.proofs.Showing.{HaveSorts-later, inside_sorts}
+use Rattle.bd_list.proofs.Pushed.{map-push}
 
 -- the sorts in force over a state with inputs of these sorts, after lets
 abbrev pub named_context : DesignView → List Sort → List LocalView → Context

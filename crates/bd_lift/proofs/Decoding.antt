@@ -18,7 +18,6 @@ use Rattle.bd_terms.proofs.Graphs.{uses-push}
 use Rattle.bd_terms.proofs.Places.{around}
 use Rattle.bd_terms.proofs.Symbols.{uses-get}
 use Rattle.bd_function.specs.Flat.{HaveSorts}
-use Rattle.bd_function.proofs.Applying.{Contains-none, Contains-one}
 use Rattle.bd_prop.specs.declared.atom.Atom.{Atom}
 use Rattle.bd_prop.specs.declared.atom.Atom.TheVariants as atom
 use Rattle.bd_prop.specs.Values.{truth_of}
@@ -27,6 +26,7 @@ use Rattle.bd_transitive.specs.Triangle.{class_of}
 use Rattle.bd_lift.specs.Decoded.{AreDecodedBy, decoded_word, is_end, variable_use}
 use Rattle.bd_lift.specs.inner.Steps.{AreDecodedSo, decoded_at, word_by}
 use Rattle.bd_lift.proofs.Numbered.{take-get}
+use Rattle.bd_list.proofs.Membership.{Contains-none, Contains-one}
 
 if-both : {X : Type 0} → (t : Bool) (x y z : X) → (t ≡ true → x ≡ z) → y ≡ z → (if t then x else y) ≡ z
 if-both true x y z h k = h refl

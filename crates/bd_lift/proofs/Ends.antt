@@ -8,27 +8,16 @@ use Rattle.bd_transitive.specs.Edges.{IsEnd, Joins, JoinsAt}
 use Rattle.bd_transitive.specs.Orders.{IsOrder, place}
 use Rattle.bd_transitive.specs.Triangle.{class_of}
 use Rattle.bd_lift.specs.Decoded.{decoded_word, is_end}
-
-or-left : (a b : Bool) → a ≡ true → (a || b) ≡ true
-or-left true b h = refl
-or-left false b h = absurd (false≢true h)
-
-or-right : (a b : Bool) → b ≡ true → (a || b) ≡ true
-or-right true b h = refl
-or-right false b h = h
-
-or-cases : (a b : Bool) → (a || b) ≡ true → (a ≡ true) ⊎ (b ≡ true)
-or-cases true b h = inl refl
-or-cases false b h = inr h
+use Rattle.bd_list.proofs.Truths.{or_left, or_right, or_cases}
 
 joins-test : (e : Edge) (x y : ℕ) → Joins e x y → ((e.from == x) || (e.to == x)) ≡ true
-joins-test e x y (inl h) = or-left (e.from == x) (e.to == x) (eq-eqb e.from x h.0)
-joins-test e x y (inr h) = or-right (e.from == x) (e.to == x) (eq-eqb e.to x h.1)
+joins-test e x y (inl h) = or_left (e.from == x) (e.to == x) (eq-eqb e.from x h.0)
+joins-test e x y (inr h) = or_right (e.from == x) (e.to == x) (eq-eqb e.to x h.1)
 
 end-at : (edges : List Edge) (k x y : ℕ) → JoinsAt edges k x y → is_end edges x ≡ true
 end-at [] k x y h = absurd h
-end-at (e ∷ edges) zero x y h = or-left ((e.from == x) || (e.to == x)) (is_end edges x) (joins-test e x y h)
-end-at (e ∷ edges) (suc k) x y h = or-right ((e.from == x) || (e.to == x)) (is_end edges x) (end-at edges k x y h)
+end-at (e ∷ edges) zero x y h = or_left ((e.from == x) || (e.to == x)) (is_end edges x) (joins-test e x y h)
+end-at (e ∷ edges) (suc k) x y h = or_right ((e.from == x) || (e.to == x)) (is_end edges x) (end-at edges k x y h)
 
 pub is_end-yes : (edges : List Edge) (x : ℕ) → IsEnd edges x → is_end edges x ≡ true
 is_end-yes edges x h = end-at edges h.1.0 x h.0 h.1.1
@@ -38,8 +27,8 @@ later e edges x h = (h.0, (suc h.1.0, h.1.1))
 
 pub is_end-of : (edges : List Edge) (x : ℕ) → is_end edges x ≡ true → IsEnd edges x
 is_end-of [] x h = absurd (false≢true h)
-is_end-of (e ∷ edges) x h = elim (or-cases ((e.from == x) || (e.to == x)) (is_end edges x) h) [
-  | inl p ↦ elim (or-cases (e.from == x) (e.to == x) p) [
+is_end-of (e ∷ edges) x h = elim (or_cases ((e.from == x) || (e.to == x)) (is_end edges x) h) [
+  | inl p ↦ elim (or_cases (e.from == x) (e.to == x) p) [
     | inl q ↦ (e.to, (0, inl (eqb-true e.from x q, refl)))
     | inr q ↦ (e.from, (0, inr (refl, eqb-true e.to x q)))
   ]

@@ -22,12 +22,13 @@ use Rattle.bd_symbolic.specs.World.{value_table}
 use Rattle.bd_terms.specs.declared.node.Sym.{Sym}
 use Rattle.bd_function.specs.declared.symbol_tables.SymTable.{SymTable}
 use Rattle.bd_function.specs.Tables.{is_symbol, world_of_tables}
-use Rattle.bd_function.proofs.Applying.{Contains-none, pointwise-same}
+use Rattle.bd_function.proofs.Applying.{pointwise-same}
 use Rattle.bd_function.proofs.LaterVariables.{pointwise-equal}
 use Rattle.bd_lift.specs.Counting.{AddressesDiffer, ArgumentsDiffer, ValueCounts}
 use Rattle.bd_lift.specs.inner.Built.{entry_value, function_default, function_table, has_no_row, scalar_as, slot_of}
 use Rattle.bd_lift.specs.inner.First.{AreAlike, AreEnough, HaveSameValues, RowsDiffer, entry_row}
 use Rattle.bd_lift.proofs.Tables.{AreRowsOf, IsRowOf, one-argument, slots-rows, sort_arity, sort_result}
+use Rattle.bd_list.proofs.Membership.{Contains-none}
 
 abbrev pub Entries : Type 0
 Entries = List (Vec ℕ Global × Scalar)

@@ -18,12 +18,13 @@ use Rattle.bd_function.specs.declared.flat.FlatRow.{FlatRow}
 use Rattle.bd_function.specs.declared.flat.FlatSym.{FlatSym}
 use Rattle.bd_function.specs.Flat.{HaveSorts, row_of}
 use Rattle.bd_function.specs.Tables.{is_symbol, sym_table, sym_tables, table_with, world_of_tables}
-use Rattle.bd_function.proofs.Applying.{Contains-later, Contains-none}
+use Rattle.bd_function.proofs.Applying.{Contains-later}
 use Rattle.bd_function.proofs.Tabling.{is_symbol-same}
 use Rattle.bd_function.proofs.Taking.{same-length}
 use Rattle.bd_lift.specs.Lifted.{AreKnown, IsKnown}
 use Rattle.bd_lift.specs.inner.Built.{has_no_row}
 use Rattle.bd_lift.proofs.Tables.{AreRowsOf}
+use Rattle.bd_list.proofs.Membership.{Contains-none}
 
 -- a symbol has one arity and sort
 pub same-use : (d : DesignView) (a b : Use) → IsKnown d a → IsKnown d b → a.symbol ≡ b.symbol → a ≡ b

@@ -5,6 +5,7 @@ use Rattle.std.specs.List.{AllByRecursion, AllZip}
 use Rattle.std.proofs.lemmas.List.{length-take-le, take_more}
 use Rattle.std.proofs.lemmas.Option.{get_or_from_slice_get, none-some, same_Some, slice_get_within}
 use Rattle.bd_lift.specs.inner.Built.{numbered}
+use Rattle.bd_list.proofs.Pushed.{map-push}
 
 pub take-get : {X : Type 0} → (xs : List X) (k : ℕ) (x : X) → slice_get xs k ≡ Some x → take (k + 1) xs ≡ take k xs ++ x ∷ []
 take-get xs k x e = take_more xs k x (slice_get_within xs k x e) ∙ ap (λ y. take k xs ++ y ∷ []) (get_or_from_slice_get xs k x x e)
@@ -64,10 +65,6 @@ get-map f (x ∷ xs) (suc i) y h = get-map f xs i y h
 pub length-map : {X Y : Type 0} → (f : X → Y) (xs : List X) → length (map f xs) ≡ length xs
 length-map f [] = refl
 length-map f (x ∷ xs) = ap suc (length-map f xs)
-
-map-push : {X Y : Type 0} → (f : X → Y) (xs : List X) (x : X) → map f (xs ++ x ∷ []) ≡ map f xs ++ f x ∷ []
-map-push f [] x = refl
-map-push f (y ∷ xs) x = ap (λ l. f y ∷ l) (map-push f xs x)
 
 -- the same for what is seen of the items
 pub map-take : {X Y Z : Type 0} → (g : X → Y) (f : ℕ → Y → Z) (xs : List X) (i : ℕ) (x : X) → slice_get xs i ≡ Some x → numbered f 0 (map g (take (i + 1) xs)) ≡ numbered f 0 (map g (take i xs)) ++ f i (g x) ∷ []

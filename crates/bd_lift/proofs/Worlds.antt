@@ -24,7 +24,6 @@ use Rattle.bd_function.specs.declared.flat.FlatSym.{FlatSym}
 use Rattle.bd_function.specs.declared.symbol_tables.SymTable.{SymTable}
 use Rattle.bd_function.specs.Flat.{row_of}
 use Rattle.bd_function.specs.Tables.{default_of, sym_tables, table_with, world_of_tables}
-use Rattle.bd_function.proofs.Applying.{Contains-none}
 use Rattle.bd_function.proofs.Tabling.{world_of_tables-own}
 use Rattle.bd_prop.specs.declared.atom.Atom.{Atom}
 use Rattle.bd_transitive.specs.declared.graph.Order.{Order}
@@ -36,6 +35,7 @@ use Rattle.bd_lift.proofs.Tables.{AreRowsOf, constant-alike, entry-alike, functi
 use Rattle.bd_lift.proofs.FirstRows.{AreAlike-same, entry-enough, function-enough}
 use Rattle.bd_lift.proofs.Known.{has-row, known-address, known-entry, known-function, known-input, known-rows, known-var}
 use Rattle.bd_lift.proofs.Fitting.{IsSettled, entry-rows, has-enough, table_of-built}
+use Rattle.bd_list.proofs.Membership.{Contains-none}
 
 -- the values of a function at the first numbers
 listed : (ℕ → ℕ) → ℕ → ℕ → List ℕ

@@ -13,11 +13,11 @@ use Rattle.bd_terms.proofs.Graphs.{FitsSorts-get, sort_at-get}
 use Rattle.bd_terms.proofs.Reaching.{children-below}
 use Rattle.bd_walk.specs.inner.Carrying.{Means}
 use Rattle.bd_walk.proofs.Renaming.{IsRenamed, renames}
-use Rattle.bd_walk.proofs.Walking.{Contains-one}
 use Rattle.bd_memory.specs.declared.reads.ReadKey.{ReadKey}
 use Rattle.bd_memory.specs.Forwarded.{is_plain}
 use Rattle.bd_memory.specs.inner.Forwarding.{IsForwarding, place}
 use Rattle.bd_memory.proofs.Plain.{Bool-no_memory, Word-no_memory}
+use Rattle.bd_list.proofs.Membership.{Contains-one}
 
 -- each of these that is no memory stays what it is where it is moved
 abbrev pub AllMean : List Node → List Node → List ℕ → List ℕ → Type 0

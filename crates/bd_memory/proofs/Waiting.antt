@@ -10,6 +10,7 @@ use Rattle.bd_terms.proofs.Places.{get-front, get-push}
 use Rattle.bd_terms.proofs.Older.{Reaches-trans}
 use Rattle.bd_memory.specs.declared.reads.ReadKey.{ReadKey}
 use Rattle.bd_memory.specs.inner.Reads.{is_read, known}
+use Rattle.bd_list.proofs.Numbers.{le-cases}
 
 kept-by : (m b n a id : ℕ) (before after : Option ℕ) (t : Bool) → is_read m b n a ≡ t → after ≡ (if t then Some id else before)
     → (after ≡ before) ⊎ ((after ≡ Some id) × (n ≡ m) × (a ≡ b))
@@ -144,12 +145,6 @@ missing-same reads reads' b (suc k) h =
     let first = ap open_count (h k (omega arith)) in
     let rest = missing-same reads reads' b k (λ n lt. h n (omega (arith, lt))) in
     omega (arith, first, rest)
-
-le-cases : (a b : ℕ) → a ≤ b → (suc a ≤ b) ⊎ (a ≡ b)
-le-cases zero zero h = inr refl
-le-cases zero (suc b) h = inl (omega arith)
-le-cases (suc a) zero h = absurd (omega arith)
-le-cases (suc a) (suc b) h = elim (le-cases a b (omega arith)) [ inl p ↦ inl (omega arith) | inr e ↦ inr (ap suc e) ]
 
 -- a read that is kept is one less
 pub missing-less : (reads reads' : List (ReadKey × ℕ)) (m b id k : ℕ) → ((n a : ℕ) → known reads' n a ≡ (if is_read m b n a then Some id else known reads n a))

@@ -1,5 +1,5 @@
 -- Expressions that use no input have one value whatever the inputs are, so the inputs of a flush cycle fit.
-use Rattle.std.proofs.Common.{◌≡◌, ◌≢◌, ℕ, zero, suc, Bool, true, false, List, [], ◌∷◌, ◌++◌, map, refl, ap, sym, ◌∙◌}
+use Rattle.std.proofs.Common.{◌≡◌, ◌≢◌, ℕ, zero, suc, Bool, false, List, [], ◌∷◌, ◌++◌, map, refl, ap, sym, ◌∙◌}
 use Rattle.std.specs.Prelude.{◌||◌, slice_index_or}
 use Rattle.std.specs.List.{AllByRecursion}
 use Rattle.bd_list.specs.Grown.{grown}
@@ -17,6 +17,7 @@ use Rattle.bd_model.specs.declared.table.Value.TheVariants as value
 use Rattle.bd_model.specs.declared.design.Sort.{Sort}
 use Rattle.bd_model.specs.declared.design.Sort.TheVariants as sort
 use Rattle.bd_model.proofs.SortLemmas.{EnvFits-env_of, value_sort-value_of}
+use Rattle.bd_list.proofs.Truths.{neither}
 
 -- values that are equal where no flag is set
 abbrev pub AgreeUnless : List Bool → List Value → List Value → Type 0
@@ -41,10 +42,6 @@ pub record SameButInputs (flags : List Bool) (e f : Env) : Type 0 where
   pub state : e.state ≡ f.state
   pub locals : AgreeUnless flags e.locals f.locals
 
-or_false : (a b : Bool) → (a || b) ≡ false → (a ≡ false) × (b ≡ false)
-or_false true b h = absurd (cc h)
-or_false false b h = (refl, h)
-
 mutual
   pub value_of-no_input : (flags : List Bool) (e f : Env) → SameButInputs flags e f → (t : ExprView) → uses_input flags t ≡ false → value_of e t ≡ value_of f t
   value_of-no_input flags e f h (Truth b) off = refl
@@ -55,27 +52,27 @@ mutual
   value_of-no_input flags e f h (And ts) off = rw (values_of-no_input flags e f h ts off)
   value_of-no_input flags e f h (Or ts) off = rw (values_of-no_input flags e f h ts off)
   value_of-no_input flags e f h (Implies a b) off =
-      let parts = or_false _ _ off in rw (value_of-no_input flags e f h a parts.0, value_of-no_input flags e f h b parts.1)
+      let parts = neither _ _ off in rw (value_of-no_input flags e f h a parts.0, value_of-no_input flags e f h b parts.1)
   value_of-no_input flags e f h (Iff a b) off =
-      let parts = or_false _ _ off in rw (value_of-no_input flags e f h a parts.0, value_of-no_input flags e f h b parts.1)
+      let parts = neither _ _ off in rw (value_of-no_input flags e f h a parts.0, value_of-no_input flags e f h b parts.1)
   value_of-no_input flags e f h (Equal a b) off =
-      let parts = or_false _ _ off in rw (value_of-no_input flags e f h a parts.0, value_of-no_input flags e f h b parts.1)
+      let parts = neither _ _ off in rw (value_of-no_input flags e f h a parts.0, value_of-no_input flags e f h b parts.1)
   value_of-no_input flags e f h (Ite p a b) off =
-      let parts = or_false _ _ off in
-      let front = or_false _ _ parts.0 in
+      let parts = neither _ _ off in
+      let front = neither _ _ parts.0 in
       rw (value_of-no_input flags e f h p front.0, value_of-no_input flags e f h a front.1, value_of-no_input flags e f h b parts.1)
   value_of-no_input flags e f h (Read m a) off =
-      let parts = or_false _ _ off in rw (value_of-no_input flags e f h m parts.0, value_of-no_input flags e f h a parts.1)
+      let parts = neither _ _ off in rw (value_of-no_input flags e f h m parts.0, value_of-no_input flags e f h a parts.1)
   value_of-no_input flags e f h (Write m a d) off =
-      let parts = or_false _ _ off in
-      let front = or_false _ _ parts.0 in
+      let parts = neither _ _ off in
+      let front = neither _ _ parts.0 in
       rw (value_of-no_input flags e f h m front.0, value_of-no_input flags e f h a front.1, value_of-no_input flags e f h d parts.1)
   value_of-no_input flags e f h (Apply g ts) off = rw (values_of-no_input flags e f h ts off, h.interp)
 
   pub values_of-no_input : (flags : List Bool) (e f : Env) → SameButInputs flags e f → (ts : ExprViews) → any_uses_input flags ts ≡ false → values_of e ts ≡ values_of f ts
   values_of-no_input flags e f h no_exprs off = refl
   values_of-no_input flags e f h (expr t ts) off =
-      let parts = or_false _ _ off in rw (value_of-no_input flags e f h t parts.0, values_of-no_input flags e f h ts parts.1)
+      let parts = neither _ _ off in rw (value_of-no_input flags e f h t parts.0, values_of-no_input flags e f h ts parts.1)
 
 -- lets that use no input have one value
 lets_agree : (interp : List Table) (state : List Value) (xs ys : List Scalar) (ls : List LocalView) (flags : List Bool) (vs ws : List Value) → AgreeUnless flags vs ws

@@ -13,6 +13,7 @@ use Rattle.bd_model.specs.declared.design.Entry.{Entry}
 use Rattle.bd_model.specs.declared.table.Scalar.{Scalar}
 use Rattle.bd_model.specs.declared.table.Table.{Table}
 use Rattle.bd_model.specs.declared.table.Value.{Value}
+use Rattle.bd_list.proofs.Pushed.{map-push}
 
 -- one item more on both sides
 pub AllZip-push : {A B : Type 0} → (R : A → B → Type 0) (xs : List A) (ys : List B) (x : A) (y : B) → AllZip R xs ys → R x y → AllZip R (xs ++ x ∷ []) (ys ++ y ∷ [])
@@ -26,10 +27,6 @@ AllZip-length R [] [] h = refl
 AllZip-length R [] (b ∷ ys) h = absurd h
 AllZip-length R (a ∷ xs) [] h = absurd h
 AllZip-length R (a ∷ xs) (b ∷ ys) h = ap suc (AllZip-length R xs ys h.1)
-
-map-push : {X Y : Type 0} → (f : X → Y) (xs : List X) (x : X) → map f (xs ++ x ∷ []) ≡ map f xs ++ f x ∷ []
-map-push f [] x = refl
-map-push f (y ∷ xs) x = ap (λ zs. f y ∷ zs) (map-push f xs x)
 
 mapped_here : {X Y : Type 0} → (f : X → Y) (xs : List X) (i : ℕ) (d : X) → i < length xs → map f (take (i + 1) xs) ≡ map f (take i xs) ++ f (get_or xs i d) ∷ []
 mapped_here f xs i d within = ap (map f) (take_more xs i d within) ∙ map-push f (take i xs) (get_or xs i d)

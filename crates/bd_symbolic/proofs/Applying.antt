@@ -1,5 +1,5 @@
 -- The application of a symbol of the design.
-use Rattle.std.proofs.Common.{◌≡◌, ℕ, zero, suc, Bool, true, false, List, [], ◌∷◌, Contains, Result, Ok, Err, IfOk, Some, refl, ap, ap₂, sym, ◌∙◌, subst, arith}
+use Rattle.std.proofs.Common.{◌≡◌, ℕ, Bool, true, false, List, [], ◌∷◌, Result, Ok, Err, IfOk, Some, refl, ap, ap₂, sym, ◌∙◌, subst}
 use Rattle.std.specs.Prelude.{slice_get, if◌then◌else◌}
 use Rattle.std.specs.declared.alloc.AllocError.{AllocError}
 use Rattle.bd_model.specs.DesignView.{DesignView}
@@ -25,6 +25,7 @@ use Rattle.bd_symbolic.specs.DesignSymbols.{IsDeclared, KeepsDesign, GrowsWithin
 use Rattle.bd_symbolic.specs.Symbolic.{Terms}
 use Rattle.bd_symbolic.specs.inner.Evaluates.{Applied, DenoteWords, Evaluates}
 use Rattle.bd_symbolic.proofs.Growing.{Grows-by, Grows-trans}
+use Rattle.bd_list.proofs.Membership.{Contains-one}
 
 pub result_sort-true : (y : Symbol) → y.predicate ≡ true → sort.Bool ≡ result_sort y
 result_sort-true y h = ap (λ (b : Bool). let s : Sort = if b then sort.Bool else sort.Word in s) (sym h)
@@ -47,10 +48,6 @@ function_declared d f n s y h t e = ap (function_use f) h ∙ ap₂ (λ (m : ℕ
 
 pub keeps_function : (d : DesignView) (nodes : List Node) (f n : ℕ) (s : Sort) (y : Symbol) → KeepsDesign d nodes → slice_get d.symbols f ≡ Some y → TakesArguments d f n → s ≡ result_sort y → KeepsSymbol nodes (symbol.Function f) n s
 keeps_function d nodes f n s y k h t e = k.keeps (record { symbol = symbol.Function f; arity = n; sort = s }) (function_declared d f n s y h t e)
-
-Contains-one : (a u : Use) → Contains (a ∷ []) u → a ≡ u
-Contains-one a u (zero, h, e) = e
-Contains-one a u (suc k, h, e) = absurd (omega arith)
 
 pub Grows-one : (d : DesignView) (old new : List Node) (u : Use) → IsDeclared d u → Extends old new → AddsUses old new (u ∷ []) → GrowsWithin d old new
 Grows-one d old new u is e a = Grows-by d old new (u ∷ []) e a (λ v p. subst (IsDeclared d) (Contains-one u v p) is)

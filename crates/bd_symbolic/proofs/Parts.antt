@@ -137,10 +137,6 @@ pub and_assoc : (a b c : Bool) → ((a && b) && c) ≡ (a && (b && c))
 and_assoc true b c = refl
 and_assoc false b c = refl
 
-pub or_assoc : (a b c : Bool) → ((a || b) || c) ≡ (a || (b || c))
-or_assoc true b c = refl
-or_assoc false b c = refl
-
 to_truth : (d : Denoted) (b : Bool) → d ≡ Truth (truth_of d) → truth_of d ≡ b → d ≡ Truth b
 to_truth d b h k = h ∙ ap Truth k
 

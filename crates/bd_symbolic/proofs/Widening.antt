@@ -16,6 +16,7 @@ use Rattle.bd_terms.specs.declared.node.Sym.TheVariants as symbol
 use Rattle.bd_terms.specs.Graph.{Use}
 use Rattle.bd_symbolic.specs.DesignSymbols.{GrowsWithin, IsDeclared, KeepsDesign, declared_use, port_use}
 use Rattle.bd_symbolic.specs.Widened.{HasLawfulSymbols, case_of_trail, repeated, widened}
+use Rattle.bd_terms.proofs.Places.{get-front}
 
 pub AllByRecursion-weaker : {X : Type 0} → (P Q : X → Type 0) → ((x : X) → P x → Q x) → (xs : List X) → AllByRecursion P xs → AllByRecursion Q xs
 AllByRecursion-weaker P Q f [] h = tt
@@ -63,11 +64,6 @@ interp-widened d cycles interp h = record { tables = h.tables; apart = h.apart }
 
 pub interp-narrowed : (d : DesignView) (cycles : ℕ) (interp : List Table) → InterpFits (widened d cycles) interp → InterpFits d interp
 interp-narrowed d cycles interp h = record { tables = h.tables; apart = h.apart }
-
-get-front : {X : Type 0} → (xs ys : List X) (i : ℕ) (x : X) → slice_get xs i ≡ Some x → slice_get (xs ++ ys) i ≡ Some x
-get-front [] ys i x h = absurd (cc h)
-get-front (z ∷ xs) ys zero x h = h
-get-front (z ∷ xs) ys (suc i) x h = get-front xs ys i x h
 
 get-back : {X : Type 0} → (xs ys : List X) (i : ℕ) → slice_get (xs ++ ys) (length xs + i) ≡ slice_get ys i
 get-back [] ys i = let e : 0 + i ≡ i = omega arith in ap (slice_get ys) e

@@ -1,5 +1,5 @@
 -- What a graph keeps when a node is put after the others.
-use Rattle.std.proofs.Common.{◌≡◌, ℕ, zero, suc, ◌+◌, ◌<◌, ◌⊎◌, inl, inr, List, [], ◌∷◌, ◌++◌, length, slice_get, take, drop, Some, Contains, refl, ap, sym, ◌∙◌, subst, arith, length-append}
+use Rattle.std.proofs.Common.{◌≡◌, ℕ, ◌+◌, ◌<◌, ◌⊎◌, inl, inr, List, [], ◌∷◌, ◌++◌, length, slice_get, take, drop, Some, Contains, refl, ap, sym, ◌∙◌, subst, arith, length-append}
 use Rattle.std.specs.List.{All}
 use Rattle.bd_list.proofs.Grown.{grown-push, get-grown_front}
 use Rattle.bd_model.specs.declared.design.Sort.{Sort}
@@ -14,6 +14,7 @@ use Rattle.std.proofs.lemmas.Grind.{flat_map-append}
 use Rattle.std.proofs.lemmas.List.{take-append-le, append-nil}
 use Rattle.std.proofs.Math.Seq.{take-append_seam}
 use Rattle.std.proofs.lemmas.List.Elements.{Contains-append_cases, All-from_recursion, All-contains, All-weaker}
+use Rattle.bd_list.proofs.Membership.{Contains-one}
 
 -- a node's sort stays when the graph grows
 pub sort_at-front : (xs ys : List Node) (id : ℕ) → id < length xs → sort_at (xs ++ ys) id ≡ sort_at xs id
@@ -75,10 +76,6 @@ sorts-push nodes node = grown-push node_sort [] nodes node
 -- a node more applies what was applied, and what it applies itself
 pub uses-push : (nodes : List Node) (node : Node) → uses (nodes ++ node ∷ []) ≡ uses nodes ++ node_uses node
 uses-push nodes node = flat_map-append node_uses nodes (node ∷ []) ∙ ap (λ l. uses nodes ++ l) (append-nil (node_uses node))
-
-Contains-one : (a u : Use) → Contains (a ∷ []) u → a ≡ u
-Contains-one a u (zero, h, e) = e
-Contains-one a u (suc k, h, e) = absurd (omega arith)
 
 -- a node applies one symbol at most
 node_uses-one : (node : Node) (u v : Use) → Contains (node_uses node) u → Contains (node_uses node) v → u ≡ v

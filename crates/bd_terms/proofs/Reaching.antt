@@ -11,6 +11,7 @@ use Rattle.bd_terms.specs.Graph.{FitsSorts, HasSort, IsGraph, children}
 use Rattle.bd_terms.specs.Reaches.{Reaches, Root, Child}
 use Rattle.bd_terms.specs.inner.Marked.{marked}
 use Rattle.bd_terms.proofs.Graphs.{FitsSorts-get}
+use Rattle.bd_list.proofs.Numbers.{le-cases}
 
 one : (n a : ℕ) → a < n → All (λ c. c < n) (a ∷ [])
 one n a h = All-cons (λ c. c < n) a [] h (All-nil (λ c. c < n))
@@ -122,12 +123,6 @@ IsMarked-root nodes root inside = record {
   ];
   closed = λ k node le h there. absurd (none-some node (sym (slice_get_past nodes k le) ∙ there));
 }
-
-le-cases : (a b : ℕ) → a ≤ b → (suc a ≤ b) ⊎ (a ≡ b)
-le-cases zero zero h = inr refl
-le-cases zero (suc b) h = inl (omega arith)
-le-cases (suc a) zero h = absurd (omega arith)
-le-cases (suc a) (suc b) h = elim (le-cases a b (omega arith)) [ inl p ↦ inl (omega arith) | inr e ↦ inr (ap suc e) ]
 
 -- at a place with a mark what its node stands over is marked
 pub IsMarked-mark : (nodes : List Node) → IsGraph nodes → (root place : ℕ) (marks : List Bool) (node : Node) → IsMarked nodes root (suc place) marks → mark_at marks place ≡ true

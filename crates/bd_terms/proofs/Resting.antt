@@ -11,17 +11,9 @@ use Rattle.bd_terms.specs.Denotation.{World, Denoted, Truth, Word, Contents, wor
 use Rattle.bd_terms.specs.Reaches.{Reaches, Root, Child, AgreeBelow}
 use Rattle.bd_terms.proofs.Denotations.{denoted-get}
 use Rattle.bd_terms.proofs.Reaching.{children-below}
+use Rattle.bd_list.proofs.Membership.{first, second, third}
 
-first : {X : Type 0} (x : X) (xs : List X) → Contains (x ∷ xs) x
-first x xs = (0, omega arith, refl)
-
-second : {X : Type 0} (x y : X) (xs : List X) → Contains (x ∷ y ∷ xs) y
-second x y xs = (1, omega arith, refl)
-
-third : {X : Type 0} (x y z : X) (xs : List X) → Contains (x ∷ y ∷ z ∷ xs) z
-third x y z xs = (2, omega arith, refl)
-
-words-alike : (xs ys : List Denoted) (args : List ℕ) → ((c : ℕ) → Contains args c → at_place xs c ≡ at_place ys c) → map (λ a. word_of (at_place xs a)) args ≡ map (λ a. word_of (at_place ys a)) args
+pub words-alike : (xs ys : List Denoted) (args : List ℕ) → ((c : ℕ) → Contains args c → at_place xs c ≡ at_place ys c) → map (λ a. word_of (at_place xs a)) args ≡ map (λ a. word_of (at_place ys a)) args
 words-alike xs ys [] h = refl
 words-alike xs ys (a ∷ args) h =
     let head = h a (first a args) in

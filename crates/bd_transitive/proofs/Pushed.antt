@@ -11,10 +11,6 @@ use Rattle.bd_transitive.specs.inner.Rows.{row, HaveEnds, JoinedToAll}
 pub Contains-nil : {X : Type 0} (x : X) → Contains [] x → ⊥
 Contains-nil x at = omega (arith, at.1)
 
--- the only item
-pub Contains-one : {X : Type 0} (x y : X) → Contains (x ∷ []) y → x ≡ y
-Contains-one x y at = ⊎_elim (λ none. absurd (Contains-nil y none)) (λ e. e) (Contains-push_cases [] x y at)
-
 -- an empty row has nothing
 pub row-empty : (count p q : ℕ) → Contains (row (replicate count []) p) q → ⊥
 row-empty zero p q at = Contains-nil q at

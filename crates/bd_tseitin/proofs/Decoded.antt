@@ -13,7 +13,7 @@ use Rattle.bd_tseitin.specs.Rows.{AreApart, HasAtom, Agree}
 is_atom-same : (a b : Atom) → is_atom a b ≡ true → a ≡ b
 is_atom-same a b h = atom_same a b (atom_eq-is a b ∙ h)
 
-is_atom-refl : (a : Atom) → is_atom a a ≡ true
+pub is_atom-refl : (a : Atom) → is_atom a a ≡ true
 is_atom-refl a = sym (atom_eq-is a a) ∙ atom_eq-refl a
 
 -- the values when the rows below k are read

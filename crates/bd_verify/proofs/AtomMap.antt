@@ -7,11 +7,12 @@ use Rattle.std.proofs.lemmas.List.Elements.{Contains-append_left, Contains-push,
 use Rattle.std.proofs.lemmas.Option.{none-some, same_Some}
 use Rattle.bd_prop.specs.declared.atom.Atom.{Atom}
 use Rattle.bd_prop.specs.Values.{is_atom}
-use Rattle.bd_prop.proofs.Same.{atom_eq, atom_eq-refl, atom_same}
+use Rattle.bd_prop.proofs.Same.{atom_eq, atom_same}
 use Rattle.bd_prop.proofs.Values.{atom_eq-is}
 use Rattle.bd_tseitin.specs.declared.row.AtomVar.{AtomVar}
 use Rattle.bd_tseitin.specs.Rows.{HasAtom}
 use Rattle.bd_verify.specs.inner.Numbers.{Finds}
+use Rattle.bd_tseitin.proofs.Decoded.{is_atom-refl}
 
 pub lookup-atom : {X : Type 0} → (es : List (Atom × X)) (q : Atom) → lookup (atom_eq q) es ≡ lookup (is_atom q) es
 lookup-atom [] q = refl
@@ -22,9 +23,6 @@ lookup-atom (e ∷ es) q =
 
 same_atom : (a b : Atom) → is_atom a b ≡ true → a ≡ b
 same_atom a b e = atom_same a b (atom_eq-is a b ∙ e)
-
-is_atom-refl : (a : Atom) → is_atom a a ≡ true
-is_atom-refl a = sym (atom_eq-is a a) ∙ atom_eq-refl a
 
 -- the sum that is there
 pub checked : (o : Option ℕ) (P : Type 0) (v x : ℕ) → SomeIff o P v → o ≡ Some x → v ≡ x

@@ -19,7 +19,7 @@ use Rattle.bd_function.specs.declared.flat.FlatSym.{FlatSym}
 use Rattle.bd_function.specs.Flat.{IsFlat}
 use Rattle.bd_prop.specs.declared.atom.Atom.{Atom}
 use Rattle.bd_prop.specs.Values.{is_atom, truth_of}
-use Rattle.bd_prop.proofs.Same.{atom_eq-refl, atom_same}
+use Rattle.bd_prop.proofs.Same.{atom_same}
 use Rattle.bd_prop.proofs.Values.{atom_eq-is}
 use Rattle.bd_cnf.specs.Clause.{Satisfies}
 use Rattle.bd_cnf.specs.Problem.{Problem}
@@ -52,6 +52,7 @@ use Rattle.bd_verify.proofs.RootDecides.{root-decides, root-known}
 use Rattle.bd_verify.proofs.FlatDecides.{flat-follows}
 use Rattle.bd_verify.proofs.FormulaDecides.{StandsIn, end-vertex, formula-decides, stands-in}
 use Rattle.bd_verify.proofs.CaseExists.{HasCase, case-exists}
+use Rattle.bd_tseitin.proofs.Decoded.{is_atom-refl}
 
 -- a log that ends with the empty clause adds it
 ends-adds : (log : List Line) → IsTrue (ends_empty log) → IsTrue (list_any adds_empty log)
@@ -67,9 +68,6 @@ refuted p budget log law a sat = log_refutes log (database_of p) law.accepted (e
 pub given_values : (ℕ → Bool) → List AtomVar → List (Atom × Bool)
 given_values a [] = []
 given_values a (r ∷ rows) = (r.atom, a r.var) ∷ given_values a rows
-
-is_atom-refl : (q : Atom) → is_atom q q ≡ true
-is_atom-refl q = sym (atom_eq-is q q) ∙ atom_eq-refl q
 
 given-at : (a : ℕ → Bool) (rows : List AtomVar) (k : ℕ) (r : AtomVar) → slice_get rows k ≡ Some r → ((i : ℕ) (s : AtomVar) → slice_get rows i ≡ Some s → s.atom ≡ r.atom → i ≡ k) → truth_of (given_values a rows) r.atom ≡ a r.var
 unfolding given_values

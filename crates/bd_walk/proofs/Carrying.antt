@@ -22,7 +22,7 @@ use Rattle.bd_walk.proofs.Closing.{IsClosed, walk-closed, walk-reached, walk-roo
 use Rattle.bd_walk.specs.Ordered.{Carries, Start, Next}
 use Rattle.bd_walk.specs.inner.Carrying.{IsCarrying, Means}
 use Rattle.bd_walk.proofs.Renaming.{IsRenamed, renames}
-use Rattle.bd_walk.proofs.Walking.{Contains-one}
+use Rattle.bd_list.proofs.Membership.{Contains-one}
 
 Means-Extends : (old new : List Node) → Extends old new → (id : ℕ) (s : Sort) (value : World → Denoted) → Means old id s value → Means new id s value
 Means-Extends old new e id s value m = record {

@@ -12,7 +12,8 @@ use Rattle.bd_terms.specs.Reaches.{Reaches, Root, Child}
 use Rattle.bd_terms.proofs.Places.{get-push}
 use Rattle.bd_terms.proofs.Reaching.{children-below}
 use Rattle.bd_walk.specs.Walk.{is_finished, walk, walk_all, walk_at, walks}
-use Rattle.bd_walk.proofs.Walking.{Contains-one, walk_at-get}
+use Rattle.bd_walk.proofs.Walking.{walk_at-get}
+use Rattle.bd_list.proofs.Membership.{Contains-one}
 
 -- each term of the list stands after its children
 pub record IsClosed (nodes : List Node) (finished : List ℕ) : Type 0 where

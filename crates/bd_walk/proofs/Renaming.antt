@@ -1,5 +1,5 @@
 -- A term over the places of its children in another graph.
-use Rattle.std.proofs.Common.{◌≡◌, ℕ, List, [], ◌∷◌, map, Contains, refl, ap, sym, subst, arith}
+use Rattle.std.proofs.Common.{◌≡◌, ℕ, List, [], ◌∷◌, map, Contains, refl, ap, sym, subst}
 use Rattle.std.specs.List.{All}
 use Rattle.std.proofs.lemmas.List.{length-map}
 use Rattle.std.proofs.lemmas.List.Elements.{All-nil, All-cons, All-head, All-tail, Contains-append_right}
@@ -11,15 +11,7 @@ use Rattle.bd_terms.specs.Graph.{FitsSorts, HasSort, children, node_sort, node_u
 use Rattle.bd_terms.specs.Denotation.{World, Word, Truth, applied, denoted, holds, node_value, values, words}
 use Rattle.bd_terms.specs.Renamed.{id_at, renamed}
 use Rattle.bd_walk.specs.inner.Carrying.{AllMean, Means}
-
-first : {X : Type 0} (x : X) (xs : List X) → Contains (x ∷ xs) x
-first x xs = (0, omega arith, refl)
-
-second : {X : Type 0} (x y : X) (xs : List X) → Contains (x ∷ y ∷ xs) y
-second x y xs = (1, omega arith, refl)
-
-third : {X : Type 0} (x y z : X) (xs : List X) → Contains (x ∷ y ∷ z ∷ xs) z
-third x y z xs = (2, omega arith, refl)
+use Rattle.bd_list.proofs.Membership.{first, second, third}
 
 child-means : (old new : List Node) (ids cs : List ℕ) → AllMean old new ids cs → (c : ℕ) (s : Sort) → Contains cs c → HasSort old c s → Means new (id_at ids c) s (λ w. denoted w old c)
 child-means old new ids cs m c s p h = subst (λ t. Means new (id_at ids c) t (λ w. denoted w old c)) h.sorted (m c p)

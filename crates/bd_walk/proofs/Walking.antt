@@ -1,5 +1,5 @@
 -- Walks from terms, by those from their children, and what is left to do of one.
-use Rattle.std.proofs.Common.{◌≢◌, inl, inr, slice_set, true≢false, eqb-true, eq-eqb, get_or-set_same, get_or-set_other, length-set, replicate, ◌≡◌, ℕ, zero, suc, ◌+◌, ◌<◌, Bool, true, false, ◌==◌, ◌||◌, if◌then◌else◌, List, [], ◌∷◌, ◌++◌, length, slice_get, slice_index_or, take, drop, Some, Contains, refl, ap, sym, ◌∙◌, subst, arith}
+use Rattle.std.proofs.Common.{◌≢◌, inl, inr, slice_set, true≢false, eqb-true, eq-eqb, get_or-set_same, get_or-set_other, length-set, replicate, ◌≡◌, ℕ, ◌+◌, ◌<◌, Bool, true, false, ◌==◌, ◌||◌, if◌then◌else◌, List, [], ◌∷◌, ◌++◌, length, slice_get, slice_index_or, take, drop, Some, Contains, refl, ap, sym, ◌∙◌, subst, arith}
 use Rattle.std.specs.List.{sum_by}
 use Rattle.std.proofs.lemmas.Option.{slice_get_within}
 use Rattle.std.proofs.lemmas.List.{get_or-replicate, length-replicate, length-take-le}
@@ -16,10 +16,7 @@ use Rattle.bd_walk.specs.Walk.{Walk, is_finished, walk, walk_all, walk_at, walk_
 use Rattle.bd_walk.specs.inner.Visits.{entries}
 use Rattle.bd_walk.specs.declared.depth_first.Visit.{Visit}
 use Rattle.bd_walk.specs.declared.depth_first.Visit.TheVariants.{Enter, Finish}
-
-pub Contains-one : {X : Type 0} → (y x : X) → Contains (y ∷ []) x → y ≡ x
-Contains-one y x (zero, h, e) = e
-Contains-one y x (suc i, h, e) = absurd (omega arith)
+use Rattle.bd_list.proofs.Membership.{Contains-one}
 
 or-true : (b : Bool) → (b || true) ≡ true
 or-true true = refl

@@ -10,8 +10,9 @@ use Rattle.bd_cnf.specs.Trail.{is_false, open_literals, IsClosed}
 use Rattle.bd_cnf.proofs.Literals.{literal_eq-true, literal_eq-refl}
 use Rattle.bd_watch.specs.Levels.{Assigned, assigned, literals, IsComplete}
 use Rattle.bd_watch.specs.Watching.{IsAsserting}
-use Rattle.bd_watch.proofs.Parts.{not_false, open_from, open_has, two_of, rises_filter, rising_alone}
+use Rattle.bd_watch.proofs.Parts.{not_false, open_from, open_has, two_of, rising_alone}
 use Rattle.bd_watch.proofs.Placed.{complete_push, complete_insert, added_stands, IsClosedAtDecisions}
+use Rattle.bd_cnf.proofs.Closed.{rises_filter}
 
 -- such a clause is unit there
 pub asserting_unit : (front clause : List Literal) (u : Literal) → IsRising clause → IsAsserting front clause u → open_literals front clause ≡ u ∷ []

@@ -7,12 +7,12 @@ use Rattle.std.proofs.lemmas.List.{take-append-drop, take-append-le, take_all, t
 use Rattle.bd_cnf.specs.Literal.{Literal, negate, literal_eq, has_literal}
 use Rattle.bd_cnf.specs.Clause.{IsRising}
 use Rattle.bd_cnf.specs.Trail.{is_false, open_literals, IsClosed, IsPartOf}
-use Rattle.bd_cnf.proofs.Literals.{any_has, any_from_has, has-push, literal_eq-true, literal_eq-refl}
-use Rattle.bd_cnf.proofs.Closed.{part_not_false}
+use Rattle.bd_cnf.proofs.Literals.{any_has, any_from_has, has-push, literal_eq-true, literal_eq-refl, negate_twice}
+use Rattle.bd_cnf.proofs.Closed.{part_not_false, rises_filter}
 use Rattle.bd_watch.specs.declared.watcher.WatchedPair.{WatchedPair}
 use Rattle.bd_watch.specs.Levels.{Assigned, literals}
 use Rattle.bd_watch.specs.Watching.{IsPair, IsGuarded, front}
-use Rattle.bd_watch.proofs.Parts.{has_left, open_from, open_has, two_of, negate_twice, rises_filter, rising_alone, has_here}
+use Rattle.bd_watch.proofs.Parts.{has_left, open_from, open_has, two_of, rising_alone, has_here}
 use Rattle.bd_watch.proofs.Placed.{literals-append}
 
 -- what is in front of a place is a part of the trail

@@ -6,7 +6,7 @@ use Rattle.std.proofs.lemmas.List.Elements.{All-head, All-tail}
 use Rattle.bd_cnf.specs.Literal.{Literal, negate, literal_eq, has_literal, has_variable}
 use Rattle.bd_cnf.specs.Clause.{RisesAbove}
 use Rattle.bd_cnf.specs.Trail.{is_false, open_literals, IsConsistent, IsPartOf}
-use Rattle.bd_cnf.proofs.Literals.{literal_eq-true, literal_eq-refl, negate_apart, negate_from_apart, same_literal, has-append, has-filter, filter_has, any_has, has_at}
+use Rattle.bd_cnf.proofs.Literals.{literal_eq-true, literal_eq-refl, negate_apart, negate_from_apart, same_literal, has-append, has-filter, filter_has, any_has, has_at, negate_twice}
 use Rattle.bd_cnf.proofs.Closed.{has_variable_of}
 
 pub part_nil : (ys : List Literal) → IsPartOf [] ys
@@ -54,13 +54,6 @@ unassigned_from ls l not_here not_there = false_from_ne_true _ (λ h.
       | inr e ↦ false≢true (sym not_there ∙ subst (λ (k : Literal). has_literal ls k ≡ true) (negate_from_apart found.0 l found.2 (λ signs. false≢true (sym e ∙ subst (λ (k : Literal). literal_eq found.0 k ≡ true) (same_literal found.0 l found.2 signs) (literal_eq-refl found.0)))) found.1)
     ])
 
-pub negate_twice : (l : Literal) → negate (negate l) ≡ l
-negate_twice l = λ i. record { var = l.var; positive = twice l.positive i }
-  where
-    twice : (p : Bool) → not (not p) ≡ p
-    twice true = refl
-    twice false = refl
-
 -- no literal with its negation
 pub consistent_nil : IsConsistent []
 consistent_nil l h = absurd (false≢true h)
@@ -102,15 +95,6 @@ pub two_of : (ls : List Literal) (a b : Literal) → has_literal ls a ≡ true �
 two_of [] a b here there apart = absurd (false≢true here)
 two_of (l ∷ []) a b here there apart = absurd (apart (has_single a l here ∙ sym (has_single b l there)))
 two_of (l ∷ m ∷ ls) a b here there apart = omega arith
-
--- a filter of a rising list rises
-pub rises_filter : (p : Literal → Bool) (n : ℕ) (ls : List Literal) → RisesAbove n ls → RisesAbove n (filter p ls)
-rises_filter p n [] up = tt
-rises_filter p n (l ∷ ls) up = first (rises_filter p l.var ls up.1) (p l)
-  where
-    lower : (m n : ℕ) (ks : List Literal) → m < n → RisesAbove n ks → RisesAbove m ks
-    lower m n [] h u = tt
-    lower m n (k ∷ ks) h u = let first : n < k.var = u.0 in (omega arith, u.1)
 
     first : RisesAbove l.var (filter p ls) → (b : Bool) → RisesAbove n (cond b (l ∷ filter p ls) (filter p ls))
     first rest true = (up.0, rest)

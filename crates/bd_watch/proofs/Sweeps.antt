@@ -16,12 +16,12 @@ use Rattle.bd_watch.specs.inner.Watchers.{Removes}
 use Rattle.bd_watch.specs.Watching.{clause_at, list_at, IsOneOf, IsConflict}
 use Rattle.bd_watch.specs.Watch.{IsWatching, IsPropagated, Extends, Propagates}
 use Rattle.bd_watch.specs.inner.Visits.{ArePending, IsAt, IsNext, Visits, MayBlock, Renews, Unwatches, Sweeps}
-use Rattle.bd_watch.proofs.Parts.{has_left, negate_twice}
+use Rattle.bd_watch.proofs.Parts.{has_left}
 use Rattle.bd_watch.proofs.Placed.{literals-append}
 use Rattle.bd_watch.proofs.Numbered.{numbered_at}
 use Rattle.bd_watch.proofs.PendingWatchers.{pending_kept, pending_reblocked, pending_moved}
 use Rattle.bd_watch.proofs.Values.{literal_at}
-use Rattle.bd_cnf.proofs.Literals.{has_at, any_from_has}
+use Rattle.bd_cnf.proofs.Literals.{has_at, any_from_has, negate_twice}
 use Rattle.bd_watch.proofs.WatchedClauses.{swept, all_closed}
 
 pub extends_more : (a b c : Watch) → Extends a b → Extends b c → Extends a c

@@ -1,4 +1,4 @@
-use Rattle.std.proofs.Common.{◌≡◌, ℕ, Some, None, Result, Ok, Err, IfOk, subst}
+use Rattle.std.proofs.Common.{◌≡◌, ℕ, Some, None, subst}
 use Rattle.std.specs.Prelude.{nat_eq, if◌then◌else◌}
 use Rattle.std.specs.Map.{lookup}
 use Rattle.bd_transitive.specs.Triangle.{class_of}
@@ -8,14 +8,11 @@ use Rattle.bd_function.specs.Values.{held, scalar_of}
 use Rattle.bd_lift.specs.Decoded.{AreDecodedBy, is_end}
 use Rattle.bd_lift.specs.inner.Steps.{AreDecodedSo, word_by}
 use Rattle.bd_lift.proofs.Decoding.{AreDecodedSo-by}
+use Rattle.bd_list.proofs.Results.{if_ok}
 use Rattle.bd_lift.proofs.decode.decode.Goals as goal
 
 pub end_classes-requires : goal.end_classes-requires
 end_classes-requires c = IsDistinct-from_AllPairs unsigned_Decides c.args.order.now.vertices c.requires.vertices
-
-if_ok : {X E : Type 0} → (P Q : X → Type 0) (r : Result X E) → IfOk r P → ((x : X) → P x → Q x) → IfOk r Q
-if_ok P Q (Ok x) h f = f x h
-if_ok P Q (Err e) h f = tt
 
 pub returns : goal.returns
 returns c =

@@ -1,5 +1,5 @@
 -- The case of all cycles, cut.
-use Rattle.std.proofs.Common.{◌≡◌, length, Result, Ok, Err, IfOk, sym, ◌∙◌, subst}
+use Rattle.std.proofs.Common.{◌≡◌, length, IfOk, sym, ◌∙◌, subst}
 use Rattle.bd_model.specs.DesignView.{design_view, port_view}
 use Rattle.bd_model.specs.Fits.{TrailFits}
 use Rattle.bd_model.specs.declared.case.Trail.{Trail}
@@ -10,10 +10,7 @@ use Rattle.bd_lift.proofs.Cutting.{IsCut, inputs-counted, is-cut}
 use Rattle.bd_lift.proofs.Numbered.{length-map}
 use Rattle.bd_lift.proofs.lifting.lift_trail.Goals as goal
 use Rattle.bd_lift.proofs.lifting.lift_trail.Goals.{After-trail_of}
-
-if_ok : {X E : Type 0} → (P Q : X → Type 0) (r : Result X E) → IfOk r P → ((x : X) → P x → Q x) → IfOk r Q
-if_ok P Q (Ok x) h f = f x h
-if_ok P Q (Err e) h f = tt
+use Rattle.bd_list.proofs.Results.{if_ok}
 
 pub trail_of-requires : goal.trail_of-requires
 trail_of-requires c =

@@ -1,5 +1,5 @@
 -- The case of the tables of the decoded values.
-use Rattle.std.proofs.Common.{length, Result, Ok, Err, IfOk, sym, subst}
+use Rattle.std.proofs.Common.{length, IfOk, sym, subst}
 use Rattle.bd_model.specs.DesignView.{design_view}
 use Rattle.bd_model.specs.Fits.{Fits}
 use Rattle.bd_model.specs.declared.case.Case.{Case}
@@ -17,13 +17,10 @@ use Rattle.bd_lift.proofs.Fitting.{IsSettled, built-counts, built-fits-alike}
 use Rattle.bd_lift.proofs.Worlds.{built-lifted-alike}
 use Rattle.bd_lift.proofs.lifting.lifted.Goals as goal
 use Rattle.bd_lift.proofs.lifting.lifted.Goals.{After-case_of}
+use Rattle.bd_list.proofs.Results.{if_ok}
 
 pub classes-requires-clause-meets : goal.classes-requires-clause-meets
 classes-requires-clause-meets c = subst (λ l. MeetsTriangles c.args.order.now (value_at l)) (sym c.in_ok-edges.ensures) c.requires.triangles
-
-if_ok : {X E : Type 0} → (P Q : X → Type 0) (r : Result X E) → IfOk r P → ((x : X) → P x → Q x) → IfOk r Q
-if_ok P Q (Ok x) h f = f x h
-if_ok P Q (Err e) h f = tt
 
 settled : (c : After-case_of) → IsSettled (widened (design_view c.args.design.now) c.args.cycles) c.args.flat.now.graph c.args.flat.now.syms c.args.order.now c.args.values.now c.in_ok-classes.classes (scalar_of c.in_ok-decoded.decoded)
 settled c = record {

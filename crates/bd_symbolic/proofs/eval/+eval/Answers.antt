@@ -11,9 +11,10 @@ use Rattle.bd_symbolic.specs.inner.Names.{names_view}
 use Rattle.bd_symbolic.specs.inner.Evaluates.{IsReady, DenoteWords}
 use Rattle.bd_symbolic.proofs.Growing.{Grows-none, Grows-trans, KeepsDesign-Grows}
 use Rattle.bd_symbolic.proofs.Leaves.{expr_view-Bool, expr_view-Entry, expr_view-Input, expr_view-Local, expr_view-Not, expr_view-Implies, expr_view-Iff, expr_view-Equal, expr_view-Ite, expr_view-Read, expr_view-Write, expr_view-Apply, entry_bound, entry_arm, input_bound, input_arm, local_bound, local_arm}
-use Rattle.bd_symbolic.proofs.Parts.{both, thrice, sorted_as, part_ready, joined_init, joined_ready, joined_sort, joined_step, all_done, any_done, and_assoc, or_assoc, gathered_init, gathered_ready, gathered_step, applies_to}
+use Rattle.bd_symbolic.proofs.Parts.{both, thrice, sorted_as, part_ready, joined_init, joined_ready, joined_sort, joined_step, all_done, any_done, and_assoc, gathered_init, gathered_ready, gathered_step, applies_to}
 use Rattle.bd_symbolic.proofs.Applying.{apply_arm}
 use Rattle.bd_symbolic.proofs.Arms.{as_form, sort_is, bool_arm, not_arm, implies_arm, iff_arm, equal_arm, ite_arm, read_arm, write_arm}
+use Rattle.bd_list.proofs.Truths.{or_assoc}
 use Rattle.bd_symbolic.proofs.eval.+eval.Goals as goal
 
 pub eval-bounds-names-i : goal.eval-bounds-names-i

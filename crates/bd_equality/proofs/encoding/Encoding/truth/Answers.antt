@@ -5,10 +5,10 @@ use Rattle.bd_equality.specs.declared.split.Equation.{Equation}
 use Rattle.bd_equality.specs.Made.{Term, Words}
 use Rattle.bd_equality.specs.inner.Split.{IsPair}
 use Rattle.bd_equality.specs.inner.Steps.{Passes}
-use Rattle.bd_equality.proofs.Flats.{first, second, third}
 use Rattle.bd_equality.proofs.Splits.{eq_words, pair_between}
 use Rattle.bd_equality.proofs.Stepping.{Passes-result, Passes-equation}
 use Rattle.bd_equality.proofs.Truths.{part_passed, part_means, Gives-not, Gives-and, Gives-or, Gives-ite, Gives-pred, Gives-true, is_true_node}
+use Rattle.bd_list.proofs.Membership.{first, second, third}
 use Rattle.bd_equality.proofs.encoding.Encoding.truth.Goals as goal
 
 pub node-a-requires : goal.node-a-requires
