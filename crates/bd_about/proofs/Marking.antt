@@ -22,24 +22,12 @@ get_or-push_false [] (suc k) = refl
 get_or-push_false (x ∷ xs) zero = refl
 get_or-push_false (x ∷ xs) (suc k) = get_or-push_false xs k
 
-pub adds_none : (m : Marks) → Adds m m (λ x. false)
-adds_none m = record { each = λ x. sym (or_false (is_marked m x)) }
-
 pub adds_both : (a b c : Marks) (p q : Named → Bool) → Adds a b p → Adds b c q → Adds a c (λ x. p x || q x)
 adds_both a b c p q h k = record { each = λ x. k.each x ∙ ap (λ y. y || q x) (h.each x) ∙ or_assoc (is_marked a x) (p x) (q x) }
 
 -- part of what is to be marked is left
 pub record Left (first now : Marks) (rest all : Named → Bool) : Type 0 where
   pub each : (x : Named) → (is_marked now x || rest x) ≡ (is_marked first x || all x)
-
-pub left_all : (m : Marks) (all : Named → Bool) → Left m m all all
-left_all m all = record { each = λ x. refl }
-
-pub left_more : (first now next : Marks) (p rest all : Named → Bool) → Left first now (λ x. p x || rest x) all → Adds now next p → Left first next rest all
-left_more first now next p rest all h k = record { each = λ x. ap (λ y. y || rest x) (k.each x) ∙ or_assoc (is_marked now x) (p x) (rest x) ∙ h.each x }
-
-pub left_none : (first now : Marks) (all : Named → Bool) → Left first now (λ x. false) all → Adds first now all
-left_none first now all h = record { each = λ x. sym (or_false (is_marked now x)) ∙ h.each x }
 
 -- two parts of an expression, one after the other
 pub both_of : {T E : Type 0} (r : Result T E) (old mid new : Marks) (e a b u v : Expr)

@@ -454,9 +454,3 @@ text_form-cycles subject d trees =
 pub fits_once : (d : DesignView) (c : Case) → Fits d c → TrailFits d (trail_of c)
 fits_once d c fits = record { interp = fits.interp; state = fits.state; inputs = (fits.inputs, tt) }
 
-pub case_fits : (d : DesignView) (t : Trail) → TrailFits d t → length t.inputs ≡ 1 → Fits d (case_of t)
-case_fits d t fits one = record { interp = fits.interp; state = fits.state; inputs = first_fits t.inputs fits.inputs one }
-  where
-    first_fits : (xs : List (List Scalar)) → AllByRecursion (InputsFit d) xs → length xs ≡ 1 → InputsFit d (slice_index_or xs 0 [])
-    first_fits [] all e = absurd (omega (arith, e))
-    first_fits (x ∷ xs) all e = all.0

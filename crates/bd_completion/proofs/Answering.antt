@@ -39,9 +39,6 @@ pub agrees-unless : (d : DesignView) (abs : Abstraction) → ((c : Case) → Fit
 agrees-unless d abs none c fits inside = undiffering-same (abs c.interp c.state) (flushed d c.interp c.state) (λ differ. none c fits (inside, differ))
 
 module _ (d : DesignView) (lawful : IsLawful d) (abs : Abstraction) (agree : Bool) (nodes : List Node) (root : ℕ) (is : IsRootBy d abs agree nodes root) where
-  pub known-by : IsKnownRoot (widened d 1) nodes root
-  known-by = such-known d lawful (IsSought d abs agree) (IsRootBy d abs agree) (root-known d abs agree) (root-decides d lawful abs agree) nodes root is
-
   -- its work is that of the question
   pub work-by : (budget : ℕ) (answer : Found) (w : Work) → IsRootWork d 1 nodes root Plain budget answer w → IsWorkBy d abs agree budget answer w
   work-by budget answer w h = record {

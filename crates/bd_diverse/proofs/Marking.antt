@@ -18,16 +18,6 @@ module _ (old new : List ℕ) (var : ℕ) (is : (v : ℕ) → is_marked new v �
   stays_by x true e h = is x ∙ ap (λ t. if t then true else is_marked old x) e
   stays_by x false e h = is x ∙ ap (λ t. if t then true else is_marked old x) e ∙ h
 
-  -- a variable more
-  pub inserted_variable : (x : ℕ) → (is_marked new x ≡ true) ↔ ((is_marked old x ≡ true) ⊎ (var ≡ x))
-  inserted_variable x = (
-    came_by x (var == x) refl,
-    λ h. elim h [
-      | inl q ↦ stays_by x (var == x) refl q
-      | inr e ↦ is x ∙ ap (λ t. if t then true else is_marked old x) (eq-eqb var x e)
-    ],
-  )
-
 -- the set has these variables beside the old ones
 abbrev pub Marks : List ℕ → List ℕ → (ℕ → Type 0) → Type 0
 Marks old new P = (x : ℕ) → (is_marked new x ≡ true) ↔ ((is_marked old x ≡ true) ⊎ P x)

@@ -173,6 +173,3 @@ pub no_head : (node : Node) → ((c a b : ℕ) → node ≡ Ite c a b → ⊥) �
 no_head (Ite c a b) none = absurd (none c a b refl)
 no_head node none = refl
 
-pub no_branch : (side : Bool) (c x : ℕ) (node : Node) → ((c a b : ℕ) → node ≡ Ite c a b → ⊥) → node_branch side c x (Some node) ≡ x
-no_branch side c x (Ite d a b) none = absurd (none d a b refl)
-no_branch side c x node none = refl

@@ -66,8 +66,3 @@ pub length-map : {X Y : Type 0} → (f : X → Y) (xs : List X) → length (map 
 length-map f [] = refl
 length-map f (x ∷ xs) = ap suc (length-map f xs)
 
--- the same for what is seen of the items
-pub map-take : {X Y Z : Type 0} → (g : X → Y) (f : ℕ → Y → Z) (xs : List X) (i : ℕ) (x : X) → slice_get xs i ≡ Some x → numbered f 0 (map g (take (i + 1) xs)) ≡ numbered f 0 (map g (take i xs)) ++ f i (g x) ∷ []
-map-take g f xs i x at =
-    let size : length (take i xs) ≡ i = length-take-le i xs (omega (arith, slice_get_within xs i x at)) in
-    ap (λ l. numbered f 0 (map g l)) (take-get xs i x at) ∙ ap (numbered f 0) (map-push g (take i xs) x) ∙ numbered-push f 0 (map g (take i xs)) (g x) i (omega (arith, size, length-map g (take i xs)))

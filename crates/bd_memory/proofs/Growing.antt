@@ -164,16 +164,3 @@ IsForwarding-keep old root new places reads reads' m b id f sorted means made h 
   ];
 }
 
--- nothing is forwarded first
-pub IsForwarding-start : (old : List Node) (root : ℕ) → IsGraph old → IsGraph [] → IsForwarding old root [] [] []
-IsForwarding-start old root g e = record {
-  source = g;
-  graph = e;
-  plain = IsPlain-empty;
-  applies = record { reached = λ u p. absurd (omega (arith, p.1)) };
-  terms = λ k inside r apart. absurd (omega (arith, inside));
-  addresses = λ m b id h. absurd (none-some id h);
-  words = λ m b id h. absurd (none-some id h);
-  made_terms = λ k inside r apart. absurd (omega (arith, inside));
-  made_words = λ m b id h. absurd (none-some id h);
-}

@@ -44,18 +44,6 @@ pub record IsWaiting (old : List Node) (root passed : ℕ) (reads : List (ReadKe
   pub rooms : (i p : ℕ) → slice_get waiting i ≡ Some p → i + p < passed
   pub order : (i j p q : ℕ) → i < j → slice_get waiting i ≡ Some p → slice_get waiting j ≡ Some q → q < p
 
-pub IsWaiting-start : (old : List Node) (root passed : ℕ) (reads : List (ReadKey × ℕ)) (b top : ℕ) → IsOpen old root passed reads b top → IsWaiting old root passed reads b top [] top
-IsWaiting-start old root passed reads b top h = record {
-  now = h;
-  room = omega (arith, h.inside);
-  alone = λ e. refl;
-  bottom = λ p e. absurd (none-some p e);
-  each = λ i p e. absurd (none-some p e);
-  above = λ i p e. absurd (none-some p e);
-  rooms = λ i p e. absurd (none-some p e);
-  order = λ i j p q lt e f. absurd (none-some p e);
-}
-
 -- the one at hand waits too
 pub IsWaiting-push : (old : List Node) (root passed : ℕ) (reads : List (ReadKey × ℕ)) (b top : ℕ) (waiting : List ℕ) (here below : ℕ) → IsWaiting old root passed reads b top waiting here
     → (below < here) × HasSort old below sort.Memory × Reaches old here below × (known reads below b ≡ None)

@@ -23,12 +23,6 @@ module _ {A : Type 0} (item_word : Place → Word → Result (Option A) Fault) (
   pub items-clash : (item : A) → item_word t.place t.word ≡ Ok (Some item) → clashes before item ≡ true → items_from item_word clashes first before (t ∷ ts) ≡ refused t.place why.Form
   items-clash item h clash = ap next_item h ∙ ap (unless_clash item) clash
 
-  pub items-end : item_word t.place t.word ≡ Ok None → items_from item_word clashes first before (t ∷ ts) ≡ Ok (before, ts)
-  items-end h = ap next_item h
-
-  pub items-fault : (e : Fault) → item_word t.place t.word ≡ Err e → items_from item_word clashes first before (t ∷ ts) ≡ Err e
-  items-fault e h = ap next_item h
-
 -- a fault that is answered
 pub fails-bad : {B : Type 0} (e : ReadFault) (f : Fault) (reading : Result B Fault) → e ≡ read.Bad f → reading ≡ Err f → Fails e reading
 fails-bad e f reading is h = subst (λ x. Fails x reading) (sym is) h

@@ -7,9 +7,6 @@ use Rattle.bd_cnf.specs.Clause.{IsTautology}
 use Rattle.bd_cnf.proofs.Literals.{has-push, literal_eq-true, negate_apart, negate_twice}
 use Rattle.bd_proof_text.specs.inner.Signs.{HasSigns, is_sign}
 
-pub no-signs : HasSigns [] []
-no-signs = record { each = λ x s. refl }
-
 eqb-swap : (a b : ℕ) → eqb a b ≡ eqb b a
 eqb-swap a b = elim (cases_Bool (eqb a b)) [
   | inl e ↦ e ∙ sym (eq-eqb b a (sym (eqb-true a b e)))

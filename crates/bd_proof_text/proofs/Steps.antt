@@ -16,21 +16,6 @@ use Rattle.bd_proof_text.specs.inner.Steps.{Adds, Refuses, Takes}
 
 -- ---- one line
 
-takes-none : (old : Reader) (s : Step) → s ≡ Passed → Takes s old old false
-takes-none old s e = subst (λ t. Takes t old old false) (sym e) (refl, refl, refl)
-
--- a line that is passed over
-pub takes-passed : (old : Reader) (number : ℕ) (text : List ℕ) → is_passed text ≡ true → Takes (step old.checker number text) old old false
-takes-passed old number text h = takes-none old (step old.checker number text) (ap (λ b. cond b Passed (bytes_step old.checker number text (position (λ b. not (is_proof_byte b)) text))) h)
-
--- any other line
-pub step-unpassed : (db : Database) (number : ℕ) (text : List ℕ) (o : Option ℕ) → is_passed text ≡ false → position (λ b. not (is_proof_byte b)) text ≡ o → step db number text ≡ bytes_step db number text o
-step-unpassed db number text o h e = ap (λ b. cond b Passed (bytes_step db number text (position (λ b. not (is_proof_byte b)) text))) h ∙ ap (bytes_step db number text) e
-
--- no token
-pub takes-no_token : (old : Reader) (tokens : List Token) → tokens ≡ [] → Takes (tokens_step old.checker tokens) old old false
-takes-no_token old tokens e = takes-none old (tokens_step old.checker tokens) (ap (tokens_step old.checker) e)
-
 -- a line that is read
 step-read : (db : Database) (first : Token) (ts tokens : List Token) (r : Result Line Fault) → tokens ≡ first ∷ ts → from_id first ts ≡ r → tokens_step db tokens ≡ judged db first.place r
 step-read db first ts tokens r e h = ap (tokens_step db) e ∙ ap (judged db first.place) h
@@ -41,17 +26,6 @@ pub takes-accepted : (old new : Reader) (first : Token) (ts tokens : List Token)
 takes-accepted old new first ts tokens line e h accepted adds =
     let is : tokens_step old.checker tokens ≡ Accepted line = step-read old.checker first ts tokens (Ok line) e h ∙ ap (answered first.place line) (answer_from_accepted old.checker line accepted) in
     subst (λ s. Takes s old new (adds_empty line)) (sym is) (adds.checker, adds.log, refl)
-
--- it has a fault
-pub refuses-read : (db : Database) (first : Token) (ts tokens : List Token) (e : ReadFault) → tokens ≡ first ∷ ts → Fails e (from_id first ts) → Refuses (tokens_step db tokens) e
-refuses-read db first ts tokens (read.Bad f) is h = step-read db first ts tokens (Err f) is h
-refuses-read db first ts tokens read.Memory is h = tt
-
--- it isn't accepted
-pub refuses-line : (db : Database) (first : Token) (ts tokens : List Token) (line : Line) (e : ReadFault) → tokens ≡ first ∷ ts → from_id first ts ≡ Ok line
-    → Refuses (answered first.place line (line_answer db line)) e → Refuses (tokens_step db tokens) e
-refuses-line db first ts tokens line (read.Bad f) is h refused = step-read db first ts tokens (Ok line) is h ∙ refused
-refuses-line db first ts tokens line read.Memory is h refused = tt
 
 -- ---- the lines of a text
 
@@ -68,10 +42,3 @@ proof-step last old new number text texts ends = by (step old.checker number tex
     by (Accepted line) (checker, log, end) = λ i. cond (sym end i) (Ok (sym log i)) (proof_from last (sym checker i) (sym log i) (number + 1) texts)
     by (Faulty e) h = absurd h
 
--- or it has a fault
-pub proof-fails : (last : ℕ) (db : Database) (log : List Line) (number : ℕ) (text : List ℕ) (texts : List (List ℕ)) (e : ReadFault) → Refuses (step db number text) e
-    → Fails e (proof_from last db log number (text ∷ texts))
-proof-fails last db log number text texts (read.Bad f) h =
-    ap (λ s. on_step s (proof_from last db log (number + 1) texts)
-    (λ line. cond (adds_empty line) (Ok (log ++ line ∷ [])) (proof_from last (after db line) (log ++ line ∷ []) (number + 1) texts)) (λ e. Err e)) h
-proof-fails last db log number text texts read.Memory h = tt

@@ -96,19 +96,6 @@ module _ (nodes : List PropNode) (graph : IsGraph nodes) (root : ℕ) where
         ];
   }
 
-  -- a node that isn't marked leaves the marks
-  pub AreMarks-skip : (k : ℕ) (marks : List Bool) → get_or marks k false ≡ false → AreMarks nodes root (k + 1) marks → AreMarks nodes root k marks
-  AreMarks-skip k marks off is = record {
-    size = is.size;
-    here = is.here;
-    sound = is.sound;
-    done = λ id c other from m stands child.
-        elim (cases_eq id k) [
-          | inl same ↦ absurd (false≢true (sym off ∙ subst (IsMarked marks) same m))
-          | inr apart ↦ is.done id c other (omega (arith, apart)) m stands child
-        ];
-  }
-
   -- at the start the root alone is marked
   pub AreMarks-start : (marks : List Bool) → root < length nodes → length marks ≡ length nodes → ((id : ℕ) → get_or marks id false ≡ false) → AreMarks nodes root (length nodes) (set marks root true)
   AreMarks-start marks h size off = record {

@@ -31,29 +31,6 @@ pub atom_eq-refl : (a : Atom) → atom_eq a a ≡ true
 atom_eq-refl (Edge a b) = and_from _ _ (eq-eqb a a refl) (eq-eqb b b refl)
 atom_eq-refl (Truth a) = eq-eqb a a refl
 
-pub node_same : (m n : PropNode) → node_eq m n ≡ true → m ≡ n
-node_same True True h = refl
-node_same (OfAtom a) (OfAtom b) h = ap OfAtom (atom_same a b h)
-node_same (Not a) (Not b) h = ap Not (eqb-true a b h)
-node_same (And a b) (And c d) h =
-    let parts = and_parts _ _ h in
-    let first : a ≡ c = eqb-true a c parts.0 in
-    let second : b ≡ d = eqb-true b d parts.1 in
-    λ i. And (first i) (second i)
-node_same (Or a b) (Or c d) h =
-    let parts = and_parts _ _ h in
-    let first : a ≡ c = eqb-true a c parts.0 in
-    let second : b ≡ d = eqb-true b d parts.1 in
-    λ i. Or (first i) (second i)
-node_same (Ite a b c) (Ite d e f) h =
-    let parts = and_parts _ _ h in
-    let rest = and_parts _ _ parts.1 in
-    let first : a ≡ d = eqb-true a d parts.0 in
-    let second : b ≡ e = eqb-true b e rest.0 in
-    let third : c ≡ f = eqb-true c f rest.1 in
-    λ i. Ite (first i) (second i) (third i)
-node_same m n h = absurd (false≢true h)
-
 pub node_eq-refl : (n : PropNode) → node_eq n n ≡ true
 node_eq-refl True = refl
 node_eq-refl (OfAtom a) = atom_eq-refl a

@@ -92,10 +92,3 @@ whole_stays c none tables values all e0 e1 e2 e3 =
     let joined : all ≡ a ++ (b ++ r) = e3 ∙ ap (λ fs. fs ++ r) (e2 ∙ ap (λ fs. fs ++ b) (e1 ∙ ap (λ fs. fs ++ a) e0)) ∙ append_assoc a b r in
     ap (λ fs. remnant fs c) joined ∙ case_stays c r (sym (append-nil r))
 
--- one table more
-pub more_fates : {X : Type 0} (stay : X → List Fate) (before new whole : List Fate) (xs : List X) (i : ℕ) (x : X) → before ++ flat_map stay (drop i xs) ≡ whole → i < length xs → x ≡ get_or xs i x
-    → new ≡ before ++ stay x → new ++ flat_map stay (drop (i + 1) xs) ≡ whole
-more_fates stay before new whole xs i x h within is put =
-    let front : drop i xs ≡ x ∷ drop (i + 1) xs = rw (add-one, drop-cons xs i x) (ap (λ y. y ∷ drop (suc i) xs) (sym is)) in
-    let here = subst (λ ys. before ++ flat_map stay ys ≡ whole) front h in
-    ap (λ fs. fs ++ flat_map stay (drop (i + 1) xs)) put ∙ append_assoc before (stay x) (flat_map stay (drop (i + 1) xs)) ∙ here

@@ -27,13 +27,6 @@ use Rattle.bd_symbolic.proofs.Denoting.{IsReady-Grows, Denotes-later, Denotes-ea
 use Rattle.bd_symbolic.proofs.Applying.{TakesArguments}
 use Rattle.bd_symbolic.proofs.Arms.{truth-Extends, truth-part, word-part}
 
--- what an Ok brings
-pub ok_of : {A E : Type 0} (r : Result A E) (x : A) (P : A → Type 0) → r ≡ Ok x → IfOk r P → P x
-ok_of r x P e h = subst (λ q. IfOk q P) e h
-
-pub term_of : (old new : List Node) (t : Terms) (e : ExprView) (r : Result ℕ AllocError) (x : ℕ) → r ≡ Ok x → Evaluates old new t e r → DenotesExpr old new t e x
-term_of old new t e r x is h = ok_of r x (DenotesExpr old new t e) is h.term
-
 pub both : (old mid new : List Node) (t : Terms) (a b : ExprView) (x y : ℕ) → AreTerms old t → GrowsWithin t.design old mid → GrowsWithin t.design mid new
     → DenotesExpr old mid t a x → DenotesExpr mid new t b y → EvaluatesBoth old new t a b (Ok (x, y))
 both old mid new t a b x y k p q h l = record {

@@ -39,10 +39,6 @@ rebind offset head (Err fault) = refl
 
 -- a list whose first part has been tested
 module _ (offset : ℕ) (ts : Nodes) (head : Spot) (n : ℕ) (first : first_form offset ts ≡ Ok head) (count : node_count (others ts) ≡ n) where
-  pub application_fails : (fault : TextFault) → Fails fault (operator_form offset head n (operator_of head.text)) → Fails fault (expression_form (list offset ts))
-  application_fails faults.Memory h = tt
-  application_fails (faults.Bad at code) h = rw (first, count, h) refl
-
   application_form : (us : Nodes) → others ts ≡ us → operator_form offset head n (operator_of head.text) ≡ Ok head
       → expression_form (list offset ts) ≡ (each_form expression_form us >>= λ es. Ok (application offset head (expressions_from es)))
   application_form us rest tested =

@@ -43,22 +43,6 @@ sound-put l n v own b is up put apart sound = record {
       (λ _ some. let k : ℕ × ℕ = (length (neighbours l w), w) in up k ∙ cond_both (b k) true (contains entry_cmp l.queue k) (λ x. x ≡ true) (λ _. refl) (λ _. sound.queued w some)));
 }
 
-nat_cmp-Equal : (a b : ℕ) → is_eq (nat_cmp a b) ≡ true → a ≡ b
-nat_cmp-Equal a b = cond_both (nat_lt a b) Less (cond (a == b) Equal Greater) (λ o. is_eq o ≡ true → a ≡ b)
-    (λ _ h. absurd (false≢true h))
-    (λ _. cond_both (a == b) Equal Greater (λ o. is_eq o ≡ true → a ≡ b) (λ e _. eqb-true a b e) (λ _ h. absurd (false≢true h)))
-
-then-Equal : (o p : Ordering) → is_eq (ordering_then o p) ≡ true → (is_eq o ≡ true) × (is_eq p ≡ true)
-then-Equal Less p h = absurd (false≢true h)
-then-Equal Equal p h = (refl, h)
-then-Equal Greater p h = absurd (false≢true h)
-
--- equal entries have one degree and one vertex
-pub entry-equal : (x y : ℕ × ℕ) → is_eq (entry_cmp x y) ≡ true → (x.0 ≡ y.0) × (x.1 ≡ y.1)
-entry-equal x y h =
-    let parts = then-Equal (nat_cmp x.0 y.0) (nat_cmp x.1 y.1) h in
-    (nat_cmp-Equal x.0 y.0 parts.0, nat_cmp-Equal x.1 y.1 parts.1)
-
 nat_cmp-not_above : (a b : ℕ) → is_gt (nat_cmp a b) ≡ false → a ≤ b
 nat_cmp-not_above a b = cond_both (nat_lt a b) Less (cond (a == b) Equal Greater) (λ o. is_gt o ≡ false → a ≤ b)
     (λ e _. omega (arith, ltb-true a b e))
