@@ -57,7 +57,8 @@ const MOST_FLUSH: u32 = 64;
 /// The most steps of a design.
 const MOST_STEPS: u32 = 8;
 
-fn finding_of(verdict: &Verdict) -> Finding
+/// What a verdict found.
+pub fn finding_of(verdict: &Verdict) -> Finding
     ensures { result ≡ finding_of verdict.now }
 {
     match verdict {

@@ -12,6 +12,6 @@ mod unread;
 mod unread_lines;
 
 pub use about::{About, about_design};
-pub use asking::{Finding, Findings};
+pub use asking::{Finding, Findings, finding_of};
 pub use unread::Unread;
 pub use unread_lines::LetNames;

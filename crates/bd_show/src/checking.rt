@@ -2,7 +2,6 @@
 ghost use Rattle.std.specs.Prelude.{◌≡◌, ◌++◌, [], ◌∷◌, IfOk, OnOk, string_bytes};
 ghost use Rattle.bd_model.specs.DesignView.{design_view};
 ghost use Rattle.bd_model.specs.Lawful.{IsLawful};
-ghost use Rattle.bd_about.specs.Findings.{finding_of};
 ghost use Rattle.bd_app.specs.Meaning.{files_seen};
 ghost use Rattle.bd_app.specs.Verdicts.{IsVerdict, verdict_words};
 ghost use Rattle.bd_show.specs.LetNames.{AreReadable};
@@ -16,7 +15,7 @@ use crate::load::{FileNames, Texts, load_texts};
 use crate::names::machine_lets;
 use crate::read::design;
 use crate::show::pictured;
-use bd_about::Finding;
+use bd_about::finding_of;
 use bd_cdcl::Cdcl;
 use bd_files::Files;
 use bd_model::{Condition, Design, Judged};
@@ -31,18 +30,6 @@ pub struct CheckOptions<'a> {
     pub names: FileNames<'a>,
     pub mode: Mode,
     pub budget: u32,
-}
-
-/// What a verdict finds.
-fn finding_of(verdict: &Verdict) -> Finding
-    ensures { result ≡ finding_of verdict.now }
-{
-    match verdict {
-        Verdict::Correct(_, _) => Finding::Right,
-        Verdict::Wrong(condition, _, _) => Finding::Wrong(*condition),
-        Verdict::Void(_) => Finding::Void,
-        Verdict::Undecided(_, _) => Finding::Undecided,
-    }
 }
 
 /// Puts a verdict in words after a text.
