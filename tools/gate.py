@@ -1,16 +1,18 @@
 #!/usr/bin/env python3
 """Runs the gate from nothing and says what it cost, crate by crate.
 
-usage: tools/gate.py [--processors N] [--log FILE] [--table FILE]
+usage: tools/gate.py [--processors N] [--log FILE] [--table FILE] [NAME ..]
 
-At the top of the repository: calls `rt ci`, reads the clock of each process that it starts, and prints a table in
-Markdown, in processor minutes: each crate's proof, its tests (their proofs, and building them), its wrong bodies.
-`--processors N` runs it on N processors alone; `--log` keeps what `rt ci` prints, and `--table` writes the table to a
-file too. It ends with the status of `rt ci`. It needs Linux, where /proc tells each process's clock.
+At the top of the repository: calls `rt ci`, or `rt ci NAME ..` where crates are named, reads the clock of each process
+that it starts, and prints a table in Markdown, in processor minutes: each crate's proof, its tests (their proofs, and
+building them), its wrong bodies. `--processors N` runs it on N processors alone; `--log` keeps what `rt ci` prints, and
+`--table` writes the table to a file too. It ends with the status of `rt ci`; ended by SIGTERM, it prints what was
+measured up to there. It needs Linux, where /proc tells each process's clock.
 """
 import argparse
 import os
 import re
+import signal
 import subprocess
 import sys
 import time
@@ -112,6 +114,7 @@ def table(children, minutes, total, processors):
 def main():
     """Runs `rt ci` and prints the table."""
     asked = argparse.ArgumentParser(description=__doc__, formatter_class=argparse.RawDescriptionHelpFormatter)
+    asked.add_argument("names", nargs="*", help="crates, proved with those below them")
     asked.add_argument("--processors", type=int, help="run on this many processors alone")
     asked.add_argument("--log", help="keep what rt ci prints in this file")
     asked.add_argument("--table", help="write the table to this file too")
@@ -121,7 +124,8 @@ def main():
     started, children = time.time(), {}
     before = sum(os.times()[2:4])
     log = open(given.log, "wb") if given.log else None
-    gate = subprocess.Popen(["rt", "ci"], stdout=log, stderr=subprocess.STDOUT if log else None)
+    gate = subprocess.Popen(["rt", "ci", *given.names], stdout=log, stderr=subprocess.STDOUT if log else None)
+    signal.signal(signal.SIGTERM, lambda *_: gate.terminate())
     while gate.poll() is None:
         watched(gate.pid, children)
         time.sleep(PAUSE)
