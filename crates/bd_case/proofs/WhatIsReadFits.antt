@@ -453,4 +453,3 @@ text_form-cycles subject d trees =
 
 pub fits_once : (d : DesignView) (c : Case) → Fits d c → TrailFits d (trail_of c)
 fits_once d c fits = record { interp = fits.interp; state = fits.state; inputs = (fits.inputs, tt) }
-

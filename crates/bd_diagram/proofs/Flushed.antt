@@ -36,4 +36,3 @@ enough_states d interp state f is = omega (arith, ap length is.states, count_sta
 -- what is visible in the last state is where the specification would stand
 pub end_visible : (d : DesignView) (interp : List Table) (state shown : List Value) (f : Flushing) → IsFlushing d interp state f → shown ≡ look d (slice_index_or f.states d.flush []) → shown ≡ flushed d interp state
 end_visible d interp state shown f is h = h ∙ ap (look d) (ap (λ xs. slice_index_or xs d.flush []) is.states ∙ last_state d.flush d.pipe interp state [])
-

@@ -172,4 +172,3 @@ module _ (nodes : List Node) (g : IsGraph nodes) where
 pub no_head : (node : Node) → ((c a b : ℕ) → node ≡ Ite c a b → ⊥) → node_head (Some node) ≡ None
 no_head (Ite c a b) none = absurd (none c a b refl)
 no_head node none = refl
-

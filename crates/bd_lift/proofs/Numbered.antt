@@ -65,4 +65,3 @@ get-map f (x ∷ xs) (suc i) y h = get-map f xs i y h
 pub length-map : {X Y : Type 0} → (f : X → Y) (xs : List X) → length (map f xs) ≡ length xs
 length-map f [] = refl
 length-map f (x ∷ xs) = ap suc (length-map f xs)
-

@@ -163,4 +163,3 @@ IsForwarding-keep old root new places reads reads' m b id f sorted means made h 
         (subst (λ y. Forwarded old new (At y a) id) (sym p.1) (subst (λ y. Forwarded old new (At m y) id) (sym p.2) made))
   ];
 }
-

@@ -41,4 +41,3 @@ proof-step last old new number text texts ends = by (step old.checker number tex
     by Passed (checker, log, end) = λ i. cond (sym end i) (Ok new.log) (proof_from last (sym checker i) (sym log i) (number + 1) texts)
     by (Accepted line) (checker, log, end) = λ i. cond (sym end i) (Ok (sym log i)) (proof_from last (sym checker i) (sym log i) (number + 1) texts)
     by (Faulty e) h = absurd h
-

@@ -91,4 +91,3 @@ whole_stays c none tables values all e0 e1 e2 e3 =
     let r = replicate (length c.inputs) Stays in
     let joined : all ≡ a ++ (b ++ r) = e3 ∙ ap (λ fs. fs ++ r) (e2 ∙ ap (λ fs. fs ++ b) (e1 ∙ ap (λ fs. fs ++ a) e0)) ∙ append_assoc a b r in
     ap (λ fs. remnant fs c) joined ∙ case_stays c r (sym (append-nil r))
-

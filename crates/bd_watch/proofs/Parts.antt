@@ -96,10 +96,6 @@ two_of [] a b here there apart = absurd (false≢true here)
 two_of (l ∷ []) a b here there apart = absurd (apart (has_single a l here ∙ sym (has_single b l there)))
 two_of (l ∷ m ∷ ls) a b here there apart = omega arith
 
-    first : RisesAbove l.var (filter p ls) → (b : Bool) → RisesAbove n (cond b (l ∷ filter p ls) (filter p ls))
-    first rest true = (up.0, rest)
-    first rest false = lower n l.var (filter p ls) up.0 rest
-
 -- a rising list whose literals are all the same has one at most
 pub rising_single : (n : ℕ) (ls : List Literal) (u : Literal) → RisesAbove n ls → ((l : Literal) → has_literal ls l ≡ true → l ≡ u) → 2 ≤ length ls → ⊥
 rising_single n [] u up same long = absurd (omega arith)
