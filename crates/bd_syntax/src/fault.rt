@@ -9,7 +9,7 @@ pub type FormFault = TextFault;
 
 /// The fault of a code at an offset.
 pub fn bad(offset: usize, code: Code) -> FormFault
-    ensures { result ≡ FormFault.Bad offset code }
+    ensures { result ≡ TextFault.Bad offset code }
 {
     FormFault::Bad { offset, code }
 }
