@@ -1,5 +1,5 @@
 -- Flush cycles, one by one.
-use Rattle.std.proofs.Common.{◌≡◌, ℕ, zero, suc, ◌+◌, ◌-◌, ◌<◌, List, [], ◌∷◌, ◌++◌, length, refl, ◌∙◌, ap, arith}
+use Rattle.std.proofs.Common.{◌≡◌, ℕ, zero, suc, ◌+◌, ◌-◌, ◌<◌, List, [], ◌∷◌, ◌++◌, length, append_assoc, refl, sym, ◌∙◌, ap, arith}
 use Rattle.std.specs.Prelude.{slice_index_or}
 use Rattle.bd_model.specs.DesignView.{MachineView, DesignView}
 use Rattle.bd_model.specs.Cycle.{step, idle_inputs, flush_cycles, flushed, look}
@@ -36,3 +36,7 @@ enough_states d interp state f is = omega (arith, ap length is.states, count_sta
 -- what is visible in the last state is where the specification would stand
 pub end_visible : (d : DesignView) (interp : List Table) (state shown : List Value) (f : Flushing) → IsFlushing d interp state f → shown ≡ look d (slice_index_or f.states d.flush []) → shown ≡ flushed d interp state
 end_visible d interp state shown f is h = h ∙ ap (look d) (ap (λ xs. slice_index_or xs d.flush []) is.states ∙ last_state d.flush d.pipe interp state [])
+
+-- one more item, taken from the front of what is to come
+pub joined : {A : Type 0} (old new : List A) (s : A) (rest more whole : List A) → new ≡ old ++ s ∷ [] → rest ≡ s ∷ more → old ++ rest ≡ whole → new ++ more ≡ whole
+joined old new s rest more whole put front before = rw (put, append_assoc) (ap (λ xs. old ++ xs) (sym front) ∙ before)

@@ -1,7 +1,6 @@
 use Rattle.std.proofs.Common.{arith}
 use Rattle.bd_model.specs.DesignView.{machine_view}
-use Rattle.bd_diagram.proofs.Flushed.{states_more, inputs_more}
-use Rattle.bd_sim.proofs.Cycles.{joined}
+use Rattle.bd_diagram.proofs.Flushed.{states_more, inputs_more, joined}
 use Rattle.bd_diagram.proofs.flushing.flushing_from.Goals as goal
 
 pub loop-cycle-preserved : goal.loop-cycle-preserved
