@@ -1,5 +1,6 @@
 -- A search by watched clauses begins, moves, learns, and ends.
-use Rattle.std.proofs.Common.{◌≡◌, ℕ, ◌+◌, ◌-◌, ◌*◌, ◌<◌, ◌≤◌, Bool, true, false, cond, List, [], ◌∷◌, ◌++◌, ◌⊎◌, Option, None, Some, length, get_or, take, drop, refl, sym, ap, ◌∙◌, subst, inl, inr, arith, length-append}
+use Rattle.std.proofs.Common.{◌≡◌, ℕ, ◌+◌, ◌-◌, ◌*◌, ◌<◌, ◌≤◌, Bool, true, false, cond, List, [], ◌∷◌, ◌++◌, ◌⊎◌, Option, None, Some, IfSome, length, get_or, take, drop, refl, sym, ap, ◌∙◌, subst, inl, inr, arith, length-append}
+use Rattle.std.specs.Prelude.{IfOk, Result, Ok, Err, if◌then◌else◌}
 use Rattle.std.specs.List.{All, Contains}
 use Rattle.std.proofs.lemmas.Nat.{mul-le}
 use Rattle.std.proofs.lemmas.List.{take-append-drop, drop_more, get_or-drop, get_or-take, length-drop, length-take-le, take-take}
@@ -32,7 +33,7 @@ use Rattle.bd_cdcl.specs.declared.cdcl.reduce.Deletion.{Deletion}
 use Rattle.bd_cdcl.specs.inner.Deletions.{KeepsFixed, MayDelete, IsReduced, Deletes, standing_of, AreCovered}
 use Rattle.bd_cdcl.specs.inner.Search.{addition, conflict_hints, IsSearching, IsSearchingIn}
 use Rattle.bd_cdcl.specs.inner.Analyses.{IsClear, IsLesson}
-use Rattle.bd_cdcl.specs.inner.Descents.{standing_in, IsBegun, IsDescending, GoesOn, Advances, Follows, distance}
+use Rattle.bd_cdcl.specs.inner.Descents.{standing_in, IsBegun, IsDescending, GoesOn, Advances, Follows, Steps, distance, to_go}
 use Rattle.bd_cdcl.proofs.SearchSteps.{search_moves_in, search_adds, search_deletes, search_refutes, search_spends, search_satisfies}
 use Rattle.bd_cdcl.proofs.Analyses.{start_reason}
 use Rattle.bd_cdcl.proofs.DeletedClauses.{fixed_longer, fixed_pushed, fixed_back, conflict_in, closed_in, complete_in, reduced_none, reduced_moves, reduced_adds, reduced_deletes}
@@ -352,3 +353,41 @@ pub descent_nearer : (budget : ℕ) (old new : Search) → new.learned ≡ old.l
 descent_nearer budget old new learned room limit =
     subst (λ n. (budget - new.learned) * (2 * new.watch.trail.limit + 2) + distance new < (budget - old.learned) * (2 * n + 2) + distance old) limit
     (fewer (budget - new.learned) (budget - old.learned) (2 * new.watch.trail.limit + 2) (distance new) (distance old) (omega arith) (descent_far new.restarts new.watch.trail.limit (length new.watch.trail.entries)))
+
+-- what a conflict led to is what the step leads to: the conflict came by propagation, which left the search at that many learned clauses
+pub descent_followed : (p : Problem) (first old new : Search) (log lines : List Line) (budget id : ℕ) → IsDescending p old log → old.learned ≤ budget → IsConflict (numbered old.watch.clauses) old.watch.trail.entries id → old.learned ≡ first.learned → old.watch.trail.limit ≡ first.watch.trail.limit
+    → (found : Option Found) → Follows old new log lines budget id found → IfSome found (λ _. new ≡ old) → Steps p first new lines budget found
+descent_followed p first old new log lines budget id is fits at learned limit None follows ended =
+    let so = descent_goes_on p old new log lines budget id None is follows refl in
+    let more : new.learned ≡ first.learned + 1 = so.1 ∙ ap (λ n. n + 1) learned in
+    let room : first.learned < budget = subst (λ n. n < budget) learned so.2 in
+    record { descending = so.0; within = omega (arith, more, room); nearer = descent_nearer budget first new more room (so.3 ∙ limit) }
+descent_followed p first old new log lines budget id is fits at learned limit (Some found) follows ended =
+    let same : new ≡ old = ended in
+    record {
+      law = descent_ends p old new log lines budget id (Some found) found is fits at follows refl;
+      complete = subst (λ (s : Search). IsComplete (standing_in s) s.watch.trail.entries) (sym same) (descent_complete p old log is);
+      covered = subst (λ (s : Search). AreCovered s.watch.clauses (standing_in s)) (sym same) (descent_covered p old log is);
+    }
+
+further : (a x y : ℕ) → x < y → a + x < a + y
+further a x y h = omega (arith, h)
+
+nearer_by : (x l n m : ℕ) → n ≤ m → x + (l - m) ≤ x + (l - n)
+nearer_by x l n m h = omega (arith, h)
+
+-- it comes nearer to the next learned clause where it goes on after propagation
+pub descent_advances : (budget : ℕ) (d : Search) (w : Watch) (o : Option ℕ) (new : Search) → Propagates d.watch w o → new.learned ≡ d.learned → new.watch.trail.limit ≡ w.trail.limit → distance new < distance (propagated d w) → to_go budget new < to_go budget d
+descent_advances budget d w o new propagates learned limit near =
+    let far : distance (propagated d w) ≤ distance d =
+    subst (λ n. (if d.restarts then n + 1 else 0) + (n - length w.trail.entries) ≤ distance d) (sym propagates.limit)
+    (nearer_by (if d.restarts then d.watch.trail.limit + 1 else 0) d.watch.trail.limit (length d.watch.trail.entries) (length w.trail.entries) propagates.longer) in
+    let less : distance new < distance d = omega (arith, near, far) in
+    subst (λ n. (budget - n) * (2 * new.watch.trail.limit + 2) + distance new < to_go budget d) (sym learned)
+    (subst (λ n. (budget - d.learned) * (2 * n + 2) + distance new < to_go budget d) (sym (limit ∙ propagates.limit))
+    (further ((budget - d.learned) * (2 * d.watch.trail.limit + 2)) (distance new) (distance d) less))
+
+-- both of what an answer has
+pub both_if_ok : {X E : Type 0} (P Q R : X → Type 0) → ((x : X) → P x → Q x → R x) → (r : Result X E) → IfOk r P → IfOk r Q → IfOk r R
+both_if_ok P Q R f (Ok x) p q = f x p q
+both_if_ok P Q R f (Err e) p q = tt

@@ -7,7 +7,6 @@ ghost use Rattle.std.specs.Prelude.{true};
 mod propagation;
 mod search;
 
-use self::propagation::propagate;
 use self::search::{PlainSearch, copied};
 use crate::solver::{Found, HonestSolver, Solver};
 use bd_cnf::Cnf;
@@ -36,26 +35,12 @@ impl Solver for Plain {
     ghost says = { λ _ problem budget found log. IsLaw problem budget found log };
 
     fn solve(&mut self, cnf: &Cnf, budget: u32, log: &mut Log) -> Result<Found, AllocError> {
-        let alloc = self.alloc;
         let mut search = PlainSearch {
-            clauses: copied(alloc, cnf)?,
+            clauses: copied(self.alloc, cnf)?,
             learned: 0,
-            trail: AssignmentTrail::new(alloc, cnf.vars())?,
+            trail: AssignmentTrail::new(self.alloc, cnf.vars())?,
         };
-        loop {
-            match propagate(&search.clauses, &mut search.trail) {
-                Some(conflict) => {
-                    if let Some(found) = search.learn(alloc, conflict, budget, log)? {
-                        return Ok(found);
-                    }
-                }
-                None => {
-                    if !search.decide() {
-                        return Ok(Found::Model(search.trail.assignment(alloc)?));
-                    }
-                }
-            }
-        }
+        search.finish(self.alloc, cnf, budget, log)
     }
 }
 

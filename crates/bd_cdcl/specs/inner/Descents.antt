@@ -1,19 +1,20 @@
 -- A search by watched clauses, and what a conflict leads to.
-use Rattle.std.specs.Prelude.{◌≡◌, ◌<◌, ◌≤◌, ◌+◌, ◌-◌, ℕ, false, List, [], ◌∷◌, ◌++◌, Option, None, Some, length, if◌then◌else◌}
+use Rattle.std.specs.Prelude.{◌≡◌, ◌<◌, ◌≤◌, ◌+◌, ◌-◌, ◌*◌, ℕ, false, List, [], ◌∷◌, ◌++◌, Option, None, Some, length, if◌then◌else◌}
 use Rattle.std.specs.List.{All}
 use Rattle.bd_cnf.specs.Literal.{Literal, has_variable}
 use Rattle.bd_cnf.specs.Problem.{Problem}
 use Rattle.bd_cnf.specs.Standing.{Standing}
 use Rattle.bd_lrat.specs.declared.line.Line.{Line}
 use Rattle.bd_watch.specs.declared.watch.Watch.{Watch}
-use Rattle.bd_watch.specs.Levels.{literals, decisions}
+use Rattle.bd_watch.specs.Levels.{IsComplete, literals, decisions}
 use Rattle.bd_watch.specs.Trails.{IsLastStart}
 use Rattle.bd_watch.specs.Watch.{IsWatching, IsLoaded}
 use Rattle.bd_cdcl.specs.declared.solver.Found.{Found}
 use Rattle.bd_cdcl.specs.declared.solver.Found.TheVariants.{Model, Refuted, Spent}
 use Rattle.bd_cdcl.specs.declared.cdcl.search.Search.{Search}
+use Rattle.bd_cdcl.specs.Law.{IsLaw}
 use Rattle.bd_cdcl.specs.inner.Analyses.{IsClear}
-use Rattle.bd_cdcl.specs.inner.Deletions.{KeepsFixed, IsReduced, standing_of}
+use Rattle.bd_cdcl.specs.inner.Deletions.{AreCovered, KeepsFixed, IsReduced, standing_of}
 use Rattle.bd_cdcl.specs.inner.Search.{addition, conflict_hints, IsSearchingIn}
 
 -- what stands in a search: its clauses, but those that were deleted
@@ -68,3 +69,24 @@ Follows old new log lines budget conflict None = GoesOn old new log lines × (ol
 Follows old new log lines budget conflict (Some (Model a)) = ⊥
 Follows old new log lines budget conflict (Some Refuted) = (decisions old.watch.trail.entries ≡ []) × Refutes old conflict log lines
 Follows old new log lines budget conflict (Some Spent) = (lines ≡ log) × (old.learned ≡ budget) × ((start : ℕ) × IsLastStart old.watch.trail.entries start)
+
+-- how far a search is from its end: the clauses that the budget has left, and then how far the next one is
+abbrev pub to_go : ℕ → Search → ℕ
+to_go budget d = (budget - d.learned) * (2 * d.watch.trail.limit + 2) + distance d
+
+-- a step later the search is nearer to its end
+pub record Nears (p : Problem) (old new : Search) (lines : List Line) (budget : ℕ) : Type 0 where
+  pub descending : IsDescending p new lines
+  pub within : new.learned ≤ budget
+  pub nearer : to_go budget new < to_go budget old
+
+-- or at its end, where its answer is right, its trail is complete and what it deleted is covered
+pub record Ends (p : Problem) (new : Search) (lines : List Line) (budget : ℕ) (found : Found) : Type 0 where
+  pub law : IsLaw p budget found lines
+  pub complete : IsComplete (standing_in new) new.watch.trail.entries
+  pub covered : AreCovered new.watch.clauses (standing_in new)
+
+-- what a step of a search over a formula leads to
+abbrev pub Steps : Problem → Search → Search → List Line → ℕ → Option Found → Type 0
+Steps p old new lines budget None = Nears p old new lines budget
+Steps p old new lines budget (Some found) = Ends p new lines budget found

@@ -49,6 +49,15 @@ impl Reach {
         first
     }
 
+    /// Goes on to a place, unless it is marked or of level 0, or the search came there before.
+    fn visit(&mut self, marks: &[bool], place: usize, zero: usize) -> Result<(), AllocError> {
+        let ends = place < zero || marks.get(place) == Some(&true);
+        if !ends && self.comes_to(place) {
+            self.open.push(place)?;
+        }
+        Ok(())
+    }
+
     /// Goes on to the literals of a reason.
     fn spread(
         &mut self,
@@ -61,11 +70,7 @@ impl Reach {
     {
         let trail = watch.trail();
         for &packed in reason {
-            let place = trail.place(packed);
-            let ends = place < zero || marks.get(place) == Some(&true);
-            if !ends && self.comes_to(place) {
-                self.open.push(place)?;
-            }
+            self.visit(marks, trail.place(packed), zero)?;
         }
         Ok(())
     }

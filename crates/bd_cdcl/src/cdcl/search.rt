@@ -17,7 +17,7 @@ ghost use Rattle.bd_watch.specs.Watch.{IsWatching, IsPropagated};
 ghost use Rattle.bd_cdcl.specs.Law.{IsLaw};
 ghost use Rattle.bd_cdcl.specs.inner.Analyses.{IsClear};
 ghost use Rattle.bd_cdcl.specs.inner.Deletions.{Deletes, AreCovered};
-ghost use Rattle.bd_cdcl.specs.inner.Descents.{standing_in, IsBegun, GoesOn, Refutes, IsChoice, Advances, Follows};
+ghost use Rattle.bd_cdcl.specs.inner.Descents.{standing_in, IsBegun, IsDescending, GoesOn, Refutes, IsChoice, Advances, Follows, Steps};
 
 use super::analyze::Analysis;
 use super::guide::Guide;
@@ -238,6 +238,32 @@ impl Search {
         self.learn(alloc, start, conflict, log)?;
         Ok(None)
     }
+
+    /// Makes a step: propagates, and follows the conflict that this comes to, or goes on where there
+    /// is none. Answers what it found, where the search is at its end.
+    fn step(
+        &mut self,
+        alloc: Global,
+        problem: &Cnf,
+        budget: u32,
+        log: &mut Log,
+    ) -> Result<Option<Found>, AllocError>
+        requires descending { IsDescending problem.now self.old log.old }
+        requires budget { self.old.learned ≤ budget }
+        ensures ok { IfOk result (Steps problem.now self.old self.new log.new budget) }
+        ensures err { OnErr result (IsAcceptedLog (database_of problem.now) log.new) }
+    {
+        match self.watch.propagate()? {
+            Some(conflict) => self.follow(alloc, conflict, budget, log),
+            None => {
+                if self.advance(alloc, log)? {
+                    return Ok(None);
+                }
+                let model = self.watch.trail().assignment(alloc)?;
+                Ok(Some(Found::Model(model)))
+            }
+        }
+    }
 }
 
 impl CompleteSearch {
@@ -275,22 +301,10 @@ impl CompleteSearch {
             return Ok((Found::Refuted, CompleteSearch { search }));
         }
         loop {
-            match search.watch.propagate()? {
-                Some(conflict) => {
-                    if let Some(found) = search.follow(alloc, conflict, budget, log)? {
-                        return Ok((found, CompleteSearch { search }));
-                    }
-                    search = CompleteSearch { search }.into_search();
-                }
-                None => {
-                    let advanced = search.advance(alloc, log)?;
-                    if !advanced {
-                        let model = search.watch.trail().assignment(alloc)?;
-                        return Ok((Found::Model(model), CompleteSearch { search }));
-                    }
-                    search = CompleteSearch { search }.into_search();
-                }
+            if let Some(found) = search.step(alloc, problem, budget, log)? {
+                return Ok((found, CompleteSearch { search }));
             }
+            search = CompleteSearch { search }.into_search();
         }
     }
 }

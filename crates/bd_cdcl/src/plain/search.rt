@@ -9,12 +9,14 @@ ghost use Rattle.std.specs.List.{All};
 ghost use Rattle.bd_cnf.specs.Literal.{negate};
 ghost use Rattle.bd_cnf.specs.Clause.{IsRising, SameLiterals};
 ghost use Rattle.bd_cnf.specs.Problem.{AreWithin};
-ghost use Rattle.bd_lrat.specs.Log.{HaveDifferentVariables};
-ghost use Rattle.bd_lrat.specs.Database.{numbered};
+ghost use Rattle.bd_lrat.specs.Log.{HaveDifferentVariables, IsAcceptedLog};
+ghost use Rattle.bd_lrat.specs.Database.{database_of, numbered};
 ghost use Rattle.bd_watch.specs.Levels.{IsComplete};
 ghost use Rattle.bd_watch.specs.Trails.{Decides, AllAssigned};
-ghost use Rattle.bd_cdcl.specs.inner.Search.{Resolves};
+ghost use Rattle.bd_cdcl.specs.Law.{IsLaw};
+ghost use Rattle.bd_cdcl.specs.inner.Search.{IsSearching, Resolves};
 
+use super::propagation::propagate;
 use crate::conflict::hints;
 use crate::solver::Found;
 use bd_cnf::{Clause, Cnf, Lit};
@@ -121,5 +123,35 @@ impl PlainSearch {
         let asserted = self.trail.pack(last.negated());
         self.trail.imply(asserted, id);
         Ok(None)
+    }
+
+    /// Searches to an end. Answers what it found.
+    pub(crate) fn finish(
+        &mut self,
+        alloc: Global,
+        problem: &Cnf,
+        budget: u32,
+        log: &mut Log,
+    ) -> Result<Found, AllocError>
+        requires searching { IsSearching problem.now self.old.clauses.items self.old.trail
+            self.old.learned log.old }
+        requires within { self.old.learned ≤ budget }
+        ensures law { IfOk result (λ found. IsLaw problem.now budget found log.new) }
+        ensures err { OnErr result (IsAcceptedLog (database_of problem.now) log.new) }
+    {
+        loop {
+            match propagate(&self.clauses, &mut self.trail) {
+                Some(conflict) => {
+                    if let Some(found) = self.learn(alloc, conflict, budget, log)? {
+                        return Ok(found);
+                    }
+                }
+                None => {
+                    if !self.decide() {
+                        return Ok(Found::Model(self.trail.assignment(alloc)?));
+                    }
+                }
+            }
+        }
     }
 }
