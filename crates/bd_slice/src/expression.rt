@@ -35,8 +35,8 @@ struct Arguments {
 }
 
 impl Graph {
-    /// Whether the first implies the second: what decides is the first where it is false, else the second where it is
-    /// true, else both.
+    /// Whether the first scalar implies the second: what decides is the first where it is false, else the second where
+    /// it is true, else both.
     fn implied(&mut self, p: Traced, q: Traced) -> Result<Traced, AllocError>
         ensures grows { IfOk result (λ t. Grows self.old.nodes self.new.nodes) }
         ensures follows { IfOk result (λ t. Combines self.new.nodes p q t
@@ -60,7 +60,7 @@ impl Graph {
         })
     }
 
-    /// Whether both have the same truth value.
+    /// Whether two scalars have the same truth value, which rests on both.
     fn same_truth(&mut self, p: Traced, q: Traced) -> Result<Traced, AllocError>
         ensures grows { IfOk result (λ t. Grows self.old.nodes self.new.nodes) }
         ensures follows { IfOk result (λ t. Combines self.new.nodes p q t
@@ -72,7 +72,7 @@ impl Graph {
         })
     }
 
-    /// Whether both are the same word.
+    /// Whether two scalars are the same word, which rests on both.
     fn same_word(&mut self, p: Traced, q: Traced) -> Result<Traced, AllocError>
         ensures grows { IfOk result (λ t. Grows self.old.nodes self.new.nodes) }
         ensures follows { IfOk result (λ t. Combines self.new.nodes p q t
@@ -84,7 +84,7 @@ impl Graph {
         })
     }
 
-    /// What a symbol's table has at arguments.
+    /// What a symbol's table has at arguments, which rests on these and on the table's row for them.
     fn applied(&mut self, case: &Case, f: u32, args: Arguments) -> Result<Traced, AllocError>
         ensures grows { IfOk result (λ t. Grows self.old.nodes self.new.nodes) }
         ensures follows { IfOk result (λ t. (o : Other) (ns : List ℕ) → Holds case.now self.new.nodes o →
@@ -110,7 +110,7 @@ fn table_at(interp: &[Table], f: u32, args: &[u64]) -> Scalar
     }
 }
 
-/// The value of an expression.
+/// The value of an expression, with what it rests on.
 #[cycle(trace)]
 pub fn trace(graph: &mut Graph, names: &Names, expr: &Expr) -> Result<Kept, AllocError>
     ensures grows { IfOk result (λ k. Grows graph.old.nodes graph.new.nodes) }
@@ -134,7 +134,7 @@ pub fn trace(graph: &mut Graph, names: &Names, expr: &Expr) -> Result<Kept, Allo
     }
 }
 
-/// Of a `not`.
+/// The value of a `not`, which rests on what its part rests on.
 #[cycle(trace)]
 fn trace_not(graph: &mut Graph, names: &Names, a: &Expr) -> Result<Kept, AllocError>
     ensures grows { IfOk result (λ k. Grows graph.old.nodes graph.new.nodes) }
@@ -148,7 +148,7 @@ fn trace_not(graph: &mut Graph, names: &Names, a: &Expr) -> Result<Kept, AllocEr
     }))
 }
 
-/// Of an `implies`.
+/// The value of an `implies`, with what decides it.
 #[cycle(trace)]
 fn trace_implies(graph: &mut Graph, names: &Names, a: &Expr, b: &Expr) -> Result<Kept, AllocError>
     ensures grows { IfOk result (λ k. Grows graph.old.nodes graph.new.nodes) }
@@ -160,7 +160,7 @@ fn trace_implies(graph: &mut Graph, names: &Names, a: &Expr, b: &Expr) -> Result
     Ok(Kept::Scalar(graph.implied(p, q)?))
 }
 
-/// Of an `iff`.
+/// The value of an `iff`, which rests on both of its parts.
 #[cycle(trace)]
 fn trace_iff(graph: &mut Graph, names: &Names, a: &Expr, b: &Expr) -> Result<Kept, AllocError>
     ensures grows { IfOk result (λ k. Grows graph.old.nodes graph.new.nodes) }
@@ -172,7 +172,7 @@ fn trace_iff(graph: &mut Graph, names: &Names, a: &Expr, b: &Expr) -> Result<Kep
     Ok(Kept::Scalar(graph.same_truth(p, q)?))
 }
 
-/// Of an `=`.
+/// The value of an `=`, which rests on both of its parts.
 #[cycle(trace)]
 fn trace_equal(graph: &mut Graph, names: &Names, a: &Expr, b: &Expr) -> Result<Kept, AllocError>
     ensures grows { IfOk result (λ k. Grows graph.old.nodes graph.new.nodes) }
@@ -184,7 +184,7 @@ fn trace_equal(graph: &mut Graph, names: &Names, a: &Expr, b: &Expr) -> Result<K
     Ok(Kept::Scalar(graph.same_word(p, q)?))
 }
 
-/// Of a choice: the branch taken, under its condition.
+/// The value of an `ite`: that of the branch taken, which rests on the condition too.
 #[cycle(trace)]
 fn trace_choice(
     graph: &mut Graph,
@@ -209,7 +209,7 @@ fn trace_choice(
     }
 }
 
-/// Of a read: the word of its memory at its address.
+/// The value of a `read`: the word of its memory at its address.
 #[cycle(trace)]
 fn trace_read(graph: &mut Graph, names: &Names, m: &Expr, a: &Expr) -> Result<Kept, AllocError>
     ensures grows { IfOk result (λ k. Grows graph.old.nodes graph.new.nodes) }
@@ -222,7 +222,7 @@ fn trace_read(graph: &mut Graph, names: &Names, m: &Expr, a: &Expr) -> Result<Ke
     Ok(Kept::Scalar(read.scalar()))
 }
 
-/// Of a write: its memory with the word at the address.
+/// The value of a `write`: its memory with the word at the address.
 #[cycle(trace)]
 fn trace_written(
     graph: &mut Graph,
@@ -241,7 +241,7 @@ fn trace_written(
     Ok(Kept::Memory(memory.written(names.alloc, address, word)?))
 }
 
-/// Of an application: what its table has at its arguments.
+/// The value of an application: what its table has at its arguments.
 #[cycle(trace)]
 fn trace_applied(graph: &mut Graph, names: &Names, f: u32, args: &Exprs) -> Result<Kept, AllocError>
     ensures grows { IfOk result (λ k. Grows graph.old.nodes graph.new.nodes) }
@@ -262,7 +262,7 @@ pub fn trace_scalar(graph: &mut Graph, names: &Names, expr: &Expr) -> Result<Tra
     Ok(trace(graph, names, expr)?.scalar())
 }
 
-/// Whether all are true: the first that is false decides, else all.
+/// Whether all expressions of a list are true: the first that is false decides, else all.
 #[cycle(trace)]
 fn trace_all(graph: &mut Graph, names: &Names, parts: &Exprs) -> Result<Traced, AllocError>
     ensures grows { IfOk result (λ t. Grows graph.old.nodes graph.new.nodes) }
@@ -286,7 +286,7 @@ fn trace_all(graph: &mut Graph, names: &Names, parts: &Exprs) -> Result<Traced, 
     })
 }
 
-/// Whether some is true: the first that is true decides, else all.
+/// Whether some expression of a list is true: the first that is true decides, else all.
 #[cycle(trace)]
 fn trace_any(graph: &mut Graph, names: &Names, parts: &Exprs) -> Result<Traced, AllocError>
     ensures grows { IfOk result (λ t. Grows graph.old.nodes graph.new.nodes) }

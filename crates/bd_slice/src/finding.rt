@@ -32,25 +32,25 @@ pub struct Path {
 }
 
 impl Path {
-    /// The way to the whole.
+    /// The way to the whole of an expression.
     pub fn new(alloc: Global) -> Path {
         Path {
             parts: Vec::new(alloc),
         }
     }
 
-    /// Goes down to a part.
+    /// Goes down to the part of this number.
     fn down(&mut self, part: u64) -> Result<(), AllocError> {
         self.parts.push(part)?;
         Ok(())
     }
 
-    /// Goes back up from a part.
+    /// Goes back up from a part to the one that it is a part of.
     fn up(&mut self) {
         self.parts.pop();
     }
 
-    /// A fact of the part that is reached.
+    /// A fact of the part to which this way leads.
     pub fn fact(&self, finding: Finding) -> Result<Fact, AllocError> {
         Ok(Fact {
             path: Sequence::from_vec(self.parts.clone()?),
@@ -59,7 +59,7 @@ impl Path {
     }
 }
 
-/// The scalar, false where there is none.
+/// A value as a scalar, false where there is no value or a memory.
 fn bool_of(value: Option<&Value>) -> Scalar {
     match value {
         Some(Value::Scalar(scalar)) => *scalar,
@@ -67,7 +67,7 @@ fn bool_of(value: Option<&Value>) -> Scalar {
     }
 }
 
-/// The word of a memory at an address, 0 where there is none.
+/// The word of a memory at an address, 0 where there is no memory.
 fn word_of(value: Option<&Value>, address: u64) -> Scalar {
     match value {
         Some(Value::Memory(memory)) => Scalar::Word(memory.at(address)),
@@ -91,7 +91,7 @@ impl Found {
         Ok(Found { value, facts })
     }
 
-    /// The other's value, with the facts of both.
+    /// The value of what is found next, with these facts before its own.
     fn then(self, other: Found) -> Result<Found, AllocError> {
         let mut facts = self.facts;
         let mut more = other.facts;
@@ -102,12 +102,12 @@ impl Found {
         })
     }
 
-    /// This value, with the facts of both.
+    /// A value that is made of two that are found, with the facts of both.
     fn joined(self, other: Found, value: Scalar) -> Result<Found, AllocError> {
         Ok(self.then(other)?.valued(value))
     }
 
-    /// Another value, with the same facts.
+    /// A value in place of the one found, with the same facts.
     fn valued(self, value: Scalar) -> Found {
         Found {
             value,
@@ -117,13 +117,13 @@ impl Found {
 }
 
 impl Here<'_> {
-    /// A value that rests on one of the run.
+    /// A value that is one of the run's, which is the fact behind it.
     fn rests(self, path: &Path, subject: Subject, value: Scalar) -> Result<Found, AllocError> {
         let fact = path.fact(Finding::Rests(subject, value))?;
         Found::with(self.alloc, value, fact)
     }
 
-    /// A value, with this fact behind it.
+    /// A value, with what this finding says of a part as the fact behind it.
     fn told(self, path: &Path, value: Scalar, finding: Finding) -> Result<Found, AllocError> {
         let fact = path.fact(finding)?;
         Found::with(self.alloc, value, fact)
@@ -136,18 +136,18 @@ impl Here<'_> {
         decided.joined(found, yes)
     }
 
-    /// The value of a part, with this fact before its own.
+    /// The value found for a part, with a fact before those of the part.
     fn after(self, path: &Path, finding: Finding, part: Found) -> Result<Found, AllocError> {
         self.told(path, part.value, finding)?.then(part)
     }
 
-    /// The condition of a choice.
+    /// The condition of an `ite`, with the branch that is taken as a fact before its own.
     fn chosen(self, path: &Path, condition: Found) -> Result<Found, AllocError> {
         let taken = condition.value.truth();
         self.after(path, Finding::Chosen(taken), condition)
     }
 
-    /// The value of an input.
+    /// The value of an input of the cycle.
     fn input(self, path: &Path, number: u32) -> Result<Found, AllocError> {
         let value = match self.moment.inputs.as_slice().get(number as usize) {
             Some(value) => *value,
@@ -156,25 +156,25 @@ impl Here<'_> {
         self.rests(path, Subject::Input(self.cycle, number), value)
     }
 
-    /// The value of an entry of the state.
+    /// The value of a latch in the state in which the cycle begins.
     fn entry(self, path: &Path, number: u32) -> Result<Found, AllocError> {
         let value = bool_of(self.moment.state.as_slice().get(number as usize));
         self.rests(path, Subject::Latch(self.column, number), value)
     }
 
-    /// The value of a let.
+    /// The value of a let of the cycle.
     fn local(self, path: &Path, number: u32) -> Result<Found, AllocError> {
         let value = bool_of(self.moment.lets.as_slice().get(number as usize));
         self.rests(path, Subject::Let(self.cycle, number), value)
     }
 
-    /// The word of an entry of the state at an address.
+    /// The word at an address of a memory in the state in which the cycle begins.
     fn entry_at(self, path: &Path, number: u32, address: u64) -> Result<Found, AllocError> {
         let value = word_of(self.moment.state.as_slice().get(number as usize), address);
         self.rests(path, Subject::Cell(self.column, number, address), value)
     }
 
-    /// The word of a let at an address.
+    /// The word at an address of a let of the cycle that is a memory.
     fn local_at(self, path: &Path, number: u32, address: u64) -> Result<Found, AllocError> {
         let value = word_of(self.moment.lets.as_slice().get(number as usize), address);
         self.rests(path, Subject::LetCell(self.cycle, number, address), value)
@@ -210,7 +210,7 @@ pub fn find(here: Here<'_>, path: &mut Path, expr: &Expr) -> Result<Found, Alloc
     }
 }
 
-/// What the value of a part comes from.
+/// What the value of the part of this number comes from, as facts of that part.
 #[cycle(find)]
 fn find_part(here: Here<'_>, path: &mut Path, part: u64, expr: &Expr) -> Result<Found, AllocError> {
     path.down(part)?;
@@ -219,7 +219,7 @@ fn find_part(here: Here<'_>, path: &mut Path, part: u64, expr: &Expr) -> Result<
     Ok(found)
 }
 
-/// What the value of a part comes from, after these facts.
+/// What the value of a part comes from, told after facts that are found before.
 #[cycle(find)]
 fn find_after(
     here: Here<'_>,
@@ -232,7 +232,7 @@ fn find_after(
     before.then(found)
 }
 
-/// Of a `not`: its part.
+/// What the value of a `not` comes from: its part.
 #[cycle(find)]
 fn find_not(here: Here<'_>, path: &mut Path, a: &Expr) -> Result<Found, AllocError> {
     let part = find_part(here, path, 0, a)?;
@@ -240,7 +240,8 @@ fn find_not(here: Here<'_>, path: &mut Path, a: &Expr) -> Result<Found, AllocErr
     Ok(part.valued(value))
 }
 
-/// Of an `implies`: the first part where that is false, else the second where that is true, else both.
+/// What the value of an `implies` comes from: the first part where that is false, else the second where that is true,
+/// else both.
 #[cycle(find)]
 fn find_implies(here: Here<'_>, path: &mut Path, a: &Expr, b: &Expr) -> Result<Found, AllocError> {
     let p = find_part(here, path, 0, a)?;
@@ -254,7 +255,7 @@ fn find_implies(here: Here<'_>, path: &mut Path, a: &Expr, b: &Expr) -> Result<F
     p.then(q)
 }
 
-/// Of an `iff`: both parts.
+/// What the value of an `iff` comes from: both parts.
 #[cycle(find)]
 fn find_iff(here: Here<'_>, path: &mut Path, a: &Expr, b: &Expr) -> Result<Found, AllocError> {
     let p = find_part(here, path, 0, a)?;
@@ -263,7 +264,7 @@ fn find_iff(here: Here<'_>, path: &mut Path, a: &Expr, b: &Expr) -> Result<Found
     p.joined(q, Scalar::Bool(same))
 }
 
-/// Of an `=`: both parts.
+/// What the value of an `=` comes from: both parts.
 #[cycle(find)]
 fn find_equal(here: Here<'_>, path: &mut Path, a: &Expr, b: &Expr) -> Result<Found, AllocError> {
     let p = find_part(here, path, 0, a)?;
@@ -272,7 +273,7 @@ fn find_equal(here: Here<'_>, path: &mut Path, a: &Expr, b: &Expr) -> Result<Fou
     p.joined(q, Scalar::Bool(same))
 }
 
-/// Of an `ite`: its condition, and the branch taken.
+/// What the value of an `ite` comes from: its condition, and the branch taken.
 #[cycle(find)]
 fn find_choice(
     here: Here<'_>,
@@ -291,7 +292,7 @@ fn find_choice(
     }
 }
 
-/// Of a read: its address, and the word there.
+/// What the value of a `read` comes from: its address, and the word of the memory there.
 #[cycle(find)]
 fn find_read(here: Here<'_>, path: &mut Path, m: &Expr, a: &Expr) -> Result<Found, AllocError> {
     let address = find_part(here, path, 1, a)?;
@@ -299,7 +300,7 @@ fn find_read(here: Here<'_>, path: &mut Path, m: &Expr, a: &Expr) -> Result<Foun
     find_word_after(here, path, address, 0, m, at)
 }
 
-/// Of an `and` or an `or`: the first part that has the value that decides, else all.
+/// What the value of an `and` or an `or` comes from: the first part that has the value that decides, else all.
 #[cycle(find)]
 fn find_first(
     here: Here<'_>,
@@ -323,7 +324,7 @@ fn find_first(
     Ok(all.valued(Scalar::Bool(!decides)))
 }
 
-/// Of an application: its arguments, and its row.
+/// What the value of an application comes from: its arguments, and the table's row for them.
 #[cycle(find)]
 fn find_applied(
     here: Here<'_>,
@@ -362,7 +363,7 @@ pub fn find_word(
     }
 }
 
-/// What the word of a part at an address comes from, after these facts.
+/// What the word at an address of a part that is a memory comes from, told after facts that are found before.
 #[cycle(find)]
 fn find_word_after(
     here: Here<'_>,
@@ -378,7 +379,7 @@ fn find_word_after(
     before.then(found)
 }
 
-/// Of a choice of memories: its condition, and the word of the one taken.
+/// What the word at an address of an `ite` of memories comes from: its condition, and the word of the one taken.
 #[cycle(find)]
 fn find_word_choice(
     here: Here<'_>,
@@ -398,7 +399,8 @@ fn find_word_choice(
     }
 }
 
-/// Of a write: its address, then the word written where that is this one, else the word below.
+/// What the word at an address of a `write` comes from: where it writes, then the word written where that is this
+/// address, else the word of the memory below.
 #[cycle(find)]
 fn find_written(
     here: Here<'_>,

@@ -36,6 +36,7 @@ impl Graph {
         Ok(Graph { nodes })
     }
 
+    /// Adds a node, and gives its number.
     fn push(&mut self, node: Node) -> Result<usize, AllocError>
         ensures grows { IfOk result (λ n. Grows self.old.nodes self.new.nodes) }
         ensures at { IfOk result (λ n. slice_get self.new.nodes n ≡ Some node) }

@@ -262,6 +262,7 @@ impl Graph {
     }
 }
 
+/// The word at an address of the memory that is this entry, 0 where that is no memory.
 fn word_at(values: &[Value], entry: usize, address: u64) -> u64
     ensures { result ≡ read (memory_of (slice_index_or values.now entry (truth false))) address }
 {

@@ -27,25 +27,25 @@ pub struct Reasons {
 }
 
 impl Reasons {
-    /// All of them, in order.
+    /// All reasons, in order.
     pub fn as_slice(&self) -> &[Reason] {
         self.items.as_slice()
     }
 
-    /// The one for this value.
+    /// The reason for a value, where there is one.
     pub fn of(&self, subject: Subject) -> Option<&Reason> {
         let place = self.subjects.get_index_of(&subject)?;
         self.items.get(place)
     }
 
-    /// Whether there is one for this value: it is in the slice.
+    /// Whether there is a reason for a value: it is in the slice.
     pub fn has(&self, subject: Subject) -> bool {
         self.subjects.contains(&subject)
     }
 }
 
 impl Want {
-    /// The value that is asked for.
+    /// The value that is asked for, as one of the run.
     pub fn subject(self) -> Subject {
         match self.spot {
             Spot::Latch(entry) => Subject::Latch(self.column, entry),
@@ -86,6 +86,7 @@ pub fn reasons_of(
 }
 
 impl Reasons {
+    /// The value whose reason comes at this place, where there is one.
     fn next(&self, place: usize) -> Option<Subject> {
         self.subjects.get_index(place).copied()
     }
@@ -131,6 +132,7 @@ impl<'a> Run<'a> {
         })
     }
 
+    /// The machine that makes a cycle: the specification for its steps, else the pipeline.
     fn machine(self, cycle: Cycle) -> &'a Machine {
         match cycle {
             Cycle::Step(_) => &self.design.spec,
@@ -138,6 +140,7 @@ impl<'a> Run<'a> {
         }
     }
 
+    /// The expression of a let in a cycle.
     fn local(self, cycle: Cycle, number: u32) -> Option<&'a Expr> {
         let lets = match cycle {
             Cycle::Invariant => &self.design.inv_locals,
@@ -173,6 +176,7 @@ impl<'a> Run<'a> {
         }
     }
 
+    /// An input of a cycle: the case's in the case's own cycle, with no facts, else what is idle there.
     fn input(self, cycle: Cycle, number: u32) -> Result<Found, AllocError> {
         if cycle == Cycle::Case {
             let value = match self.case.inputs.as_slice().get(number as usize) {
@@ -188,7 +192,7 @@ impl<'a> Run<'a> {
         }
     }
 
-    /// The next value of an entry, in the cycle that ends in this column, or what it is taken over from.
+    /// A latch in a column: its next value in the cycle that ends there, or what it is taken over from.
     fn latch(self, column: Column, entry: u32) -> Result<Found, AllocError> {
         if let Some(cycle) = column.reached_by() {
             let next = self.machine(cycle).nexts.items.get(entry as usize);
@@ -204,6 +208,8 @@ impl<'a> Run<'a> {
         }
     }
 
+    /// A memory's word at an address in a column: from its next value in the cycle that ends there, or what it is taken
+    /// over from.
     fn cell(self, column: Column, entry: u32, address: u64) -> Result<Found, AllocError> {
         if let Some(cycle) = column.reached_by() {
             let next = self.machine(cycle).nexts.items.get(entry as usize);
@@ -219,7 +225,7 @@ impl<'a> Run<'a> {
         }
     }
 
-    /// Of an entry of the specification before its first step: the pipeline's that is seen there.
+    /// The entry of the flushed pipeline that is seen as an entry of the specification before its first step.
     fn seen(self, column: Column, entry: u32) -> Option<(Column, u32)> {
         if column != Column::Steps(0) {
             return None;
@@ -228,6 +234,7 @@ impl<'a> Run<'a> {
         Some((Column::Before(self.design.flush), *place))
     }
 
+    /// A value that is taken over from another one of the run.
     fn taken_over(self, subject: Subject, value: Scalar) -> Result<Found, AllocError> {
         let path = Path::new(self.alloc);
         let fact = path.fact(Finding::Rests(subject, value))?;

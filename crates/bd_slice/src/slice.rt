@@ -68,7 +68,7 @@ pub fn spot_of(
     }
 }
 
-/// Marks of what a node stands on, where a node past the last counts as marked.
+/// Marks of the nodes that this node stands on, where a node past the last counts as marked.
 pub fn marks_of(alloc: Global, nodes: &[Node], node: usize) -> Result<Vec<bool>, AllocError>
     ensures first { IfOk result (λ ms. IsTrue (slice_index_or ms.items 0 true)) }
     ensures node { IfOk result (λ ms. IsTrue (slice_index_or ms.items node true)) }
@@ -81,7 +81,7 @@ pub fn marks_of(alloc: Global, nodes: &[Node], node: usize) -> Result<Vec<bool>,
     Ok(Vec::new(alloc))
 }
 
-/// Marks of the first node, this node and those that it stands on.
+/// Marks of the first node, of this node and of the nodes that it stands on.
 fn marks_below(alloc: Global, nodes: &[Node], node: usize) -> Result<Vec<bool>, AllocError> {
     let mut marks = Vec::new(alloc);
     for _node in nodes {
@@ -102,12 +102,14 @@ fn marks_below(alloc: Global, nodes: &[Node], node: usize) -> Result<Vec<bool>, 
     Ok(marks)
 }
 
+/// Marks the node of this number, where there is one.
 fn mark(marks: &mut [bool], i: usize) {
     if i < marks.len() {
         marks[i] = true;
     }
 }
 
+/// Whether the node of this number is marked, as one past the last is.
 fn has(marks: &[bool], i: usize) -> bool
     ensures { result ≡ slice_index_or marks.now i true }
 {
@@ -117,7 +119,7 @@ fn has(marks: &[bool], i: usize) -> bool
     }
 }
 
-/// Whether with each marked node those that it stands on are marked.
+/// Whether with each marked node the nodes that it stands on are marked.
 fn stands(nodes: &[Node], marks: &[bool]) -> bool
     ensures { IsTrue result → StandsMarked nodes.now marks.now }
 {
@@ -129,7 +131,7 @@ fn stands(nodes: &[Node], marks: &[bool]) -> bool
     true
 }
 
-/// Whether those that a node stands on are marked, where it is.
+/// Whether the nodes that a node stands on are marked, where it is marked itself.
 fn node_stands(node: &Node, marks: &[bool], i: usize) -> bool
     ensures { IsTrue result → StandsAt marks.now i node.now }
 {
