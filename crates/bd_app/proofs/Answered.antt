@@ -1,6 +1,6 @@
 -- From the answer to a question to the run that prints it.
 use Rattle.std.proofs.Common.{◌≡◌, ◌≢◌, ◌∙◌, ℕ, List, refl, sym, ap, subst, inl, inr}
-use Rattle.std.specs.Prelude.{◌⊎◌, Option, Some, None, Result, Ok, Err, IfSome, IfOk, IfErr, IsErrOf}
+use Rattle.std.specs.Prelude.{◌⊎◌, Option, Some, None, Result, Ok, Err, IfSome, IfOk, IfErr, IsErrAnd, IsErrOf}
 use Rattle.bd_files.specs.Devices.{Held, Rose, Appends, AppendsPrefix, Counts}
 use Rattle.bd_goal.specs.Laws.{Differs}
 use Rattle.bd_model.specs.Conditions.{Abstraction, JudgedBy}
@@ -24,17 +24,23 @@ use Rattle.bd_app.specs.Bounded.{BoundedRun, bounded_meaning}
 use Rattle.bd_app.specs.Complete.{Completion}
 use Rattle.bd_app.specs.Completions.{CompletesTo, abstraction_by}
 use Rattle.bd_app.specs.Commands.{Question, check, replay, run, gen, recheck, bounded, retrace, complete, meaning_of, taken}
-use Rattle.bd_app.specs.Meaning.{Effects, FilesSeen, IsVerdictFor, Meaning}
+use Rattle.bd_app.specs.Meaning.{Effects, FilesSeen, IsVerdictFor}
 use Rattle.bd_app.specs.Program.{ForBounded, ForCompletion, ForDesign, ForVerdict, Headline, IsAnswered, SinkSeen}
 use Rattle.bd_app.specs.Verdicts.{IsVerdict, ended_by}
 use Rattle.bd_app.specs.declared.answer.Answer.{Answer}
 use Rattle.bd_app.specs.declared.answer.Which.TheVariants as which
 use Rattle.bd_app.specs.declared.answer.Ended.{Ended}
-use Rattle.bd_app.specs.declared.answer.Ended.TheVariants.{Proved, Bounded, Completed, Usage, Refused, BadText, Device, Memory}
+use Rattle.bd_app.specs.declared.answer.Ended.TheVariants.{Proved, Bounded, Completed, Usage, Device, Memory}
+use Rattle.bd_app.specs.declared.fault.Fault.{Fault}
+use Rattle.bd_app.specs.declared.fault.Fault.TheVariants as faults
 use Rattle.bd_app.specs.declared.verdict.Asked.{Asked}
-use Rattle.bd_app.specs.inner.Done.{IsDone, IsEarlyFault, IsFault, ended_of}
+use Rattle.bd_app.specs.inner.Done.{IsDone, IsFault}
+use Rattle.bd_app.specs.inner.Faults.{ended_by_fault, ended_of, words_fault}
+use Rattle.bd_app.specs.declared.command.WordsFault.{WordsFault}
+use Rattle.bd_app.specs.declared.command.WordsFault.TheVariants as words_faults
 use Rattle.bd_app.proofs.Calls.{report_called}
-use Rattle.bd_app.proofs.Effects.{out_effects}
+use Rattle.bd_app.proofs.Effects.{memory_done, out_effects, unchanged}
+use Rattle.bd_app.proofs.Faults.{fault_no_out, fault_silent, same_fault}
 use Rattle.bd_app.proofs.Results.{IfSome-weaker}
 use Rattle.bd_app.proofs.Verdicts.{no_bounded, no_completed, no_memory_verdict, no_proved, no_ran, no_replayed, no_retraced, no_usage_verdict, same_verdict, verdict_reports}
 
@@ -145,61 +151,53 @@ completion_for (complete q) held answer report is =
 
 -- ---- before anything is printed
 
-fault_early : (m : Meaning) (held : Option Held) (e : Ended) → IsFault m held e → IsEarlyFault e
-fault_early m held (Refused file offset code) fault = tt
-fault_early m held (BadText line column why cnf) fault = tt
-fault_early m held (Device which.Load) fault = tt
-fault_early m held (Device which.Save) fault = tt
-fault_early m held Memory fault = tt
-fault_early m held _ fault = absurd fault
-
-pub done_report : (q : Question) (a b : FilesSeen) (r : Result Answer Ended) → IsDone (meaning_of q) a b r → IfOk r (λ x. HasReport x.ended)
+pub done_report : (q : Question) (a b : FilesSeen) (r : Result Answer Fault) → IsDone (meaning_of q) a b r → IfOk r (λ x. HasReport x.ended)
 done_report q a b (Ok x) is = reports q a.held x.ended x.report.items is.answer
 done_report q a b (Err e) is = tt
 
-pub done_fault : (q : Question) (a b : FilesSeen) (r : Result Answer Ended) → IsDone (meaning_of q) a b r → IfErr r IsEarlyFault
-done_fault q a b (Ok x) is = tt
-done_fault q a b (Err e) is = fault_early (meaning_of q) a.held e is.fault
-
-pub done_no_usage : (q : Question) (a b : FilesSeen) (r : Result Answer Ended) → IsDone (meaning_of q) a b r → ended_of r ≢ Usage
+pub done_no_usage : (q : Question) (a b : FilesSeen) (r : Result Answer Fault) → IsDone (meaning_of q) a b r → ended_of r ≢ Usage
 done_no_usage q a b (Ok x) is same = subst HasReport same (reports q a.held x.ended x.report.items is.answer)
-done_no_usage q a b (Err e) is same = subst (λ x. IsFault (meaning_of q) a.held x) same is.fault
+done_no_usage q a b (Err e) is same = subst (λ x. IsFault (meaning_of q) a.held x) (same_fault e faults.Usage same) is.fault
+
+-- words that aren't read are faulty just so
+pub not_taken : (r : Result Answer Fault) (e : WordsFault) → IsErrAnd r (λ y. y ≡ words_fault e) → ended_of r ≡ Usage → e ≡ words_faults.Usage
+not_taken (Ok x) e h is = absurd h
+not_taken (Err y) words_faults.Usage h is = refl
+not_taken (Err y) words_faults.Memory h is = let memory : y ≡ faults.Memory = h in absurd (cc (sym (ap ended_by_fault memory) ∙ is))
+
+-- words that aren't read have such a fault
+pub words_fail : (r : Result Answer Fault) (e : WordsFault) → IsErrAnd r (λ y. y ≡ words_fault e) → IsErrOf r faults.Usage ⊎ IsErrOf r faults.Memory
+words_fail (Ok x) e h = absurd h
+words_fail (Err y) words_faults.Usage h = inl (ap (λ z. Err z) h)
+words_fail (Err y) words_faults.Memory h = inr (ap (λ z. Err z) h)
+
+-- and that of words that ask a question is want of memory
+pub words_done : (words : List (List ℕ)) (r : Result Answer Fault) (e : WordsFault) (files : FilesSeen) → IsErrAnd r (λ y. y ≡ words_fault e) → (e ≡ words_faults.Usage → taken words ≡ None)
+    → (q : Question) → taken words ≡ Some q → IsDone (meaning_of q) files files r
+words_done words r words_faults.Usage files h usage q asks = let none = usage refl in absurd (cc (none, asks))
+words_done words r words_faults.Memory files h usage q asks = memory_done (meaning_of q) files files r h (unchanged files)
 
 -- words ask one question
-pub done_for : (words : List (List ℕ)) (q : Question) (a b : FilesSeen) (r : Result Answer Ended) → taken words ≡ Some q → IsDone (meaning_of q) a b r → (p : Question) → taken words ≡ Some p
+pub done_for : (words : List (List ℕ)) (q : Question) (a b : FilesSeen) (r : Result Answer Fault) → taken words ≡ Some q → IsDone (meaning_of q) a b r → (p : Question) → taken words ≡ Some p
     → IsDone (meaning_of p) a b r
 done_for words q a b r asks is p also = let same : q ≡ p = cc (asks, also) in subst (λ x. IsDone (meaning_of x) a b r) same is
 
 -- ---- printing
 
--- an early fault has no report, and is none of the output
-pub early_silent : (e : Ended) → IsEarlyFault e → ¬ HasReport e
-early_silent Usage fault = λ h. h
-early_silent (Refused file offset code) fault = λ h. h
-early_silent (BadText line column why cnf) fault = λ h. h
-early_silent (Device which.Load) fault = λ h. h
-early_silent (Device which.Save) fault = λ h. h
-early_silent Memory fault = λ h. h
-early_silent _ fault = absurd fault
-
-pub early_no_out : (e : Ended) → IsEarlyFault e → e ≢ Device which.Out
-early_no_out e fault is = subst IsEarlyFault is fault
-
 -- the answer to a question that was put
-pub answered : (P R : Type 0) (q : Question) (r : Result Answer Ended) (final : Ended) (a b : FilesSeen) (out out' : SinkSeen) → IfErr r (λ e. (final ≡ e) × P)
+pub answered : (P R : Type 0) (q : Question) (r : Result Answer Fault) (final : Ended) (a b : FilesSeen) (out out' : SinkSeen) → IfErr r (λ e. (final ≡ ended_by_fault e) × P)
     → IfOk r (λ x. ((final ≡ x.ended) × Appends out.written out'.written x.report.items) ⊎ ((final ≡ Device which.Out) × R × AppendsPrefix out.written out'.written x.report.items))
     → IfOk r (λ x. Counts out.puts out'.puts 1) → IsDone (meaning_of q) a b r → IsAnswered (meaning_of q) final a b out out'
-answered P R q (Err e) final a b out out' fault put once done =
+answered P R q (Err e) final a b out out' failed put once done =
     let m = meaning_of q in
-    let early = fault_early m a.held e done.fault in
     record {
-      refused = λ file offset code is. subst (λ x. IsFault m a.held x) (sym fault.0 ∙ is) done.fault;
-      bad_text = λ line column why cnf is. subst (λ x. IsFault m a.held x) (sym fault.0 ∙ is) done.fault;
-      printed = λ reported. absurd (early_silent e early (subst HasReport fault.0 reported));
-      cut = λ is. absurd (early_no_out e early (sym fault.0 ∙ is));
-      effects = subst (λ x. Effects m a b x) (sym fault.0) done.effects;
+      refused = λ file offset code is. subst (λ x. IsFault m a.held x) (same_fault e (faults.Refused file offset code) (sym failed.0 ∙ is)) done.fault;
+      bad_text = λ line column why cnf is. subst (λ x. IsFault m a.held x) (same_fault e (faults.BadText line column why cnf) (sym failed.0 ∙ is)) done.fault;
+      printed = λ reported. absurd (fault_silent e (subst HasReport failed.0 reported));
+      cut = λ is. absurd (fault_no_out e (sym failed.0 ∙ is));
+      effects = subst (λ x. Effects m a b x) (sym failed.0) done.effects;
     }
-answered P R q (Ok x) final a b out out' fault put once done =
+answered P R q (Ok x) final a b out out' failed put once done =
     let m = meaning_of q in
     let reported : HasReport x.ended = reports q a.held x.ended x.report.items done.answer in
     elim put [
@@ -220,40 +218,43 @@ answered P R q (Ok x) final a b out out' fault put once done =
     ]
 
 -- the output's fault comes of its count
-pub out_rises : (P : Type 0) (o n : ℕ) (r : Result Answer Ended) (final : Ended) (w w' : Option (List ℕ)) → IfErr r (λ e. (final ≡ e) × P)
-    → IfOk r (λ x. ((final ≡ x.ended) × Appends w w' x.report.items) ⊎ ((final ≡ Device which.Out) × Rose o n × AppendsPrefix w w' x.report.items)) → IfOk r (λ x. HasReport x.ended) → IfErr r IsEarlyFault
-    → final ≡ Device which.Out → Rose o n
-out_rises P o n (Err e) final w w' fault put report early is = absurd (early_no_out e early (sym fault.0 ∙ is))
-out_rises P o n (Ok x) final w w' fault put report early is = elim put [ inl h ↦ absurd (subst HasReport (sym h.0 ∙ is) report) | inr h ↦ h.1 ]
+pub out_rises : (P : Type 0) (o n : ℕ) (r : Result Answer Fault) (final : Ended) (w w' : Option (List ℕ)) → IfErr r (λ e. (final ≡ ended_by_fault e) × P)
+    → IfOk r (λ x. ((final ≡ x.ended) × Appends w w' x.report.items) ⊎ ((final ≡ Device which.Out) × Rose o n × AppendsPrefix w w' x.report.items)) → IfOk r (λ x. HasReport x.ended) → final ≡ Device which.Out
+    → Rose o n
+out_rises P o n (Err e) final w w' failed put report is = absurd (fault_no_out e (sym failed.0 ∙ is))
+out_rises P o n (Ok x) final w w' failed put report is = elim put [ inl h ↦ absurd (subst HasReport (sym h.0 ∙ is) report) | inr h ↦ h.1 ]
 
 -- a report is put once
-pub put_once : (P : Type 0) (C : Type 0) (r : Result Answer Ended) (final : Ended) → IfErr r (λ e. (final ≡ e) × P) → IfOk r (λ x. C) → IfErr r IsEarlyFault → (HasReport final) ⊎ (final ≡ Device which.Out) → C
-put_once P C (Ok x) final fault once early either = once
-put_once P C (Err e) final fault once early either = elim either [
-  | inl reported ↦ absurd (early_silent e early (subst HasReport fault.0 reported))
-  | inr is ↦ absurd (early_no_out e early (sym fault.0 ∙ is))
+pub put_once : (P : Type 0) (C : Type 0) (r : Result Answer Fault) (final : Ended) → IfErr r (λ e. (final ≡ ended_by_fault e) × P) → IfOk r (λ x. C) → (HasReport final) ⊎ (final ≡ Device which.Out) → C
+put_once P C (Ok x) final failed once either = once
+put_once P C (Err e) final failed once either = elim either [
+  | inl reported ↦ absurd (fault_silent e (subst HasReport failed.0 reported))
+  | inr is ↦ absurd (fault_no_out e (sym failed.0 ∙ is))
 ]
 
 -- what has no report prints nothing, but for a failing output
-pub silent : (P R : Type 0) (r : Result Answer Ended) (final : Ended) (w w' : Option (List ℕ)) → IfErr r (λ e. (final ≡ e) × P)
+pub silent : (P R : Type 0) (r : Result Answer Fault) (final : Ended) (w w' : Option (List ℕ)) → IfErr r (λ e. (final ≡ ended_by_fault e) × P)
     → IfOk r (λ x. ((final ≡ x.ended) × Appends w w' x.report.items) ⊎ ((final ≡ Device which.Out) × R × AppendsPrefix w w' x.report.items)) → IfOk r (λ x. HasReport x.ended)
     → ¬ HasReport final → final ≢ Device which.Out → P
-silent P R (Err e) final w w' fault put report quiet other = fault.1
-silent P R (Ok x) final w w' fault put report quiet other = elim put [ inl h ↦ absurd (quiet (subst HasReport (sym h.0) report)) | inr h ↦ absurd (other h.0) ]
+silent P R (Err e) final w w' failed put report quiet other = failed.1
+silent P R (Ok x) final w w' failed put report quiet other = elim put [ inl h ↦ absurd (quiet (subst HasReport (sym h.0) report)) | inr h ↦ absurd (other h.0) ]
 
 -- an answer other than the output's fault was there before it was printed
-pub before_out : (P R : Type 0) (r : Result Answer Ended) (final : Ended) (w w' : Option (List ℕ)) → IfErr r (λ e. (final ≡ e) × P)
+pub before_out : (P R : Type 0) (r : Result Answer Fault) (final : Ended) (w w' : Option (List ℕ)) → IfErr r (λ e. (final ≡ ended_by_fault e) × P)
     → IfOk r (λ x. ((final ≡ x.ended) × Appends w w' x.report.items) ⊎ ((final ≡ Device which.Out) × R × AppendsPrefix w w' x.report.items))
     → (e : Ended) → e ≢ Device which.Out → final ≡ e → ended_of r ≡ e
-before_out P R (Err f) final w w' fault put e other is = sym fault.0 ∙ is
-before_out P R (Ok x) final w w' fault put e other is = elim put [ inl h ↦ sym h.0 ∙ is | inr h ↦ absurd (other (sym is ∙ h.0)) ]
+before_out P R (Err f) final w w' failed put e other is = sym failed.0 ∙ is
+before_out P R (Ok x) final w w' failed put e other is = elim put [ inl h ↦ sym h.0 ∙ is | inr h ↦ absurd (other (sym is ∙ h.0)) ]
 
 -- words that aren't taken
-pub untaken : (P R : Type 0) (r : Result Answer Ended) (final : Ended) (w w' : Option (List ℕ)) → IfErr r (λ e. (final ≡ e) × P)
+pub untaken : (P R : Type 0) (r : Result Answer Fault) (final : Ended) (w w' : Option (List ℕ)) → IfErr r (λ e. (final ≡ ended_by_fault e) × P)
     → IfOk r (λ x. ((final ≡ x.ended) × Appends w w' x.report.items) ⊎ ((final ≡ Device which.Out) × R × AppendsPrefix w w' x.report.items))
-    → IsErrOf r Usage ⊎ IsErrOf r Memory → (final ≡ Usage) ⊎ (final ≡ Memory)
-untaken P R (Err f) final w w' fault put either = elim either [ inl h ↦ inl (fault.0 ∙ cc h) | inr h ↦ inr (fault.0 ∙ cc h) ]
-untaken P R (Ok x) final w w' fault put either = elim either [ inl h ↦ absurd (cc h) | inr h ↦ absurd (cc h) ]
+    → IsErrOf r faults.Usage ⊎ IsErrOf r faults.Memory → (final ≡ Usage) ⊎ (final ≡ Memory)
+untaken P R (Err f) final w w' failed put either = elim either [
+  | inl h ↦ let usage : f ≡ faults.Usage = cc h in inl (failed.0 ∙ ap ended_by_fault usage)
+  | inr h ↦ let memory : f ≡ faults.Memory = cc h in inr (failed.0 ∙ ap ended_by_fault memory)
+]
+untaken P R (Ok x) final w w' failed put either = elim either [ inl h ↦ absurd (cc h) | inr h ↦ absurd (cc h) ]
 
 -- ---- the headline
 

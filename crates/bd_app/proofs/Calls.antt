@@ -18,6 +18,9 @@ use Rattle.bd_app.specs.Words.{Name}
 use Rattle.bd_app.specs.declared.answer.Which.TheVariants as which
 use Rattle.bd_app.specs.declared.answer.Ended.{Ended}
 use Rattle.bd_app.specs.declared.answer.Ended.TheVariants.{Correct, Wrong, Void, Undecided, Replayed, Ran, Proved, Bounded, Retraced, Completed, Refused, Device, Memory}
+use Rattle.bd_app.specs.declared.fault.Fault.{Fault}
+use Rattle.bd_app.specs.declared.fault.Fault.TheVariants as faults
+use Rattle.bd_app.specs.inner.Faults.{ended_by_fault}
 use Rattle.bd_app.specs.inner.Saved.{IsSaveFault}
 use Rattle.bd_app.proofs.Results.{IfSome-all, IfSome-both, no_error}
 
@@ -120,10 +123,10 @@ fails_after a b c file files (Device which.Load) short same one (last, blamed, u
 fails_after a b c file files Memory short same one f = first_after a b c (loads (file ∷ [])) (loads files) one f
 fails_after a b c file files _ short same one f = absurd f
 
-pub fails_next : {T : Type 0} (a b c : FilesSeen) (file : File) (files : List File) (r : Result T Ended) → IfSome a.held (λ h. IsShort h file) → b.held ≡ a.held → Called a b (loads (file ∷ []))
-    → IfErr r (LoadsFail b c files) → IfErr r (LoadsFail a c (file ∷ files))
+pub fails_next : {T : Type 0} (a b c : FilesSeen) (file : File) (files : List File) (r : Result T Fault) → IfSome a.held (λ h. IsShort h file) → b.held ≡ a.held → Called a b (loads (file ∷ []))
+    → IfErr r (λ e. LoadsFail b c files (ended_by_fault e)) → IfErr r (λ e. LoadsFail a c (file ∷ files) (ended_by_fault e))
 fails_next a b c file files (Ok x) short same one f = tt
-fails_next a b c file files (Err e) short same one f = fails_after a b c file files e short same one f
+fails_next a b c file files (Err e) short same one f = fails_after a b c file files (ended_by_fault e) short same one f
 
 -- the answer that comes of it
 pub load_called : (m : Meaning) (a b : FilesSeen) (e : Ended) → LoadsFail a b m.files e → IsCalled m a b e
@@ -167,8 +170,8 @@ proof_up_to a b c cnf (Some name) work formula (n, is, blamed) called =
     }
 
 -- what isn't want of memory is made where there is no error
-pub called_ok : {T : Type 0} (P : Type 0) (r : Result T Ended) → (¬ IsErrOf r Memory → P) → OnOk r P
-called_ok P (Ok x) f = f (no_error x Memory)
+pub called_ok : {T : Type 0} (P : Type 0) (r : Result T Fault) → (¬ IsErrOf r faults.Memory → P) → OnOk r P
+called_ok P (Ok x) f = f (no_error x faults.Memory)
 called_ok P (Err e) f = tt
 
 up_to_after : (a b c : FilesSeen) (calls saved : List Call) → Called a b calls → SavedUpTo b c [] saved → SavedUpTo a c calls saved
@@ -185,11 +188,11 @@ up_to_after a b c calls saved one up =
     }
 
 -- the answer that comes of a save that failed, after the loads
-pub save_called : (m : Meaning) (a b c : FilesSeen) (v : Verdict) (e : Ended) → IsSaveFault e → Called a b (loads m.files) → IsVerdictFor m a.held v
-    → (e ≡ Device which.Save → SavedUpTo b c [] (saves m.cnf m.lrat (work_of v))) → (e ≡ Memory → CalledFirst b c (saves m.cnf m.lrat (work_of v))) → IsCalled m a c e
-save_called m a b c v (Device which.Save) fault one is up first = (v, is, up_to_after a b c (loads m.files) (saves m.cnf m.lrat (work_of v)) one (up refl))
-save_called m a b c v Memory fault one is up first = inr (v, is, first_after a b c (loads m.files) (saves m.cnf m.lrat (work_of v)) one (first refl))
-save_called m a b c v _ fault one is up first = absurd fault
+pub save_called : (m : Meaning) (a b c : FilesSeen) (v : Verdict) (e : Fault) → IsSaveFault e → Called a b (loads m.files) → IsVerdictFor m a.held v
+    → (e ≡ faults.Save → SavedUpTo b c [] (saves m.cnf m.lrat (work_of v))) → (e ≡ faults.Memory → CalledFirst b c (saves m.cnf m.lrat (work_of v))) → IsCalled m a c (ended_by_fault e)
+save_called m a b c v faults.Save saves_it one is up first = (v, is, up_to_after a b c (loads m.files) (saves m.cnf m.lrat (work_of v)) one (up refl))
+save_called m a b c v faults.Memory saves_it one is up first = inr (v, is, first_after a b c (loads m.files) (saves m.cnf m.lrat (work_of v)) one (first refl))
+save_called m a b c v _ saves_it one is up first = absurd saves_it
 
 -- ---- answers
 

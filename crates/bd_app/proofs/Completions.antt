@@ -1,16 +1,19 @@
 -- From the texts of a design and of a completion function to the answer on them.
 use Rattle.std.proofs.Common.{◌≡◌, ◌∙◌, ℕ, List, refl, sym, subst}
-use Rattle.std.specs.Prelude.{Bool, Option, Result, Ok, Err, IfSome, IfOk, IfErr, IsErrAnd}
+use Rattle.std.specs.Prelude.{Bool, Option, Result, Ok, Err, IfSome, IfErr, IsErrAnd}
 use Rattle.bd_abstraction.specs.Abstraction.{abstraction_of, abstraction_view}
 use Rattle.bd_abstraction.specs.declared.abstraction.Abstraction.TheVariants as abstraction
 use Rattle.bd_abstraction.specs.declared.abstraction.Abstraction.{Abstraction as GivenAbstraction}
 use Rattle.bd_files.specs.Devices.{Held}
 use Rattle.bd_model.specs.Conditions.{Abstraction}
 use Rattle.bd_model.specs.DesignView.{DesignView}
-use Rattle.bd_typer.specs.Denotes.{DenotesCompleted}
+use Rattle.bd_typer.specs.Denotes.{DenotesCompleted, OnJoined}
 use Rattle.bd_typer.specs.Joined.{JoinedView}
 use Rattle.bd_typer.specs.Faults.{FileFault}
 use Rattle.bd_typer.specs.declared.fault.Text.TheVariants.{Comp}
+use Rattle.bd_typer.specs.declared.fault.TypeFault.{TypeFault}
+use Rattle.bd_typer.specs.declared.fault.TypeFault.TheVariants as typer
+use Rattle.bd_typer.specs.declared.joining.Joined.{Joined}
 use Rattle.bd_app.specs.Answer.{HasReport}
 use Rattle.bd_app.specs.Complete.{Completion, IsCompleteReport, complete_meaning}
 use Rattle.bd_app.specs.Completions.{AreCompleted, Completes, abstraction_by}
@@ -19,9 +22,11 @@ use Rattle.bd_app.specs.Meaning.{FilesSeen}
 use Rattle.bd_app.specs.Sources.{Sources, TextSources}
 use Rattle.bd_app.specs.declared.answer.Answer.{Answer}
 use Rattle.bd_app.specs.declared.answer.Ended.{Ended}
-use Rattle.bd_app.specs.declared.answer.Ended.TheVariants.{Refused, Memory}
+use Rattle.bd_app.specs.declared.fault.Fault.{Fault}
+use Rattle.bd_app.specs.declared.fault.Fault.TheVariants.{Refused, Memory}
 use Rattle.bd_app.specs.inner.Completed.{AreCompletion, AreNoCompletion, OnCompletion}
 use Rattle.bd_app.specs.inner.Done.{IsDone}
+use Rattle.bd_app.specs.inner.Faults.{design_fault}
 use Rattle.bd_app.proofs.Effects.{AreTextsRefused, IsPlain, Stand, quiet_done, texts_refused}
 use Rattle.bd_app.proofs.Loads.{text_short}
 use Rattle.bd_app.proofs.Results.{IfSome-both, passed}
@@ -33,21 +38,20 @@ same_abstraction d abstraction.Flushing = refl
 same_abstraction d (abstraction.Given lets parts) = refl
 
 -- texts are refused
-pub on_no_completion : (Says : DesignView → Abstraction → Ended → List ℕ → Type 0) (s : Sources) (comp : List ℕ) (e : Ended) (r : Result Answer Ended) → IsErrAnd r (λ y. y ≡ e) → AreNoCompletion s comp e → OnCompletion Says s comp r
+pub on_no_completion : (Says : DesignView → Abstraction → Ended → List ℕ → Type 0) (s : Sources) (comp : List ℕ) (e : Fault) (r : Result Answer Fault) → IsErrAnd r (λ y. y ≡ e) → AreNoCompletion s comp e → OnCompletion Says s comp r
 on_no_completion Says s comp e r is fault = passed (λ z. OnCompletion Says s comp z) r e is (record { said = tt; refused = fault })
 
--- the answer on their design and abstraction, or want of memory
-pub on_completion : (Says : DesignView → Abstraction → Ended → List ℕ → Type 0) (s : Sources) (comp : List ℕ) (d : DesignView) (abs : GivenAbstraction) (r : Result Answer Ended) → AreCompletion s comp d (abstraction_view abs)
-    → IfOk r (λ a. Says d (abstraction_of d abs) a.ended a.report.items) → IfErr r (λ e. e ≡ Memory) → OnCompletion Says s comp r
-on_completion Says s comp d abs (Ok answer) are says memory =
+-- the answer on their design and abstraction
+pub on_completion : (Says : DesignView → Abstraction → Ended → List ℕ → Type 0) (s : Sources) (comp : List ℕ) (d : DesignView) (abs : GivenAbstraction) (answer : Answer) → AreCompletion s comp d (abstraction_view abs)
+    → Says d (abstraction_of d abs) answer.ended answer.report.items → OnCompletion Says s comp (Ok answer)
+on_completion Says s comp d abs answer are says =
     record { said = (d, abstraction_view abs, are, subst (λ x. Says d x answer.ended answer.report.items) (same_abstraction d abs) says); refused = tt }
-on_completion Says s comp d abs (Err e) are says memory = record { said = tt; refused = subst (λ x. AreNoCompletion s comp x) (sym memory) tt }
 
 module _ (q : Completion) (held : Option Held) (s : Sources) (comp : List ℕ) (given : IfSome held (λ h. TextSources q.names h s)) (short : IfSome held (λ h. HoldsShort h (Comp, q.names.text) comp)) where
   completed : (r : Result JoinedView FileFault) → AreCompleted s comp r → IfSome held (λ h. Completes q.names h r)
   completed r denoted = IfSome-both _ _ _ held (λ h g c. record { sources = s; given = g; comp = comp; comp_given = c; denoted = denoted }) given short
 
-  texts_faulty : (e : Ended) → AreNoCompletion s comp e → AreTextsRefused (complete_meaning q) held e
+  texts_faulty : (e : Fault) → AreNoCompletion s comp e → AreTextsRefused (complete_meaning q) held e
   texts_faulty (Refused file offset code) fault = completed (Err (record { file = file; offset = offset; code = code })) fault
   texts_faulty Memory fault = tt
   texts_faulty _ fault = absurd fault
@@ -59,7 +63,7 @@ complete_plain agree budget d abs e report is = record {
 }
 
 -- the answer to a question on a completion function, from what is said of its texts
-pub complete_done : (q : Completion) (a b : FilesSeen) (s : Sources) (comp : List ℕ) (r : Result Answer Ended) → Stand (complete_meaning q).files a b → IfSome a.held (λ h. TextSources q.names h s)
+pub complete_done : (q : Completion) (a b : FilesSeen) (s : Sources) (comp : List ℕ) (r : Result Answer Fault) → Stand (complete_meaning q).files a b → IfSome a.held (λ h. TextSources q.names h s)
     → IfSome a.held (λ h. HoldsShort h (Comp, q.names.text) comp) → OnCompletion (IsCompleteReport q.agree q.budget) s comp r → IsDone (complete_meaning q) a b r
 complete_done q a b s comp (Ok answer) stand given short on =
     let said = on.said in
@@ -73,6 +77,14 @@ complete_done q a b s comp (Err e) stand given short on =
     texts_refused (complete_meaning q) a b e stand (IfSome-both _ _ _ a.held (λ h g c. text_short h Comp q.names s comp g c) given short) (texts_faulty q a.held s comp given short e on.refused)
 
 -- the same texts denote the same
-pub completed_same : (p u s v c k : List ℕ) (i j : Option (List ℕ)) (r : Result JoinedView FileFault) → p ≡ u → s ≡ v → c ≡ k → i ≡ j → DenotesCompleted p s c i r → DenotesCompleted u v k j r
+pub completed_same : (p u s v c k : List ℕ) (i j : Option (List ℕ)) (r : Result Joined TypeFault) → p ≡ u → s ≡ v → c ≡ k → i ≡ j → OnJoined r (DenotesCompleted p s c i) → OnJoined r (DenotesCompleted u v k j)
 completed_same p u s v c k i j r pu sv ck ij h =
-    subst (λ x. DenotesCompleted u v k x r) ij (subst (λ x. DenotesCompleted u v x i r) ck (subst (λ x. DenotesCompleted u x c i r) sv (subst (λ x. DenotesCompleted x s c i r) pu h)))
+    subst (λ x. OnJoined r (DenotesCompleted u v k x)) ij (subst (λ x. OnJoined r (DenotesCompleted u v x i)) ck (subst (λ x. OnJoined r (DenotesCompleted u x c i)) sv (subst (λ x. OnJoined r (DenotesCompleted x s c i)) pu h)))
+
+are_no_completion : (s : Sources) (comp : List ℕ) (e : TypeFault) → OnJoined (Err e) (AreCompleted s comp) → AreNoCompletion s comp (design_fault e)
+are_no_completion s comp (typer.Bad file offset code) read = read
+are_no_completion s comp typer.Memory read = tt
+
+-- texts that aren't read are refused
+pub not_completed : {T : Type 0} (s : Sources) (comp : List ℕ) (e : TypeFault) (r : Result T Fault) → IsErrAnd r (λ y. y ≡ design_fault e) → OnJoined (Err e) (AreCompleted s comp) → IfErr r (AreNoCompletion s comp)
+not_completed s comp e r is read = passed (λ z. IfErr z (AreNoCompletion s comp)) r (design_fault e) is (are_no_completion s comp e read)

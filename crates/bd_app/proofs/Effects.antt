@@ -12,12 +12,16 @@ use Rattle.bd_app.specs.declared.answer.Answer.{Answer}
 use Rattle.bd_app.specs.declared.answer.Which.{Which}
 use Rattle.bd_app.specs.declared.answer.Which.TheVariants as which
 use Rattle.bd_app.specs.declared.answer.Ended.{Ended}
-use Rattle.bd_app.specs.declared.answer.Ended.TheVariants.{Refused, BadText, Device, Memory}
+use Rattle.bd_app.specs.declared.answer.Ended.TheVariants as ended
+use Rattle.bd_app.specs.declared.fault.Fault.{Fault}
+use Rattle.bd_app.specs.declared.fault.Fault.TheVariants.{Refused, BadText, Load, Save, Memory}
 use Rattle.bd_app.specs.inner.Done.{IsDone, IsFault}
+use Rattle.bd_app.specs.inner.Faults.{ended_by_fault}
 use Rattle.bd_app.specs.inner.Loaded.{IsLoadFault, Loads}
 use Rattle.bd_app.specs.inner.Saved.{IsSaveFault, Saves}
 use Rattle.bd_files.proofs.Called.{makes_none}
 use Rattle.bd_app.proofs.Calls.{called_none, called_report, called_then, called_whole, load_called, loads_called, report_called, save_called, verdict_called}
+use Rattle.bd_app.proofs.Faults.{fault_no_verdict, same_fault}
 use Rattle.bd_app.proofs.Results.{IfSome-both, IfSome-weaker, no_error, passed, rose_after}
 use Rattle.bd_app.proofs.Saves.{keeps_same}
 use Rattle.bd_app.proofs.Verdicts.{no_device, no_verdict, same_verdict, verdict_reports, verdict_saves}
@@ -40,7 +44,7 @@ loaded_stand {T} {files} {a} {b} {x} l = record { held = l.held; blame = l.else_
 
 -- an answer that is no fault of a device, and no verdict
 pub record IsQuiet (e : Ended) : Type 0 where
-  pub no_device : (w : Which) → e ≢ Device w
+  pub no_device : (w : Which) → e ≢ ended.Device w
   pub no_verdict : (v : Verdict) → e ≢ ended_by v
 
 -- such an answer that has a report
@@ -65,77 +69,71 @@ quiet_effects {files} m a b e stand quiet called = record {
 
 -- ---- a load failed
 
-load_silent : (held : Option Held) (files : _) (e : Ended) → IsLoadFault held files e → ¬ HasReport e
-load_silent held files (Refused file offset code) fault = λ h. h
-load_silent held files (Device which.Load) fault = λ h. h
-load_silent held files Memory fault = λ h. h
-load_silent held files _ fault = absurd fault
+load_no_save : (held : Option Held) (files : _) (e : Fault) → IsLoadFault held files e → ended_by_fault e ≢ ended.Device which.Save
+load_no_save held files e fault is = subst (λ x. IsLoadFault held files x) (same_fault e Save is) fault
 
-load_no_save : (held : Option Held) (files : _) (e : Ended) → IsLoadFault held files e → e ≢ Device which.Save
-load_no_save held files e fault is = subst (λ x. IsLoadFault held files x) is fault
+load_is_fault : (m : Meaning) (held : Option Held) (e : Fault) → IsLoadFault held m.files e → IsFault m held e
+load_is_fault m held (Refused file offset code) fault = IfSome-weaker _ _ held (λ h long. inl long) fault
+load_is_fault m held Load fault = tt
+load_is_fault m held Memory fault = tt
+load_is_fault m held _ fault = absurd fault
 
-load_fault : (m : Meaning) (held : Option Held) (e : Ended) → IsLoadFault held m.files e → IsFault m held e
-load_fault m held (Refused file offset code) fault = IfSome-weaker _ _ held (λ h long. inl long) fault
-load_fault m held (Device which.Load) fault = tt
-load_fault m held Memory fault = tt
-load_fault m held _ fault = absurd fault
-
-load_effects : {T : Type 0} (m : Meaning) (a b : FilesSeen) (e : Ended) → Loads {T = T} m.files a b (Err e) → Effects m a b e
+load_effects : {T : Type 0} (m : Meaning) (a b : FilesSeen) (e : Fault) → Loads {T = T} m.files a b (Err e) → Effects m a b (ended_by_fault e)
 load_effects m a b e l = record {
-  load_rose = λ is. l.rose (ap (λ x. Err x) is);
-  load_blamed = λ is. l.blamed (ap (λ x. Err x) is);
+  load_rose = λ is. l.rose (ap (λ x. Err x) (same_fault e Load is));
+  load_blamed = λ is. l.blamed (ap (λ x. Err x) (same_fault e Load is));
   save_rose = λ is. absurd (load_no_save a.held m.files e l.fault is);
   save_blamed = λ is. absurd (load_no_save a.held m.files e l.fault is);
-  else_keeps_blame = λ load save. l.else_keeps_blame (λ is. load (cc is));
-  saved = λ v is. absurd (no_verdict e v (load_silent a.held m.files e l.fault) is);
+  else_keeps_blame = λ load save. l.else_keeps_blame (λ is. let same : e ≡ Load = cc is in load (ap ended_by_fault same));
+  saved = λ v is. absurd (fault_no_verdict e v is);
   save_failed = λ is. absurd (load_no_save a.held m.files e l.fault is);
   others = keeps_same a.held b.held _ l.held;
   held = λ nothing. l.held;
   never_falls = l.never_falls;
-  called = load_called m a b e l.called_up_to;
+  called = load_called m a b (ended_by_fault e) l.called_up_to;
 }
 
-pub load_failed : {T : Type 0} (m : Meaning) (a b : FilesSeen) (e : Ended) (r : Result Answer Ended) → IsErrAnd r (λ y. y ≡ e) → Loads {T = T} m.files a b (Err e) → IsDone m a b r
-load_failed {T} m a b e r is l = passed (λ z. IsDone m a b z) r e is (record { answer = tt; fault = load_fault m a.held e l.fault; effects = load_effects {T = T} m a b e l })
+pub load_failed : {T : Type 0} (m : Meaning) (a b : FilesSeen) (e : Fault) (r : Result Answer Fault) → IsErrAnd r (λ y. y ≡ e) → Loads {T = T} m.files a b (Err e) → IsDone m a b r
+load_failed {T} m a b e r is l = passed (λ z. IsDone m a b z) r e is (record { answer = tt; fault = load_is_fault m a.held e l.fault; effects = load_effects {T = T} m a b e l })
 
 -- ---- texts have a fault
 
 -- why texts are refused, where no file is too long
-abbrev pub AreTextsRefused : Meaning → Option Held → Ended → Type 0
+abbrev pub AreTextsRefused : Meaning → Option Held → Fault → Type 0
 AreTextsRefused m held (Refused file offset code) = IfSome held (λ h. m.IsTextFault h file offset code)
 AreTextsRefused m held (BadText line column why cnf) = IfSome held (λ h. m.IsProofFault h line column why cnf)
 AreTextsRefused m held Memory = Unit {0}
 AreTextsRefused m held _ = ⊥
 
-texts_quiet : (m : Meaning) (held : Option Held) (e : Ended) → AreTextsRefused m held e → IsQuiet e
-texts_quiet m held (Refused file offset code) fault = record { no_device = λ w is. cc is; no_verdict = λ v is. no_verdict (Refused file offset code) v (λ h. h) is }
-texts_quiet m held (BadText line column why cnf) fault = record { no_device = λ w is. cc is; no_verdict = λ v is. no_verdict (BadText line column why cnf) v (λ h. h) is }
-texts_quiet m held Memory fault = record { no_device = λ w is. cc is; no_verdict = λ v is. no_verdict Memory v (λ h. h) is }
+texts_quiet : (m : Meaning) (held : Option Held) (e : Fault) → AreTextsRefused m held e → IsQuiet (ended_by_fault e)
+texts_quiet m held (Refused file offset code) fault = record { no_device = λ w is. cc is; no_verdict = fault_no_verdict (Refused file offset code) }
+texts_quiet m held (BadText line column why cnf) fault = record { no_device = λ w is. cc is; no_verdict = fault_no_verdict (BadText line column why cnf) }
+texts_quiet m held Memory fault = record { no_device = λ w is. cc is; no_verdict = fault_no_verdict Memory }
 texts_quiet m held _ fault = absurd fault
 
-texts_fault : (m : Meaning) (held : Option Held) (e : Ended) → IfSome held (λ h. AreShort h m.files) → AreTextsRefused m held e → IsFault m held e
+texts_fault : (m : Meaning) (held : Option Held) (e : Fault) → IfSome held (λ h. AreShort h m.files) → AreTextsRefused m held e → IsFault m held e
 texts_fault m held (Refused file offset code) short fault = IfSome-both _ _ _ held (λ h s f. inr (s, f)) short fault
 texts_fault m held (BadText line column why cnf) short fault = IfSome-both _ _ _ held (λ h s f. (s, f)) short fault
 texts_fault m held Memory short fault = tt
 texts_fault m held _ short fault = absurd fault
 
-texts_called : (m : Meaning) (a b : FilesSeen) (e : Ended) → IfSome a.held (λ h. AreShort h m.files) → Called a b (loads m.files) → AreTextsRefused m a.held e → IsCalled m a b e
+texts_called : (m : Meaning) (a b : FilesSeen) (e : Fault) → IfSome a.held (λ h. AreShort h m.files) → Called a b (loads m.files) → AreTextsRefused m a.held e → IsCalled m a b (ended_by_fault e)
 texts_called m a b (Refused file offset code) short called fault = inr (short, called)
-texts_called m a b (BadText line column why cnf) short called fault = loads_called m a b (BadText line column why cnf) (λ v is. no_verdict (BadText line column why cnf) v (λ h. h) is) called
+texts_called m a b (BadText line column why cnf) short called fault = loads_called m a b (ended.BadText line column why cnf) (fault_no_verdict (BadText line column why cnf)) called
 texts_called m a b Memory short called fault = inl (called_whole a b (loads m.files) called)
 texts_called m a b _ short called fault = absurd fault
 
-pub texts_refused : (m : Meaning) (a b : FilesSeen) (e : Ended) → Stand m.files a b → IfSome a.held (λ h. AreShort h m.files) → AreTextsRefused m a.held e → IsDone m a b (Err e)
+pub texts_refused : (m : Meaning) (a b : FilesSeen) (e : Fault) → Stand m.files a b → IfSome a.held (λ h. AreShort h m.files) → AreTextsRefused m a.held e → IsDone m a b (Err e)
 texts_refused m a b e stand short fault =
-    record { answer = tt; fault = texts_fault m a.held e short fault; effects = quiet_effects m a b e stand (texts_quiet m a.held e fault) (texts_called m a b e short stand.called fault) }
+    record { answer = tt; fault = texts_fault m a.held e short fault; effects = quiet_effects m a b (ended_by_fault e) stand (texts_quiet m a.held e fault) (texts_called m a b e short stand.called fault) }
 
 -- want of memory before the first load
-pub memory_done : (m : Meaning) (a b : FilesSeen) → Stand [] a b → IsDone m a b (Err Memory)
-memory_done m a b stand = record {
+pub memory_done : (m : Meaning) (a b : FilesSeen) (r : Result Answer Fault) → IsErrAnd r (λ y. y ≡ Memory) → Stand [] a b → IsDone m a b r
+memory_done m a b r is stand = passed (λ z. IsDone m a b z) r Memory is (record {
   answer = tt;
   fault = tt;
-  effects = quiet_effects m a b Memory stand (record { no_device = λ w is. cc is; no_verdict = λ v is. no_verdict Memory v (λ h. h) is }) (inl (called_none a b (loads m.files) stand.called));
-}
+  effects = quiet_effects m a b ended.Memory stand (record { no_device = λ w is. cc is; no_verdict = fault_no_verdict Memory }) (inl (called_none a b (loads m.files) stand.called));
+})
 
 -- an answer that is no verdict
 pub quiet_done : (m : Meaning) (a b : FilesSeen) (answer : Answer) → Stand m.files a b → IsPlain answer.ended → m.IsAnswer a.held answer.ended answer.report.items → IsDone m a b (Ok answer)
@@ -149,7 +147,7 @@ quiet_done m a b answer stand plain is =
 pub verdict_done : (m : Meaning) (a b : FilesSeen) (v : Verdict) (answer : Answer) → answer.ended ≡ ended_by v → m.IsAnswer a.held answer.ended answer.report.items → AreSaved b.held m.cnf m.lrat (work_of v)
     → KeepsAllBut a.held b.held (IsEither m.cnf m.lrat) → b.blame ≡ a.blame → a.faults ≤ b.faults → Called a b (loads m.files ++ saves m.cnf m.lrat (work_of v)) → IsDone m a b (Ok answer)
 verdict_done m a b v answer is says saved others blame rises called =
-    let other : (w : Which) → answer.ended ≢ Device w = λ w. no_device answer.ended w (subst HasReport (sym is) (verdict_reports v)) in
+    let other : (w : Which) → answer.ended ≢ ended.Device w = λ w. no_device answer.ended w (subst HasReport (sym is) (verdict_reports v)) in
     record {
       answer = says;
       fault = tt;
@@ -168,41 +166,36 @@ verdict_done m a b v answer is says saved others blame rises called =
       };
     }
 
-save_silent : (e : Ended) → IsSaveFault e → ¬ HasReport e
-save_silent (Device which.Save) fault = λ h. h
-save_silent Memory fault = λ h. h
-save_silent _ fault = absurd fault
+save_no_load : (e : Fault) → IsSaveFault e → ended_by_fault e ≢ ended.Device which.Load
+save_no_load e fault is = subst IsSaveFault (same_fault e Load is) fault
 
-save_no_load : (e : Ended) → IsSaveFault e → e ≢ Device which.Load
-save_no_load e fault is = subst IsSaveFault is fault
+save_is_fault : (m : Meaning) (held : Option Held) (e : Fault) → IsSaveFault e → IsFault m held e
+save_is_fault m held Save fault = tt
+save_is_fault m held Memory fault = tt
+save_is_fault m held _ fault = absurd fault
 
-save_fault : (m : Meaning) (held : Option Held) (e : Ended) → IsSaveFault e → IsFault m held e
-save_fault m held (Device which.Save) fault = tt
-save_fault m held Memory fault = tt
-save_fault m held _ fault = absurd fault
-
-save_changes : (e : Ended) → IsSaveFault e → ¬ SavesNothing e
-save_changes (Device which.Save) fault = λ h. h
+save_changes : (e : Fault) → IsSaveFault e → ¬ SavesNothing (ended_by_fault e)
+save_changes Save fault = λ h. h
 save_changes Memory fault = λ h. h
 save_changes _ fault = absurd fault
 
 -- the work of a verdict wasn't saved
-pub save_failed : {T : Type 0} (m : Meaning) (a b c : FilesSeen) (v : Verdict) (e : Ended) (r : Result Answer Ended) → IsErrAnd r (λ y. y ≡ e) → Stand m.files a b → IsVerdictFor m a.held v
+pub save_failed : {T : Type 0} (m : Meaning) (a b c : FilesSeen) (v : Verdict) (e : Fault) (r : Result Answer Fault) → IsErrAnd r (λ y. y ≡ e) → Stand m.files a b → IsVerdictFor m a.held v
     → Saves {T = T} m.cnf m.lrat (work_of v) b c (Err e) → IsDone m a c r
 save_failed m a b c v e r is stand verdict s = passed (λ z. IsDone m a c z) r e is (record {
   answer = tt;
-  fault = save_fault m a.held e s.fault;
+  fault = save_is_fault m a.held e s.fault;
   effects = record {
     load_rose = λ same. absurd (save_no_load e s.fault same);
     load_blamed = λ same. absurd (save_no_load e s.fault same);
-    save_rose = λ same. rose_after a.faults b.faults c.faults stand.never_falls s.never_falls (s.rose (ap (λ x. Err x) same));
-    save_blamed = λ same. s.blamed (ap (λ x. Err x) same);
-    else_keeps_blame = λ load save. s.else_keeps_blame (λ same. save (cc same)) ∙ stand.blame;
-    saved = λ w same. absurd (no_verdict e w (save_silent e s.fault) same);
+    save_rose = λ same. rose_after a.faults b.faults c.faults stand.never_falls s.never_falls (s.rose (ap (λ x. Err x) (same_fault e Save same)));
+    save_blamed = λ same. s.blamed (ap (λ x. Err x) (same_fault e Save same));
+    else_keeps_blame = λ load save. s.else_keeps_blame (λ is. let same : e ≡ Save = cc is in save (ap ended_by_fault same)) ∙ stand.blame;
+    saved = λ w same. absurd (fault_no_verdict e w same);
     save_failed = λ same. record {
       verdict = v;
       is_verdict = verdict;
-      up_to = subst (λ h. AreSavedUpTo h c.held c.blame m.cnf m.lrat (work_of v)) stand.held (s.up_to (ap (λ x. Err x) same));
+      up_to = subst (λ h. AreSavedUpTo h c.held c.blame m.cnf m.lrat (work_of v)) stand.held (s.up_to (ap (λ x. Err x) (same_fault e Save same)));
     };
     others = subst (λ h. KeepsAllBut h c.held (IsEither m.cnf m.lrat)) stand.held s.others;
     held = λ nothing. absurd (save_changes e s.fault nothing);
@@ -212,8 +205,9 @@ save_failed m a b c v e r is stand verdict s = passed (λ z. IsDone m a c z) r e
 })
 
 -- it was saved, and then memory ran out
-pub memory_after : {T : Type 0} (m : Meaning) (a b c : FilesSeen) (x : T) (v : Verdict) → Stand m.files a b → IsVerdictFor m a.held v → Saves m.cnf m.lrat (work_of v) b c (Ok x) → IsDone m a c (Err Memory)
-memory_after m a b c x v stand verdict s = record {
+pub memory_after : {T : Type 0} (m : Meaning) (a b c : FilesSeen) (x : T) (v : Verdict) (r : Result Answer Fault) → IsErrAnd r (λ y. y ≡ Memory) → Stand m.files a b → IsVerdictFor m a.held v
+    → Saves m.cnf m.lrat (work_of v) b c (Ok x) → IsDone m a c r
+memory_after m a b c x v r is stand verdict s = passed (λ z. IsDone m a c z) r Memory is (record {
   answer = tt;
   fault = tt;
   effects = record {
@@ -222,14 +216,14 @@ memory_after m a b c x v stand verdict s = record {
     save_rose = λ same. absurd (cc same);
     save_blamed = λ same. absurd (cc same);
     else_keeps_blame = λ load save. s.else_keeps_blame (no_error x _) ∙ stand.blame;
-    saved = λ w same. absurd (no_verdict Memory w (λ h. h) same);
+    saved = λ w same. absurd (fault_no_verdict Memory w same);
     save_failed = λ same. absurd (cc same);
     others = subst (λ h. KeepsAllBut h c.held (IsEither m.cnf m.lrat)) stand.held s.others;
     held = λ nothing. absurd nothing;
     never_falls = omega (arith, stand.never_falls, s.never_falls);
     called = inr (v, verdict, called_whole a c (loads m.files ++ saves m.cnf m.lrat (work_of v)) (called_then a b c (loads m.files) (saves m.cnf m.lrat (work_of v)) stand.called s.called));
   };
-}
+})
 
 -- where no name is given, all is saved
 pub none_saved : (after : Option Held) (work : Work) → AreSaved after None None work
@@ -238,14 +232,14 @@ none_saved after work = record { formula = λ name is other. absurd (cc is); pro
 -- ---- the output failed
 
 -- what stood before the report was printed stands
-pub out_effects : (m : Meaning) (a b : FilesSeen) (e : Ended) (report : List ℕ) → HasReport e → m.IsAnswer a.held e report → Effects m a b e → Effects m a b (Device which.Out)
+pub out_effects : (m : Meaning) (a b : FilesSeen) (e : Ended) (report : List ℕ) → HasReport e → m.IsAnswer a.held e report → Effects m a b e → Effects m a b (ended.Device which.Out)
 out_effects m a b e report reported is effects = record {
   load_rose = λ same. absurd (cc same);
   load_blamed = λ same. absurd (cc same);
   save_rose = λ same. absurd (cc same);
   save_blamed = λ same. absurd (cc same);
   else_keeps_blame = λ load save. effects.else_keeps_blame (no_device e _ reported) (no_device e _ reported);
-  saved = λ v same. absurd (no_verdict (Device which.Out) v (λ h. h) same);
+  saved = λ v same. absurd (no_verdict (ended.Device which.Out) v (λ h. h) same);
   save_failed = λ same. absurd (cc same);
   others = effects.others;
   held = λ nothing. absurd nothing;

@@ -4,8 +4,10 @@ pub mod Loads
 pub mod WordValues
 pub mod Saves
 pub mod Verdicts
+pub mod Faults
 pub mod Runs
 pub mod Effects
+pub mod Texts
 pub mod Sources
 pub mod Completions
 pub mod Answered

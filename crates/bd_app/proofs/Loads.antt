@@ -2,7 +2,10 @@
 use Rattle.std.proofs.Common.{◌≡◌, zero, suc, ◌+◌, ◌<◌, ◌≤◌, ◌∙◌, ℕ, List, [], ◌∷◌, ◌++◌, length, take, refl, ap, append_assoc, sym, subst, arith, length-take, take_all}
 use Rattle.std.specs.Option.{option_map}
 use Rattle.std.specs.Prelude.{Option, Some, None, Result, Ok, Err, IfSome, IfErr, IsErrAnd}
-use Rattle.bd_files.specs.Devices.{Blame, Held, IsLoaded}
+use Rattle.bd_files.specs.Devices.{Blame, Held, IsLoaded, Rose}
+use Rattle.bd_files.specs.declared.devices.FileCall.TheVariants as call
+use Rattle.bd_files.specs.declared.devices.LoadError.{LoadError}
+use Rattle.bd_files.specs.declared.devices.LoadError.TheVariants as loading
 use Rattle.bd_text.specs.declared.code.Code.{Code}
 use Rattle.bd_text.specs.declared.code.Code.TheVariants.{TooLong}
 use Rattle.bd_typer.specs.Denotes.{premise_file}
@@ -11,13 +14,13 @@ use Rattle.bd_typer.specs.declared.premise.Premise.TheVariants as premises
 use Rattle.bd_typer.specs.declared.fault.Text.{Text}
 use Rattle.bd_typer.specs.declared.fault.Text.TheVariants as text
 use Rattle.bd_app.specs.Files.{AreShort, BlamesOneOf, DesignNames, File, HoldsShort, IsLong, IsShort, TextNames, design_files, loads, most_bytes, one_if, text_files}
-use Rattle.bd_app.specs.Meaning.{FilesSeen, IsTooLong}
+use Rattle.bd_app.specs.Meaning.{Called, FilesSeen, IsTooLong}
 use Rattle.bd_app.specs.Sources.{HoldSources, HoldsShortIf, Sources, TextSources}
-use Rattle.bd_app.specs.declared.answer.Ended.{Ended}
-use Rattle.bd_app.specs.declared.answer.Ended.TheVariants.{Refused, Device, Memory}
-use Rattle.bd_app.specs.declared.answer.Which.TheVariants as which
+use Rattle.bd_app.specs.declared.fault.Fault.{Fault}
+use Rattle.bd_app.specs.declared.fault.Fault.TheVariants.{Refused, Load, Memory}
+use Rattle.bd_app.specs.inner.Faults.{ended_by_fault, load_fault}
 use Rattle.bd_app.specs.inner.Loaded.{IsLoadFault, Loads}
-use Rattle.bd_app.proofs.Calls.{called_then, fails_before, fails_next}
+use Rattle.bd_app.proofs.Calls.{called_then, called_whole, fails_before, fails_next, one_load}
 use Rattle.bd_app.proofs.Results.{IfSome-both, IfSome-weaker, OnOk-weaker, no_error, passed, rose_after, same_error}
 use Rattle.bd_model.specs.Limits.{longest_text}
 
@@ -64,6 +67,36 @@ loaded_long (Some held) text name bytes loaded many =
 pub short_file : (held : Option Held) (file : File) (bytes : List ℕ) → IfSome held (λ h. HoldsShort h file bytes) → IfSome held (λ h. IsShort h file)
 short_file held file bytes loaded = IfSome-weaker _ _ held (λ h short. (bytes, short)) loaded
 
+-- ---- a load that failed
+
+loads_by : {T : Type 0} (a b : FilesSeen) (file : File) (e : LoadError) → b.held ≡ a.held → a.faults ≤ b.faults → Called a b (loads (file ∷ [])) → (e ≡ loading.Failed → Rose a.faults b.faults)
+    → (e ≡ loading.Failed → b.blame ≡ Some (call.Load, file.1)) → (¬ (e ≡ loading.Failed) → b.blame ≡ a.blame) → Loads {T = T} (file ∷ []) a b (Err (load_fault e))
+loads_by a b file loading.Failed same rises called rose blamed quiet = record {
+  fault = tt;
+  rose = λ is. rose refl;
+  blamed = λ is. (file.1, (0, omega arith, refl), blamed refl);
+  else_keeps_blame = λ other. absurd (other refl);
+  held = same;
+  never_falls = rises;
+  called = tt;
+  called_up_to = (file, blamed refl, one_load a b file called);
+}
+loads_by a b file loading.Memory same rises called rose blamed quiet = record {
+  fault = tt;
+  rose = λ is. absurd (cc is);
+  blamed = λ is. absurd (cc is);
+  else_keeps_blame = λ other. quiet (λ is. cc is);
+  held = same;
+  never_falls = rises;
+  called = tt;
+  called_up_to = called_whole a b (loads (file ∷ [])) called;
+}
+
+-- the one load failed
+pub load_fails : {T : Type 0} (a b : FilesSeen) (file : File) (e : LoadError) (r : Result T Fault) → IsErrAnd r (λ y. y ≡ load_fault e) → b.held ≡ a.held → a.faults ≤ b.faults → Called a b (loads (file ∷ []))
+    → (e ≡ loading.Failed → Rose a.faults b.faults) → (e ≡ loading.Failed → b.blame ≡ Some (call.Load, file.1)) → (¬ (e ≡ loading.Failed) → b.blame ≡ a.blame) → Loads (file ∷ []) a b r
+load_fails a b file e r is same rises called rose blamed quiet = passed (λ z. Loads (file ∷ []) a b z) r (load_fault e) is (loads_by a b file e same rises called rose blamed quiet)
+
 -- ---- one file after another
 
 -- after a file that isn't too long
@@ -96,16 +129,16 @@ long_before held files more t offset code long = record {
   too_long = long.too_long;
 }
 
-fault_after : (held : Option Held) (file : File) (files : List File) (e : Ended) → IfSome held (λ h. IsShort h file) → IsLoadFault held files e → IsLoadFault held (file ∷ files) e
+fault_after : (held : Option Held) (file : File) (files : List File) (e : Fault) → IfSome held (λ h. IsShort h file) → IsLoadFault held files e → IsLoadFault held (file ∷ files) e
 fault_after held file files (Refused t offset code) short fault =
     IfSome-both _ _ _ held (λ h p q. long_after h file files t offset code p q) short fault
-fault_after held file files (Device which.Load) short fault = tt
+fault_after held file files Load short fault = tt
 fault_after held file files Memory short fault = tt
 fault_after held file files _ short fault = absurd fault
 
-fault_before : (held : Option Held) (files more : List File) (e : Ended) → IsLoadFault held files e → IsLoadFault held (files ++ more) e
+fault_before : (held : Option Held) (files more : List File) (e : Fault) → IsLoadFault held files e → IsLoadFault held (files ++ more) e
 fault_before held files more (Refused t offset code) fault = IfSome-weaker _ _ held (λ h long. long_before h files more t offset code long) fault
-fault_before held files more (Device which.Load) fault = tt
+fault_before held files more Load fault = tt
 fault_before held files more Memory fault = tt
 fault_before held files more _ fault = absurd fault
 
@@ -116,12 +149,12 @@ blames_before : (blame : Option Blame) (file : File) (files : List File) → Bla
 blames_before blame file files (name, (zero, lt, at), is) = (name, (0, omega arith, at), is)
 blames_before blame file files (name, (suc i, lt, at), is) = absurd (omega (arith, lt))
 
-fault_next : {T : Type 0} (held : Option Held) (file : File) (files : List File) (r : Result T Ended) → IfSome held (λ h. IsShort h file) → IfErr r (IsLoadFault held files) → IfErr r (IsLoadFault held (file ∷ files))
+fault_next : {T : Type 0} (held : Option Held) (file : File) (files : List File) (r : Result T Fault) → IfSome held (λ h. IsShort h file) → IfErr r (IsLoadFault held files) → IfErr r (IsLoadFault held (file ∷ files))
 fault_next held file files (Ok x) short fault = tt
 fault_next held file files (Err e) short fault = fault_after held file files e short fault
 
 -- the first load failed
-pub first_fails : {T S : Type 0} {file : File} {more : List File} {a b : FilesSeen} {e : Ended} (r : Result S Ended) → IsErrAnd r (λ y. y ≡ e) → Loads {T = T} (file ∷ []) a b (Err e)
+pub first_fails : {T S : Type 0} {file : File} {more : List File} {a b : FilesSeen} {e : Fault} (r : Result S Fault) → IsErrAnd r (λ y. y ≡ e) → Loads {T = T} (file ∷ []) a b (Err e)
     → Loads (file ∷ more) a b r
 first_fails {T} {S} {file} {more} {a} {b} {e} r is l = passed (λ z. Loads (file ∷ more) a b z) r e is (record {
   fault = fault_before a.held (file ∷ []) more e l.fault;
@@ -131,11 +164,11 @@ first_fails {T} {S} {file} {more} {a} {b} {e} r is l = passed (λ z. Loads (file
   held = l.held;
   never_falls = l.never_falls;
   called = tt;
-  called_up_to = fails_before a b (file ∷ []) more e l.called_up_to;
+  called_up_to = fails_before a b (file ∷ []) more (ended_by_fault e) l.called_up_to;
 })
 
 -- the last load failed
-pub last_fails : {T S : Type 0} {files : List File} {a b : FilesSeen} {e : Ended} (r : Result S Ended) → IsErrAnd r (λ y. y ≡ e) → Loads {T = T} files a b (Err e) → Loads files a b r
+pub last_fails : {T S : Type 0} {files : List File} {a b : FilesSeen} {e : Fault} (r : Result S Fault) → IsErrAnd r (λ y. y ≡ e) → Loads {T = T} files a b (Err e) → Loads files a b r
 last_fails {T} {S} {files} {a} {b} {e} r is l = passed (λ z. Loads files a b z) r e is (record {
   fault = l.fault;
   rose = λ same. l.rose (same_error _ _ same);
@@ -161,7 +194,7 @@ last_loads {T} {S} {files} {a} {b} {x} y l = record {
 }
 
 -- the first load gave its bytes, and then the others were loaded
-pub loads_next : {T S : Type 0} {file : File} {more : List File} {a b c : FilesSeen} {x : T} {r : Result S Ended} → IfSome a.held (λ h. IsShort h file) → Loads (file ∷ []) a b (Ok x) → Loads more b c r
+pub loads_next : {T S : Type 0} {file : File} {more : List File} {a b c : FilesSeen} {x : T} {r : Result S Fault} → IfSome a.held (λ h. IsShort h file) → Loads (file ∷ []) a b (Ok x) → Loads more b c r
     → Loads (file ∷ more) a c r
 loads_next {T} {S} {file} {more} {a} {b} {c} {x} {r} short one others = record {
   fault = fault_next a.held file more r short (subst (λ h. IfErr r (IsLoadFault h more)) one.held others.fault);

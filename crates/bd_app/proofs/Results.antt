@@ -1,6 +1,6 @@
 -- What holds of values that may not be there, and of errors that are passed on.
-use Rattle.std.proofs.Common.{◌≡◌, ℕ, ◌≤◌, sym, ◌∙◌, subst, ap, inl, inr, arith, Result, Ok, Err}
-use Rattle.std.specs.Prelude.{Option, Some, None, IfSome, OnOk, IsErrAnd, IsErrOf}
+use Rattle.std.proofs.Common.{◌≡◌, ℕ, ◌≤◌, refl, sym, ◌∙◌, subst, ap, inl, inr, arith, Result, Ok, Err}
+use Rattle.std.specs.Prelude.{Option, Some, None, IfSome, IfOk, OnOk, IsErrAnd, IsErrOf}
 use Rattle.std.proofs.lemmas.Bool.{cases_lt}
 use Rattle.bd_files.specs.Devices.{Rose}
 
@@ -15,6 +15,11 @@ IfSome-both P Q R (Some x) f p q = f x p q
 pub IfSome-all : {A : Type 0} (P : A → Type 0) (o : Option A) → ((x : A) → P x) → IfSome o P
 IfSome-all P None f = tt
 IfSome-all P (Some x) f = f x
+
+-- what holds of each value holds of the result
+pub IfOk-each : {T E : Type 0} (P : T → Type 0) (r : Result T E) → ((x : T) → r ≡ Ok x → P x) → IfOk r P
+IfOk-each P (Ok x) f = f x refl
+IfOk-each P (Err e) f = tt
 
 pub OnOk-weaker : {T E : Type 0} (P Q : Type 0) (r : Result T E) → (P → Q) → OnOk r P → OnOk r Q
 OnOk-weaker P Q (Ok x) f p = f p

@@ -9,9 +9,8 @@ use Rattle.bd_verify.specs.declared.verdict.Work.{Work}
 use Rattle.bd_app.specs.Files.{AreSaved, AreSavedUpTo, KeepsAllBut, save_if}
 use Rattle.bd_app.specs.Meaning.{Called, CalledFirst, FilesSeen}
 use Rattle.bd_app.specs.Words.{Name}
-use Rattle.bd_app.specs.declared.answer.Ended.{Ended}
-use Rattle.bd_app.specs.declared.answer.Ended.TheVariants.{Device, Memory}
-use Rattle.bd_app.specs.declared.answer.Which.TheVariants.{Save}
+use Rattle.bd_app.specs.declared.fault.Fault.{Fault}
+use Rattle.bd_app.specs.declared.fault.Fault.TheVariants.{Save, Memory}
 use Rattle.bd_app.specs.inner.Saved.{IsSaveFault, Saves}
 use Rattle.bd_app.proofs.Calls.{called_ok, called_then, first_after, first_before, formula_up_to, proof_up_to}
 use Rattle.bd_app.proofs.Results.{OnOk-weaker, passed, rose_after, same_error}
@@ -81,14 +80,14 @@ keeps_both (Some a) (Some b) None P Q one two = absurd two
 keeps_both (Some a) (Some b) (Some c) P Q one two = λ other not_named. two other (λ q. not_named (inr q)) ∙ one other (λ p. not_named (inl p))
 
 -- one error isn't two
-two_errors : {T : Type 0} (e one other : Ended) → ¬ (one ≡ other) → IsErrOf {T = T} (Err e) one → IsErrOf {T = T} (Err e) other → ⊥
+two_errors : {T : Type 0} (e one other : Fault) → ¬ (one ≡ other) → IsErrOf {T = T} (Err e) one → IsErrOf {T = T} (Err e) other → ⊥
 two_errors e one other differs is also = let first : e ≡ one = cc is in let second : e ≡ other = cc also in differs (sym first ∙ second)
 
 -- the save of the formula failed
-pub formula_fails : {T S : Type 0} (cnf lrat : Option Name) (work : Work) (a b : FilesSeen) (e : Ended) (r : Result S Ended) → IsErrAnd r (λ y. y ≡ e) → IsSaveFault e
-    → (IsErrOf {T = T} (Err e) (Device Save) → Rose a.faults b.faults)
-    → (IsErrOf {T = T} (Err e) (Device Save) → (n : Name) × (cnf ≡ Some n) × (b.blame ≡ Some (call.Save, n)))
-    → (¬ IsErrOf {T = T} (Err e) (Device Save) → b.blame ≡ a.blame) → KeepsAllBut a.held b.held (λ n. cnf ≡ Some n) → a.faults ≤ b.faults
+pub formula_fails : {T S : Type 0} (cnf lrat : Option Name) (work : Work) (a b : FilesSeen) (e : Fault) (r : Result S Fault) → IsErrAnd r (λ y. y ≡ e) → IsSaveFault e
+    → (IsErrOf {T = T} (Err e) Save → Rose a.faults b.faults)
+    → (IsErrOf {T = T} (Err e) Save → (n : Name) × (cnf ≡ Some n) × (b.blame ≡ Some (call.Save, n)))
+    → (¬ IsErrOf {T = T} (Err e) Save → b.blame ≡ a.blame) → KeepsAllBut a.held b.held (λ n. cnf ≡ Some n) → a.faults ≤ b.faults
     → (¬ IsErrOf {T = T} (Err e) Memory → Called a b (save_if cnf (dimacs work.cnf))) → (IsErrOf {T = T} (Err e) Memory → CalledFirst a b (save_if cnf (dimacs work.cnf))) → Saves cnf lrat work a b r
 formula_fails {T} {S} cnf lrat work a b e r is fault rose blamed quiet keeps rises called first = passed (λ z. Saves cnf lrat work a b z) r e is (record {
   fault = fault;
@@ -100,15 +99,15 @@ formula_fails {T} {S} cnf lrat work a b e r is fault rose blamed quiet keeps ris
   else_keeps_blame = λ other. quiet (λ same. other (same_error e _ same));
   never_falls = rises;
   called = tt;
-  called_up_to = λ same. formula_up_to a b cnf lrat work (blamed (same_error e _ same)) (called (λ memory. two_errors e (Device Save) Memory (λ both. cc both) (same_error e _ same) memory));
+  called_up_to = λ same. formula_up_to a b cnf lrat work (blamed (same_error e _ same)) (called (λ memory. two_errors e Save Memory (λ both. cc both) (same_error e _ same) memory));
   called_first = λ same. first_before a b (save_if cnf (dimacs work.cnf)) (save_if lrat (lrat_text work.log)) (first (same_error e _ same));
 })
 
 -- it stands, and the proof was saved or not
-pub proof_follows : {T : Type 0} (cnf lrat : Option Name) (work : Work) (a b c : FilesSeen) (r : Result T Ended) → ((name : Name) → cnf ≡ Some name → Holds b.held name (dimacs work.cnf))
+pub proof_follows : {T : Type 0} (cnf lrat : Option Name) (work : Work) (a b c : FilesSeen) (r : Result T Fault) → ((name : Name) → cnf ≡ Some name → Holds b.held name (dimacs work.cnf))
     → KeepsAllBut a.held b.held (λ n. cnf ≡ Some n) → b.blame ≡ a.blame → a.faults ≤ b.faults → IfErr r IsSaveFault → OnOk r ((n : Name) → lrat ≡ Some n → Holds c.held n (lrat_text work.log))
-    → KeepsAllBut b.held c.held (λ n. lrat ≡ Some n) → (IsErrOf r (Device Save) → Rose b.faults c.faults)
-    → (IsErrOf r (Device Save) → (n : Name) × (lrat ≡ Some n) × (c.blame ≡ Some (call.Save, n))) → (¬ IsErrOf r (Device Save) → c.blame ≡ b.blame) → b.faults ≤ c.faults
+    → KeepsAllBut b.held c.held (λ n. lrat ≡ Some n) → (IsErrOf r Save → Rose b.faults c.faults)
+    → (IsErrOf r Save → (n : Name) × (lrat ≡ Some n) × (c.blame ≡ Some (call.Save, n))) → (¬ IsErrOf r Save → c.blame ≡ b.blame) → b.faults ≤ c.faults
     → Called a b (save_if cnf (dimacs work.cnf)) → (¬ IsErrOf r Memory → Called b c (save_if lrat (lrat_text work.log))) → (IsErrOf r Memory → CalledFirst b c (save_if lrat (lrat_text work.log))) → Saves cnf lrat work a c r
 proof_follows cnf lrat work a b c r formula kept unblamed rises fault saved keeps rose blamed quiet rises' called next first = record {
   fault = fault;

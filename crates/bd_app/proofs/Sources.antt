@@ -1,16 +1,21 @@
 -- From the bytes of files to the answer to a question on them.
 use Rattle.std.proofs.Common.{◌≡◌, ◌∙◌, ℕ, true, false, List, [], ◌∷◌, ◌++◌, length, drop, drop-cons, get_or, add-one, ap, ap₂, append_assoc, refl, sym, subst, inl, inr, arith, ◌<◌, ◌+◌, Bool}
-use Rattle.std.specs.Prelude.{◌⊎◌, Option, Result, Ok, Err, IfSome, IfOk, IfErr, IsErrAnd}
+use Rattle.std.specs.Prelude.{◌⊎◌, Option, Result, Ok, Err, IfSome, IfErr, IsErrAnd}
 use Rattle.bd_files.specs.Devices.{Held}
 use Rattle.bd_files.proofs.Called.{makes_none}
 use Rattle.bd_model.specs.DesignView.{DesignView}
 use Rattle.bd_model.specs.declared.case.Case.{Case}
 use Rattle.bd_model.specs.declared.case.Trail.{Trail}
 use Rattle.bd_model.specs.declared.table.Value.{Value}
-use Rattle.bd_typer.specs.Denotes.{DenotesWith}
+use Rattle.bd_model.specs.declared.design.Design.{Design}
+use Rattle.bd_foreign.specs.Rechecked.{IsFaultOf}
+use Rattle.bd_foreign.specs.declared.fault.ProofFault.{ProofFault}
+use Rattle.bd_foreign.specs.declared.fault.ProofFault.TheVariants as proofs
+use Rattle.bd_typer.specs.Denotes.{DenotesWith, OnDesign as OnDesignRead}
 use Rattle.bd_typer.specs.declared.premise.Premise.{Premise}
-use Rattle.bd_typer.specs.Faults.{FileFault}
 use Rattle.bd_typer.specs.declared.fault.Text.TheVariants as text
+use Rattle.bd_typer.specs.declared.fault.TypeFault.{TypeFault}
+use Rattle.bd_typer.specs.declared.fault.TypeFault.TheVariants as typer
 use Rattle.bd_app.specs.Answer.{HasReport}
 use Rattle.bd_app.specs.Bounded.{IsBoundedReport}
 use Rattle.bd_app.specs.Check.{Check, CheckSources, check_asked, check_meaning, check_names}
@@ -22,15 +27,17 @@ use Rattle.bd_app.specs.Questions.{design_meaning, text_meaning}
 use Rattle.bd_app.specs.Replay.{IsJudgement}
 use Rattle.bd_app.specs.Retrace.{IsRetraced}
 use Rattle.bd_app.specs.Run.{IsTrace, cycle_text, cycles_text}
-use Rattle.bd_app.specs.Sources.{HoldSources, IsDesign, Sources, TextSources}
+use Rattle.bd_app.specs.Sources.{AreRead, HoldSources, IsDesign, Sources, TextSources}
 use Rattle.bd_app.specs.Texts.{TextKind}
 use Rattle.bd_app.specs.Verdicts.{ended_by, verdict_words, work_of, IsVerdictReport}
 use Rattle.bd_app.specs.declared.answer.Answer.{Answer}
 use Rattle.bd_app.specs.declared.answer.Ended.{Ended}
-use Rattle.bd_app.specs.declared.answer.Ended.TheVariants.{Refused, BadText, Memory}
+use Rattle.bd_app.specs.declared.fault.Fault.{Fault}
+use Rattle.bd_app.specs.declared.fault.Fault.TheVariants.{Refused, BadText, Memory}
 use Rattle.bd_app.specs.declared.verdict.Asked.{Asked}
 use Rattle.bd_app.specs.declared.verdict.ShownVerdict.{ShownVerdict}
 use Rattle.bd_app.specs.inner.Done.{AreDesign, AreRefused, IsBadProof, IsDone, IsProvedBy, IsSaidOf, IsShownOf, IsTextRefused, OnDesign, OnSources, OnText}
+use Rattle.bd_app.specs.inner.Faults.{design_fault, proof_fault}
 use Rattle.bd_app.specs.inner.Saved.{Saves}
 use Rattle.bd_app.proofs.Calls.{called_then}
 use Rattle.bd_app.proofs.Effects.{AreTextsRefused, IsPlain, Stand, memory_after, none_saved, quiet_done, texts_refused, unchanged, verdict_done}
@@ -40,9 +47,17 @@ use Rattle.bd_app.proofs.Saves.{keeps_same}
 use Rattle.bd_app.proofs.Verdicts.{no_bounded, no_proved, no_ran, no_replayed, no_retraced, verdict_report}
 
 -- the same texts denote the same
-pub denotes_same : (premise : Premise) (p u s v : List ℕ) (i j : Option (List ℕ)) (r : Result DesignView FileFault) → p ≡ u → s ≡ v → i ≡ j → DenotesWith premise p s i r → DenotesWith premise u v j r
+pub denotes_same : (premise : Premise) (p u s v : List ℕ) (i j : Option (List ℕ)) (r : Result Design TypeFault) → p ≡ u → s ≡ v → i ≡ j → OnDesignRead r (DenotesWith premise p s i) → OnDesignRead r (DenotesWith premise u v j)
 denotes_same premise p u s v i j r pu sv ij h =
-    subst (λ x. DenotesWith premise u v x r) ij (subst (λ x. DenotesWith premise u x i r) sv (subst (λ x. DenotesWith premise x s i r) pu h))
+    subst (λ x. OnDesignRead r (DenotesWith premise u v x)) ij (subst (λ x. OnDesignRead r (DenotesWith premise u x i)) sv (subst (λ x. OnDesignRead r (DenotesWith premise x s i)) pu h))
+
+are_refused : (s : Sources) (e : TypeFault) → OnDesignRead (Err e) (AreRead s) → AreRefused s (design_fault e)
+are_refused s (typer.Bad file offset code) read = read
+are_refused s typer.Memory read = tt
+
+-- sources that aren't read are refused
+pub not_read : {T : Type 0} (s : Sources) (e : TypeFault) (r : Result T Fault) → IsErrAnd r (λ y. y ≡ design_fault e) → OnDesignRead (Err e) (AreRead s) → IfErr r (AreRefused s)
+not_read s e r is read = passed (λ z. IfErr z (AreRefused s)) r (design_fault e) is (are_refused s e read)
 
 -- sources that are given so, and are this design
 pub is_design : (held : Option Held) (AreGiven : Held → Sources → Type 0) (s : Sources) (d : DesignView) → IfSome held (λ h. AreGiven h s) → AreDesign s d → IfSome held (λ h. IsDesign (AreGiven h) d)
@@ -52,12 +67,12 @@ is_design held AreGiven s d given design = IfSome-weaker _ _ held (λ h g. recor
 
 module _ {V : Type 0} (k : TextKind V) (names : TextNames) (Says : DesignView → V → Ended → List ℕ → Type 0) (held : Option Held) (s : Sources) (bytes : List ℕ)
     (given : IfSome held (λ h. TextSources names h s)) (short : IfSome held (λ h. HoldsShort h (k.file, names.text) bytes)) where
-  design_refused : (e : Ended) → AreRefused s e → AreTextsRefused (text_meaning k names Says) held e
+  design_refused : (e : Fault) → AreRefused s e → AreTextsRefused (text_meaning k names Says) held e
   design_refused (Refused file offset code) fault = IfSome-weaker _ _ held (λ h g. inl (record { sources = s; given = g; denoted = fault })) given
   design_refused Memory fault = tt
   design_refused _ fault = absurd fault
 
-  text_refused : (d : DesignView) (e : Ended) → AreDesign s d → IsTextRefused k d bytes e → AreTextsRefused (text_meaning k names Says) held e
+  text_refused : (d : DesignView) (e : Fault) → AreDesign s d → IsTextRefused k d bytes e → AreTextsRefused (text_meaning k names Says) held e
   text_refused d (Refused file offset code) design fault = IfSome-both _ _ _ held (λ h g c. inr (record {
     is_file = fault.0;
     view = d;
@@ -69,11 +84,11 @@ module _ {V : Type 0} (k : TextKind V) (names : TextNames) (Says : DesignView �
   text_refused d Memory design fault = tt
   text_refused d _ design fault = absurd fault
 
-  any_refused : (e : Ended) → AreRefused s e ⊎ ((d : DesignView) × AreDesign s d × IsTextRefused k d bytes e) → AreTextsRefused (text_meaning k names Says) held e
+  any_refused : (e : Fault) → AreRefused s e ⊎ ((d : DesignView) × AreDesign s d × IsTextRefused k d bytes e) → AreTextsRefused (text_meaning k names Says) held e
   any_refused e fault = elim fault [ inl h ↦ design_refused e h | inr h ↦ text_refused h.0 e h.1 h.2 ]
 
 -- the answer to a question on a text, from what is said of its bytes
-pub text_done : {V : Type 0} (k : TextKind V) (names : TextNames) (Says : DesignView → V → Ended → List ℕ → Type 0) (a b : FilesSeen) (s : Sources) (bytes : List ℕ) (r : Result Answer Ended)
+pub text_done : {V : Type 0} (k : TextKind V) (names : TextNames) (Says : DesignView → V → Ended → List ℕ → Type 0) (a b : FilesSeen) (s : Sources) (bytes : List ℕ) (r : Result Answer Fault)
     → ((d : DesignView) (x : V) (e : Ended) (report : List ℕ) → Says d x e report → IsPlain e) → Stand (text_meaning k names Says).files a b → IfSome a.held (λ h. TextSources names h s)
     → IfSome a.held (λ h. HoldsShort h (k.file, names.text) bytes) → OnSources (IsSaidOf k Says) (IsTextRefused k) s bytes r → IsDone (text_meaning k names Says) a b r
 text_done k names Says a b s bytes (Ok answer) quiet stand given short on =
@@ -112,13 +127,18 @@ retraced_plain d t e report is = record {
   reported = subst HasReport (sym is.ended) tt;
 }
 
+-- a text on a design is refused
+pub on_no_text : (Said : DesignView → List ℕ → Answer → Type 0) (IsTextRefused : DesignView → List ℕ → Fault → Type 0) (d : DesignView) (bytes : List ℕ) (e : Fault) (r : Result Answer Fault) → IsErrAnd r (λ y. y ≡ e)
+    → IsTextRefused d bytes e → OnText Said IsTextRefused d bytes r
+on_no_text Said IsTextRefused d bytes e r is fault = passed (λ z. OnText Said IsTextRefused d bytes z) r e is (record { said = tt; refused = fault })
+
 -- from a text on a design to one on sources
-module _ (Said : DesignView → List ℕ → Answer → Type 0) (IsTextRefused : DesignView → List ℕ → Ended → Type 0) (s : Sources) (bytes : List ℕ) where
-  pub on_sources : (d : DesignView) (r : Result Answer Ended) → AreDesign s d → OnText Said IsTextRefused d bytes r → OnSources Said IsTextRefused s bytes r
+module _ (Said : DesignView → List ℕ → Answer → Type 0) (IsTextRefused : DesignView → List ℕ → Fault → Type 0) (s : Sources) (bytes : List ℕ) where
+  pub on_sources : (d : DesignView) (r : Result Answer Fault) → AreDesign s d → OnText Said IsTextRefused d bytes r → OnSources Said IsTextRefused s bytes r
   on_sources d (Ok a) design on = record { said = (d, design, on.said); refused = tt }
   on_sources d (Err e) design on = record { said = tt; refused = inr (d, design, on.refused) }
 
-  pub sources_refused : (e : Ended) (r : Result Answer Ended) → IsErrAnd r (λ y. y ≡ e) → AreRefused s e → OnSources Said IsTextRefused s bytes r
+  pub sources_refused : (e : Fault) (r : Result Answer Fault) → IsErrAnd r (λ y. y ≡ e) → AreRefused s e → OnSources Said IsTextRefused s bytes r
   sources_refused e r is fault = passed (λ z. OnSources Said IsTextRefused s bytes z) r e is (record { said = tt; refused = inl fault })
 
 pub next_state : (d : DesignView) (n : ℕ) (states : List (List Value)) (x e : List Value) (text after whole : List ℕ) → n < length states → x ≡ get_or states n e
@@ -130,13 +150,18 @@ next_state d n states x e text after whole lt at is before =
 
 -- ---- proofs from elsewhere
 
+-- a text that is no proof is refused
+pub is_bad_proof : (d : DesignView) (bytes : List ℕ) (e : ProofFault) → IsFaultOf d bytes e → IsBadProof d bytes (proof_fault e)
+is_bad_proof d bytes (proofs.Bad line column why cnf) fault = fault
+is_bad_proof d bytes proofs.Memory fault = tt
+
 module _ (q : Recheck) (held : Option Held) (s : Sources) (bytes : List ℕ) (given : IfSome held (λ h. TextSources q h s)) (proof : IfSome held (λ h. HoldsShort h (text.Proof, q.text) bytes)) where
-  recheck_refused : (e : Ended) → AreRefused s e → AreTextsRefused (recheck_meaning q) held e
+  recheck_refused : (e : Fault) → AreRefused s e → AreTextsRefused (recheck_meaning q) held e
   recheck_refused (Refused file offset code) fault = IfSome-weaker _ _ held (λ h g. record { sources = s; given = g; denoted = fault }) given
   recheck_refused Memory fault = tt
   recheck_refused _ fault = absurd fault
 
-  bad_proof : (d : DesignView) (e : Ended) → AreDesign s d → IsBadProof d bytes e → AreTextsRefused (recheck_meaning q) held e
+  bad_proof : (d : DesignView) (e : Fault) → AreDesign s d → IsBadProof d bytes e → AreTextsRefused (recheck_meaning q) held e
   bad_proof d (BadText line column why cnf) design fault = IfSome-both _ _ _ held (λ h g p. record {
     design = d;
     denoted = record { sources = s; given = g; denoted = design };
@@ -147,11 +172,11 @@ module _ (q : Recheck) (held : Option Held) (s : Sources) (bytes : List ℕ) (gi
   bad_proof d Memory design fault = tt
   bad_proof d _ design fault = absurd fault
 
-  proof_refused : (e : Ended) → AreRefused s e ⊎ ((d : DesignView) × AreDesign s d × IsBadProof d bytes e) → AreTextsRefused (recheck_meaning q) held e
+  proof_refused : (e : Fault) → AreRefused s e ⊎ ((d : DesignView) × AreDesign s d × IsBadProof d bytes e) → AreTextsRefused (recheck_meaning q) held e
   proof_refused e fault = elim fault [ inl h ↦ recheck_refused e h | inr h ↦ bad_proof h.0 e h.1 h.2 ]
 
 -- the answer to a proof, from what is said of its bytes
-pub recheck_done : (q : Recheck) (a b : FilesSeen) (s : Sources) (bytes : List ℕ) (r : Result Answer Ended) → Stand (recheck_meaning q).files a b → IfSome a.held (λ h. TextSources q h s)
+pub recheck_done : (q : Recheck) (a b : FilesSeen) (s : Sources) (bytes : List ℕ) (r : Result Answer Fault) → Stand (recheck_meaning q).files a b → IfSome a.held (λ h. TextSources q h s)
     → IfSome a.held (λ h. HoldsShort h (text.Proof, q.text) bytes) → OnSources IsProvedBy IsBadProof s bytes r → IsDone (recheck_meaning q) a b r
 recheck_done q a b s bytes (Ok answer) stand given proof on =
     let said = on.said.2 in
@@ -175,13 +200,13 @@ recheck_done q a b s bytes (Err e) stand given proof on =
 
 -- ---- checks
 
-check_refused : (q : Check) (held : Option Held) (s : Sources) (e : Ended) → IfSome held (λ h. CheckSources q h s) → AreRefused s e → AreTextsRefused (check_meaning q) held e
+check_refused : (q : Check) (held : Option Held) (s : Sources) (e : Fault) → IfSome held (λ h. CheckSources q h s) → AreRefused s e → AreTextsRefused (check_meaning q) held e
 check_refused q held s (Refused file offset code) given fault = IfSome-weaker _ _ held (λ h g. record { sources = s; given = g; denoted = fault }) given
 check_refused q held s Memory given fault = tt
 check_refused q held s _ given fault = absurd fault
 
 -- the sources of a check are refused
-pub check_texts : (q : Check) (a b : FilesSeen) (s : Sources) (e : Ended) (r : Result Answer Ended) → IsErrAnd r (λ y. y ≡ e) → Stand (check_meaning q).files a b → IfSome a.held (λ h. CheckSources q h s) → AreRefused s e
+pub check_texts : (q : Check) (a b : FilesSeen) (s : Sources) (e : Fault) (r : Result Answer Fault) → IsErrAnd r (λ y. y ≡ e) → Stand (check_meaning q).files a b → IfSome a.held (λ h. CheckSources q h s) → AreRefused s e
     → IsDone (check_meaning q) a b r
 check_texts q a b s e r is stand given fault = passed (λ z. IsDone (check_meaning q) a b z) r e is (
     texts_refused (check_meaning q) a b e stand (IfSome-weaker _ _ a.held (λ h g. sources_short h (check_names q) s g) given) (check_refused q a.held s e given fault))
@@ -192,50 +217,42 @@ pub check_verdict : (q : Check) (held : Option Held) (s : Sources) (shows : Bool
 check_verdict q held s shows f given (d, design, shown) =
     record { asked = check_asked q; is_asked = refl; design = d; asks = is_design held (CheckSources q) s d given design; is_verdict = shown.verdict }
 
-check_done_at : {T : Type 0} (q : Check) (a b c : FilesSeen) (s : Sources) (x : T) (d : DesignView) (f : ShownVerdict) (r : Result Answer Ended) → Stand (check_meaning q).files a b → IfSome a.held (λ h. CheckSources q h s)
-    → AreDesign s d → IsVerdictFor (check_meaning q) a.held f.verdict → Saves q.cnf q.lrat (work_of f.verdict) b c (Ok x) → IfOk r (λ y. y.ended ≡ ended_by f.verdict)
-    → IfOk r (λ y. IsVerdictReport (check_asked q) true [] d y.ended y.report.items) → IfErr r (λ e. e ≡ Memory) → IsDone (check_meaning q) a c r
-check_done_at q a b c s x d f (Ok answer) stand given design verdict saved ended report memory =
+-- the answer to a check, after its work was saved
+pub check_done : {T : Type 0} (q : Check) (a b c : FilesSeen) (s : Sources) (x : T) (f : ShownVerdict) (lead : List ℕ) (answer : Answer) → Stand (check_meaning q).files a b → IfSome a.held (λ h. CheckSources q h s)
+    → IsShownOf s (check_asked q) true f → Saves q.cnf q.lrat (work_of f.verdict) b c (Ok x) → lead ≡ [] → answer.ended ≡ ended_by f.verdict
+    → answer.report.items ≡ (lead ++ verdict_words q.budget f.verdict ++ 10 ∷ []) ++ f.case.items → IsDone (check_meaning q) a c (Ok answer)
+check_done q a b c s x f lead answer stand given (d, design, shown) saved led ended report =
+    let whole = subst (λ l. answer.report.items ≡ (l ++ verdict_words q.budget f.verdict ++ 10 ∷ []) ++ f.case.items) led report in
     verdict_done (check_meaning q) a c f.verdict answer ended
-    (record { design = d; asks = is_design a.held (CheckSources q) s d given design; says = report })
+    (record { design = d; asks = is_design a.held (CheckSources q) s d given design; says = verdict_report d (check_asked q) true f [] answer shown ended whole })
     saved.saved (subst (λ h. KeepsAllBut h c.held (IsEither q.cnf q.lrat)) stand.held saved.others) (saved.else_keeps_blame (no_error x _) ∙ stand.blame)
     (omega (arith, stand.never_falls, saved.never_falls)) (called_then a b c (loads (check_meaning q).files) (saves q.cnf q.lrat (work_of f.verdict)) stand.called saved.called)
-check_done_at q a b c s x d f (Err e) stand given design verdict saves ended report memory =
-    subst (λ z. IsDone (check_meaning q) a c (Err z)) (sym memory) (memory_after (check_meaning q) a b c x f.verdict stand verdict saves)
 
--- the answer to a check, after its work was saved
-pub check_done : {T : Type 0} (q : Check) (a b c : FilesSeen) (s : Sources) (x : T) (f : ShownVerdict) (lead : List ℕ) (r : Result Answer Ended) → Stand (check_meaning q).files a b → IfSome a.held (λ h. CheckSources q h s)
-    → IsShownOf s (check_asked q) true f → Saves q.cnf q.lrat (work_of f.verdict) b c (Ok x) → lead ≡ [] → IfOk r (λ y. y.ended ≡ ended_by f.verdict)
-    → IfOk r (λ y. y.report.items ≡ (lead ++ verdict_words q.budget f.verdict ++ 10 ∷ []) ++ f.case.items) → IfErr r (λ e. e ≡ Memory) → IsDone (check_meaning q) a c r
-check_done q a b c s x f lead r stand given (d, design, shown) saves led ended report memory =
-    let whole = subst (λ l. IfOk r (λ y. y.report.items ≡ (l ++ verdict_words q.budget f.verdict ++ 10 ∷ []) ++ f.case.items)) led report in
-    check_done_at q a b c s x d f r stand given design (check_verdict q a.held s true f given (d, design, shown)) saves ended (verdict_report d (check_asked q) true f [] r shown ended whole) memory
+-- memory ran out after it was saved
+pub check_memory : {T : Type 0} (q : Check) (a b c : FilesSeen) (s : Sources) (x : T) (f : ShownVerdict) (r : Result Answer Fault) → IsErrAnd r (λ y. y ≡ Memory) → Stand (check_meaning q).files a b
+    → IfSome a.held (λ h. CheckSources q h s) → IsShownOf s (check_asked q) true f → Saves q.cnf q.lrat (work_of f.verdict) b c (Ok x) → IsDone (check_meaning q) a c r
+check_memory q a b c s x f r is stand given shown saved = memory_after (check_meaning q) a b c x f.verdict r is stand (check_verdict q a.held s true f given shown) saved
 
 -- ---- answers on a design
 
 -- sources are refused
-pub on_refused : (Says : DesignView → Ended → List ℕ → Type 0) (s : Sources) (e : Ended) (r : Result Answer Ended) → IsErrAnd r (λ y. y ≡ e) → AreRefused s e → OnDesign Says s r
+pub on_refused : (Says : DesignView → Ended → List ℕ → Type 0) (s : Sources) (e : Fault) (r : Result Answer Fault) → IsErrAnd r (λ y. y ≡ e) → AreRefused s e → OnDesign Says s r
 on_refused Says s e r is fault = passed (λ z. OnDesign Says s z) r e is (record { said = tt; refused = fault })
 
--- the answer on their design, or want of memory
-pub on_design : (Says : DesignView → Ended → List ℕ → Type 0) (s : Sources) (d : DesignView) (r : Result Answer Ended) → AreDesign s d → IfOk r (λ a. Says d a.ended a.report.items) → IfErr r (λ e. e ≡ Memory) → OnDesign Says s r
-on_design Says s d (Ok answer) design says memory = record { said = (d, design, says); refused = tt }
-on_design Says s d (Err e) design says memory = record { said = tt; refused = subst (λ x. AreRefused s x) (sym memory) tt }
-
--- a verdict on it
-pub verdict_on_sources : (asked : Asked) (shows : Bool) (lead : List ℕ) (s : Sources) (f : ShownVerdict) (r : Result Answer Ended) → IsShownOf s asked shows f → IfOk r (λ y. y.ended ≡ ended_by f.verdict)
-    → IfOk r (λ y. y.report.items ≡ (lead ++ verdict_words asked.budget f.verdict ++ 10 ∷ []) ++ f.case.items) → IfErr r (λ e. e ≡ Memory) → OnDesign (IsVerdictReport asked shows lead) s r
-verdict_on_sources asked shows lead s f r (d, design, shown) ended report memory =
-    on_design (IsVerdictReport asked shows lead) s d r design (verdict_report d asked shows f lead r shown ended report) memory
+-- a verdict on their design
+pub verdict_on_sources : (asked : Asked) (shows : Bool) (lead : List ℕ) (s : Sources) (f : ShownVerdict) (answer : Answer) → IsShownOf s asked shows f → answer.ended ≡ ended_by f.verdict
+    → answer.report.items ≡ (lead ++ verdict_words asked.budget f.verdict ++ 10 ∷ []) ++ f.case.items → OnDesign (IsVerdictReport asked shows lead) s (Ok answer)
+verdict_on_sources asked shows lead s f answer (d, design, shown) ended report =
+    record { said = (d, design, verdict_report d asked shows f lead answer shown ended report); refused = tt }
 
 -- where nothing is saved and no verdict given
 module _ (names : DesignNames) (Says : DesignView → Ended → List ℕ → Type 0) where
-  sources_faulty : (held : Option Held) (s : Sources) (e : Ended) → IfSome held (λ h. HoldSources h names s) → AreRefused s e → AreTextsRefused (design_meaning names Says) held e
+  sources_faulty : (held : Option Held) (s : Sources) (e : Fault) → IfSome held (λ h. HoldSources h names s) → AreRefused s e → AreTextsRefused (design_meaning names Says) held e
   sources_faulty held s (Refused file offset code) given fault = IfSome-weaker _ _ held (λ h g. record { sources = s; given = g; denoted = fault }) given
   sources_faulty held s Memory given fault = tt
   sources_faulty held s _ given fault = absurd fault
 
-  pub design_done : (a b : FilesSeen) (s : Sources) (r : Result Answer Ended) → ((d : DesignView) (e : Ended) (report : List ℕ) → Says d e report → IsPlain e) → Stand (design_meaning names Says).files a b → IfSome a.held (λ h. HoldSources h names s)
+  pub design_done : (a b : FilesSeen) (s : Sources) (r : Result Answer Fault) → ((d : DesignView) (e : Ended) (report : List ℕ) → Says d e report → IsPlain e) → Stand (design_meaning names Says).files a b → IfSome a.held (λ h. HoldSources h names s)
       → OnDesign Says s r → IsDone (design_meaning names Says) a b r
   design_done a b s (Ok answer) quiet stand given on =
       quiet_done (design_meaning names Says) a b answer stand (quiet _ _ _ on.said.2) (record { design = on.said.0; asks = is_design a.held (λ h. HoldSources h names) s on.said.0 given on.said.1; says = on.said.2 })
@@ -250,12 +267,12 @@ bounded_plain cycles budget d e report is = record {
 
 -- ---- generated pipelines
 
-gen_refused : (q : Gen) (held : Option Held) (s : Sources) (e : Ended) → s ≡ generated q → AreRefused s e → AreTextsRefused (gen_meaning q) held e
+gen_refused : (q : Gen) (held : Option Held) (s : Sources) (e : Fault) → s ≡ generated q → AreRefused s e → AreTextsRefused (gen_meaning q) held e
 gen_refused q held s (Refused file offset code) is fault = IfSome-all _ held (λ h. record { sources = s; given = is; denoted = fault })
 gen_refused q held s Memory is fault = tt
 gen_refused q held s _ is fault = absurd fault
 
-pub gen_done : (q : Gen) (files : FilesSeen) (s : Sources) (r : Result Answer Ended) → s ≡ generated q → OnDesign (IsVerdictReport gen_asked false (gen_lead q)) s r → IsDone (gen_meaning q) files files r
+pub gen_done : (q : Gen) (files : FilesSeen) (s : Sources) (r : Result Answer Fault) → s ≡ generated q → OnDesign (IsVerdictReport gen_asked false (gen_lead q)) s r → IsDone (gen_meaning q) files files r
 gen_done q files s (Ok answer) is on =
     let says = on.said.2 in
     verdict_done (gen_meaning q) files files says.verdict answer says.ended

@@ -1,6 +1,6 @@
 -- What verdicts are as answers.
 use Rattle.std.proofs.Common.{◌≡◌, ◌≢◌, ◌∙◌, ℕ, true, Bool, List, [], ◌∷◌, ◌++◌, refl, sym, subst, ap}
-use Rattle.std.specs.Prelude.{Option, Some, None, Result, Ok, Err, IfOk, is_some}
+use Rattle.std.specs.Prelude.{Option, Some, None, is_some}
 use Rattle.bd_model.specs.DesignView.{DesignView}
 use Rattle.bd_model.specs.Fits.{Fits}
 use Rattle.bd_model.specs.Conditions.{IsJudged, SomeCaseMeetsInvariant}
@@ -136,9 +136,9 @@ verdict_is d asked (verdict.Undecided Meets work) right holds wrong void met has
 -- ---- their report
 
 -- an answer that is made of a verdict and of the text of its case
-pub verdict_report : (d : DesignView) (asked : Asked) (shows : Bool) (f : ShownVerdict) (lead : List ℕ) (r : Result Answer Ended) → IsShown d asked shows f → IfOk r (λ a. a.ended ≡ ended_by f.verdict)
-    → IfOk r (λ a. a.report.items ≡ (lead ++ verdict_words asked.budget f.verdict ++ 10 ∷ []) ++ f.case.items) → IfOk r (λ a. IsVerdictReport asked shows lead d a.ended a.report.items)
-verdict_report d asked shows f lead (Ok a) is ended report = record {
+pub verdict_report : (d : DesignView) (asked : Asked) (shows : Bool) (f : ShownVerdict) (lead : List ℕ) (a : Answer) → IsShown d asked shows f → a.ended ≡ ended_by f.verdict
+    → a.report.items ≡ (lead ++ verdict_words asked.budget f.verdict ++ 10 ∷ []) ++ f.case.items → IsVerdictReport asked shows lead d a.ended a.report.items
+verdict_report d asked shows f lead a is ended report = record {
   verdict = f.verdict;
   is_verdict = is.verdict;
   ended = ended;
@@ -146,4 +146,3 @@ verdict_report d asked shows f lead (Ok a) is ended report = record {
   shown = is.case;
   whole = report;
 }
-verdict_report d asked shows f lead (Err e) is ended report = tt

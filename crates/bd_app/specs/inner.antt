@@ -1,5 +1,6 @@
 pub mod Asked
 pub mod ProofLine
+pub mod Faults
 pub mod Loaded
 pub mod Saved
 pub mod Done

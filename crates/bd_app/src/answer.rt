@@ -7,7 +7,9 @@ ghost use Rattle.std.specs.Prelude.{◌≡◌, ◌≤◌, flat_map};
 ghost use Rattle.bd_files.specs.Devices.{PutsOrFaults};
 ghost use Rattle.bd_app.specs.Answer.{status_of, fault_line_of, file_word, device_text, refusal_of, refusal_line, HasReport};
 ghost use Rattle.bd_app.specs.Verdicts.{ended_by};
+ghost use Rattle.bd_app.specs.inner.Faults.{ended_by_fault};
 
+use crate::fault::Fault;
 use crate::proof_fault::put_proof_fault;
 use bd_bounded::Bounded;
 use bd_cnf::Cnf;
@@ -123,6 +125,30 @@ impl Ended {
             Verdict::Wrong(condition, case, work) => Ended::Wrong(condition, case, work),
             Verdict::Void(work) => Ended::Void(work),
             Verdict::Undecided(asked, work) => Ended::Undecided(asked, work),
+        }
+    }
+
+    /// The answer that a fault is.
+    pub(crate) fn from_fault(fault: Fault) -> Ended
+        ensures { result ≡ ended_by_fault fault }
+    {
+        match fault {
+            Fault::Usage => Ended::Usage,
+            Fault::Refused { file, offset, code } => Ended::Refused { file, offset, code },
+            Fault::BadText {
+                line,
+                column,
+                why,
+                cnf,
+            } => Ended::BadText {
+                line,
+                column,
+                why,
+                cnf,
+            },
+            Fault::Load => Ended::Device(Which::Load),
+            Fault::Save => Ended::Device(Which::Save),
+            Fault::Memory => Ended::Memory,
         }
     }
 

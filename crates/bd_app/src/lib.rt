@@ -3,6 +3,7 @@
 
 mod answer;
 mod command;
+mod fault;
 mod laws;
 mod load;
 mod program;

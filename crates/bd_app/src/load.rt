@@ -6,8 +6,8 @@ ghost use Rattle.bd_app.specs.Sources.{HoldSources, HoldsShortIf, TextSources};
 ghost use Rattle.bd_app.specs.Words.{given};
 ghost use Rattle.bd_app.specs.inner.Loaded.{AreFew, Loads, bytes_of, sources_view};
 
-use crate::answer::{Ended, Which};
-use bd_files::{Files, LoadError};
+use crate::fault::Fault;
+use bd_files::Files;
 use bd_text::Code;
 use bd_typer::{Premise, Text};
 
@@ -28,7 +28,7 @@ fn most_bytes(file: Text) -> usize
 }
 
 /// The bytes of a file, if there aren't too many.
-fn load<F: Files>(files: &mut F, file: Text, name: &str) -> Result<Vec<u8>, Ended>
+fn load<F: Files>(files: &mut F, file: Text, name: &str) -> Result<Vec<u8>, Fault>
     ensures loaded { IfOk result (λ bytes. IfSome (F.held files.old) (λ held.
         HoldsShort held (file, name.now) bytes.items)) }
     ensures few { IfOk result (λ bytes. length bytes.items ≤ most_bytes file) }
@@ -36,20 +36,15 @@ fn load<F: Files>(files: &mut F, file: Text, name: &str) -> Result<Vec<u8>, Ende
         (files_seen F.held F.faults F.blame F.calls files.new) result }
 {
     let most = most_bytes(file);
-    match files.load(name, most) {
-        Ok(bytes) => {
-            if bytes.as_slice().len() <= most {
-                Ok(bytes)
-            } else {
-                Err(Ended::Refused {
-                    file,
-                    offset: most,
-                    code: Code::TooLong,
-                })
-            }
-        }
-        Err(LoadError::Failed) => Err(Ended::Device(Which::Load)),
-        Err(LoadError::Memory) => Err(Ended::Memory),
+    let bytes = files.load(name, most)?;
+    if bytes.as_slice().len() <= most {
+        Ok(bytes)
+    } else {
+        Err(Fault::Refused {
+            file,
+            offset: most,
+            code: Code::TooLong,
+        })
     }
 }
 
@@ -58,7 +53,7 @@ fn load_if<F: Files>(
     files: &mut F,
     file: Text,
     name: Option<&str>,
-) -> Result<Option<Vec<u8>>, Ended>
+) -> Result<Option<Vec<u8>>, Fault>
     ensures loaded { IfOk result (λ bytes. IfSome (F.held files.old) (λ held.
         HoldsShortIf held file (given name.entry) (bytes_of bytes))) }
     ensures few { IfOk result (λ bytes.
@@ -92,7 +87,7 @@ pub struct Sources {
 }
 
 /// The bytes of the files of a design, loaded in the order of the words.
-pub fn load_sources<F: Files>(files: &mut F, names: DesignFiles<'_>) -> Result<Sources, Ended>
+pub fn load_sources<F: Files>(files: &mut F, names: DesignFiles<'_>) -> Result<Sources, Fault>
     ensures loaded { IfOk result (λ s. IfSome (F.held files.old) (λ held.
         HoldSources held (design_names names.entry) (sources_view s))) }
     ensures few { IfOk result (λ s. AreFew (sources_view s)) }
@@ -132,7 +127,7 @@ pub fn load_text<F: Files>(
     files: &mut F,
     file: Text,
     names: TextFiles<'_>,
-) -> Result<TextBytes, Ended>
+) -> Result<TextBytes, Fault>
     ensures loaded { IfOk result (λ bytes. IfSome (F.held files.old) (λ held.
         TextSources (text_names names.entry) held (sources_view bytes.sources))) }
     ensures loaded_text { IfOk result (λ bytes. IfSome (F.held files.old) (λ held.

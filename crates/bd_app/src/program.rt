@@ -19,13 +19,15 @@ ghost use Rattle.bd_app.specs.Meaning.{files_seen, IsCalled};
 ghost use Rattle.bd_app.specs.Program.{ForBounded, ForCompletion, ForDesign, IsRun, sink_seen};
 ghost use Rattle.bd_app.specs.Words.{texts_of};
 ghost use Rattle.bd_app.specs.inner.Asked.{asked, IsInRange};
-ghost use Rattle.bd_app.specs.inner.Done.{IsDone, IsEarlyFault, ended_of};
+ghost use Rattle.bd_app.specs.inner.Done.{IsDone};
+ghost use Rattle.bd_app.specs.inner.Faults.{ended_by_fault, ended_of};
 
 use crate::answer::{Answer, Ended, Which};
 use crate::command::{
-    Command, WordsFault, bounded, check, command_of, complete, generate, recheck, replay, retrace,
+    Command, bounded, check, command_of, complete, generate, recheck, replay, retrace,
     run as run_cycles,
 };
+use crate::fault::Fault;
 use bd_bounded::Bounded;
 use bd_completion::Complete;
 use bd_files::{Files, Sink};
@@ -33,7 +35,7 @@ use bd_model::{Case, Condition, Judged, Trail, TrailJudged};
 use std::alloc::Global;
 
 /// The answer to the question that the words ask.
-fn answered<F: Files>(alloc: Global, files: &mut F, command: Command<'_>) -> Result<Answer, Ended>
+fn answered<F: Files>(alloc: Global, files: &mut F, command: Command<'_>) -> Result<Answer, Fault>
     requires { IsInRange command }
     ensures { IsDone (meaning_of (asked command.entry))
         (files_seen F.held F.faults F.blame F.calls files.old)
@@ -52,28 +54,25 @@ fn answered<F: Files>(alloc: Global, files: &mut F, command: Command<'_>) -> Res
 }
 
 /// The answer, before anything is printed.
-fn answer_of<F: Files>(alloc: Global, words: &[String], files: &mut F) -> Result<Answer, Ended>
+fn answer_of<F: Files>(alloc: Global, words: &[String], files: &mut F) -> Result<Answer, Fault>
     ensures usage_only { ended_of result ≡ Ended.Usage → taken (texts_of words.now) ≡ None }
     ensures usage { taken (texts_of words.now) ≡ None →
-        IsErrOf result Ended.Usage ⊎ IsErrOf result Ended.Memory }
+        IsErrOf result Fault.Usage ⊎ IsErrOf result Fault.Memory }
     ensures untouched { taken (texts_of words.now) ≡ None → files.new ≡ files.old }
     ensures report { IfOk result (λ a. HasReport a.ended) }
-    ensures fault { IfErr result IsEarlyFault }
     ensures done { (q : Question) → taken (texts_of words.now) ≡ Some q →
         IsDone (meaning_of q) (files_seen F.held F.faults F.blame F.calls files.old)
         (files_seen F.held F.faults F.blame F.calls files.new) result }
     ensures never_falls { F.faults files.old ≤ F.faults files.new }
 {
-    match command_of(alloc, words) {
-        Ok(command) => answered(alloc, files, command),
-        Err(WordsFault::Usage) => Err(Ended::Usage),
-        Err(WordsFault::Memory) => Err(Ended::Memory),
-    }
+    let command = command_of(alloc, words)?;
+    answered(alloc, files, command)
 }
 
 /// Puts the report on the output, if there is one.
-fn put_report<O: Sink>(answer: Result<Answer, Ended>, out: &mut O) -> Ended
-    ensures fault { IfErr answer (λ e. (result ≡ e) × (out.new ≡ out.old)) }
+fn put_report<O: Sink>(answer: Result<Answer, Fault>, out: &mut O) -> Ended
+    ensures fault { IfErr answer (λ fault.
+        (result ≡ ended_by_fault fault) × (out.new ≡ out.old)) }
     ensures report { IfOk answer (λ a. ((result ≡ a.ended)
         × Appends (O.written out.old) (O.written out.new) a.report.items)
         ⊎ ((result ≡ Ended.Device Which.Out) × Rose (O.faults out.old) (O.faults out.new)
@@ -83,7 +82,7 @@ fn put_report<O: Sink>(answer: Result<Answer, Ended>, out: &mut O) -> Ended
 {
     let answer = match answer {
         Ok(answer) => answer,
-        Err(fault) => return fault,
+        Err(fault) => return Ended::from_fault(fault),
     };
     match out.put(answer.report.as_slice()) {
         Ok(()) => answer.ended,

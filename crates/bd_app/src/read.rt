@@ -15,15 +15,15 @@ ghost use Rattle.bd_app.specs.inner.Completed.{AreCompletion, AreNoCompletion};
 ghost use Rattle.bd_app.specs.inner.Done.{AreDesign, AreRefused, IsTextRefused};
 ghost use Rattle.bd_model.specs.Limits.{longest_text};
 
-use crate::answer::Ended;
+use crate::fault::{Fault, of_text};
 use crate::load::{Sources, TextBytes};
-use bd_case::{CaseFault, TrailFault, read_case, read_trail};
+use bd_case::{read_case, read_trail};
 use bd_model::{Case, Design, Trail};
-use bd_typer::{DesignFault, Joined, Text, completed_design, design_with};
+use bd_typer::{Joined, Text, completed_design, design_with};
 use std::alloc::Global;
 
 /// The design of sources.
-pub fn design(alloc: Global, sources: &Sources) -> Result<Design, Ended>
+pub fn design(alloc: Global, sources: &Sources) -> Result<Design, Fault>
     requires { AreFew (sources_view sources.now) }
     ensures read { IfOk result (λ d. AreDesign (sources_view sources.now) (design_view d)) }
     ensures lawful { IfOk result (λ d. IsLawful (design_view d)) }
@@ -33,21 +33,18 @@ pub fn design(alloc: Global, sources: &Sources) -> Result<Design, Ended>
         Some(third) => Some(third.as_slice()),
         None => None,
     };
-    match design_with(
+    let design = design_with(
         alloc,
         sources.pipe.as_slice(),
         sources.spec.as_slice(),
         sources.premise,
         third,
-    ) {
-        Ok(design) => Ok(design),
-        Err(DesignFault::Bad { file, offset, code }) => Err(Ended::Refused { file, offset, code }),
-        Err(DesignFault::Memory) => Err(Ended::Memory),
-    }
+    )?;
+    Ok(design)
 }
 
 /// The design of sources, and the completion function of bytes.
-pub fn completion(alloc: Global, bytes: &TextBytes) -> Result<Joined, Ended>
+pub fn completion(alloc: Global, bytes: &TextBytes) -> Result<Joined, Fault>
     requires sources { AreFew (sources_view bytes.now.sources) }
     requires text { length bytes.now.text.items ≤ longest_text }
     ensures read { IfOk result (λ j. AreCompletion (sources_view bytes.now.sources)
@@ -62,51 +59,32 @@ pub fn completion(alloc: Global, bytes: &TextBytes) -> Result<Joined, Ended>
         Some(inv) => Some(inv.as_slice()),
         None => None,
     };
-    match completed_design(
+    let joined = completed_design(
         alloc,
         sources.pipe.as_slice(),
         sources.spec.as_slice(),
         bytes.text.as_slice(),
         inv,
-    ) {
-        Ok(joined) => Ok(joined),
-        Err(DesignFault::Bad { file, offset, code }) => Err(Ended::Refused { file, offset, code }),
-        Err(DesignFault::Memory) => Err(Ended::Memory),
-    }
+    )?;
+    Ok(joined)
 }
 
 /// The case of bytes.
-pub fn case(alloc: Global, design: &Design, bytes: &[u8]) -> Result<Case, Ended>
+pub fn case(alloc: Global, design: &Design, bytes: &[u8]) -> Result<Case, Fault>
     requires { IsLawful (design_view design.now) }
     ensures read { IfOk result (λ c.
         IsReading (design_view design.now) bytes.now (Ok c) × Fits (design_view design.now) c) }
     ensures refused { IfErr result (IsTextRefused case_kind (design_view design.now) bytes.now) }
 {
-    match read_case(alloc, design, bytes) {
-        Ok(case) => Ok(case),
-        Err(CaseFault::Bad { offset, code }) => Err(Ended::Refused {
-            file: Text::Case,
-            offset,
-            code,
-        }),
-        Err(CaseFault::Memory) => Err(Ended::Memory),
-    }
+    of_text(Text::Case, read_case(alloc, design, bytes))
 }
 
 /// The trail of bytes.
-pub fn trail(alloc: Global, design: &Design, bytes: &[u8]) -> Result<Trail, Ended>
+pub fn trail(alloc: Global, design: &Design, bytes: &[u8]) -> Result<Trail, Fault>
     requires { IsLawful (design_view design.now) }
     ensures read { IfOk result (λ t. IsTrailReading (design_view design.now) bytes.now (Ok t)
         × TrailFitsShort (design_view design.now) t) }
     ensures refused { IfErr result (IsTextRefused trail_kind (design_view design.now) bytes.now) }
 {
-    match read_trail(alloc, design, bytes) {
-        Ok(trail) => Ok(trail),
-        Err(TrailFault::Bad { offset, code }) => Err(Ended::Refused {
-            file: Text::Trail,
-            offset,
-            code,
-        }),
-        Err(TrailFault::Memory) => Err(Ended::Memory),
-    }
+    of_text(Text::Trail, read_trail(alloc, design, bytes))
 }

@@ -6,33 +6,30 @@ ghost use Rattle.bd_app.specs.Meaning.{CalledFirst, files_seen};
 ghost use Rattle.bd_app.specs.Words.{given};
 ghost use Rattle.bd_app.specs.inner.Saved.{IsSaveFault, Saves, part_text};
 
-use crate::answer::{Ended, Which};
+use crate::fault::Fault;
 use bd_cnf::{Cnf, dimacs_text};
-use bd_files::{FileCall, Files, SaveError};
+use bd_files::{FileCall, Files};
 use bd_lrat::{Log, lrat_text};
 use bd_verify::Work;
 use std::alloc::{AllocError, Global};
 
 /// Saves a text.
-fn save<F: Files>(files: &mut F, name: &str, text: &[u8]) -> Result<(), Ended>
+fn save<F: Files>(files: &mut F, name: &str, text: &[u8]) -> Result<(), Fault>
     ensures saved { OnOk result (Holds (F.held files.new) name.now text.now) }
     ensures others { KeepsOthers (F.held files.old) (F.held files.new) name.now }
     ensures called { Makes (F.calls files.old) (F.calls files.new)
         (saving name.now text.now ∷ []) }
     ensures fault { IfErr result IsSaveFault }
-    ensures rose { IsErrOf result (Ended.Device Which.Save) →
+    ensures rose { IsErrOf result Fault.Save →
         Rose (F.faults files.old) (F.faults files.new) }
-    ensures blamed { IsErrOf result (Ended.Device Which.Save) →
+    ensures blamed { IsErrOf result Fault.Save →
         F.blame files.new ≡ Some (FileCall.Save, name.now) }
-    ensures else_keeps_blame { ¬ IsErrOf result (Ended.Device Which.Save) →
+    ensures else_keeps_blame { ¬ IsErrOf result Fault.Save →
         F.blame files.new ≡ F.blame files.old }
     ensures never_falls { F.faults files.old ≤ F.faults files.new }
 {
-    match files.save(name, text) {
-        Ok(()) => Ok(()),
-        Err(SaveError::Failed) => Err(Ended::Device(Which::Save)),
-        Err(SaveError::Memory) => Err(Ended::Memory),
-    }
+    files.save(name, text)?;
+    Ok(())
 }
 
 /// What is saved of a verdict's work.
@@ -60,33 +57,31 @@ fn save_part<F: Files>(
     files: &mut F,
     name: Option<&str>,
     part: Part<'_>,
-) -> Result<(), Ended>
+) -> Result<(), Fault>
     ensures saved { OnOk result ((n : List ℕ) → given name.entry ≡ Some n →
         Holds (F.held files.new) n (part_text part.entry)) }
     ensures others { KeepsAllBut (F.held files.old) (F.held files.new)
         (λ n. given name.entry ≡ Some n) }
-    ensures called { ¬ IsErrOf result Ended.Memory → Makes (F.calls files.old) (F.calls files.new)
+    ensures called { ¬ IsErrOf result Fault.Memory → Makes (F.calls files.old) (F.calls files.new)
         (save_if (given name.entry) (part_text part.entry)) }
-    ensures called_first { IsErrOf result Ended.Memory → CalledFirst
+    ensures called_first { IsErrOf result Fault.Memory → CalledFirst
         (files_seen F.held F.faults F.blame F.calls files.old)
         (files_seen F.held F.faults F.blame F.calls files.new)
         (save_if (given name.entry) (part_text part.entry)) }
     ensures fault { IfErr result IsSaveFault }
-    ensures rose { IsErrOf result (Ended.Device Which.Save) →
+    ensures rose { IsErrOf result Fault.Save →
         Rose (F.faults files.old) (F.faults files.new) }
-    ensures blamed { IsErrOf result (Ended.Device Which.Save) → (n : List ℕ)
+    ensures blamed { IsErrOf result Fault.Save → (n : List ℕ)
         × (given name.entry ≡ Some n) × (F.blame files.new ≡ Some (FileCall.Save, n)) }
-    ensures else_keeps_blame { ¬ IsErrOf result (Ended.Device Which.Save) →
+    ensures else_keeps_blame { ¬ IsErrOf result Fault.Save →
         F.blame files.new ≡ F.blame files.old }
     ensures never_falls { F.faults files.old ≤ F.faults files.new }
 {
     let Some(name) = name else {
         return Ok(());
     };
-    match text(alloc, part) {
-        Ok(text) => save(files, name, text.as_slice()),
-        Err(_) => Err(Ended::Memory),
-    }
+    let text = text(alloc, part)?;
+    save(files, name, text.as_slice())
 }
 
 /// Saves a verdict's formula and then its proof, each if a name is given for it.
@@ -96,7 +91,7 @@ pub fn save_work<F: Files>(
     work: &Work,
     cnf: Option<&str>,
     lrat: Option<&str>,
-) -> Result<(), Ended>
+) -> Result<(), Fault>
     ensures { Saves (given cnf.entry) (given lrat.entry) work.now
         (files_seen F.held F.faults F.blame F.calls files.old)
         (files_seen F.held F.faults F.blame F.calls files.new) result }

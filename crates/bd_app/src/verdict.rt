@@ -10,6 +10,7 @@ ghost use Rattle.bd_app.specs.inner.Loaded.{AreFew, sources_view};
 ghost use Rattle.bd_app.specs.inner.Done.{AreRefused, IsShown, IsShownOf};
 
 use crate::answer::{Answer, Ended};
+use crate::fault::Fault;
 use crate::load::Sources;
 use crate::read::design;
 use bd_case::case_text;
@@ -76,23 +77,19 @@ pub fn text_of(alloc: Global, design: &Design, case: Option<&Case>) -> Result<Ve
 }
 
 /// The verdict on a design.
-fn decide(alloc: Global, design: &Design, asked: Asked) -> Result<Verdict, Ended>
-    requires lawful { IsLawful (design_view design.now) }
-    ensures verdict { IfOk result (IsVerdict (design_view design.now) asked) }
-    ensures fault { IfErr result (λ e. e ≡ Ended.Memory) }
+fn decide(alloc: Global, design: &Design, asked: Asked) -> Result<Verdict, AllocError>
+    requires { IsLawful (design_view design.now) }
+    ensures { IfOk result (IsVerdict (design_view design.now) asked) }
 {
     let mut solver = Cdcl::new(alloc);
-    match verify(
+    verify(
         alloc,
         &mut solver,
         design,
         asked.budget,
         asked.given,
         asked.mode,
-    ) {
-        Ok(verdict) => Ok(verdict),
-        Err(_) => Err(Ended::Memory),
-    }
+    )
 }
 
 /// The verdict on a design, with the text of its case where cases are shown.
@@ -101,16 +98,13 @@ fn shown_verdict(
     design: &Design,
     asked: Asked,
     shows: bool,
-) -> Result<ShownVerdict, Ended>
-    requires lawful { IsLawful (design_view design.now) }
-    ensures shown { IfOk result (IsShown (design_view design.now) asked shows) }
-    ensures fault { IfErr result (λ e. e ≡ Ended.Memory) }
+) -> Result<ShownVerdict, AllocError>
+    requires { IsLawful (design_view design.now) }
+    ensures { IfOk result (IsShown (design_view design.now) asked shows) }
 {
     let verdict = decide(alloc, design, asked)?;
-    match text_of(alloc, design, shown(&verdict, shows)) {
-        Ok(case) => Ok(ShownVerdict { verdict, case }),
-        Err(_) => Err(Ended::Memory),
-    }
+    let case = text_of(alloc, design, shown(&verdict, shows))?;
+    Ok(ShownVerdict { verdict, case })
 }
 
 /// The verdict on the design of sources, with the text of its case where cases are shown.
@@ -119,13 +113,14 @@ pub fn verdict_on(
     sources: &Sources,
     asked: Asked,
     shows: bool,
-) -> Result<ShownVerdict, Ended>
+) -> Result<ShownVerdict, Fault>
     requires { AreFew (sources_view sources.now) }
     ensures shown { IfOk result (IsShownOf (sources_view sources.now) asked shows) }
     ensures refused { IfErr result (AreRefused (sources_view sources.now)) }
 {
     let design = design(alloc, sources)?;
-    shown_verdict(alloc, &design, asked, shows)
+    let shown = shown_verdict(alloc, &design, asked, shows)?;
+    Ok(shown)
 }
 
 /// Puts a verdict in words after a text.
@@ -168,18 +163,15 @@ pub fn verdict_answer(
     lead: &str,
     shown: ShownVerdict,
     budget: u32,
-) -> Result<Answer, Ended>
+) -> Result<Answer, AllocError>
     ensures ended { IfOk result (λ a. a.ended ≡ ended_by shown.verdict) }
     ensures report { IfOk result (λ a. a.report.items
         ≡ (lead.now ++ verdict_words budget shown.verdict ++ 10 ∷ []) ++ shown.case.items) }
-    ensures fault { IfErr result (λ e. e ≡ Ended.Memory) }
 {
     let ShownVerdict { verdict, case } = shown;
-    match verdict_report(alloc, lead, &verdict, budget, case.as_slice()) {
-        Ok(report) => Ok(Answer {
-            ended: Ended::from_verdict(verdict),
-            report,
-        }),
-        Err(_) => Err(Ended::Memory),
-    }
+    let report = verdict_report(alloc, lead, &verdict, budget, case.as_slice())?;
+    Ok(Answer {
+        ended: Ended::from_verdict(verdict),
+        report,
+    })
 }

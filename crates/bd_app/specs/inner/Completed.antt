@@ -10,7 +10,8 @@ use Rattle.bd_app.specs.Sources.{Sources}
 use Rattle.bd_app.specs.Texts.{IsTextOfIf, case_kind}
 use Rattle.bd_app.specs.declared.answer.Answer.{Answer}
 use Rattle.bd_app.specs.declared.answer.Ended.{Ended}
-use Rattle.bd_app.specs.declared.answer.Ended.TheVariants.{Refused, Memory}
+use Rattle.bd_app.specs.declared.fault.Fault.{Fault}
+use Rattle.bd_app.specs.declared.fault.Fault.TheVariants.{Refused, Memory}
 use Rattle.bd_app.specs.declared.command.complete.ShownBreak.{ShownBreak}
 
 -- these texts are this design and this abstraction
@@ -18,7 +19,7 @@ abbrev pub AreCompletion : Sources → List ℕ → DesignView → AbstractionVi
 AreCompletion s comp d abs = AreCompleted s comp (Ok (record { design = d; abs = abs }))
 
 -- why they are none
-abbrev pub AreNoCompletion : Sources → List ℕ → Ended → Type 0
+abbrev pub AreNoCompletion : Sources → List ℕ → Fault → Type 0
 AreNoCompletion s comp (Refused file offset code) =
     AreCompleted s comp (Err (record { file = file; offset = offset; code = code }))
 AreNoCompletion s comp Memory = Unit {0}
@@ -26,7 +27,7 @@ AreNoCompletion s comp _ = ⊥
 
 -- this is said of the design and the abstraction of texts, unless they are refused
 pub record OnCompletion (Says : DesignView → Abstraction → Ended → List ℕ → Type 0)
-    (s : Sources) (comp : List ℕ) (r : Result Answer Ended) : Type 0 where
+    (s : Sources) (comp : List ℕ) (r : Result Answer Fault) : Type 0 where
   pub said : IfOk r (λ a. (d : DesignView) × (abs : AbstractionView) × AreCompletion s comp d abs
       × Says d (abstraction_by d abs) a.ended a.report.items)
   pub refused : IfErr r (AreNoCompletion s comp)

@@ -14,40 +14,27 @@ use Rattle.bd_app.specs.Bounded.{shown_trail}
 use Rattle.bd_app.specs.Texts.{IsTextOfIf, TextKind, case_kind, trail_kind}
 use Rattle.bd_app.specs.Verdicts.{IsVerdict, shown_case}
 use Rattle.bd_app.specs.declared.answer.Answer.{Answer}
-use Rattle.bd_app.specs.declared.answer.Which.TheVariants as which
 use Rattle.bd_app.specs.declared.answer.Ended.{Ended}
-use Rattle.bd_app.specs.declared.answer.Ended.TheVariants.{Proved, Usage, Refused, BadText, Device, Memory}
+use Rattle.bd_app.specs.declared.answer.Ended.TheVariants.{Proved}
 use Rattle.bd_app.specs.declared.command.bounded.ShownRun.{ShownRun}
+use Rattle.bd_app.specs.declared.fault.Fault.{Fault}
+use Rattle.bd_app.specs.declared.fault.Fault.TheVariants.{Usage, Refused, BadText, Load, Save, Memory}
 use Rattle.bd_app.specs.declared.verdict.Asked.{Asked}
 use Rattle.bd_app.specs.declared.verdict.ShownVerdict.{ShownVerdict}
+use Rattle.bd_app.specs.inner.Faults.{ended_of}
 
--- the answer, also where it is a fault
-abbrev pub ended_of : Result Answer Ended → Ended
-ended_of (Ok answer) = answer.ended
-ended_of (Err fault) = fault
-
--- a fault that may come before anything is printed
-abbrev pub IsFault : Meaning → Option Held → Ended → Type 0
+-- a fault that may come of a question
+abbrev pub IsFault : Meaning → Option Held → Fault → Type 0
+IsFault m held Usage = ⊥
 IsFault m held (Refused file offset code) = IfSome held (λ h. IsRefused m h file offset code)
 IsFault m held (BadText line column why cnf) =
     IfSome held (λ h. IsProofRefused m h line column why cnf)
-IsFault m held (Device which.Load) = Unit {0}
-IsFault m held (Device which.Save) = Unit {0}
+IsFault m held Load = Unit {0}
+IsFault m held Save = Unit {0}
 IsFault m held Memory = Unit {0}
-IsFault m held _ = ⊥
-
--- a fault of the words, of loading, reading or saving, or want of memory
-abbrev pub IsEarlyFault : Ended → Type 0
-IsEarlyFault Usage = Unit {0}
-IsEarlyFault (Refused file offset code) = Unit {0}
-IsEarlyFault (BadText line column why cnf) = Unit {0}
-IsEarlyFault (Device which.Load) = Unit {0}
-IsEarlyFault (Device which.Save) = Unit {0}
-IsEarlyFault Memory = Unit {0}
-IsEarlyFault _ = ⊥
 
 -- the answer to a question, with its report, and what it leaves of the files
-pub record IsDone (m : Meaning) (before after : FilesSeen) (r : Result Answer Ended) : Type 0 where
+pub record IsDone (m : Meaning) (before after : FilesSeen) (r : Result Answer Fault) : Type 0 where
   pub answer : IfOk r (λ a. m.IsAnswer before.held a.ended a.report.items)
   pub fault : IfErr r (IsFault m before.held)
   pub effects : Effects m before after (ended_of r)
@@ -59,14 +46,14 @@ abbrev pub AreDesign : Sources → DesignView → Type 0
 AreDesign s d = AreRead s (Ok d)
 
 -- why sources are no design
-abbrev pub AreRefused : Sources → Ended → Type 0
+abbrev pub AreRefused : Sources → Fault → Type 0
 AreRefused s (Refused file offset code) =
     AreRead s (Err (record { file = file; offset = offset; code = code }))
 AreRefused s Memory = Unit {0}
 AreRefused s _ = ⊥
 
 -- why bytes are no such text on a design
-abbrev pub IsTextRefused : {V : Type 0} → TextKind V → DesignView → List ℕ → Ended → Type 0
+abbrev pub IsTextRefused : {V : Type 0} → TextKind V → DesignView → List ℕ → Fault → Type 0
 IsTextRefused k d bytes (Refused file offset code) =
     (file ≡ k.file) × k.IsReading d bytes (Err (record { offset = offset; code = code }))
 IsTextRefused k d bytes Memory = Unit {0}
@@ -88,7 +75,7 @@ pub record IsProvedBy (d : DesignView) (bytes : List ℕ) (a : Answer) : Type 0 
   pub words : a.report.items ≡ codes "correct by proof" ++ 10 ∷ []
 
 -- why bytes don't prove it
-abbrev pub IsBadProof : DesignView → List ℕ → Ended → Type 0
+abbrev pub IsBadProof : DesignView → List ℕ → Fault → Type 0
 IsBadProof d bytes (BadText line column why cnf) =
     HasFault d bytes (fault (place line column) why) cnf
 IsBadProof d bytes Memory = Unit {0}
@@ -96,22 +83,22 @@ IsBadProof d bytes _ = ⊥
 
 -- this is said of a text on a design, unless its bytes are refused
 pub record OnText (Said : DesignView → List ℕ → Answer → Type 0)
-    (IsTextRefused : DesignView → List ℕ → Ended → Type 0) (d : DesignView) (bytes : List ℕ)
-    (r : Result Answer Ended) : Type 0 where
+    (IsTextRefused : DesignView → List ℕ → Fault → Type 0) (d : DesignView) (bytes : List ℕ)
+    (r : Result Answer Fault) : Type 0 where
   pub said : IfOk r (Said d bytes)
   pub refused : IfErr r (IsTextRefused d bytes)
 
 -- or those of the design
 pub record OnSources (Said : DesignView → List ℕ → Answer → Type 0)
-    (IsTextRefused : DesignView → List ℕ → Ended → Type 0) (s : Sources) (bytes : List ℕ)
-    (r : Result Answer Ended) : Type 0 where
+    (IsTextRefused : DesignView → List ℕ → Fault → Type 0) (s : Sources) (bytes : List ℕ)
+    (r : Result Answer Fault) : Type 0 where
   pub said : IfOk r (λ a. (d : DesignView) × AreDesign s d × Said d bytes a)
   pub refused : IfErr r (λ e.
       AreRefused s e ⊎ ((d : DesignView) × AreDesign s d × IsTextRefused d bytes e))
 
 -- this is said of the design of sources, unless they are refused
 pub record OnDesign (Says : DesignView → Ended → List ℕ → Type 0) (s : Sources)
-    (r : Result Answer Ended) : Type 0 where
+    (r : Result Answer Fault) : Type 0 where
   pub said : IfOk r (λ a. (d : DesignView) × AreDesign s d × Says d a.ended a.report.items)
   pub refused : IfErr r (AreRefused s)
 

@@ -6,10 +6,10 @@ use Rattle.bd_files.specs.Devices.{Held, Rose}
 use Rattle.bd_app.specs.Files.{BlamesOneOf, File, loads}
 use Rattle.bd_app.specs.Meaning.{Called, FilesSeen, IsTooLong, LoadsFail}
 use Rattle.bd_app.specs.Sources.{Sources}
-use Rattle.bd_app.specs.declared.answer.Which.TheVariants as which
-use Rattle.bd_app.specs.declared.answer.Ended.{Ended}
-use Rattle.bd_app.specs.declared.answer.Ended.TheVariants.{Refused, Device, Memory}
+use Rattle.bd_app.specs.declared.fault.Fault.{Fault}
+use Rattle.bd_app.specs.declared.fault.Fault.TheVariants.{Refused, Load, Memory}
 use Rattle.bd_app.specs.declared.load.Sources.{Sources as LoadedSources}
+use Rattle.bd_app.specs.inner.Faults.{ended_by_fault}
 use Rattle.bd_model.specs.Limits.{longest_text}
 
 abbrev pub bytes_of : Option (Vec ℕ Global) → Option (List ℕ)
@@ -26,21 +26,21 @@ pub record AreFew (s : Sources) : Type 0 where
   pub third : IfSome s.third (λ bytes. length bytes ≤ longest_text)
 
 -- what a load that gave no bytes says of files that are loaded in this order
-abbrev pub IsLoadFault : Option Held → List File → Ended → Type 0
+abbrev pub IsLoadFault : Option Held → List File → Fault → Type 0
 IsLoadFault held files (Refused file offset code) =
     IfSome held (λ h. IsTooLong h files file offset code)
-IsLoadFault held files (Device which.Load) = Unit {0}
+IsLoadFault held files Load = Unit {0}
 IsLoadFault held files Memory = Unit {0}
 IsLoadFault held files _ = ⊥
 
 -- what loading these files in this order leaves
-pub record Loads {T : Type 0} (files : List File) (before after : FilesSeen) (r : Result T Ended) :
+pub record Loads {T : Type 0} (files : List File) (before after : FilesSeen) (r : Result T Fault) :
     Type 0 where
   pub fault : IfErr r (IsLoadFault before.held files)
-  pub rose : IsErrOf r (Device which.Load) → Rose before.faults after.faults
-  pub blamed : IsErrOf r (Device which.Load) → BlamesOneOf after.blame files
-  pub else_keeps_blame : ¬ IsErrOf r (Device which.Load) → after.blame ≡ before.blame
+  pub rose : IsErrOf r Load → Rose before.faults after.faults
+  pub blamed : IsErrOf r Load → BlamesOneOf after.blame files
+  pub else_keeps_blame : ¬ IsErrOf r Load → after.blame ≡ before.blame
   pub held : after.held ≡ before.held
   pub never_falls : before.faults ≤ after.faults
   pub called : OnOk r (Called before after (loads files))
-  pub called_up_to : IfErr r (LoadsFail before after files)
+  pub called_up_to : IfErr r (λ e. LoadsFail before after files (ended_by_fault e))

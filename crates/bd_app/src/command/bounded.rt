@@ -1,6 +1,6 @@
 //! `bounded`: whether a pipeline is right for so many cycles, from each state in which the start is
 //! true.
-ghost use Rattle.std.specs.Prelude.{◌≡◌, ◌≤◌, ◌++◌, [], ◌∷◌, false, codes, IfSome, OnOk, IfOk, IfErr, string_bytes};
+ghost use Rattle.std.specs.Prelude.{◌≡◌, ◌≤◌, ◌++◌, [], ◌∷◌, false, codes, IfSome, OnOk, IfOk, string_bytes};
 ghost use Rattle.std.specs.Option.{option_map};
 ghost use Rattle.clap.specs.Words.{found_of, rows_of, rule_of, shape_of};
 ghost use Rattle.clap.specs.declared.builder.command.Command.TheViews.{out-Command as fields_of};
@@ -16,6 +16,7 @@ ghost use Rattle.bd_app.specs.inner.Done.{IsDone, IsShownRun, OnDesign};
 ghost use Rattle.bd_model.specs.Limits.{most_cycles};
 
 use crate::answer::{Answer, Ended};
+use crate::fault::Fault;
 use crate::load::{DesignFiles, Sources, load_sources};
 use crate::read::design;
 use crate::words::{budget, machines_command, required, required_number, required_word, with};
@@ -107,32 +108,30 @@ fn text_of(alloc: Global, design: &Design, trail: Option<&Trail>) -> Result<Vec<
 }
 
 /// What a design is found to be over so many cycles.
-fn decide(alloc: Global, design: &Design, cycles: u32, budget: u32) -> Result<Bounded, Ended>
+fn decide(alloc: Global, design: &Design, cycles: u32, budget: u32) -> Result<Bounded, AllocError>
     requires lawful { IsLawful (design_view design.now) }
     requires few { cycles ≤ most_cycles }
     ensures says { IfOk result (Says (design_view design.now) cycles) }
     ensures work { IfOk result (HasWork (design_view design.now) cycles budget) }
-    ensures fault { IfErr result (λ e. e ≡ Ended.Memory) }
 {
     let mut solver = Cdcl::new(alloc);
-    match bounded(alloc, &mut solver, design, cycles, budget) {
-        Ok(answer) => Ok(answer),
-        Err(_) => Err(Ended::Memory),
-    }
+    bounded(alloc, &mut solver, design, cycles, budget)
 }
 
 /// The same, with the text of its trail.
-fn shown_run(alloc: Global, design: &Design, cycles: u32, budget: u32) -> Result<ShownRun, Ended>
+fn shown_run(
+    alloc: Global,
+    design: &Design,
+    cycles: u32,
+    budget: u32,
+) -> Result<ShownRun, AllocError>
     requires lawful { IsLawful (design_view design.now) }
     requires few { cycles ≤ most_cycles }
-    ensures shown { IfOk result (IsShownRun (design_view design.now) cycles budget) }
-    ensures fault { IfErr result (λ e. e ≡ Ended.Memory) }
+    ensures { IfOk result (IsShownRun (design_view design.now) cycles budget) }
 {
     let answer = decide(alloc, design, cycles, budget)?;
-    match text_of(alloc, design, shown(&answer)) {
-        Ok(trail) => Ok(ShownRun { answer, trail }),
-        Err(_) => Err(Ended::Memory),
-    }
+    let trail = text_of(alloc, design, shown(&answer))?;
+    Ok(ShownRun { answer, trail })
 }
 
 /// Puts an answer in words after a text.
@@ -175,21 +174,18 @@ fn report(
 }
 
 /// The answer on a design.
-fn run_on(alloc: Global, design: &Design, cycles: u32, budget: u32) -> Result<Answer, Ended>
+fn run_on(alloc: Global, design: &Design, cycles: u32, budget: u32) -> Result<Answer, AllocError>
     requires lawful { IsLawful (design_view design.now) }
     requires few { cycles ≤ most_cycles }
-    ensures report { IfOk result (λ a.
+    ensures { IfOk result (λ a.
         IsBoundedReport cycles budget (design_view design.now) a.ended a.report.items) }
-    ensures fault { IfErr result (λ e. e ≡ Ended.Memory) }
 {
     let ShownRun { answer, trail } = shown_run(alloc, design, cycles, budget)?;
-    match report(alloc, &answer, cycles, budget, trail.as_slice()) {
-        Ok(report) => Ok(Answer {
-            ended: Ended::Bounded(answer),
-            report,
-        }),
-        Err(_) => Err(Ended::Memory),
-    }
+    let report = report(alloc, &answer, cycles, budget, trail.as_slice())?;
+    Ok(Answer {
+        ended: Ended::Bounded(answer),
+        report,
+    })
 }
 
 /// The answer on the design of sources.
@@ -198,13 +194,14 @@ fn run_on_sources(
     sources: &Sources,
     cycles: u32,
     budget: u32,
-) -> Result<Answer, Ended>
+) -> Result<Answer, Fault>
     requires sources { AreFew (sources_view sources.now) }
     requires few { cycles ≤ most_cycles }
     ensures { OnDesign (IsBoundedReport cycles budget) (sources_view sources.now) result }
 {
     let design = design(alloc, sources)?;
-    run_on(alloc, &design, cycles, budget)
+    let answer = run_on(alloc, &design, cycles, budget)?;
+    Ok(answer)
 }
 
 /// Its answer.
@@ -212,7 +209,7 @@ pub fn answer<F: Files>(
     alloc: Global,
     files: &mut F,
     options: BoundedOptions<'_>,
-) -> Result<Answer, Ended>
+) -> Result<Answer, Fault>
     requires { HasFewCycles options }
     ensures { IsDone (bounded_meaning (bounded_of options.entry))
         (files_seen F.held F.faults F.blame F.calls files.old)

@@ -8,7 +8,8 @@ ghost use Rattle.bd_app.specs.Check.{check_asked, check_command, check_meaning, 
 ghost use Rattle.bd_app.specs.Meaning.{files_seen};
 ghost use Rattle.bd_app.specs.inner.Done.{IsDone};
 
-use crate::answer::{Answer, Ended};
+use crate::answer::Answer;
+use crate::fault::Fault;
 use crate::load::{DesignFiles, load_sources};
 use crate::save::save_work;
 use crate::verdict::{Asked, verdict_answer, verdict_on, work};
@@ -77,7 +78,7 @@ pub fn answer<F: Files>(
     alloc: Global,
     files: &mut F,
     options: CheckOptions<'_>,
-) -> Result<Answer, Ended>
+) -> Result<Answer, Fault>
     ensures { IsDone (check_meaning (check_of options.entry))
         (files_seen F.held F.faults F.blame F.calls files.old)
         (files_seen F.held F.faults F.blame F.calls files.new) result }
@@ -97,5 +98,6 @@ pub fn answer<F: Files>(
         options.cnf,
         options.lrat,
     )?;
-    verdict_answer(alloc, "", shown, options.budget)
+    let answer = verdict_answer(alloc, "", shown, options.budget)?;
+    Ok(answer)
 }

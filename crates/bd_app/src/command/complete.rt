@@ -1,5 +1,5 @@
 //! `complete`: whether a pipeline is right by a completion function, or whether that agrees with flushing.
-ghost use Rattle.std.specs.Prelude.{◌≡◌, ◌≤◌, ◌++◌, [], ◌∷◌, false, length, IfSome, OnOk, IfOk, IfErr, string_bytes};
+ghost use Rattle.std.specs.Prelude.{◌≡◌, ◌≤◌, ◌++◌, [], ◌∷◌, false, length, IfSome, OnOk, IfOk, string_bytes};
 ghost use Rattle.std.specs.Option.{option_map};
 ghost use Rattle.clap.specs.Words.{found_of, rows_of, shape_of};
 ghost use Rattle.clap.specs.declared.builder.command.Command.TheViews.{out-Command as fields_of};
@@ -17,6 +17,7 @@ ghost use Rattle.bd_app.specs.inner.Done.{IsDone};
 ghost use Rattle.bd_model.specs.Limits.{longest_text};
 
 use crate::answer::{Answer, Ended};
+use crate::fault::Fault;
 use crate::load::{DesignFiles, TextBytes, TextFiles, load_text};
 use crate::read::completion;
 use crate::verdict::text_of;
@@ -95,20 +96,16 @@ fn decide(
     abs: &Abstraction,
     agree: bool,
     budget: u32,
-) -> Result<Complete, Ended>
+) -> Result<Complete, AllocError>
     requires lawful { IsLawful (design_view design.now) }
     requires given { IsLawfulAbstraction (design_view design.now) abs.now }
     ensures says { IfOk result (Says (design_view design.now)
         (abstraction_of (design_view design.now) abs.now) agree) }
     ensures work { IfOk result (HasWork (design_view design.now)
         (abstraction_of (design_view design.now) abs.now) agree budget) }
-    ensures fault { IfErr result (λ e. e ≡ Ended.Memory) }
 {
     let mut solver = Cdcl::new(alloc);
-    match complete(alloc, &mut solver, design, abs, agree, budget) {
-        Ok(answer) => Ok(answer),
-        Err(_) => Err(Ended::Memory),
-    }
+    complete(alloc, &mut solver, design, abs, agree, budget)
 }
 
 /// The same, with the text of its case.
@@ -118,18 +115,15 @@ fn shown_answer(
     abs: &Abstraction,
     agree: bool,
     budget: u32,
-) -> Result<ShownBreak, Ended>
+) -> Result<ShownBreak, AllocError>
     requires lawful { IsLawful (design_view design.now) }
     requires given { IsLawfulAbstraction (design_view design.now) abs.now }
-    ensures shown { IfOk result (IsShownBreak (design_view design.now)
+    ensures { IfOk result (IsShownBreak (design_view design.now)
         (abstraction_of (design_view design.now) abs.now) agree budget) }
-    ensures fault { IfErr result (λ e. e ≡ Ended.Memory) }
 {
     let answer = decide(alloc, design, abs, agree, budget)?;
-    match text_of(alloc, design, shown(&answer)) {
-        Ok(case) => Ok(ShownBreak { answer, case }),
-        Err(_) => Err(Ended::Memory),
-    }
+    let case = text_of(alloc, design, shown(&answer))?;
+    Ok(ShownBreak { answer, case })
 }
 
 /// Puts an answer in words after a text.
@@ -167,21 +161,18 @@ fn answer_on(
     abs: &Abstraction,
     agree: bool,
     budget: u32,
-) -> Result<Answer, Ended>
+) -> Result<Answer, AllocError>
     requires lawful { IsLawful (design_view design.now) }
     requires given { IsLawfulAbstraction (design_view design.now) abs.now }
-    ensures report { IfOk result (λ a. IsCompleteReport agree budget (design_view design.now)
+    ensures { IfOk result (λ a. IsCompleteReport agree budget (design_view design.now)
         (abstraction_of (design_view design.now) abs.now) a.ended a.report.items) }
-    ensures fault { IfErr result (λ e. e ≡ Ended.Memory) }
 {
     let ShownBreak { answer, case } = shown_answer(alloc, design, abs, agree, budget)?;
-    match report(alloc, &answer, budget, case.as_slice()) {
-        Ok(report) => Ok(Answer {
-            ended: Ended::Completed(answer),
-            report,
-        }),
-        Err(_) => Err(Ended::Memory),
-    }
+    let report = report(alloc, &answer, budget, case.as_slice())?;
+    Ok(Answer {
+        ended: Ended::Completed(answer),
+        report,
+    })
 }
 
 /// The answer on the design and the completion function of loaded files.
@@ -190,14 +181,15 @@ fn answer_on_bytes(
     bytes: &TextBytes,
     agree: bool,
     budget: u32,
-) -> Result<Answer, Ended>
+) -> Result<Answer, Fault>
     requires sources { AreFew (sources_view bytes.now.sources) }
     requires text { length bytes.now.text.items ≤ longest_text }
     ensures { OnCompletion (IsCompleteReport agree budget) (sources_view bytes.now.sources)
         bytes.now.text.items result }
 {
     let joined = completion(alloc, bytes)?;
-    answer_on(alloc, &joined.design, &joined.abs, agree, budget)
+    let answer = answer_on(alloc, &joined.design, &joined.abs, agree, budget)?;
+    Ok(answer)
 }
 
 /// Its answer.
@@ -205,7 +197,7 @@ pub fn answer<F: Files>(
     alloc: Global,
     files: &mut F,
     options: CompleteOptions<'_>,
-) -> Result<Answer, Ended>
+) -> Result<Answer, Fault>
     ensures { IsDone (complete_meaning (complete_of options.entry))
         (files_seen F.held F.faults F.blame F.calls files.old)
         (files_seen F.held F.faults F.blame F.calls files.new) result }

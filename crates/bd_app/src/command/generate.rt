@@ -8,7 +8,8 @@ ghost use Rattle.bd_app.specs.Verdicts.{IsVerdictReport};
 ghost use Rattle.bd_app.specs.inner.Loaded.{AreFew, sources_view};
 ghost use Rattle.bd_app.specs.inner.Done.{IsDone, OnDesign};
 
-use crate::answer::{Answer, Ended};
+use crate::answer::Answer;
+use crate::fault::Fault;
 use crate::load::Sources;
 use crate::verdict::{Asked, verdict_answer, verdict_on};
 use crate::words::required_number;
@@ -85,24 +86,21 @@ fn lead(alloc: Global, options: GenOptions) -> Result<String, AllocError>
 }
 
 /// The verdict on these texts, with its line.
-fn answer_on(alloc: Global, lead: &str, sources: &Sources) -> Result<Answer, Ended>
+fn answer_on(alloc: Global, lead: &str, sources: &Sources) -> Result<Answer, Fault>
     requires { AreFew (sources_view sources.now) }
     ensures { OnDesign (IsVerdictReport gen_asked false lead.now) (sources_view sources.now) result }
 {
     let shown = verdict_on(alloc, sources, ASKED, false)?;
-    verdict_answer(alloc, lead, shown, ASKED.budget)
+    let answer = verdict_answer(alloc, lead, shown, ASKED.budget)?;
+    Ok(answer)
 }
 
 /// Its answer. No case is printed.
-pub fn answer(alloc: Global, options: GenOptions) -> Result<Answer, Ended>
+pub fn answer(alloc: Global, options: GenOptions) -> Result<Answer, Fault>
     requires { HasDepth options }
     ensures { (files : FilesSeen) → IsDone (gen_meaning (gen_of options)) files files result }
 {
-    let Ok(sources) = sources(alloc, options) else {
-        return Err(Ended::Memory);
-    };
-    let Ok(lead) = lead(alloc, options) else {
-        return Err(Ended::Memory);
-    };
+    let sources = sources(alloc, options)?;
+    let lead = lead(alloc, options)?;
     answer_on(alloc, lead.as_str(), &sources)
 }

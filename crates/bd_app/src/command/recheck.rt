@@ -1,5 +1,5 @@
 //! `recheck`: whether a text proves that a pipeline is right.
-ghost use Rattle.std.specs.Prelude.{◌≡◌, ◌++◌, [], ◌∷◌, false, IfOk, IfErr, codes};
+ghost use Rattle.std.specs.Prelude.{◌≡◌, ◌++◌, [], ◌∷◌, false, IfOk, codes};
 ghost use Rattle.clap.specs.Words.{found_of, rows_of, shape_of};
 ghost use Rattle.clap.specs.declared.builder.command.Command.TheViews.{out-Command as fields_of};
 ghost use Rattle.bd_model.specs.DesignView.{design_view};
@@ -10,11 +10,12 @@ ghost use Rattle.bd_app.specs.inner.Loaded.{AreFew, sources_view};
 ghost use Rattle.bd_app.specs.inner.Done.{IsBadProof, IsDone, IsProvedBy, OnSources, OnText};
 
 use crate::answer::{Answer, Ended};
+use crate::fault::Fault;
 use crate::load::{DesignFiles, TextBytes, TextFiles, load_text};
 use crate::read::design;
 use crate::words::{machines_command, required, required_word, with, word_at};
 use bd_files::Files;
-use bd_foreign::{ProofFault, recheck};
+use bd_foreign::recheck;
 use bd_model::Design;
 use bd_typer::{Premise, Text};
 use bd_verify::Work;
@@ -48,46 +49,29 @@ pub fn options<'a>(matches: &ArgMatches<'a>) -> TextFiles<'a>
 }
 
 /// The answer that a proof is.
-fn proved_answer(alloc: Global, work: Work) -> Result<Answer, Ended>
-    ensures answer { IfOk result (λ a. (a.ended ≡ Ended.Proved work)
+fn proved_answer(alloc: Global, work: Work) -> Result<Answer, AllocError>
+    ensures { IfOk result (λ a. (a.ended ≡ Ended.Proved work)
         × (a.report.items ≡ codes "correct by proof" ++ 10 ∷ [])) }
-    ensures fault { IfErr result (λ e. e ≡ Ended.Memory) }
 {
-    match Vec::from_slice(alloc, b"correct by proof\n") {
-        Ok(report) => Ok(Answer {
-            ended: Ended::Proved(work),
-            report,
-        }),
-        Err(_) => Err(Ended::Memory),
-    }
+    let report = Vec::from_slice(alloc, b"correct by proof\n")?;
+    Ok(Answer {
+        ended: Ended::Proved(work),
+        report,
+    })
 }
 
 /// Whether the bytes prove that the design is right.
-fn proved(alloc: Global, design: &Design, bytes: &[u8]) -> Result<Answer, Ended>
+fn proved(alloc: Global, design: &Design, bytes: &[u8]) -> Result<Answer, Fault>
     requires { IsLawful (design_view design.now) }
     ensures { OnText IsProvedBy IsBadProof (design_view design.now) bytes.now result }
 {
-    match recheck(alloc, design, bytes) {
-        Ok(work) => proved_answer(alloc, work),
-        Err(
-            ProofFault::Bad {
-                line,
-                column,
-                why,
-                cnf,
-            },
-        ) => Err(Ended::BadText {
-            line,
-            column,
-            why,
-            cnf,
-        }),
-        Err(ProofFault::Memory) => Err(Ended::Memory),
-    }
+    let work = recheck(alloc, design, bytes)?;
+    let answer = proved_answer(alloc, work)?;
+    Ok(answer)
 }
 
 /// Whether the text of loaded files proves it.
-fn proved_bytes(alloc: Global, bytes: &TextBytes) -> Result<Answer, Ended>
+fn proved_bytes(alloc: Global, bytes: &TextBytes) -> Result<Answer, Fault>
     requires { AreFew (sources_view bytes.now.sources) }
     ensures { OnSources IsProvedBy IsBadProof
         (sources_view bytes.now.sources) bytes.now.text.items result }
@@ -101,7 +85,7 @@ pub fn answer<F: Files>(
     alloc: Global,
     files: &mut F,
     options: TextFiles<'_>,
-) -> Result<Answer, Ended>
+) -> Result<Answer, Fault>
     ensures { IsDone (recheck_meaning (recheck_of options.entry))
         (files_seen F.held F.faults F.blame F.calls files.old)
         (files_seen F.held F.faults F.blame F.calls files.new) result }

@@ -1,5 +1,5 @@
 //! `replay`: what a case shows.
-ghost use Rattle.std.specs.Prelude.{◌≡◌, ◌++◌, [], ◌∷◌, false, IfOk, IfErr};
+ghost use Rattle.std.specs.Prelude.{◌≡◌, ◌++◌, [], ◌∷◌, false, IfOk};
 ghost use Rattle.clap.specs.Words.{found_of, rows_of, shape_of};
 ghost use Rattle.clap.specs.declared.builder.command.Command.TheViews.{out-Command as fields_of};
 ghost use Rattle.bd_model.specs.DesignView.{design_view};
@@ -11,6 +11,7 @@ ghost use Rattle.bd_app.specs.inner.Loaded.{AreFew, sources_view};
 ghost use Rattle.bd_app.specs.inner.Done.{IsDone, IsSaidOf, IsTextRefused, OnSources, OnText};
 
 use crate::answer::{Answer, Ended};
+use crate::fault::Fault;
 use crate::load::{DesignFiles, TextBytes, TextFiles, load_text};
 use crate::read::{case, design};
 use crate::words::{machines_command, required, required_word, with, word_at};
@@ -60,35 +61,31 @@ fn judged_line(judged: Judged) -> &'static [u8]
 }
 
 /// The answer that a judgement is.
-fn judged_answer(alloc: Global, judged: Judged) -> Result<Answer, Ended>
-    ensures answer { IfOk result (λ a.
+fn judged_answer(alloc: Global, judged: Judged) -> Result<Answer, AllocError>
+    ensures { IfOk result (λ a.
         (a.ended ≡ Ended.Replayed judged) × (a.report.items ≡ judged_words judged ++ 10 ∷ [])) }
-    ensures fault { IfErr result (λ e. e ≡ Ended.Memory) }
 {
-    match Vec::from_slice(alloc, judged_line(judged)) {
-        Ok(report) => Ok(Answer {
-            ended: Ended::Replayed(judged),
-            report,
-        }),
-        Err(_) => Err(Ended::Memory),
-    }
+    let report = Vec::from_slice(alloc, judged_line(judged))?;
+    Ok(Answer {
+        ended: Ended::Replayed(judged),
+        report,
+    })
 }
 
 /// What the case of bytes shows.
-fn judged(alloc: Global, design: &Design, bytes: &[u8]) -> Result<Answer, Ended>
+fn judged(alloc: Global, design: &Design, bytes: &[u8]) -> Result<Answer, Fault>
     requires { IsLawful (design_view design.now) }
     ensures { OnText (IsSaidOf case_kind IsJudgement) (IsTextRefused case_kind)
         (design_view design.now) bytes.now result }
 {
     let case = case(alloc, design, bytes)?;
-    match judge(alloc, design, &case) {
-        Ok(judged) => judged_answer(alloc, judged),
-        Err(_) => Err(Ended::Memory),
-    }
+    let judged = judge(alloc, design, &case)?;
+    let answer = judged_answer(alloc, judged)?;
+    Ok(answer)
 }
 
 /// What the case of loaded files shows.
-fn judged_bytes(alloc: Global, bytes: &TextBytes) -> Result<Answer, Ended>
+fn judged_bytes(alloc: Global, bytes: &TextBytes) -> Result<Answer, Fault>
     requires { AreFew (sources_view bytes.now.sources) }
     ensures { OnSources (IsSaidOf case_kind IsJudgement) (IsTextRefused case_kind)
         (sources_view bytes.now.sources) bytes.now.text.items result }
@@ -102,7 +99,7 @@ pub fn answer<F: Files>(
     alloc: Global,
     files: &mut F,
     options: TextFiles<'_>,
-) -> Result<Answer, Ended>
+) -> Result<Answer, Fault>
     ensures { IsDone (replay_meaning (replay_of options.entry))
         (files_seen F.held F.faults F.blame F.calls files.old)
         (files_seen F.held F.faults F.blame F.calls files.new) result }

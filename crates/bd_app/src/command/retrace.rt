@@ -1,5 +1,5 @@
 //! `retrace`: what a trail shows.
-ghost use Rattle.std.specs.Prelude.{◌≡◌, ◌++◌, [], ◌∷◌, false, OnOk, IfOk, IfErr, string_bytes};
+ghost use Rattle.std.specs.Prelude.{◌≡◌, ◌++◌, [], ◌∷◌, false, OnOk, IfOk, string_bytes};
 ghost use Rattle.clap.specs.Words.{found_of, rows_of, shape_of};
 ghost use Rattle.clap.specs.declared.builder.command.Command.TheViews.{out-Command as fields_of};
 ghost use Rattle.bd_model.specs.DesignView.{design_view};
@@ -11,6 +11,7 @@ ghost use Rattle.bd_app.specs.inner.Loaded.{AreFew, sources_view};
 ghost use Rattle.bd_app.specs.inner.Done.{IsDone, IsSaidOf, IsTextRefused, OnSources, OnText};
 
 use crate::answer::{Answer, Ended};
+use crate::fault::Fault;
 use crate::load::{DesignFiles, TextBytes, TextFiles, load_text};
 use crate::read::{design, trail};
 use crate::words::{machines_command, required, required_word, with};
@@ -70,35 +71,31 @@ fn judged_line(alloc: Global, judged: TrailJudged) -> Result<Vec<u8>, AllocError
 }
 
 /// The answer that a judgement is.
-fn judged_answer(alloc: Global, judged: TrailJudged) -> Result<Answer, Ended>
-    ensures answer { IfOk result (λ a.
+fn judged_answer(alloc: Global, judged: TrailJudged) -> Result<Answer, AllocError>
+    ensures { IfOk result (λ a.
         (a.ended ≡ Ended.Retraced judged) × (a.report.items ≡ retraced_words judged ++ 10 ∷ [])) }
-    ensures fault { IfErr result (λ e. e ≡ Ended.Memory) }
 {
-    match judged_line(alloc, judged) {
-        Ok(report) => Ok(Answer {
-            ended: Ended::Retraced(judged),
-            report,
-        }),
-        Err(_) => Err(Ended::Memory),
-    }
+    let report = judged_line(alloc, judged)?;
+    Ok(Answer {
+        ended: Ended::Retraced(judged),
+        report,
+    })
 }
 
 /// What the trail of bytes shows.
-fn judged(alloc: Global, design: &Design, bytes: &[u8]) -> Result<Answer, Ended>
+fn judged(alloc: Global, design: &Design, bytes: &[u8]) -> Result<Answer, Fault>
     requires { IsLawful (design_view design.now) }
     ensures { OnText (IsSaidOf trail_kind IsRetraced) (IsTextRefused trail_kind)
         (design_view design.now) bytes.now result }
 {
     let trail = trail(alloc, design, bytes)?;
-    match judge_trail(alloc, design, &trail) {
-        Ok(judged) => judged_answer(alloc, judged),
-        Err(_) => Err(Ended::Memory),
-    }
+    let judged = judge_trail(alloc, design, &trail)?;
+    let answer = judged_answer(alloc, judged)?;
+    Ok(answer)
 }
 
 /// What the trail of loaded files shows.
-fn judged_bytes(alloc: Global, bytes: &TextBytes) -> Result<Answer, Ended>
+fn judged_bytes(alloc: Global, bytes: &TextBytes) -> Result<Answer, Fault>
     requires { AreFew (sources_view bytes.now.sources) }
     ensures { OnSources (IsSaidOf trail_kind IsRetraced) (IsTextRefused trail_kind)
         (sources_view bytes.now.sources) bytes.now.text.items result }
@@ -112,7 +109,7 @@ pub fn answer<F: Files>(
     alloc: Global,
     files: &mut F,
     options: TextFiles<'_>,
-) -> Result<Answer, Ended>
+) -> Result<Answer, Fault>
     ensures { IsDone (retrace_meaning (retrace_of options.entry))
         (files_seen F.held F.faults F.blame F.calls files.old)
         (files_seen F.held F.faults F.blame F.calls files.new) result }

@@ -12,6 +12,7 @@ ghost use Rattle.bd_app.specs.inner.Loaded.{AreFew, sources_view};
 ghost use Rattle.bd_app.specs.inner.Done.{IsDone, IsSaidOf, IsTextRefused, OnSources, OnText};
 
 use crate::answer::{Answer, Ended};
+use crate::fault::Fault;
 use crate::load::{DesignFiles, TextBytes, TextFiles, load_text};
 use crate::read::{case, design};
 use crate::words::{machines_command, required, required_number, required_word, with};
@@ -107,23 +108,21 @@ fn run_text(alloc: Global, design: &Design, case: &Case, cycles: u32) -> Result<
 }
 
 /// The run of the case of bytes.
-fn ran(alloc: Global, design: &Design, bytes: &[u8], cycles: u32) -> Result<Answer, Ended>
+fn ran(alloc: Global, design: &Design, bytes: &[u8], cycles: u32) -> Result<Answer, Fault>
     requires { IsLawful (design_view design.now) }
     ensures { OnText (IsSaidOf case_kind (IsTrace cycles)) (IsTextRefused case_kind)
         (design_view design.now) bytes.now result }
 {
     let case = case(alloc, design, bytes)?;
-    match run_text(alloc, design, &case, cycles) {
-        Ok(report) => Ok(Answer {
-            ended: Ended::Ran,
-            report,
-        }),
-        Err(_) => Err(Ended::Memory),
-    }
+    let report = run_text(alloc, design, &case, cycles)?;
+    Ok(Answer {
+        ended: Ended::Ran,
+        report,
+    })
 }
 
 /// The run of the case of loaded files.
-fn ran_bytes(alloc: Global, bytes: &TextBytes, cycles: u32) -> Result<Answer, Ended>
+fn ran_bytes(alloc: Global, bytes: &TextBytes, cycles: u32) -> Result<Answer, Fault>
     requires { AreFew (sources_view bytes.now.sources) }
     ensures { OnSources (IsSaidOf case_kind (IsTrace cycles)) (IsTextRefused case_kind)
         (sources_view bytes.now.sources) bytes.now.text.items result }
@@ -137,7 +136,7 @@ pub fn answer<F: Files>(
     alloc: Global,
     files: &mut F,
     options: RunOptions<'_>,
-) -> Result<Answer, Ended>
+) -> Result<Answer, Fault>
     ensures { IsDone (run_meaning (run_of options.entry))
         (files_seen F.held F.faults F.blame F.calls files.old)
         (files_seen F.held F.faults F.blame F.calls files.new) result }

@@ -109,7 +109,7 @@ returns-clause-run g c =
       usage = λ none. untaken _ _ r.result put.result _ _ put.ensures.fault put.ensures.report (r.ensures.usage none);
       untouched = λ none. ap (files_seen g.F.Files.held g.F.Files.faults g.F.Files.blame g.F.Files.calls) (r.ensures.untouched none);
       answered = λ q asks. answered _ _ q r.result put.result _ _ _ _ put.ensures.fault put.ensures.report put.ensures.once (r.ensures.done q asks);
-      out_rose = λ is. out_rises _ _ _ r.result put.result _ _ put.ensures.fault put.ensures.report r.ensures.report r.ensures.fault is;
+      out_rose = λ is. out_rises _ _ _ r.result put.result _ _ put.ensures.fault put.ensures.report r.ensures.report is;
       silent = λ quiet other. ap (sink_seen g.O.Sink.written g.O.Sink.faults g.O.Sink.puts) (silent _ _ r.result put.result _ _ put.ensures.fault put.ensures.report r.ensures.report quiet other);
       line = c.put_line.ensures.line;
       no_line = λ reported. ap (sink_seen g.E.Sink.written g.E.Sink.faults g.E.Sink.puts) (c.put_line.ensures.no_line reported);
@@ -136,4 +136,4 @@ pub returns-clause-one_put : goal.returns-clause-one_put
 returns-clause-one_put g c = λ either.
     let r = c.answer_of-answer in
     let put = c.put_report-ended in
-    put_once _ _ r.result put.result put.ensures.fault put.ensures.once r.ensures.fault either
+    put_once _ _ r.result put.result put.ensures.fault put.ensures.once either
