@@ -8,3 +8,4 @@ pub mod Steps
 pub mod NextLines
 pub mod Appending
 pub mod Naming
+pub mod RowCounts

@@ -6,6 +6,8 @@ pub mod Changed
 pub mod Reset
 pub mod Findings
 pub mod PartLines
+pub mod Applications
+pub mod ApplicationLines
 pub mod UnreadLines
 pub mod Lines
 pub mod inner

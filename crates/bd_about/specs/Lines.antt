@@ -5,8 +5,10 @@ use Rattle.bd_model.specs.declared.case.Condition.TheVariants.{Commute, Invarian
 use Rattle.bd_about.specs.declared.asking.Finding.{Finding}
 use Rattle.bd_about.specs.declared.asking.Finding.TheVariants.{Right, Wrong, Void, Undecided}
 use Rattle.bd_about.specs.declared.asking.Findings.{Findings}
+use Rattle.bd_about.specs.declared.counting.Applied.{Applied}
 use Rattle.bd_about.specs.declared.unread.Unread.{Unread}
 use Rattle.bd_about.specs.declared.unread_lines.LetNames.{LetNames}
+use Rattle.bd_about.specs.ApplicationLines.{application_lines}
 use Rattle.bd_about.specs.PartLines.{part_lines}
 use Rattle.bd_about.specs.UnreadLines.{unread_lines}
 
@@ -61,6 +63,11 @@ finding_lines r =
     ++ asked_line (codes "(exact 0 true)   ") r.without_steps
     (codes ", so this pipeline may never fetch")
 
+-- those before what is found
+abbrev pub first_lines : DesignView → LetNames → List Applied → Unread → List ℕ
+first_lines d names applied u =
+    part_lines d ++ application_lines d.symbols applied ++ unread_lines d names u
+
 -- all lines
-abbrev pub about_lines : DesignView → LetNames → Unread → Findings → List ℕ
-about_lines d names u r = part_lines d ++ unread_lines d names u ++ finding_lines r
+abbrev pub about_lines : DesignView → LetNames → List Applied → Unread → Findings → List ℕ
+about_lines d names applied u r = first_lines d names applied u ++ finding_lines r

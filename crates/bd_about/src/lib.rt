@@ -2,7 +2,9 @@
 #![tactic(auto)]
 
 mod about;
+mod application_lines;
 mod asking;
+mod counting;
 mod lines;
 mod marks;
 mod named;
@@ -13,5 +15,6 @@ mod unread_lines;
 
 pub use about::{About, about_design};
 pub use asking::{Finding, Findings, finding_of};
+pub use counting::{Applications, Applied};
 pub use unread::Unread;
 pub use unread_lines::LetNames;

@@ -9,7 +9,7 @@ use itoa::Buffer;
 use std::alloc::{AllocError, Global};
 
 /// Puts what a count is of, and the count.
-fn push_count(out: &mut Vec<u8>, what: &str, count: usize) -> Result<(), AllocError>
+pub(crate) fn push_count(out: &mut Vec<u8>, what: &str, count: usize) -> Result<(), AllocError>
     ensures { OnOk result (out.new.items ≡ out.old.items ++ counted what.now count) }
 {
     let mut buffer = Buffer::new();
@@ -44,7 +44,7 @@ fn is_shown(flags: &[bool], place: usize, visible: bool) -> bool
 }
 
 /// Puts a name, after a comma where it isn't the first.
-fn push_name(out: &mut Vec<u8>, first: bool, name: &[u8]) -> Result<(), AllocError>
+pub(crate) fn push_name(out: &mut Vec<u8>, first: bool, name: &[u8]) -> Result<(), AllocError>
     ensures { OnOk result (out.new.items ≡ out.old.items ++ (comma first ++ name.now)) }
 {
     if !first {

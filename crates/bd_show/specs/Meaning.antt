@@ -18,11 +18,13 @@ use Rattle.bd_verify.specs.declared.verdict.Verdict.TheVariants as verdict
 use Rattle.bd_verify.specs.declared.verdict.Work.{Work}
 use Rattle.bd_foreign.specs.Rechecked.{HasFaultIn, IsReadIn}
 use Rattle.bd_shrink.specs.Shrunk.{IsShrunk}
+use Rattle.bd_about.specs.Applications.{AreApplications}
 use Rattle.bd_about.specs.Findings.{AreFindings, finding_of}
 use Rattle.bd_about.specs.Lines.{about_lines}
 use Rattle.bd_about.specs.Unread.{IsUnread}
 use Rattle.bd_about.specs.declared.asking.Finding.{Finding}
 use Rattle.bd_about.specs.declared.asking.Findings.{Findings}
+use Rattle.bd_about.specs.declared.counting.Applied.{Applied}
 use Rattle.bd_about.specs.declared.unread.Unread.{Unread as AllUnread}
 use Rattle.bd_about.specs.declared.unread_lines.LetNames.{LetNames}
 use Rattle.bd_case.specs.Text as case
@@ -152,16 +154,18 @@ pub record IsUnbroken (line_of : Judged → List ℕ) (d : DesignView) (c : Case
   pub line : text ≡ line_of judged
 
 -- what was found of the design, with an invariant exactly where a text is one, is true, and the text is the lines of
--- what is compared, of sizes, of what nothing reads, where lets have the names that the texts give them, and of what
--- was found
+-- what is compared, of sizes, of how often functions and predicates are applied, of what nothing reads, where lets have
+-- the names that the texts give them, and of what was found
 pub record IsDescribed (texts : Texts) (d : DesignView) (found : Findings) (text : List ℕ) :
     Type 0 where
   pub findings : AreFindings d (is_some texts.inv) found
+  pub applied : List Applied
+  pub are_applied : AreApplications d applied
   pub unread : AllUnread
   pub is_unread : IsUnread d unread
   pub names : LetNames
   pub named : AreLetNames texts names
-  pub lines : text ≡ about_lines d names unread found
+  pub lines : text ≡ about_lines d names applied unread found
 
 -- the text is that the bytes prove the design right: their lines, up to the one that adds the empty clause, are
 -- accepted over the formula that is kept, in the mode, of the question whether a case breaks a condition

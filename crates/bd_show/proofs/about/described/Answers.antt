@@ -11,6 +11,8 @@ pub returns : goal.returns
 returns c = record {
   findings = subst (λ given. AreFindings (design_view c.args.design) given c.in_ok-about.about.findings)
       (c.is_some.ensures ∙ sym (bytes_given c.args.texts.now.inv)) c.in_ok-about.ensures.findings;
+  applied = c.in_ok-about.about.applications;
+  are_applied = c.in_ok-about.ensures.applications;
   unread = c.in_ok-about.about.unread;
   is_unread = c.in_ok-about.ensures.unread;
   names = record { lets = c.as_slice-3.result; spec_lets = c.as_slice-4.result; inv_lets = c.as_slice-5.result };

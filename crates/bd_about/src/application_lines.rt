@@ -1,0 +1,96 @@
+//! How often functions and predicates are applied, as lines that a designer reads.
+ghost use Rattle.std.specs.Prelude.{◌≡◌, ◌++◌, [], codes, length, OnOk};
+ghost use Rattle.bd_model.specs.DesignView.{design_view};
+ghost use Rattle.bd_about.specs.ApplicationLines.{application_lines, is_said, said, said_line};
+ghost use Rattle.bd_about.specs.PartLines.{comma, listed_names};
+
+use crate::counting::Applied;
+use crate::part_lines::{push_count, push_name};
+use bd_model::Symbol;
+use std::alloc::AllocError;
+
+/// Which functions and predicates a line names.
+#[derive(Clone, Copy)]
+pub(crate) enum Listing {
+    /// Those that are applied, each with its count.
+    Applied,
+    /// The functions that are applied and aren't positive.
+    Compared,
+}
+
+/// Whether the line names a symbol, which is a predicate or a function.
+fn is_said(listing: Listing, predicate: bool, applied: Applied) -> bool
+    ensures { result ≡ is_said listing predicate applied }
+{
+    match listing {
+        Listing::Applied => applied.count != 0,
+        Listing::Compared => applied.count != 0 && !predicate && !applied.positive,
+    }
+}
+
+/// Puts what the line says of a symbol, after a comma where it isn't the first.
+fn push_said(
+    out: &mut Vec<u8>,
+    listing: Listing,
+    first: bool,
+    name: &[u8],
+    count: usize,
+) -> Result<(), AllocError>
+    ensures { OnOk result (out.new.items
+        ≡ out.old.items ++ (comma first ++ said listing name.now count)) }
+{
+    push_name(out, first, name)?;
+    match listing {
+        Listing::Applied => push_count(out, " ", count),
+        Listing::Compared => Ok(()),
+    }
+}
+
+/// Ends a line of names, which has none yet or some.
+fn end_names(out: &mut Vec<u8>, none: bool) -> Result<(), AllocError>
+    ensures { OnOk result (out.new.items
+        ≡ out.old.items ++ (listed_names none [] ++ codes "\n")) }
+{
+    if none {
+        out.extend_from_slice(b"nothing")?;
+    }
+    out.extend_from_slice(b"\n")
+}
+
+/// Puts what the line says of each symbol that it names, and ends it.
+fn push_line(
+    out: &mut Vec<u8>,
+    listing: Listing,
+    symbols: &[Symbol],
+    counts: &[Applied],
+) -> Result<(), AllocError>
+    requires { length counts.now ≡ length symbols.now }
+    ensures { OnOk result (out.new.items
+        ≡ out.old.items ++ said_line listing symbols.now counts.now) }
+{
+    let mut none = true;
+    for (place, symbol) in symbols.iter().enumerate() {
+        let applied = counts[place];
+        if is_said(listing, symbol.predicate, applied) {
+            push_said(out, listing, none, symbol.name.as_slice(), applied.count)?;
+            none = false;
+        }
+    }
+    end_names(out, none)
+}
+
+/// Puts the lines on how often functions and predicates are applied after a text.
+pub fn push_applications(
+    out: &mut Vec<u8>,
+    symbols: &[Symbol],
+    applied: &[Applied],
+) -> Result<(), AllocError>
+    requires { length applied.now ≡ length symbols.now }
+    ensures { OnOk result (out.new.items
+        ≡ out.old.items ++ application_lines symbols.now applied.now) }
+{
+    out.extend_from_slice(b"applications     ")?;
+    push_line(out, Listing::Applied, symbols, applied)?;
+    out.extend_from_slice(b"not positive     ")?;
+    push_line(out, Listing::Compared, symbols, applied)
+}
