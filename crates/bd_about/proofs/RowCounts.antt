@@ -18,11 +18,11 @@ abbrev pub AreOnce : List FlatSym → Type 0
 AreOnce syms = (i j : ℕ) (s t : FlatSym) → slice_get syms i ≡ Some s → slice_get syms j ≡ Some t → s.sym ≡ t.sym → i ≡ j
 
 other-by : (f n : ℕ) (s : FlatSym) (b : Bool) → is_symbol s.sym (Function f) ≡ b → s.sym ≢ Function f → counted_rows f n s ≡ n
-other-by f n s true e no = absurd (no (is_symbol-same s.sym (Function f) e))
-other-by f n s false e no = ap (λ b. if b then length s.rows else n) e
+other-by f n s true e differs = absurd (differs (is_symbol-same s.sym (Function f) e))
+other-by f n s false e differs = ap (λ b. if b then length s.rows else n) e
 
 other : (f n : ℕ) (s : FlatSym) → s.sym ≢ Function f → counted_rows f n s ≡ n
-other f n s no = other-by f n s (is_symbol s.sym (Function f)) refl no
+other f n s differs = other-by f n s (is_symbol s.sym (Function f)) refl differs
 
 own : (f n : ℕ) (s : FlatSym) → s.sym ≡ Function f → counted_rows f n s ≡ length s.rows
 own f n s same = ap (λ b. if b then length s.rows else n) (ap (λ k. is_symbol k (Function f)) same ∙ is_symbol-self (Function f))

@@ -18,7 +18,7 @@ returns c =
       terms = c.goal.new.graph;
       term = found.root;
       graph = c.len.ensures.graph;
-      asked = root-breaks d Breaks c.goal.new.graph found.root found.addresses refl h.sorted h.denotes h.addresses (h.symbols (known-empty d found.addresses c.new.result c.new.ensures));
+      asked = root-breaks d Breaks c.goal.new.graph found.root found.addresses refl h.sorted h.denotes h.addresses (h.symbols (known-empty d found.addresses c.new-graph.result c.new-graph.ensures));
       plain = c.in_ok-plain.plain;
       plain_root = c.in_ok-plain.root;
       memories = record { graph = b.graph; sorted = b.sorted; none = b.memories; made = b.made; denotes = b.denotes; reached = b.symbols };

@@ -25,7 +25,7 @@ pub loop-f-preserved : goal.loop-f-preserved
 loop-f-preserved c =
     let h = c.loop-f.invariant in
     let f = c.loop-f.f in
-    let new = c.push.new.applied in
+    let new = c.push.new.self in
     let item : Applied = record { count = get_or c.args.counts.now f 0; positive = c.has-positive.result } in
     let pushed : new ≡ c.loop-f.applied ++ item ∷ [] = c.in_ok-push.ensures.ok in
     record {
