@@ -82,9 +82,9 @@ readable t d h = record {
 
 -- ---- what was read of texts
 
-readable_same : (t : Texts) (p s : List ℕ) (i : Option (List ℕ)) (d : DesignView) → DenotesWith Invariant p s i (Ok d) → p ≡ t.pipe → s ≡ t.spec → i ≡ t.inv → AreReadable t
-readable_same t p s i d on pipe spec inv = readable t d (denotes_same Invariant p t.pipe s t.spec i t.inv (Ok d) pipe spec inv on)
+readable_same : (t : Texts) (p s : List ℕ) (i : Option (List ℕ)) (d : Design) → OnDesign (Ok d) (DenotesWith Invariant p s i) → p ≡ t.pipe → s ≡ t.spec → i ≡ t.inv → AreReadable t
+readable_same t p s i d on pipe spec inv = readable t (design_view d) (denotes_same Invariant p t.pipe s t.spec i t.inv (Ok d) pipe spec inv on)
 
 pub readable_result : (t : Texts) (p s : List ℕ) (i : Option (List ℕ)) (r : Result Design TypeFault) → OnDesign r (DenotesWith Invariant p s i) → p ≡ t.pipe → s ≡ t.spec → i ≡ t.inv → IfOk r (λ x. AreReadable t)
-readable_result t p s i (Ok d) on pipe spec inv = readable_same t p s i (design_view d) on pipe spec inv
+readable_result t p s i (Ok d) on pipe spec inv = readable_same t p s i d on pipe spec inv
 readable_result t p s i (Err e) on pipe spec inv = tt

@@ -13,7 +13,7 @@ use Rattle.bd_show.specs.inner.Read.{AreRefused}
 pub refused_by : (t : Texts) (p s : List ℕ) (i : Option (List ℕ)) (r : Result Design TypeFault) → OnDesign r (Denotes p s i) → p ≡ t.pipe → s ≡ t.spec → i ≡ t.inv → IfErr r (AreRefused t)
 refused_by t p s i (Ok d) on pipe spec inv = tt
 refused_by t p s i (Err (Bad file offset code)) on pipe spec inv =
-    inl (denotes_same Invariant p t.pipe s t.spec i t.inv (Err (record { file = file; offset = offset; code = code })) pipe spec inv on)
+    inl (denotes_same Invariant p t.pipe s t.spec i t.inv (Err (Bad file offset code)) pipe spec inv on)
 refused_by t p s i (Err Memory) on pipe spec inv = tt
 
 pub match_ok : {T E : Type 0} (r : Result T E) (P Q : T → Type 0) (R : E → Type 0) → ((x : T) → P x → Q x) → MatchResult r P R → IfOk r Q
