@@ -9,6 +9,7 @@ mod load;
 mod program;
 mod proof_fault;
 mod read;
+mod report;
 mod save;
 mod verdict;
 pub mod words;
@@ -20,3 +21,4 @@ pub use laws::{
 };
 pub use program::run;
 pub use proof_fault::cause_text;
+pub use verdict::{Asked, decide, verdict_report};

@@ -13,6 +13,7 @@ use crate::answer::{Answer, Ended};
 use crate::fault::Fault;
 use crate::load::Sources;
 use crate::read::design;
+use crate::report::lined;
 use bd_case::case_text;
 use bd_cdcl::Cdcl;
 use bd_model::{Case, Condition, Design};
@@ -77,7 +78,7 @@ pub fn text_of(alloc: Global, design: &Design, case: Option<&Case>) -> Result<Ve
 }
 
 /// The verdict on a design.
-fn decide(alloc: Global, design: &Design, asked: Asked) -> Result<Verdict, AllocError>
+pub fn decide(alloc: Global, design: &Design, asked: Asked) -> Result<Verdict, AllocError>
     requires { IsLawful (design_view design.now) }
     ensures { IfOk result (IsVerdict (design_view design.now) asked) }
 {
@@ -138,23 +139,20 @@ fn push_words(text: &mut String, verdict: &Verdict, budget: u32) -> Result<(), A
     }
 }
 
-/// A verdict's line, and the text of the case after it.
-fn verdict_report(
+/// A verdict's line, which begins with `lead`, and a text after it.
+pub fn verdict_report(
     alloc: Global,
     lead: &str,
     verdict: &Verdict,
     budget: u32,
-    case: &[u8],
+    rest: &[u8],
 ) -> Result<Vec<u8>, AllocError>
     ensures { IfOk result (λ text. text.items
-        ≡ (lead.now ++ verdict_words budget verdict.now ++ 10 ∷ []) ++ case.now) }
+        ≡ (lead.now ++ verdict_words budget verdict.now ++ 10 ∷ []) ++ rest.now) }
 {
     let mut text = String::from_str(alloc, lead)?;
     push_words(&mut text, verdict, budget)?;
-    text.push_str("\n")?;
-    let mut report = text.into_bytes();
-    report.extend_from_slice(case)?;
-    Ok(report)
+    lined(text, rest)
 }
 
 /// The answer that a verdict is.

@@ -3,4 +3,3 @@ pub mod Readable
 pub mod Refusals
 pub mod Answers
 pub mod Asked
-pub mod Found

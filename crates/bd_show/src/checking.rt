@@ -1,9 +1,9 @@
 //! `check`: whether a pipeline is right, and where it isn't, what a case shows.
-ghost use Rattle.std.specs.Prelude.{◌≡◌, ◌++◌, [], ◌∷◌, IfOk, OnOk, string_bytes};
+ghost use Rattle.std.specs.Prelude.{◌≡◌, IfOk};
 ghost use Rattle.bd_model.specs.DesignView.{design_view};
 ghost use Rattle.bd_model.specs.Lawful.{IsLawful};
 ghost use Rattle.bd_app.specs.Meaning.{files_seen};
-ghost use Rattle.bd_app.specs.Verdicts.{IsVerdict, verdict_words};
+ghost use Rattle.bd_app.specs.Verdicts.{IsVerdict};
 ghost use Rattle.bd_show.specs.LetNames.{AreReadable};
 ghost use Rattle.bd_show.specs.Meaning.{IsShownOf, Says, asked_of, check};
 ghost use Rattle.bd_show.specs.inner.Answered.{IsDoneOn, IsOfVerdict, check_of};
@@ -16,12 +16,12 @@ use crate::names::machine_lets;
 use crate::read::design;
 use crate::show::pictured;
 use bd_about::finding_of;
-use bd_cdcl::Cdcl;
+use bd_app::{Asked, decide, verdict_report};
 use bd_files::Files;
-use bd_model::{Condition, Design, Judged};
+use bd_model::{Design, Judged};
 use bd_picture::text_of;
 use bd_syntax::Kind;
-use bd_verify::{Mode, Question, Verdict, verify};
+use bd_verify::{Mode, Verdict};
 use std::alloc::{AllocError, Global};
 
 /// Its options: the files, how equations become edges, and how many clauses the solver may add for each question.
@@ -32,53 +32,15 @@ pub struct CheckOptions<'a> {
     pub budget: u32,
 }
 
-/// Puts a verdict in words after a text.
-fn push_words(text: &mut String, verdict: &Verdict, budget: u32) -> Result<(), AllocError>
-    ensures { OnOk result (string_bytes text.new
-        ≡ string_bytes text.old ++ verdict_words budget verdict.now) }
+/// What is asked of the design.
+fn asked(options: CheckOptions<'_>) -> Asked
+    ensures { result ≡ asked_of (check_of options.entry) }
 {
-    match verdict {
-        Verdict::Correct(_, _) => text.push_str("correct"),
-        Verdict::Wrong(Condition::Invariant, _, _) => text.push_str("wrong invariant"),
-        Verdict::Wrong(Condition::Commute, _, _) => text.push_str("wrong commute"),
-        Verdict::Void(_) => text.push_str("void"),
-        Verdict::Undecided(Question::Breaks, _) => write!(text, "undecided {budget}"),
-        Verdict::Undecided(Question::Meets, _) => write!(text, "undecided {budget} meets"),
+    Asked {
+        budget: options.budget,
+        mode: options.mode,
+        given: options.names.inv.is_some(),
     }
-}
-
-/// The line of a verdict.
-fn verdict_line(alloc: Global, verdict: &Verdict, budget: u32) -> Result<Vec<u8>, AllocError>
-    ensures { IfOk result (λ line. line.items ≡ verdict_words budget verdict.now ++ 10 ∷ []) }
-{
-    let mut line = String::new(alloc);
-    push_words(&mut line, verdict, budget)?;
-    line.push_str("\n")?;
-    Ok(line.into_bytes())
-}
-
-/// Whether an invariant is given.
-fn given(options: CheckOptions<'_>) -> bool
-    ensures { result ≡ (asked_of (check_of options.entry)).given }
-{
-    options.names.inv.is_some()
-}
-
-/// The verdict on a design.
-fn found(alloc: Global, options: CheckOptions<'_>, design: &Design) -> Result<Verdict, AllocError>
-    requires { IsLawful (design_view design.now) }
-    ensures { IfOk result
-        (IsVerdict (design_view design.now) (asked_of (check_of options.entry))) }
-{
-    let mut solver = Cdcl::new(alloc);
-    verify(
-        alloc,
-        &mut solver,
-        design,
-        options.budget,
-        given(options),
-        options.mode,
-    )
 }
 
 /// What is shown of the case of `wrong`, made small. Another verdict has none to show.
@@ -120,11 +82,9 @@ fn report(
         a.ended a.text.items) }
 {
     let shown = shown_case(alloc, options, texts, design, verdict)?;
-    let mut text = verdict_line(alloc, verdict, options.budget)?;
-    text.extend_from_slice(shown.as_slice())?;
     Ok(Answer {
         ended: Ended::Checked(finding_of(verdict)),
-        text,
+        text: verdict_report(alloc, "", verdict, options.budget, shown.as_slice())?,
     })
 }
 
@@ -140,7 +100,7 @@ fn on_design(
     ensures { IfOk result (λ a. IsOfVerdict (check_of options.entry) (design_view design.now)
         a.ended a.text.items) }
 {
-    let verdict = found(alloc, options, design)?;
+    let verdict = decide(alloc, design, asked(options))?;
     report(alloc, options, texts, design, &verdict)
 }
 

@@ -19,6 +19,7 @@ use crate::answer::{Answer, Ended};
 use crate::fault::Fault;
 use crate::load::{DesignFiles, Sources, load_sources};
 use crate::read::design;
+use crate::report::lined;
 use crate::words::{budget, machines_command, required, required_number, required_word, with};
 use bd_bounded::{Bounded, bounded};
 use bd_case::trail_text;
@@ -167,10 +168,7 @@ fn report(
 {
     let mut text = String::new(alloc);
     push_words(&mut text, answer, cycles, budget)?;
-    text.push_str("\n")?;
-    let mut report = text.into_bytes();
-    report.extend_from_slice(trail)?;
-    Ok(report)
+    lined(text, trail)
 }
 
 /// The answer on a design.

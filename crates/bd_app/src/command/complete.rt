@@ -20,6 +20,7 @@ use crate::answer::{Answer, Ended};
 use crate::fault::Fault;
 use crate::load::{DesignFiles, TextBytes, TextFiles, load_text};
 use crate::read::completion;
+use crate::report::lined;
 use crate::verdict::text_of;
 use crate::words::{
     budget, flag, flag_at, machines_command, required, required_number, required_word, with,
@@ -148,10 +149,7 @@ fn report(alloc: Global, answer: &Complete, budget: u32, case: &[u8]) -> Result<
 {
     let mut text = String::new(alloc);
     push_words(&mut text, answer, budget)?;
-    text.push_str("\n")?;
-    let mut report = text.into_bytes();
-    report.extend_from_slice(case)?;
-    Ok(report)
+    lined(text, case)
 }
 
 /// The answer on a design and an abstraction.

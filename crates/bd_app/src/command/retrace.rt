@@ -14,6 +14,7 @@ use crate::answer::{Answer, Ended};
 use crate::fault::Fault;
 use crate::load::{DesignFiles, TextBytes, TextFiles, load_text};
 use crate::read::{design, trail};
+use crate::report::lined;
 use crate::words::{machines_command, required, required_word, with};
 use bd_files::Files;
 use bd_model::{Design, TrailJudged};
@@ -66,8 +67,7 @@ fn judged_line(alloc: Global, judged: TrailJudged) -> Result<Vec<u8>, AllocError
 {
     let mut line = String::new(alloc);
     push_words(&mut line, judged)?;
-    line.push_str("\n")?;
-    Ok(line.into_bytes())
+    lined(line, b"")
 }
 
 /// The answer that a judgement is.
