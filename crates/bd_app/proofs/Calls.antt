@@ -80,7 +80,7 @@ up_after a b c files last file short same one up = record {
   called = makes_then a.calls b.calls c.calls (loads (file ∷ [])) (loads (up.first ++ last ∷ [])) one up.called;
 }
 
-short_both : (h : Held) (some more : List File) → AreShort h some → AreShort h more → AreShort h (some ++ more)
+pub short_both : (h : Held) (some more : List File) → AreShort h some → AreShort h more → AreShort h (some ++ more)
 short_both h [] more these others = others
 short_both h (file ∷ some) more these others = (these.0, short_both h some more these.1 others)
 

@@ -2,12 +2,8 @@
 use Rattle.std.proofs.Common.{◌≡◌, zero, suc, ◌+◌, ◌<◌, ◌≤◌, ◌∙◌, ℕ, List, [], ◌∷◌, ◌++◌, length, take, refl, ap, append_assoc, sym, subst, arith, length-take, take_all}
 use Rattle.std.specs.Option.{option_map}
 use Rattle.std.specs.Prelude.{Option, Some, None, Result, Ok, Err, IfSome, IfErr, IsErrAnd}
-use Rattle.bd_files.specs.Devices.{Blame, Held, IsLoaded, Rose}
-use Rattle.bd_files.specs.declared.devices.FileCall.TheVariants as call
-use Rattle.bd_files.specs.declared.devices.LoadError.{LoadError}
-use Rattle.bd_files.specs.declared.devices.LoadError.TheVariants as loading
+use Rattle.bd_files.specs.Devices.{Blame, Held, IsLoaded}
 use Rattle.bd_text.specs.declared.code.Code.{Code}
-use Rattle.bd_text.specs.declared.code.Code.TheVariants.{TooLong}
 use Rattle.bd_typer.specs.Denotes.{premise_file}
 use Rattle.bd_typer.specs.declared.premise.Premise.{Premise}
 use Rattle.bd_typer.specs.declared.premise.Premise.TheVariants as premises
@@ -15,9 +11,13 @@ use Rattle.bd_typer.specs.declared.fault.Text.{Text}
 use Rattle.bd_typer.specs.declared.fault.Text.TheVariants as text
 use Rattle.bd_app.specs.Files.{AreShort, BlamesOneOf, DesignNames, File, HoldsShort, IsLong, IsShort, TextNames, design_files, loads, most_bytes, one_if, text_files}
 use Rattle.bd_app.specs.Meaning.{Called, FilesSeen, IsTooLong}
+use Rattle.bd_app.specs.Loading.{IsOneFault, IsOneLoad, IsOneLoadIf, Leaves}
 use Rattle.bd_app.specs.Sources.{HoldSources, HoldsShortIf, Sources, TextSources}
+use Rattle.bd_app.specs.Words.{Name}
 use Rattle.bd_app.specs.declared.fault.Fault.{Fault}
 use Rattle.bd_app.specs.declared.fault.Fault.TheVariants.{Refused, Load, Memory}
+use Rattle.bd_app.specs.declared.loading.LoadFault.{LoadFault}
+use Rattle.bd_app.specs.declared.loading.LoadFault.TheVariants as loading
 use Rattle.bd_app.specs.inner.Faults.{ended_by_fault, load_fault}
 use Rattle.bd_app.specs.inner.Loaded.{IsLoadFault, Loads}
 use Rattle.bd_app.proofs.Calls.{called_then, called_whole, fails_before, fails_next, one_load}
@@ -52,50 +52,77 @@ long_held (Some held) file bytes loaded many =
     let full = held_bytes (most_bytes file.0) (held file.1) bytes loaded in
     (full.0, full.1, many_held (most_bytes file.0) full.0 bytes full.2 many)
 
--- of too many bytes one more than the most is loaded
-pub loaded_long : (held : Option Held) (text : Text) (name : List ℕ) (bytes : List ℕ) → IsLoaded held name (most_bytes text) bytes → most_bytes text < length bytes
-    → IfSome held (λ h. IsTooLong h ((text, name) ∷ []) text (most_bytes text) TooLong)
-loaded_long None text name bytes loaded many = tt
-loaded_long (Some held) text name bytes loaded many =
-    let full = held_bytes (most_bytes text) (held name) bytes loaded in
-    record {
-      first = record { before = []; name = name; after = []; order = refl; short = tt; long = (full.0, full.1, many_held (most_bytes text) full.0 bytes full.2 many) };
-      at_limit = refl;
-      too_long = refl;
-    }
-
 pub short_file : (held : Option Held) (file : File) (bytes : List ℕ) → IfSome held (λ h. HoldsShort h file bytes) → IfSome held (λ h. IsShort h file)
 short_file held file bytes loaded = IfSome-weaker _ _ held (λ h short. (bytes, short)) loaded
 
--- ---- a load that failed
+-- ---- one load
 
-loads_by : {T : Type 0} (a b : FilesSeen) (file : File) (e : LoadError) → b.held ≡ a.held → a.faults ≤ b.faults → Called a b (loads (file ∷ [])) → (e ≡ loading.Failed → Rose a.faults b.faults)
-    → (e ≡ loading.Failed → b.blame ≡ Some (call.Load, file.1)) → (¬ (e ≡ loading.Failed) → b.blame ≡ a.blame) → Loads {T = T} (file ∷ []) a b (Err (load_fault e))
-loads_by a b file loading.Failed same rises called rose blamed quiet = record {
+loads_by : {T : Type 0} (t : Text) (n : Name) (a b : FilesSeen) (e : LoadFault) → b.held ≡ a.held → a.faults ≤ b.faults → Called a b (loads ((t, n) ∷ [])) → IsOneFault (t, n) a b e
+    → Loads {T = T} ((t, n) ∷ []) a b (Err (load_fault e))
+loads_by t n a b (loading.Failed f) same rises called (is, rose, blamed) = record {
   fault = tt;
-  rose = λ is. rose refl;
-  blamed = λ is. (file.1, (0, omega arith, refl), blamed refl);
+  rose = λ is. rose;
+  blamed = λ is. (n, (0, omega arith, refl), blamed);
   else_keeps_blame = λ other. absurd (other refl);
   held = same;
   never_falls = rises;
   called = tt;
-  called_up_to = (file, blamed refl, one_load a b file called);
+  called_up_to = ((t, n), blamed, one_load a b (t, n) called);
 }
-loads_by a b file loading.Memory same rises called rose blamed quiet = record {
-  fault = tt;
+loads_by {T} t n a b (loading.TooLong f) same rises called (is, long, blame) = subst (λ g. Loads {T = T} ((t, n) ∷ []) a b (Err (load_fault (loading.TooLong g)))) (sym is) (record {
+  fault = IfSome-weaker _ _ a.held (λ h l. record {
+    first = record { before = []; name = n; after = []; order = refl; short = tt; long = l };
+    at_limit = refl;
+    too_long = refl;
+  }) long;
   rose = λ is. absurd (cc is);
   blamed = λ is. absurd (cc is);
-  else_keeps_blame = λ other. quiet (λ is. cc is);
+  else_keeps_blame = λ other. blame;
   held = same;
   never_falls = rises;
   called = tt;
-  called_up_to = called_whole a b (loads (file ∷ [])) called;
+  called_up_to = (n, long, one_load a b (t, n) called);
+})
+loads_by t n a b loading.Memory same rises called blame = record {
+  fault = tt;
+  rose = λ is. absurd (cc is);
+  blamed = λ is. absurd (cc is);
+  else_keeps_blame = λ other. blame;
+  held = same;
+  never_falls = rises;
+  called = tt;
+  called_up_to = called_whole a b (loads ((t, n) ∷ [])) called;
 }
 
--- the one load failed
-pub load_fails : {T : Type 0} (a b : FilesSeen) (file : File) (e : LoadError) (r : Result T Fault) → IsErrAnd r (λ y. y ≡ load_fault e) → b.held ≡ a.held → a.faults ≤ b.faults → Called a b (loads (file ∷ []))
-    → (e ≡ loading.Failed → Rose a.faults b.faults) → (e ≡ loading.Failed → b.blame ≡ Some (call.Load, file.1)) → (¬ (e ≡ loading.Failed) → b.blame ≡ a.blame) → Loads (file ∷ []) a b r
-load_fails a b file e r is same rises called rose blamed quiet = passed (λ z. Loads (file ∷ []) a b z) r (load_fault e) is (loads_by a b file e same rises called rose blamed quiet)
+-- the load of one file gave no bytes
+pub one_fails : {T : Type 0} {t : Text} {n : Name} {a b : FilesSeen} {e : LoadFault} → IsOneLoad {T = T} (t, n) a b (Err e) → Loads {T = T} ((t, n) ∷ []) a b (Err (load_fault e))
+one_fails {T} {t} {n} {a} {b} {e} l = loads_by t n a b e l.leaves.held l.leaves.never_falls l.called l.fault
+
+-- nor did that of one that is named
+pub named_fails : {T : Type 0} {t : Text} {name : Option Name} {a b : FilesSeen} {e : LoadFault} → IsOneLoadIf {T = T} t name a b (Err e) → Loads {T = T} (one_if t name) a b (Err (load_fault e))
+named_fails {T} {t} {name} {a} {b} {e} l =
+    let is = l.fault.1 in
+    subst (λ o. Loads {T = T} (one_if t o) a b (Err (load_fault e))) (sym is)
+    (loads_by t l.fault.0 a b e l.leaves.held l.leaves.never_falls (subst (λ o. Called a b (loads (one_if t o))) is l.called) l.fault.2)
+
+-- files that gave their bytes
+gave : {T : Type 0} {files : List File} {a b : FilesSeen} {x : T} → Leaves a b (Ok x) → Called a b (loads files) → Loads files a b (Ok x)
+gave {T} {files} {a} {b} {x} l called = record {
+  fault = tt;
+  rose = λ is. absurd (no_error x _ is);
+  blamed = λ is. absurd (no_error x _ is);
+  else_keeps_blame = λ other. l.blame;
+  held = l.held;
+  never_falls = l.never_falls;
+  called = called;
+  called_up_to = tt;
+}
+
+pub one_loads : {T : Type 0} {t : Text} {n : Name} {a b : FilesSeen} {x : T} → IsOneLoad (t, n) a b (Ok x) → Loads ((t, n) ∷ []) a b (Ok x)
+one_loads l = gave l.leaves l.called
+
+pub named_loads : {T : Type 0} {t : Text} {name : Option Name} {a b : FilesSeen} {x : T} → IsOneLoadIf t name a b (Ok x) → Loads (one_if t name) a b (Ok x)
+named_loads l = gave l.leaves l.called
 
 -- ---- one file after another
 
@@ -219,7 +246,7 @@ pub few_third : (premise : Premise) (bytes : Option (List ℕ)) → IfSome bytes
 few_third premises.Invariant bytes few = few
 few_third premises.Start bytes few = few
 
-short_if : (h : Held) (t : Text) (name : Option (List ℕ)) (bytes : Option (List ℕ)) → HoldsShortIf h t name bytes → AreShort h (one_if t name)
+pub short_if : (h : Held) (t : Text) (name : Option (List ℕ)) (bytes : Option (List ℕ)) → HoldsShortIf h t name bytes → AreShort h (one_if t name)
 short_if h t None None held = tt
 short_if h t None (Some bytes) held = absurd held
 short_if h t (Some name) None held = absurd held

@@ -22,7 +22,7 @@ use Rattle.clap.specs.declared.parser.matches.ArgMatches.TheViews.{out-SubComman
 use Rattle.clap.specs.declared.parser.matches.SubCommand.{SubCommand}
 use Rattle.clap.proofs.WalkLemmas.{both}
 use Rattle.clap.proofs.OnLiterals.{clap_on_literals}
-use Rattle.bd_app.specs.Commands.{Question, command_line, commands, if_faultless, question_of, taken}
+use Rattle.bd_app.specs.Commands.{command_line, commands, if_faultless, question_of, taken}
 use Rattle.bd_app.specs.Words.{digits_number, ◌>>=◌}
 
 pub command_line-simple : is_simple command_line ≡ true
@@ -89,7 +89,8 @@ flag_found E (Some t) r none some = flag_read E t r (some t refl)
 
 -- ---- words
 
-refused_kinds : (k : ErrorKind) (kinds : Kinds) (asked : Option Question) → IsAmong k kinds → if_faultless kinds asked ≡ None
+-- of words in which there is a fault nothing is asked
+pub refused_kinds : {Q : Type 0} (k : ErrorKind) (kinds : Kinds) (asked : Option Q) → IsAmong k kinds → if_faultless kinds asked ≡ None
 refused_kinds k [] asked among = absurd among
 refused_kinds k (x ∷ xs) asked among = refl
 

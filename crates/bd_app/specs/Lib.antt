@@ -6,6 +6,7 @@ pub mod Texts
 pub mod Answer
 pub mod Verdicts
 pub mod Meaning
+pub mod Loading
 pub mod Questions
 pub mod Bounded
 pub mod Check

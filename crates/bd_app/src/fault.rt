@@ -7,8 +7,9 @@ ghost use Rattle.bd_app.specs.declared.fault.Fault.TheVariants.{Memory};
 ghost use Rattle.bd_app.specs.inner.Faults.{design_fault, load_fault, of_text, proof_fault, save_fault, words_fault};
 
 use crate::command::WordsFault;
+use crate::loading::{LoadFault, most_bytes};
 use bd_cnf::Cnf;
-use bd_files::{LoadError, SaveError};
+use bd_files::SaveError;
 use bd_foreign::ProofFault;
 use bd_proof_text::Why;
 use bd_text::{Code, TextFault};
@@ -61,13 +62,18 @@ impl From<WordsFault> for Fault {
     }
 }
 
-impl From<LoadError> for Fault {
+impl From<LoadFault> for Fault {
     ghost from_gives = { λ cause fault. fault ≡ load_fault cause };
 
-    fn from(cause: LoadError) -> Fault {
+    fn from(cause: LoadFault) -> Fault {
         match cause {
-            LoadError::Failed => Fault::Load,
-            LoadError::Memory => Fault::Memory,
+            LoadFault::Failed(_) => Fault::Load,
+            LoadFault::TooLong(file) => Fault::Refused {
+                file,
+                offset: most_bytes(file),
+                code: Code::TooLong,
+            },
+            LoadFault::Memory => Fault::Memory,
         }
     }
 }

@@ -6,6 +6,7 @@ mod command;
 mod fault;
 mod laws;
 mod load;
+pub mod loading;
 mod program;
 mod proof_fault;
 mod read;

@@ -1,72 +1,14 @@
 //! Loading the files that the words name.
-ghost use Rattle.std.specs.Prelude.{◌≡◌, ◌≤◌, [], ◌∷◌, length, IfSome, IfOk};
-ghost use Rattle.bd_app.specs.Files.{HoldsShort, design_files, design_names, most_bytes, one_if, text_files, text_names};
+ghost use Rattle.std.specs.Prelude.{◌≤◌, length, IfSome, IfOk};
+ghost use Rattle.bd_app.specs.Files.{HoldsShort, design_files, design_names, most_bytes, text_files, text_names};
 ghost use Rattle.bd_app.specs.Meaning.{files_seen};
-ghost use Rattle.bd_app.specs.Sources.{HoldSources, HoldsShortIf, TextSources};
-ghost use Rattle.bd_app.specs.Words.{given};
-ghost use Rattle.bd_app.specs.inner.Loaded.{AreFew, Loads, bytes_of, sources_view};
+ghost use Rattle.bd_app.specs.Sources.{HoldSources, TextSources};
+ghost use Rattle.bd_app.specs.inner.Loaded.{AreFew, Loads, sources_view};
 
 use crate::fault::Fault;
+use crate::loading::{load, load_if};
 use bd_files::Files;
-use bd_text::Code;
 use bd_typer::{Premise, Text};
-
-/// The most bytes of a file that is no proof.
-const MAX_FILE: usize = 1_048_576;
-
-/// The most bytes of a proof.
-const MAX_PROOF: usize = 67_108_864;
-
-/// The most bytes of a file.
-fn most_bytes(file: Text) -> usize
-    ensures { result ≡ most_bytes file }
-{
-    match file {
-        Text::Proof => MAX_PROOF,
-        _ => MAX_FILE,
-    }
-}
-
-/// The bytes of a file, if there aren't too many.
-fn load<F: Files>(files: &mut F, file: Text, name: &str) -> Result<Vec<u8>, Fault>
-    ensures loaded { IfOk result (λ bytes. IfSome (F.held files.old) (λ held.
-        HoldsShort held (file, name.now) bytes.items)) }
-    ensures few { IfOk result (λ bytes. length bytes.items ≤ most_bytes file) }
-    ensures left { Loads ((file, name.now) ∷ []) (files_seen F.held F.faults F.blame F.calls files.old)
-        (files_seen F.held F.faults F.blame F.calls files.new) result }
-{
-    let most = most_bytes(file);
-    let bytes = files.load(name, most)?;
-    if bytes.as_slice().len() <= most {
-        Ok(bytes)
-    } else {
-        Err(Fault::Refused {
-            file,
-            offset: most,
-            code: Code::TooLong,
-        })
-    }
-}
-
-/// The bytes of a file, if it is named.
-fn load_if<F: Files>(
-    files: &mut F,
-    file: Text,
-    name: Option<&str>,
-) -> Result<Option<Vec<u8>>, Fault>
-    ensures loaded { IfOk result (λ bytes. IfSome (F.held files.old) (λ held.
-        HoldsShortIf held file (given name.entry) (bytes_of bytes))) }
-    ensures few { IfOk result (λ bytes.
-        IfSome (bytes_of bytes) (λ b. length b ≤ most_bytes file)) }
-    ensures left { Loads (one_if file (given name.entry))
-        (files_seen F.held F.faults F.blame F.calls files.old)
-        (files_seen F.held F.faults F.blame F.calls files.new) result }
-{
-    match name {
-        Some(name) => Ok(Some(load(files, file, name)?)),
-        None => Ok(None),
-    }
-}
 
 /// The names of the files of a design. The third says of states what the premise does.
 #[derive(Clone, Copy)]

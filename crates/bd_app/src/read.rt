@@ -17,6 +17,7 @@ ghost use Rattle.bd_model.specs.Limits.{longest_text};
 
 use crate::fault::{Fault, of_text};
 use crate::load::{Sources, TextBytes};
+use crate::loading::loaded_slice;
 use bd_case::{read_case, read_trail};
 use bd_model::{Case, Design, Trail};
 use bd_typer::{Joined, Text, completed_design, design_with};
@@ -29,10 +30,7 @@ pub fn design(alloc: Global, sources: &Sources) -> Result<Design, Fault>
     ensures lawful { IfOk result (λ d. IsLawful (design_view d)) }
     ensures refused { IfErr result (AreRefused (sources_view sources.now)) }
 {
-    let third = match &sources.third {
-        Some(third) => Some(third.as_slice()),
-        None => None,
-    };
+    let third = loaded_slice(&sources.third);
     let design = design_with(
         alloc,
         sources.pipe.as_slice(),
@@ -55,10 +53,7 @@ pub fn completion(alloc: Global, bytes: &TextBytes) -> Result<Joined, Fault>
         (AreNoCompletion (sources_view bytes.now.sources) bytes.now.text.items) }
 {
     let sources = &bytes.sources;
-    let inv = match &sources.third {
-        Some(inv) => Some(inv.as_slice()),
-        None => None,
-    };
+    let inv = loaded_slice(&sources.third);
     let joined = completed_design(
         alloc,
         sources.pipe.as_slice(),

@@ -5,8 +5,11 @@ use Rattle.std.specs.declared.alloc.AllocError.{AllocError}
 use Rattle.std.specs.declared.alloc.Global.{Global}
 use Rattle.bd_files.specs.Devices.{Held}
 use Rattle.bd_app.specs.Files.{KeepsAllBut}
+use Rattle.bd_app.specs.Loading.{Leaves, bytes_of}
 use Rattle.bd_app.specs.Meaning.{FilesSeen}
 use Rattle.bd_app.specs.Words.{Name}
+use Rattle.bd_app.specs.declared.loading.LoadFault.{LoadFault}
+use Rattle.bd_app.specs.declared.loading.LoadFault.TheVariants.{Failed, TooLong, Memory}
 use Rattle.bd_model.specs.declared.case.Judged.{Judged}
 use Rattle.bd_app.proofs.Results.{IfSome-weaker, rose_after}
 use Rattle.bd_app.proofs.Saves.{keeps_same}
@@ -15,10 +18,8 @@ use Rattle.bd_show.specs.Meaning.{Blames, HoldsPage, MayHaveSaved, Means, Questi
 use Rattle.bd_show.specs.declared.answer.Answer.{Answer}
 use Rattle.bd_show.specs.declared.answer.Ended.{Ended}
 use Rattle.bd_show.specs.declared.answer.Ended.TheVariants as ended
-use Rattle.bd_show.specs.declared.load.LoadFault.{LoadFault}
-use Rattle.bd_show.specs.declared.load.LoadFault.TheVariants.{Failed, TooLong, Memory}
 use Rattle.bd_show.specs.inner.Answered.{HoldsDrawn, IsDoneOn, IsDrawn, IsKept, IsSaved, IsUnloaded}
-use Rattle.bd_show.specs.inner.Loaded.{IsFault, Leaves, bytes_of}
+use Rattle.bd_show.specs.inner.Loaded.{IsFault}
 
 -- bytes are given where a file is
 pub bytes_given : (bytes : Option (Vec ℕ Global)) → is_some (bytes_of bytes) ≡ is_some bytes

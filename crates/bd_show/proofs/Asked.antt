@@ -1,17 +1,16 @@
 -- What clap's answer says of the words.
-use Rattle.std.proofs.Common.{◌≡◌, true, List, [], ◌∷◌, Option, None, refl, subst, inl, inr}
+use Rattle.std.proofs.Common.{◌≡◌, true, List, [], Option, None, refl, subst, inl, inr}
 use Rattle.std.specs.Prelude.{◌⊎◌}
 use Rattle.clap.specs.Faults.{fault_of, is_simple_and_free}
-use Rattle.clap.specs.Kinds.{Kinds, IsAmong}
+use Rattle.clap.specs.Kinds.{IsAmong}
 use Rattle.clap.specs.Simple.{is_simple, subcommand_of}
 use Rattle.clap.specs.Walk.{Row, Text}
 use Rattle.clap.specs.declared.error.kind.ErrorKind.{ErrorKind}
 use Rattle.clap.specs.declared.error.kind.ErrorKind.TheVariants as kind
 use Rattle.clap.proofs.OnLiterals.{clap_on_literals}
-use Rattle.bd_app.specs.Commands.{if_faultless}
 use Rattle.bd_app.specs.Words.{◌>>=◌}
+use Rattle.bd_app.proofs.WordValues.{refused_kinds}
 use Rattle.bd_show.specs.Commands.{command_line, question_of, taken}
-use Rattle.bd_show.specs.Meaning.{Question}
 use Rattle.bd_show.specs.declared.command.WordsFault.{WordsFault}
 use Rattle.bd_show.specs.declared.command.WordsFault.TheVariants.{Told, Usage, Memory}
 use Rattle.bd_show.specs.inner.Asked.{IsToldBy, IsWordsFault}
@@ -23,10 +22,6 @@ command_line-simple = refl
 pub command_line-free : is_simple_and_free command_line ≡ true
 unfolding command_line clap_on_literals
 command_line-free = refl
-
-refused_kinds : (k : ErrorKind) (kinds : Kinds) (asked : Option Question) → IsAmong k kinds → if_faultless kinds asked ≡ None
-refused_kinds k [] asked among = absurd among
-refused_kinds k (x ∷ xs) asked among = refl
 
 -- where clap finds a fault, the words aren't taken
 pub refused : (words : List Text) (k : ErrorKind) → IsAmong k (fault_of command_line words) → taken words ≡ None

@@ -1,36 +1,22 @@
 -- What loading one file after another says of all of them.
-use Rattle.std.proofs.Common.{◌≡◌, ◌+◌, ◌<◌, ◌≤◌, ◌∙◌, ℕ, List, [], ◌∷◌, ◌++◌, length, take, refl, ap, append_assoc, sym, subst, arith, length-take}
-use Rattle.std.specs.Option.{option_map}
+use Rattle.std.proofs.Common.{◌≡◌, ◌≤◌, ◌∙◌, ℕ, List, [], ◌∷◌, ◌++◌, refl, ap, append_assoc, sym, subst, arith}
 use Rattle.std.specs.Prelude.{Option, Some, None, Result, Ok, Err, IfSome, IsErrAnd}
-use Rattle.bd_files.specs.Devices.{Held, IsLoaded}
+use Rattle.bd_files.specs.Devices.{Held}
 use Rattle.bd_files.specs.declared.devices.FileCall.TheVariants as call
 use Rattle.bd_typer.specs.declared.fault.Text.{Text}
 use Rattle.bd_typer.specs.declared.fault.Text.TheVariants as text
-use Rattle.bd_app.specs.Files.{AreShort, File, HoldsShort, IsFirstLong, IsLong, IsShort, most_bytes, one_if}
+use Rattle.bd_app.specs.Files.{AreShort, File, HoldsShort, IsFirstLong, IsLong, IsShort, one_if}
+use Rattle.bd_app.specs.Loading.{IsOneFault, IsOneLoad, IsOneLoadIf, Leaves}
 use Rattle.bd_app.specs.Meaning.{FilesSeen}
 use Rattle.bd_app.specs.Sources.{HoldsShortIf}
 use Rattle.bd_app.specs.Words.{Name}
+use Rattle.bd_app.specs.declared.loading.LoadFault.{LoadFault}
+use Rattle.bd_app.specs.declared.loading.LoadFault.TheVariants.{Failed, TooLong, Memory}
+use Rattle.bd_app.proofs.Calls.{short_both}
+use Rattle.bd_app.proofs.Loads.{short_if}
 use Rattle.bd_app.proofs.Results.{IfSome-both, IfSome-weaker, passed, rose_after}
 use Rattle.bd_show.specs.Files.{HoldTexts, Names, Texts, files_of, name_in, or_none}
-use Rattle.bd_show.specs.declared.load.LoadFault.{LoadFault}
-use Rattle.bd_show.specs.declared.load.LoadFault.TheVariants.{Failed, TooLong, Memory}
-use Rattle.bd_show.specs.inner.Loaded.{IsFault, IsLoad, IsOneFault, IsOneLoad, IsOneLoadIf, Leaves}
-
--- ---- one file
-
-held_bytes : (most : ℕ) (o : Option (List ℕ)) (bytes : List ℕ) → option_map (take (most + 1)) o ≡ Some bytes → (full : List ℕ) × (o ≡ Some full) × (bytes ≡ take (most + 1) full)
-held_bytes most None bytes h = absurd (cc h)
-held_bytes most (Some full) bytes h = (full, refl, cc h)
-
-many_held : (most : ℕ) (full bytes : List ℕ) → bytes ≡ take (most + 1) full → most < length bytes → most < length full
-many_held most full bytes read many = omega (arith, length-take (most + 1) full, ap length read)
-
--- of too many bytes one more than the most is loaded
-pub long_held : (held : Option Held) (file : File) (bytes : List ℕ) → IsLoaded held file.1 (most_bytes file.0) bytes → most_bytes file.0 < length bytes → IfSome held (λ h. IsLong h file)
-long_held None file bytes loaded many = tt
-long_held (Some held) file bytes loaded many =
-    let full = held_bytes (most_bytes file.0) (held file.1) bytes loaded in
-    (full.0, full.1, many_held (most_bytes file.0) full.0 bytes full.2 many)
+use Rattle.bd_show.specs.inner.Loaded.{IsFault, IsLoad}
 
 -- ---- what stands before a file
 
@@ -42,33 +28,23 @@ Machines names h = IsShort h (text.Pipe, names.pipe) × IsShort h (text.Spec, na
 abbrev pub texts_on : Names → List File
 texts_on names = one_if text.Case names.case ++ one_if text.Proof names.proof
 
-short_if : (h : Held) (t : Text) (name : Option Name) (bytes : Option (List ℕ)) → HoldsShortIf h t name bytes → AreShort h (one_if t name)
-short_if h t None None held = tt
-short_if h t None (Some bytes) held = absurd held
-short_if h t (Some name) None held = absurd held
-short_if h t (Some name) (Some bytes) held = ((bytes, held), tt)
-
-short_both : (h : Held) (files more : List File) → AreShort h files → AreShort h more → AreShort h (files ++ more)
-short_both h [] more short also = also
-short_both h (file ∷ files) more short also = (short.0, short_both h files more short.1 also)
-
 module _ (names : Names) (a b : FilesSeen) where
   -- a fault of a file that is blamed under its name, and is the first that is too long where it is too long
-  placed : (file : Text) (n : Name) (e : LoadFault) → n ≡ name_in names file → (IfSome a.held (λ h. IsLong h (file, n)) → IfSome a.held (λ h. IsFirstLong h (files_of names) file)) → IsOneFault file n a b e → IsFault names a b e
+  placed : (file : Text) (n : Name) (e : LoadFault) → n ≡ name_in names file → (IfSome a.held (λ h. IsLong h (file, n)) → IfSome a.held (λ h. IsFirstLong h (files_of names) file)) → IsOneFault (file, n) a b e → IsFault names a b e
   placed file n (Failed f) named first (same, rose, blamed) =
       (rose, subst (λ g. b.blame ≡ Some (call.Load, name_in names g)) (sym same) (subst (λ m. b.blame ≡ Some (call.Load, m)) named blamed))
   placed file n (TooLong f) named first (same, long, blame) = (subst (λ g. IfSome a.held (λ h. IsFirstLong h (files_of names) g)) (sym same) (first long), blame)
   placed file n Memory named first blame = blame
 
-  pipe_fault : (e : LoadFault) → IsOneFault text.Pipe names.pipe a b e → IsFault names a b e
+  pipe_fault : (e : LoadFault) → IsOneFault (text.Pipe, names.pipe) a b e → IsFault names a b e
   pipe_fault e one = placed text.Pipe names.pipe e refl (λ long.
       IfSome-weaker _ _ a.held (λ h l. record { before = []; name = names.pipe; after = (text.Spec, names.spec) ∷ (one_if text.Case names.case ++ (one_if text.Proof names.proof ++ one_if text.Inv names.inv)); order = refl; short = tt; long = l }) long) one
 
-  spec_fault : (e : LoadFault) → IfSome a.held (λ h. IsShort h (text.Pipe, names.pipe)) → IsOneFault text.Spec names.spec a b e → IsFault names a b e
+  spec_fault : (e : LoadFault) → IfSome a.held (λ h. IsShort h (text.Pipe, names.pipe)) → IsOneFault (text.Spec, names.spec) a b e → IsFault names a b e
   spec_fault e short one = placed text.Spec names.spec e refl (λ long.
       IfSome-both _ _ _ a.held (λ h s l. record { before = (text.Pipe, names.pipe) ∷ []; name = names.spec; after = one_if text.Case names.case ++ (one_if text.Proof names.proof ++ one_if text.Inv names.inv); order = refl; short = (s, tt); long = l }) short long) one
 
-  case_fault : (e : LoadFault) (n : Name) → names.case ≡ Some n → IfSome a.held (Machines names) → IsOneFault text.Case n a b e → IsFault names a b e
+  case_fault : (e : LoadFault) (n : Name) → names.case ≡ Some n → IfSome a.held (Machines names) → IsOneFault (text.Case, n) a b e → IsFault names a b e
   case_fault e n is short one = placed text.Case n e (sym (ap or_none is)) (λ long.
       IfSome-both (Machines names) (λ h. IsLong h (text.Case, n)) _ a.held (λ h s l. record {
         before = (text.Pipe, names.pipe) ∷ (text.Spec, names.spec) ∷ [];
@@ -80,7 +56,7 @@ module _ (names : Names) (a b : FilesSeen) where
       }) short long) one
 
   proof_fault : (e : LoadFault) (n : Name) (bytes : Option (List ℕ)) → names.proof ≡ Some n → IfSome a.held (Machines names) → IfSome a.held (λ h. HoldsShortIf h text.Case names.case bytes)
-      → IsOneFault text.Proof n a b e → IsFault names a b e
+      → IsOneFault (text.Proof, n) a b e → IsFault names a b e
   proof_fault e n bytes is short case one = placed text.Proof n e (sym (ap or_none is)) (λ long.
       IfSome-both (λ h. Machines names h × HoldsShortIf h text.Case names.case bytes) (λ h. IsLong h (text.Proof, n)) _ a.held (λ h both l. record {
         before = (text.Pipe, names.pipe) ∷ (text.Spec, names.spec) ∷ one_if text.Case names.case;
@@ -91,7 +67,7 @@ module _ (names : Names) (a b : FilesSeen) where
         long = l;
       }) (IfSome-both (Machines names) (λ h. HoldsShortIf h text.Case names.case bytes) (λ h. Machines names h × HoldsShortIf h text.Case names.case bytes) a.held (λ h s c. (s, c)) short case) long) one
 
-  inv_fault : (e : LoadFault) (n : Name) → names.inv ≡ Some n → IfSome a.held (Machines names) → IfSome a.held (λ h. AreShort h (texts_on names)) → IsOneFault text.Inv n a b e → IsFault names a b e
+  inv_fault : (e : LoadFault) (n : Name) → names.inv ≡ Some n → IfSome a.held (Machines names) → IfSome a.held (λ h. AreShort h (texts_on names)) → IsOneFault (text.Inv, n) a b e → IsFault names a b e
   inv_fault e n is short on one = placed text.Inv n e (sym (ap or_none is)) (λ long.
       IfSome-both (λ h. Machines names h × AreShort h (texts_on names)) (λ h. IsLong h (text.Inv, n)) _ a.held (λ h both l. record {
         before = (text.Pipe, names.pipe) ∷ (text.Spec, names.spec) ∷ texts_on names;
@@ -103,10 +79,10 @@ module _ (names : Names) (a b : FilesSeen) where
         long = l;
       }) (IfSome-both (Machines names) (λ h. AreShort h (texts_on names)) (λ h. Machines names h × AreShort h (texts_on names)) a.held (λ h s c. (s, c)) short on) long) one
 
-pub pipe_fails : {T : Type 0} {a b : FilesSeen} {e : LoadFault} (names : Names) → IsOneLoad {T = T} text.Pipe names.pipe a b (Err e) → IsFault names a b e
+pub pipe_fails : {T : Type 0} {a b : FilesSeen} {e : LoadFault} (names : Names) → IsOneLoad {T = T} (text.Pipe, names.pipe) a b (Err e) → IsFault names a b e
 pipe_fails {T} {a} {b} {e} names one = pipe_fault names a b e one.fault
 
-pub spec_fails : {T : Type 0} {a b : FilesSeen} {e : LoadFault} (names : Names) → IfSome a.held (λ h. IsShort h (text.Pipe, names.pipe)) → IsOneLoad {T = T} text.Spec names.spec a b (Err e) → IsFault names a b e
+pub spec_fails : {T : Type 0} {a b : FilesSeen} {e : LoadFault} (names : Names) → IfSome a.held (λ h. IsShort h (text.Pipe, names.pipe)) → IsOneLoad {T = T} (text.Spec, names.spec) a b (Err e) → IsFault names a b e
 spec_fails {T} {a} {b} {e} names short one = spec_fault names a b e short one.fault
 
 pub case_fails : {T : Type 0} {a b : FilesSeen} {e : LoadFault} (names : Names) → IfSome a.held (Machines names) → IsOneLoadIf {T = T} text.Case names.case a b (Err e) → IsFault names a b e
@@ -144,9 +120,6 @@ leaves_fault l m = record { blame = tt; held = m.held ∙ l.held; never_falls = 
 -- a load that failed
 pub load_fails : {T S : Type 0} {a b : FilesSeen} {e : LoadFault} (names : Names) (r : Result S LoadFault) → IsErrAnd r (λ y. y ≡ e) → Leaves {T = T} a b (Err e) → IsFault names a b e → IsLoad names a b r
 load_fails {T} {S} {a} {b} {e} names r is l fault = passed (λ z. IsLoad names a b z) r e is (record { fault = fault; leaves = record { blame = tt; held = l.held; never_falls = l.never_falls } })
-
-pub short_file : (held : Option Held) (file : File) (bytes : List ℕ) → IfSome held (λ h. HoldsShort h file bytes) → IfSome held (λ h. IsShort h file)
-short_file held file bytes loaded = IfSome-weaker _ _ held (λ h short. (bytes, short)) loaded
 
 pub machines_short : (names : Names) (held : Option Held) → IfSome held (λ h. IsShort h (text.Pipe, names.pipe)) → IfSome held (λ h. IsShort h (text.Spec, names.spec)) → IfSome held (Machines names)
 machines_short names held p s = IfSome-both (λ h. IsShort h (text.Pipe, names.pipe)) (λ h. IsShort h (text.Spec, names.spec)) (Machines names) held (λ h x y. (x, y)) p s

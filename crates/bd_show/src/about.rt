@@ -2,12 +2,13 @@
 ghost use Rattle.std.specs.Prelude.{IfOk};
 ghost use Rattle.bd_model.specs.DesignView.{design_view};
 ghost use Rattle.bd_model.specs.Lawful.{IsLawful};
+ghost use Rattle.bd_app.specs.Loading.{bytes_of};
 ghost use Rattle.bd_app.specs.Meaning.{files_seen};
 ghost use Rattle.bd_show.specs.Files.{names_of};
 ghost use Rattle.bd_show.specs.LetNames.{AreGivenLets, AreReadable, IsInvariantTextIf};
 ghost use Rattle.bd_show.specs.Meaning.{Question, Says};
 ghost use Rattle.bd_show.specs.inner.Answered.{IsDoneOn, IsOfDesign};
-ghost use Rattle.bd_show.specs.inner.Loaded.{AreFew, bytes_of, texts_view};
+ghost use Rattle.bd_show.specs.inner.Loaded.{AreFew, texts_view};
 
 use crate::answer::{Answer, Ended};
 use crate::fault::{refused, unloaded};

@@ -1,14 +1,16 @@
 //! Answers that refuse files.
 ghost use Rattle.std.specs.Prelude.{◌≡◌, ◌++◌, codes, IfOk};
+ghost use Rattle.bd_app.specs.Loading.{bytes_of};
 ghost use Rattle.bd_show.specs.Files.{bytes_in, name_in, names_of, or_none};
 ghost use Rattle.bd_show.specs.Meaning.{Question, Says, asked_names};
-ghost use Rattle.bd_show.specs.inner.Loaded.{bytes_of, texts_view};
+ghost use Rattle.bd_show.specs.inner.Loaded.{texts_view};
 ghost use Rattle.bd_show.specs.inner.Read.{AreRefused};
 ghost use Rattle.bd_show.specs.inner.Answered.{IsRefusal, IsUnloaded};
 
 use crate::answer::{Answer, Ended};
-use crate::load::{FileNames, LoadFault, Texts};
+use crate::load::{FileNames, Texts};
 use crate::place::fault_text;
+use bd_app::loading::LoadFault;
 use bd_hint::{Fault, Source, hint_of};
 use bd_typer::{DesignFault, Text};
 use std::alloc::{AllocError, Global};

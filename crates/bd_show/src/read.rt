@@ -10,6 +10,7 @@ ghost use Rattle.bd_show.specs.inner.Loaded.{AreFew, texts_view};
 ghost use Rattle.bd_show.specs.inner.Read.{AreRefused};
 
 use crate::load::Texts;
+use bd_app::loading::loaded_slice;
 use bd_case::{CaseFault, read_case};
 use bd_model::{Case, Design};
 use bd_typer::{DesignFault, Text, design_of};
@@ -23,11 +24,12 @@ pub fn design(alloc: Global, texts: &Texts) -> Result<Design, DesignFault>
     ensures readable { IfOk result (λ _. AreReadable (texts_view texts.now)) }
     ensures refused { IfErr result (AreRefused (texts_view texts.now)) }
 {
-    let inv = match &texts.inv {
-        Some(inv) => Some(inv.as_slice()),
-        None => None,
-    };
-    design_of(alloc, texts.pipe.as_slice(), texts.spec.as_slice(), inv)
+    design_of(
+        alloc,
+        texts.pipe.as_slice(),
+        texts.spec.as_slice(),
+        loaded_slice(&texts.inv),
+    )
 }
 
 /// The first byte of a case's text, where `wrong` and `correct` begin a comment.

@@ -4,6 +4,7 @@ ghost use Rattle.bd_model.specs.Conditions.{IsJudged};
 ghost use Rattle.bd_model.specs.DesignView.{design_view};
 ghost use Rattle.bd_model.specs.Fits.{Fits};
 ghost use Rattle.bd_model.specs.Lawful.{IsLawful};
+ghost use Rattle.bd_app.specs.Loading.{bytes_of};
 ghost use Rattle.bd_app.specs.Meaning.{files_seen};
 ghost use Rattle.bd_app.specs.Words.{given};
 ghost use Rattle.bd_picture.specs.Page.{IsPage};
@@ -12,7 +13,7 @@ ghost use Rattle.bd_show.specs.Files.{AreDesign, names_of};
 ghost use Rattle.bd_show.specs.LetNames.{AreReadable};
 ghost use Rattle.bd_show.specs.Meaning.{IsLeft, IsShown, Question, Says};
 ghost use Rattle.bd_show.specs.inner.Answered.{IsDoneOn, IsDrawn, IsSaved, show_of};
-ghost use Rattle.bd_show.specs.inner.Loaded.{AreFew, bytes_of, texts_view};
+ghost use Rattle.bd_show.specs.inner.Loaded.{AreFew, texts_view};
 
 use crate::answer::{Answer, Ended};
 use crate::fault::{joined, refused, unloaded};

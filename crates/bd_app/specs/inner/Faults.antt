@@ -1,16 +1,16 @@
 -- The faults of the parts of a run: what they come of, and the answers that they are.
 use Rattle.std.specs.Prelude.{Result, Ok, Err}
-use Rattle.bd_files.specs.declared.devices.LoadError.{LoadError}
-use Rattle.bd_files.specs.declared.devices.LoadError.TheVariants as loading
 use Rattle.bd_files.specs.declared.devices.SaveError.{SaveError}
 use Rattle.bd_files.specs.declared.devices.SaveError.TheVariants as saving
 use Rattle.bd_foreign.specs.declared.fault.ProofFault.{ProofFault}
 use Rattle.bd_foreign.specs.declared.fault.ProofFault.TheVariants as proof
+use Rattle.bd_text.specs.declared.code.Code.TheVariants.{TooLong}
 use Rattle.bd_text.specs.declared.fault.TextFault.{TextFault}
 use Rattle.bd_text.specs.declared.fault.TextFault.TheVariants as texts
 use Rattle.bd_typer.specs.declared.fault.Text.{Text}
 use Rattle.bd_typer.specs.declared.fault.TypeFault.{TypeFault}
 use Rattle.bd_typer.specs.declared.fault.TypeFault.TheVariants as design
+use Rattle.bd_app.specs.Files.{most_bytes}
 use Rattle.bd_app.specs.declared.answer.Answer.{Answer}
 use Rattle.bd_app.specs.declared.answer.Which.TheVariants as which
 use Rattle.bd_app.specs.declared.answer.Ended.{Ended}
@@ -18,6 +18,8 @@ use Rattle.bd_app.specs.declared.answer.Ended.TheVariants as ended
 use Rattle.bd_app.specs.declared.command.WordsFault.{WordsFault}
 use Rattle.bd_app.specs.declared.command.WordsFault.TheVariants as words
 use Rattle.bd_app.specs.declared.fault.Fault.{Fault}
+use Rattle.bd_app.specs.declared.loading.LoadFault.{LoadFault}
+use Rattle.bd_app.specs.declared.loading.LoadFault.TheVariants as loading
 use Rattle.bd_app.specs.declared.fault.Fault.TheVariants.{Usage, Refused, BadText, Load, Save, Memory}
 
 -- ---- the answer that a fault is
@@ -41,8 +43,9 @@ abbrev pub words_fault : WordsFault → Fault
 words_fault words.Usage = Usage
 words_fault words.Memory = Memory
 
-abbrev pub load_fault : LoadError → Fault
-load_fault loading.Failed = Load
+abbrev pub load_fault : LoadFault → Fault
+load_fault (loading.Failed file) = Load
+load_fault (loading.TooLong file) = Refused file (most_bytes file) TooLong
 load_fault loading.Memory = Memory
 
 abbrev pub save_fault : SaveError → Fault

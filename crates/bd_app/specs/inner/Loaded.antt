@@ -1,9 +1,8 @@
 -- The bytes of files as the definitions see them, and what loading leaves.
-use Rattle.std.specs.Prelude.{◌≡◌, ◌≤◌, ℕ, List, length, Option, IfSome, OnOk, IfErr, IsErrOf, Result, Vec}
-use Rattle.std.specs.declared.alloc.Global.{Global}
-use Rattle.std.specs.Option.{option_map}
+use Rattle.std.specs.Prelude.{◌≡◌, ◌≤◌, List, length, Option, IfSome, OnOk, IfErr, IsErrOf, Result}
 use Rattle.bd_files.specs.Devices.{Held, Rose}
 use Rattle.bd_app.specs.Files.{BlamesOneOf, File, loads}
+use Rattle.bd_app.specs.Loading.{bytes_of}
 use Rattle.bd_app.specs.Meaning.{Called, FilesSeen, IsTooLong, LoadsFail}
 use Rattle.bd_app.specs.Sources.{Sources}
 use Rattle.bd_app.specs.declared.fault.Fault.{Fault}
@@ -11,9 +10,6 @@ use Rattle.bd_app.specs.declared.fault.Fault.TheVariants.{Refused, Load, Memory}
 use Rattle.bd_app.specs.declared.load.Sources.{Sources as LoadedSources}
 use Rattle.bd_app.specs.inner.Faults.{ended_by_fault}
 use Rattle.bd_model.specs.Limits.{longest_text}
-
-abbrev pub bytes_of : Option (Vec ℕ Global) → Option (List ℕ)
-bytes_of = option_map (λ bytes. bytes.items)
 
 abbrev pub sources_view : LoadedSources → Sources
 sources_view s =

@@ -1,16 +1,14 @@
 //! `complete`: whether a pipeline is right by a completion function, or whether that agrees with flushing.
-ghost use Rattle.std.specs.Prelude.{◌≡◌, ◌≤◌, ◌++◌, [], ◌∷◌, false, length, IfSome, OnOk, IfOk, string_bytes};
+ghost use Rattle.std.specs.Prelude.{◌≡◌, ◌≤◌, ◌++◌, [], ◌∷◌, false, length, OnOk, IfOk, string_bytes};
 ghost use Rattle.std.specs.Option.{option_map};
 ghost use Rattle.clap.specs.Words.{found_of, rows_of, shape_of};
 ghost use Rattle.clap.specs.declared.builder.command.Command.TheViews.{out-Command as fields_of};
 ghost use Rattle.bd_abstraction.specs.Abstraction.{IsLawfulAbstraction, abstraction_of};
 ghost use Rattle.bd_completion.specs.Answer.{HasWork, Says};
 ghost use Rattle.bd_model.specs.DesignView.{design_view};
-ghost use Rattle.bd_model.specs.Fits.{Fits};
 ghost use Rattle.bd_model.specs.Lawful.{IsLawful};
 ghost use Rattle.bd_app.specs.Complete.{complete_command, complete_meaning, complete_of, complete_question, complete_words, shown_break, IsCompleteReport};
 ghost use Rattle.bd_app.specs.Meaning.{files_seen};
-ghost use Rattle.bd_app.specs.Texts.{IsTextOfIf, case_kind};
 ghost use Rattle.bd_app.specs.inner.Loaded.{AreFew, sources_view};
 ghost use Rattle.bd_app.specs.inner.Completed.{IsShownBreak, OnCompletion};
 ghost use Rattle.bd_app.specs.inner.Done.{IsDone};

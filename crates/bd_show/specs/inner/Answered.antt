@@ -9,6 +9,8 @@ use Rattle.bd_files.specs.Devices.{Held, Holds, Rose}
 use Rattle.bd_app.specs.Files.{KeepsAllBut}
 use Rattle.bd_app.specs.Meaning.{FilesSeen}
 use Rattle.bd_app.specs.Words.{Name, given}
+use Rattle.bd_app.specs.declared.loading.LoadFault.{LoadFault}
+use Rattle.bd_app.specs.declared.loading.LoadFault.TheVariants.{Failed, TooLong, Memory}
 use Rattle.bd_picture.specs.Page.{IsPage}
 use Rattle.bd_picture.specs.Sentence.{sentence}
 use Rattle.bd_show.specs.Files.{BlamesSave, Names, Texts, name_in, names_of, or_none}
@@ -17,8 +19,6 @@ use Rattle.bd_show.specs.declared.answer.Answer.{Answer}
 use Rattle.bd_show.specs.declared.answer.Ended.{Ended}
 use Rattle.bd_show.specs.declared.answer.Ended.TheVariants as ended
 use Rattle.bd_show.specs.declared.checking.CheckOptions.{CheckOptions}
-use Rattle.bd_show.specs.declared.load.LoadFault.{LoadFault}
-use Rattle.bd_show.specs.declared.load.LoadFault.TheVariants.{Failed, TooLong, Memory}
 use Rattle.bd_show.specs.declared.rechecking.RecheckOptions.{RecheckOptions}
 use Rattle.bd_show.specs.declared.show.ShowOptions.{ShowOptions}
 use Rattle.bd_show.specs.declared.why.WhyOptions.{WhyOptions}

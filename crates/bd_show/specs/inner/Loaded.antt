@@ -1,22 +1,16 @@
 -- What loading says of files and leaves of them.
-use Rattle.std.specs.Prelude.{◌≡◌, ◌≤◌, ℕ, List, length, Option, Some, IfSome, IfErr, OnOk, Result, Vec}
-use Rattle.std.specs.declared.alloc.Global.{Global}
-use Rattle.std.specs.Option.{option_map}
+use Rattle.std.specs.Prelude.{◌≡◌, ◌≤◌, ℕ, List, length, Option, IfSome, IfErr, Result}
 use Rattle.bd_files.specs.Devices.{Rose}
-use Rattle.bd_files.specs.declared.devices.FileCall.TheVariants as call
 use Rattle.bd_typer.specs.declared.fault.Text.{Text}
 use Rattle.bd_typer.specs.declared.fault.Text.TheVariants.{Inv}
-use Rattle.bd_app.specs.Files.{IsFirstLong, IsLong, most_bytes}
+use Rattle.bd_app.specs.Files.{IsFirstLong, most_bytes}
+use Rattle.bd_app.specs.Loading.{Leaves, bytes_of}
 use Rattle.bd_app.specs.Meaning.{FilesSeen}
-use Rattle.bd_app.specs.Words.{Name}
+use Rattle.bd_app.specs.declared.loading.LoadFault.{LoadFault}
+use Rattle.bd_app.specs.declared.loading.LoadFault.TheVariants.{Failed, TooLong, Memory}
 use Rattle.bd_show.specs.Files.{BlamesLoad, Names, Texts, files_of}
-use Rattle.bd_show.specs.declared.load.LoadFault.{LoadFault}
-use Rattle.bd_show.specs.declared.load.LoadFault.TheVariants.{Failed, TooLong, Memory}
 use Rattle.bd_show.specs.declared.load.Texts.{Texts as LoadedTexts}
 use Rattle.bd_model.specs.Limits.{longest_text}
-
-abbrev pub bytes_of : Option (Vec ℕ Global) → Option (List ℕ)
-bytes_of = option_map (λ bytes. bytes.items)
 
 abbrev pub texts_view : LoadedTexts → Texts
 texts_view t = record {
@@ -35,31 +29,6 @@ pub record AreFew (t : Texts) : Type 0 where
   pub pipe : length t.pipe ≤ longest_text
   pub spec : length t.spec ≤ longest_text
   pub inv : IsFewIf Inv t.inv
-
--- why one file gave no bytes
-abbrev pub IsOneFault : Text → Name → FilesSeen → FilesSeen → LoadFault → Type 0
-IsOneFault file name a b (Failed f) =
-    (f ≡ file) × Rose a.faults b.faults × (b.blame ≡ Some (call.Load, name))
-IsOneFault file name a b (TooLong f) =
-    (f ≡ file) × IfSome a.held (λ h. IsLong h (file, name)) × (b.blame ≡ a.blame)
-IsOneFault file name a b Memory = b.blame ≡ a.blame
-
--- what a load leaves
-pub record Leaves {T : Type 0} (a b : FilesSeen) (r : Result T LoadFault) : Type 0 where
-  pub blame : OnOk r (b.blame ≡ a.blame)
-  pub held : b.held ≡ a.held
-  pub never_falls : a.faults ≤ b.faults
-
-pub record IsOneLoad {T : Type 0} (file : Text) (name : Name) (a b : FilesSeen)
-    (r : Result T LoadFault) : Type 0 where
-  pub fault : IfErr r (IsOneFault file name a b)
-  pub leaves : Leaves a b r
-
--- the same of a file that may be named
-pub record IsOneLoadIf {T : Type 0} (file : Text) (name : Option Name) (a b : FilesSeen)
-    (r : Result T LoadFault) : Type 0 where
-  pub fault : IfErr r (λ e. (n : Name) × (name ≡ Some n) × IsOneFault file n a b e)
-  pub leaves : Leaves a b r
 
 -- why one of several files gave no bytes
 abbrev pub IsFault : Names → FilesSeen → FilesSeen → LoadFault → Type 0

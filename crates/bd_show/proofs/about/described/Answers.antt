@@ -3,7 +3,7 @@ use Rattle.bd_model.specs.DesignView.{design_view}
 use Rattle.bd_about.specs.Findings.{AreFindings}
 use Rattle.bd_syntax.specs.declared.ast.Kind.TheVariants.{Pipeline, Specification}
 use Rattle.bd_show.specs.LetNames.{AreGivenLets, AreMachineLets}
-use Rattle.bd_show.specs.inner.Loaded.{bytes_of}
+use Rattle.bd_app.specs.Loading.{bytes_of}
 use Rattle.bd_show.proofs.Answers.{bytes_given}
 use Rattle.bd_show.proofs.about.described.Goals as goal
 

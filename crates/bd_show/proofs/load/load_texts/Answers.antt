@@ -2,8 +2,9 @@ use Rattle.bd_typer.specs.declared.fault.Text.TheVariants as text
 use Rattle.bd_app.specs.Files.{HoldsShort, IsShort}
 use Rattle.bd_app.specs.Sources.{HoldsShortIf}
 use Rattle.bd_show.specs.Files.{names_of}
-use Rattle.bd_show.specs.inner.Loaded.{bytes_of}
-use Rattle.bd_show.proofs.Loads.{all_held, back, case_fails, inv_fails, leaves_fault, leaves_then, leaves_with, load_fails, machines_short, moved, pipe_fails, proof_fails, rebased, short_file, spec_fails, texts_short}
+use Rattle.bd_app.specs.Loading.{bytes_of}
+use Rattle.bd_app.proofs.Loads.{short_file}
+use Rattle.bd_show.proofs.Loads.{all_held, back, case_fails, inv_fails, leaves_fault, leaves_then, leaves_with, load_fails, machines_short, moved, pipe_fails, proof_fails, rebased, spec_fails, texts_short}
 use Rattle.bd_show.proofs.load.load_texts.Goals as goal
 
 pub returns-in_err-pipe-clause-left : goal.returns-in_err-pipe-clause-left
