@@ -2,8 +2,8 @@
 -- flushing.
 use Rattle.std.specs.Prelude.{◌≡◌, Bool, ℕ, List, [], ◌∷◌, ◌++◌, codes, Option, Some, None, IfSome}
 use Rattle.std.specs.Fmt.{decimal}
-use Rattle.clap.specs.Simple.{Shape, new_rule}
-use Rattle.clap.specs.Walk.{Row, first_of}
+use Rattle.clap.specs.Simple.{Shape}
+use Rattle.clap.specs.Walk.{Row}
 use Rattle.bd_abstraction.specs.Abstraction.{AbstractionView}
 use Rattle.bd_completion.specs.Answer.{HasWork, Says}
 use Rattle.bd_completion.specs.declared.answer.Complete.{Complete}
@@ -15,10 +15,10 @@ use Rattle.bd_model.specs.declared.case.Case.{Case}
 use Rattle.bd_model.specs.declared.case.Condition.TheVariants as condition
 use Rattle.bd_typer.specs.declared.fault.Text.TheVariants.{Comp}
 use Rattle.bd_app.specs.Completions.{CompletesTo, IsCompletionFault, abstraction_by}
-use Rattle.bd_app.specs.Files.{TextNames, text_files, text_names, with_invariant}
+use Rattle.bd_app.specs.Files.{TextNames, text_files, text_names, text_question}
 use Rattle.bd_app.specs.Meaning.{Meaning, no_proof}
 use Rattle.bd_app.specs.Texts.{IsTextOfIf, case_kind}
-use Rattle.bd_app.specs.Words.{budget_option, flag, flag_at, machines_command, number_of, required, text_of_required}
+use Rattle.bd_app.specs.Words.{budget_option, flag, flag_at, number_of, text_command}
 use Rattle.bd_app.specs.declared.answer.Ended.{Ended}
 use Rattle.bd_app.specs.declared.answer.Ended.TheVariants.{Completed}
 use Rattle.bd_app.specs.declared.command.complete.CompleteOptions.{CompleteOptions}
@@ -34,20 +34,12 @@ pub record Completion : Type 0 where
 
 -- complete PIPE SPEC COMP [INV] [--agree] [--budget N]
 abbrev pub complete_command : Shape
-complete_command = machines_command (codes "complete") (
-    required (codes "COMP")
-    ∷ new_rule (codes "INV")
-    ∷ flag (codes "agree")
-    ∷ budget_option
-    ∷ [])
+complete_command =
+    text_command (codes "complete") (codes "COMP") (flag (codes "agree") ∷ budget_option ∷ [])
 
 abbrev pub complete_question : List Row → Completion
 complete_question rows = record {
-  names = record {
-    design = with_invariant (text_of_required (codes "PIPE") rows)
-        (text_of_required (codes "SPEC") rows) (first_of (codes "INV") rows);
-    text = text_of_required (codes "COMP") rows;
-  };
+  names = text_question (codes "COMP") rows;
   agree = flag_at (codes "agree") rows;
   budget = number_of (codes "budget") rows;
 }

@@ -1,13 +1,14 @@
 -- The files that a question reads, and those that it saves to.
 -- Source: this project's own command line; what is saved is DIMACS CNF and textual LRAT.
-use Rattle.std.specs.Prelude.{◌≡◌, ◌≢◌, ◌⊎◌, ◌≤◌, ◌<◌, ℕ, List, [], ◌∷◌, ◌++◌, length, map, Option, Some, None}
+use Rattle.std.specs.Prelude.{◌≡◌, ◌≢◌, ◌⊎◌, ◌≤◌, ◌<◌, ℕ, List, [], ◌∷◌, ◌++◌, length, map, codes, Option, Some, None}
 use Rattle.std.specs.List.{AllByRecursion, Contains}
+use Rattle.clap.specs.Walk.{Row, first_of}
 use Rattle.bd_cnf.specs.Problem.{dimacs}
 use Rattle.bd_files.specs.Devices.{Blame, Call, Held, Holds, KeepsOthers, loading, saving}
 use Rattle.bd_files.specs.declared.devices.FileCall.TheVariants as call
 use Rattle.bd_lrat.specs.Text.{lrat as lrat_text}
 use Rattle.bd_verify.specs.declared.verdict.Work.{Work}
-use Rattle.bd_app.specs.Words.{Name, given}
+use Rattle.bd_app.specs.Words.{Name, given, text_of_required}
 use Rattle.bd_app.specs.declared.load.DesignFiles.{DesignFiles}
 use Rattle.bd_app.specs.declared.load.TextFiles.{TextFiles}
 use Rattle.bd_typer.specs.Denotes.{premise_file}
@@ -66,6 +67,14 @@ pub record TextNames : Type 0 where
 
 abbrev pub text_names : TextFiles → TextNames
 text_names files = record { design = design_names files.design; text = files.text.now }
+
+-- the names that the words PIPE SPEC TEXT [INV] give
+abbrev pub text_question : List ℕ → List Row → TextNames
+text_question text rows = record {
+  design = with_invariant (text_of_required (codes "PIPE") rows)
+      (text_of_required (codes "SPEC") rows) (first_of (codes "INV") rows);
+  text = text_of_required text rows;
+}
 
 -- these files, in the order of the words
 abbrev pub text_files : Text → TextNames → List File

@@ -1,7 +1,7 @@
 -- `recheck`: whether a text proves that a pipeline is right.
 use Rattle.std.specs.Prelude.{◌≡◌, ℕ, List, [], ◌∷◌, ◌++◌, codes, Option, None, IfSome}
-use Rattle.clap.specs.Simple.{Shape, new_rule}
-use Rattle.clap.specs.Walk.{Row, first_of}
+use Rattle.clap.specs.Simple.{Shape}
+use Rattle.clap.specs.Walk.{Row}
 use Rattle.bd_files.specs.Devices.{Held}
 use Rattle.bd_lrat.specs.Log.{IsRefutation}
 use Rattle.bd_model.specs.DesignView.{DesignView}
@@ -11,10 +11,10 @@ use Rattle.bd_verify.specs.declared.verdict.Work.{Work}
 use Rattle.bd_proof_text.specs.ProofText.{fault}
 use Rattle.bd_foreign.specs.Rechecked.{HasFault, IsReadFrom}
 use Rattle.bd_proof_text.specs.Tokens.{place}
-use Rattle.bd_app.specs.Files.{HoldsShort, TextNames, text_files, text_names, with_invariant}
+use Rattle.bd_app.specs.Files.{HoldsShort, TextNames, text_files, text_names, text_question}
 use Rattle.bd_app.specs.Meaning.{Meaning}
 use Rattle.bd_app.specs.Sources.{IsDesign, IsDesignFault, TextSources}
-use Rattle.bd_app.specs.Words.{machines_command, required, text_of_required}
+use Rattle.bd_app.specs.Words.{text_command}
 use Rattle.bd_app.specs.declared.answer.Ended.{Ended}
 use Rattle.bd_app.specs.declared.answer.Ended.TheVariants.{Proved}
 use Rattle.bd_app.specs.declared.load.TextFiles.{TextFiles}
@@ -27,15 +27,10 @@ Recheck = TextNames
 
 -- recheck PIPE SPEC PROOF [INV]
 abbrev pub recheck_command : Shape
-recheck_command =
-    machines_command (codes "recheck") (required (codes "PROOF") ∷ new_rule (codes "INV") ∷ [])
+recheck_command = text_command (codes "recheck") (codes "PROOF") []
 
 abbrev pub recheck_question : List Row → Recheck
-recheck_question rows = record {
-  design = with_invariant (text_of_required (codes "PIPE") rows)
-      (text_of_required (codes "SPEC") rows) (first_of (codes "INV") rows);
-  text = text_of_required (codes "PROOF") rows;
-}
+recheck_question = text_question (codes "PROOF")
 
 -- the question of these options
 abbrev pub recheck_of : TextFiles → Recheck

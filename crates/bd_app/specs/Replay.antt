@@ -1,18 +1,18 @@
 -- `replay`: what a case shows.
 use Rattle.std.specs.Prelude.{◌≡◌, ℕ, List, [], ◌∷◌, ◌++◌, codes}
-use Rattle.clap.specs.Simple.{Shape, new_rule}
-use Rattle.clap.specs.Walk.{Row, first_of}
+use Rattle.clap.specs.Simple.{Shape}
+use Rattle.clap.specs.Walk.{Row}
 use Rattle.bd_model.specs.DesignView.{DesignView}
 use Rattle.bd_model.specs.Conditions.{IsJudged}
 use Rattle.bd_model.specs.declared.case.Case.{Case}
 use Rattle.bd_model.specs.declared.case.Condition.TheVariants as condition
 use Rattle.bd_model.specs.declared.case.Judged.{Judged}
 use Rattle.bd_model.specs.declared.case.Judged.TheVariants as judged
-use Rattle.bd_app.specs.Files.{TextNames, text_names, with_invariant}
+use Rattle.bd_app.specs.Files.{TextNames, text_names, text_question}
 use Rattle.bd_app.specs.Meaning.{Meaning}
 use Rattle.bd_app.specs.Questions.{text_meaning}
 use Rattle.bd_app.specs.Texts.{case_kind}
-use Rattle.bd_app.specs.Words.{machines_command, required, text_of_required}
+use Rattle.bd_app.specs.Words.{text_command}
 use Rattle.bd_app.specs.declared.answer.Ended.{Ended}
 use Rattle.bd_app.specs.declared.answer.Ended.TheVariants.{Replayed}
 use Rattle.bd_app.specs.declared.load.TextFiles.{TextFiles}
@@ -25,15 +25,10 @@ Replay = TextNames
 
 -- replay PIPE SPEC CASE [INV]
 abbrev pub replay_command : Shape
-replay_command =
-    machines_command (codes "replay") (required (codes "CASE") ∷ new_rule (codes "INV") ∷ [])
+replay_command = text_command (codes "replay") (codes "CASE") []
 
 abbrev pub replay_question : List Row → Replay
-replay_question rows = record {
-  design = with_invariant (text_of_required (codes "PIPE") rows)
-      (text_of_required (codes "SPEC") rows) (first_of (codes "INV") rows);
-  text = text_of_required (codes "CASE") rows;
-}
+replay_question = text_question (codes "CASE")
 
 -- the question of these options
 abbrev pub replay_of : TextFiles → Replay

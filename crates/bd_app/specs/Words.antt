@@ -59,6 +59,11 @@ abbrev pub machines_command : List ℕ → List Rule → Shape
 machines_command name rules =
     command name (required (codes "PIPE") ∷ required (codes "SPEC") ∷ rules)
 
+-- PIPE SPEC TEXT [INV], and further arguments
+abbrev pub text_command : List ℕ → List ℕ → List Rule → Shape
+text_command name text rules =
+    machines_command name (required text ∷ new_rule (codes "INV") ∷ rules)
+
 -- ---- their values
 
 infixl 10 ◌>>=◌

@@ -19,6 +19,7 @@ pub mod recheck;
 pub mod replay;
 pub mod retrace;
 pub mod run;
+pub mod text;
 
 use self::bounded::BoundedOptions;
 use self::check::CheckOptions;

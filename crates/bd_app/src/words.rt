@@ -3,7 +3,7 @@ ghost use Rattle.std.specs.Prelude.{◌≡◌, false, [], IfOk, codes};
 ghost use Rattle.std.specs.Option.{option_map};
 ghost use Rattle.clap.specs.declared.builder.command.Command.TheViews.{out-Command as fields_of};
 ghost use Rattle.clap.specs.Words.{first_of, found_of, rows_of, rule_of, shape_of};
-ghost use Rattle.bd_app.specs.Words.{required, option, budget_option, machines_command, number_at, number_of, flag, flag_at, mode_at, text_of_required};
+ghost use Rattle.bd_app.specs.Words.{required, option, budget_option, machines_command, number_at, number_of, flag, flag_at, mode_at, text_command, text_of_required};
 ghost use Rattle.bd_app.specs.inner.Asked.{and_rule};
 
 use bd_verify::Mode;
@@ -63,6 +63,21 @@ pub fn machines_command<'a>(alloc: Global, name: &'a str) -> Result<clap::Comman
 {
     let command = with(clap::Command::new(alloc, name), required(alloc, "PIPE"))?;
     with(command, required(alloc, "SPEC"))
+}
+
+/// A command on a pipeline, a specification, a text in a file of this name, and maybe an invariant.
+pub fn text_command<'a>(
+    alloc: Global,
+    name: &'a str,
+    text: &'a str,
+) -> Result<clap::Command<'a>, AllocError>
+    ensures shape { IfOk result (λ c.
+        shape_of c ≡ text_command name.entry.now text.entry.now []) }
+    ensures local { IfOk result (λ c. (fields_of c).has_globals ≡ false) }
+{
+    let command = machines_command(alloc, name)?;
+    let command = with(command, required(alloc, text))?;
+    with(command, Arg::new(alloc, "INV"))
 }
 
 /// The word given for an argument.

@@ -9,7 +9,7 @@ use Rattle.clap.specs.Walk.{Row, first_of}
 use Rattle.clap.specs.declared.error.kind.ErrorKind.{ErrorKind}
 use Rattle.clap.specs.declared.error.kind.ErrorKind.TheVariants.{DisplayHelp, DisplayVersion}
 use Rattle.bd_app.specs.Commands.{if_faultless}
-use Rattle.bd_app.specs.Words.{budget_option, flag, flag_at, machines_command, mode_at, number_of, option, required, ◌>>=◌}
+use Rattle.bd_app.specs.Words.{budget_option, flag, flag_at, machines_command, mode_at, number_of, option, text_command, ◌>>=◌}
 use Rattle.bd_show.specs.Files.{Names}
 use Rattle.bd_show.specs.Meaning.{Question, check, show, shrink, explain, about, recheck}
 
@@ -22,19 +22,16 @@ check_command =
 -- show PIPE SPEC CASE [INV] [--whole] [--html FILE]
 abbrev pub show_command : Shape
 show_command =
-    machines_command (codes "show") (required (codes "CASE") ∷ new_rule (codes "INV")
-    ∷ flag (codes "whole") ∷ option (codes "html") ∷ [])
+    text_command (codes "show") (codes "CASE") (flag (codes "whole") ∷ option (codes "html") ∷ [])
 
 -- shrink PIPE SPEC CASE [INV]
 abbrev pub shrink_command : Shape
-shrink_command =
-    machines_command (codes "shrink") (required (codes "CASE") ∷ new_rule (codes "INV") ∷ [])
+shrink_command = text_command (codes "shrink") (codes "CASE") []
 
 -- why PIPE SPEC CASE [INV] [--of VALUE] [--whole]
 abbrev pub why_command : Shape
 why_command =
-    machines_command (codes "why") (required (codes "CASE") ∷ new_rule (codes "INV")
-    ∷ option (codes "of") ∷ flag (codes "whole") ∷ [])
+    text_command (codes "why") (codes "CASE") (option (codes "of") ∷ flag (codes "whole") ∷ [])
 
 -- about PIPE SPEC [INV]
 abbrev pub about_command : Shape
@@ -43,8 +40,7 @@ about_command = machines_command (codes "about") (new_rule (codes "INV") ∷ [])
 -- recheck PIPE SPEC PROOF [INV] [--diverse]
 abbrev pub recheck_command : Shape
 recheck_command =
-    machines_command (codes "recheck") (required (codes "PROOF") ∷ new_rule (codes "INV")
-    ∷ flag (codes "diverse") ∷ [])
+    text_command (codes "recheck") (codes "PROOF") (flag (codes "diverse") ∷ [])
 
 -- the files of a case
 unfoldable pub case_names : List Row → Option Names

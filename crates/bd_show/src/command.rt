@@ -15,7 +15,7 @@ use crate::rechecking::RecheckOptions;
 use crate::show::ShowOptions;
 use crate::why::WhyOptions;
 use bd_app::words::{
-    budget, flag, flag_at, machines_command, mode_at, option, required, required_number, with,
+    budget, flag, flag_at, machines_command, mode_at, option, required_number, text_command, with,
     word_at,
 };
 use clap::error::ErrorKind;
@@ -76,9 +76,7 @@ fn show_command<'a>(alloc: Global) -> Result<clap::Command<'a>, AllocError>
     ensures shape { IfOk result (λ c. shape_of c ≡ show_command) }
     ensures local { IfOk result (λ c. (fields_of c).has_globals ≡ false) }
 {
-    let command = machines_command(alloc, "show")?;
-    let command = with(command, required(alloc, "CASE"))?;
-    let command = with(command, Arg::new(alloc, "INV"))?;
+    let command = text_command(alloc, "show", "CASE")?;
     let command = with(command, flag(alloc, "whole"))?;
     with(command, option(alloc, "html"))
 }
@@ -88,9 +86,7 @@ fn shrink_command<'a>(alloc: Global) -> Result<clap::Command<'a>, AllocError>
     ensures shape { IfOk result (λ c. shape_of c ≡ shrink_command) }
     ensures local { IfOk result (λ c. (fields_of c).has_globals ≡ false) }
 {
-    let command = machines_command(alloc, "shrink")?;
-    let command = with(command, required(alloc, "CASE"))?;
-    with(command, Arg::new(alloc, "INV"))
+    text_command(alloc, "shrink", "CASE")
 }
 
 /// The words of `why`.
@@ -98,9 +94,7 @@ fn why_command<'a>(alloc: Global) -> Result<clap::Command<'a>, AllocError>
     ensures shape { IfOk result (λ c. shape_of c ≡ why_command) }
     ensures local { IfOk result (λ c. (fields_of c).has_globals ≡ false) }
 {
-    let command = machines_command(alloc, "why")?;
-    let command = with(command, required(alloc, "CASE"))?;
-    let command = with(command, Arg::new(alloc, "INV"))?;
+    let command = text_command(alloc, "why", "CASE")?;
     let command = with(command, option(alloc, "of"))?;
     with(command, flag(alloc, "whole"))
 }
@@ -119,9 +113,7 @@ fn recheck_command<'a>(alloc: Global) -> Result<clap::Command<'a>, AllocError>
     ensures shape { IfOk result (λ c. shape_of c ≡ recheck_command) }
     ensures local { IfOk result (λ c. (fields_of c).has_globals ≡ false) }
 {
-    let command = machines_command(alloc, "recheck")?;
-    let command = with(command, required(alloc, "PROOF"))?;
-    let command = with(command, Arg::new(alloc, "INV"))?;
+    let command = text_command(alloc, "recheck", "PROOF")?;
     with(command, flag(alloc, "diverse"))
 }
 

@@ -15,22 +15,20 @@ ghost use Rattle.bd_app.specs.inner.Done.{IsDone};
 ghost use Rattle.bd_model.specs.Limits.{longest_text};
 
 use crate::answer::{Answer, Ended};
+use crate::command::text::text_files;
 use crate::fault::Fault;
-use crate::load::{DesignFiles, TextBytes, TextFiles, load_text};
+use crate::load::{TextBytes, TextFiles, load_text};
 use crate::read::completion;
 use crate::report::lined;
 use crate::verdict::text_of;
-use crate::words::{
-    budget, flag, flag_at, machines_command, required, required_number, required_word, with,
-    word_at,
-};
+use crate::words::{budget, flag, flag_at, required_number, text_command, with};
 use bd_abstraction::Abstraction;
 use bd_cdcl::Cdcl;
 use bd_completion::{Complete, complete};
 use bd_files::Files;
 use bd_model::{Case, Condition, Design};
-use bd_typer::{Premise, Text};
-use clap::{Arg, ArgMatches, Command};
+use bd_typer::Text;
+use clap::{ArgMatches, Command};
 use std::alloc::{AllocError, Global};
 
 /// Its options.
@@ -46,9 +44,7 @@ pub fn command<'a>(alloc: Global) -> Result<Command<'a>, AllocError>
     ensures shape { IfOk result (λ c. shape_of c ≡ complete_command) }
     ensures local { IfOk result (λ c. (fields_of c).has_globals ≡ false) }
 {
-    let command = machines_command(alloc, "complete")?;
-    let command = with(command, required(alloc, "COMP"))?;
-    let command = with(command, Arg::new(alloc, "INV"))?;
+    let command = text_command(alloc, "complete", "COMP")?;
     let command = with(command, flag(alloc, "agree"))?;
     with(command, budget(alloc))
 }
@@ -57,15 +53,8 @@ pub fn command<'a>(alloc: Global) -> Result<Command<'a>, AllocError>
 pub fn options<'a>(matches: &ArgMatches<'a>) -> CompleteOptions<'a>
     ensures { complete_of result ≡ complete_question (rows_of (found_of matches.now)) }
 {
-    let design = DesignFiles {
-        pipe: required_word(matches, "PIPE"),
-        spec: required_word(matches, "SPEC"),
-        premise: Premise::Invariant,
-        third: word_at(matches, "INV"),
-    };
-    let text = required_word(matches, "COMP");
     CompleteOptions {
-        files: TextFiles { design, text },
+        files: text_files(matches, "COMP"),
         agree: flag_at(matches, "agree"),
         budget: required_number(matches, "budget"),
     }

@@ -10,16 +10,17 @@ ghost use Rattle.bd_app.specs.inner.Loaded.{AreFew, sources_view};
 ghost use Rattle.bd_app.specs.inner.Done.{IsBadProof, IsDone, IsProvedBy, OnSources, OnText};
 
 use crate::answer::{Answer, Ended};
+use crate::command::text::text_files;
 use crate::fault::Fault;
-use crate::load::{DesignFiles, TextBytes, TextFiles, load_text};
+use crate::load::{TextBytes, TextFiles, load_text};
 use crate::read::design;
-use crate::words::{machines_command, required, required_word, with, word_at};
+use crate::words::text_command;
 use bd_files::Files;
 use bd_foreign::recheck;
 use bd_model::Design;
-use bd_typer::{Premise, Text};
+use bd_typer::Text;
 use bd_verify::Work;
-use clap::{Arg, ArgMatches, Command};
+use clap::{ArgMatches, Command};
 use std::alloc::{AllocError, Global};
 
 /// Its words.
@@ -27,25 +28,14 @@ pub fn command<'a>(alloc: Global) -> Result<Command<'a>, AllocError>
     ensures shape { IfOk result (λ c. shape_of c ≡ recheck_command) }
     ensures local { IfOk result (λ c. (fields_of c).has_globals ≡ false) }
 {
-    let command = machines_command(alloc, "recheck")?;
-    let command = with(command, required(alloc, "PROOF"))?;
-    with(command, Arg::new(alloc, "INV"))
+    text_command(alloc, "recheck", "PROOF")
 }
 
 /// Its options, the names of the files of a proof.
 pub fn options<'a>(matches: &ArgMatches<'a>) -> TextFiles<'a>
     ensures { recheck_of result ≡ recheck_question (rows_of (found_of matches.now)) }
 {
-    let design = DesignFiles {
-        pipe: required_word(matches, "PIPE"),
-        spec: required_word(matches, "SPEC"),
-        premise: Premise::Invariant,
-        third: word_at(matches, "INV"),
-    };
-    TextFiles {
-        design,
-        text: required_word(matches, "PROOF"),
-    }
+    text_files(matches, "PROOF")
 }
 
 /// The answer that a proof is.

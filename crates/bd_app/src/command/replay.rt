@@ -11,15 +11,16 @@ ghost use Rattle.bd_app.specs.inner.Loaded.{AreFew, sources_view};
 ghost use Rattle.bd_app.specs.inner.Done.{IsDone, IsSaidOf, IsTextRefused, OnSources, OnText};
 
 use crate::answer::{Answer, Ended};
+use crate::command::text::text_files;
 use crate::fault::Fault;
-use crate::load::{DesignFiles, TextBytes, TextFiles, load_text};
+use crate::load::{TextBytes, TextFiles, load_text};
 use crate::read::{case, design};
-use crate::words::{machines_command, required, required_word, with, word_at};
+use crate::words::text_command;
 use bd_files::Files;
 use bd_model::{Condition, Design, Judged};
 use bd_sim::judge;
-use bd_typer::{Premise, Text};
-use clap::{Arg, ArgMatches, Command};
+use bd_typer::Text;
+use clap::{ArgMatches, Command};
 use std::alloc::{AllocError, Global};
 
 /// Its words.
@@ -27,25 +28,14 @@ pub fn command<'a>(alloc: Global) -> Result<Command<'a>, AllocError>
     ensures shape { IfOk result (λ c. shape_of c ≡ replay_command) }
     ensures local { IfOk result (λ c. (fields_of c).has_globals ≡ false) }
 {
-    let command = machines_command(alloc, "replay")?;
-    let command = with(command, required(alloc, "CASE"))?;
-    with(command, Arg::new(alloc, "INV"))
+    text_command(alloc, "replay", "CASE")
 }
 
 /// Its options, the names of the files of a case.
 pub fn options<'a>(matches: &ArgMatches<'a>) -> TextFiles<'a>
     ensures { replay_of result ≡ replay_question (rows_of (found_of matches.now)) }
 {
-    let design = DesignFiles {
-        pipe: required_word(matches, "PIPE"),
-        spec: required_word(matches, "SPEC"),
-        premise: Premise::Invariant,
-        third: word_at(matches, "INV"),
-    };
-    TextFiles {
-        design,
-        text: required_word(matches, "CASE"),
-    }
+    text_files(matches, "CASE")
 }
 
 /// The line of a judgement.

@@ -5,7 +5,5 @@ use Rattle.bd_app.proofs.command.complete.command.Goals as goal
 
 pub returns-clause-shape : goal.returns-clause-shape
 returns-clause-shape c =
-    let comp = c.in_ok-command-2.ensures.shape ∙ ap₂ and_rule c.in_ok-command.ensures.shape c.required.ensures.rule in
-    let inv = c.in_ok-command-3.ensures.shape ∙ ap₂ and_rule comp c.new.ensures.rule in
-    let agree = c.in_ok-command-4.ensures.shape ∙ ap₂ and_rule inv c.flag.ensures.rule in
-    IfOk-weaker c.with-4.result _ _ (λ r shape. shape ∙ ap₂ and_rule agree c.budget.ensures.rule) c.with-4.ensures.shape
+    let agree = c.in_ok-command-2.ensures.shape ∙ ap₂ and_rule c.in_ok-command.ensures.shape c.flag.ensures.rule in
+    IfOk-weaker c.with-2.result _ _ (λ r shape. shape ∙ ap₂ and_rule agree c.budget.ensures.rule) c.with-2.ensures.shape
