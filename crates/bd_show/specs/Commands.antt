@@ -42,20 +42,6 @@ abbrev pub recheck_command : Shape
 recheck_command =
     text_command (codes "recheck") (codes "PROOF") (flag (codes "diverse") ∷ [])
 
--- the files of a case
-unfoldable pub case_names : List Row → Option Names
-case_names rows = do
-  pipe ← first_of (codes "PIPE") rows
-  spec ← first_of (codes "SPEC") rows
-  case ← first_of (codes "CASE") rows
-  Some (record {
-    pipe = pipe;
-    spec = spec;
-    case = Some case;
-    proof = None;
-    inv = first_of (codes "INV") rows;
-  })
-
 -- the files of a design
 unfoldable pub design_names : List Row → Option Names
 design_names rows = do
@@ -69,19 +55,19 @@ design_names rows = do
     inv = first_of (codes "INV") rows;
   })
 
+-- the files of a case
+unfoldable pub case_names : List Row → Option Names
+case_names rows = do
+  names ← design_names rows
+  case ← first_of (codes "CASE") rows
+  Some (record names { case = Some case })
+
 -- the files of a proof
 unfoldable pub proof_names : List Row → Option Names
 proof_names rows = do
-  pipe ← first_of (codes "PIPE") rows
-  spec ← first_of (codes "SPEC") rows
+  names ← design_names rows
   proof ← first_of (codes "PROOF") rows
-  Some (record {
-    pipe = pipe;
-    spec = spec;
-    case = None;
-    proof = Some proof;
-    inv = first_of (codes "INV") rows;
-  })
+  Some (record names { proof = Some proof })
 
 unfoldable pub check_question : List Row → Option Question
 check_question rows = do

@@ -143,20 +143,6 @@ fn command_line<'a>(alloc: Global) -> Result<clap::Command<'a>, AllocError>
         .subcommand(recheck)
 }
 
-/// The names of the files of a case.
-#[tactic(auto, unfolding(crate::specs::Commands::case_names))]
-fn case_names<'a>(matches: &ArgMatches<'a>) -> Option<FileNames<'a>>
-    ensures { option_map names_of result ≡ case_names (rows_of (found_of matches.now)) }
-{
-    Some(FileNames {
-        pipe: word_at(matches, "PIPE")?,
-        spec: word_at(matches, "SPEC")?,
-        case: Some(word_at(matches, "CASE")?),
-        proof: None,
-        inv: word_at(matches, "INV"),
-    })
-}
-
 /// The names of the files of a design.
 #[tactic(auto, unfolding(crate::specs::Commands::design_names))]
 fn design_names<'a>(matches: &ArgMatches<'a>) -> Option<FileNames<'a>>
@@ -171,17 +157,27 @@ fn design_names<'a>(matches: &ArgMatches<'a>) -> Option<FileNames<'a>>
     })
 }
 
+/// The names of the files of a case.
+#[tactic(auto, unfolding(crate::specs::Commands::case_names))]
+fn case_names<'a>(matches: &ArgMatches<'a>) -> Option<FileNames<'a>>
+    ensures { option_map names_of result ≡ case_names (rows_of (found_of matches.now)) }
+{
+    let names = design_names(matches)?;
+    Some(FileNames {
+        case: Some(word_at(matches, "CASE")?),
+        ..names
+    })
+}
+
 /// The names of the files of a proof.
 #[tactic(auto, unfolding(crate::specs::Commands::proof_names))]
 fn proof_names<'a>(matches: &ArgMatches<'a>) -> Option<FileNames<'a>>
     ensures { option_map names_of result ≡ proof_names (rows_of (found_of matches.now)) }
 {
+    let names = design_names(matches)?;
     Some(FileNames {
-        pipe: word_at(matches, "PIPE")?,
-        spec: word_at(matches, "SPEC")?,
-        case: None,
         proof: Some(word_at(matches, "PROOF")?),
-        inv: word_at(matches, "INV"),
+        ..names
     })
 }
 
