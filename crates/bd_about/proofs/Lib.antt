@@ -9,3 +9,6 @@ pub mod NextLines
 pub mod Appending
 pub mod Naming
 pub mod RowCounts
+pub mod Owned
+pub mod Tallied
+pub mod Pairing

@@ -1,17 +1,21 @@
 -- Counts of rows, set entry by entry, are those of the symbols.
-use Rattle.std.proofs.Common.{◌≡◌, ◌≢◌, ◌<◌, ◌∙◌, ℕ, zero, suc, Bool, true, false, List, [], ◌∷◌, ◌++◌, Contains, Some, if◌then◌else◌, length, map, slice_get, get_or, refl, sym, ap, subst, arith}
-use Rattle.std.specs.Prelude.{◌↔◌, option_map}
-use Rattle.std.proofs.lemmas.Option.{get_or_from_slice_get, same_Some, slice_get-get_or, slice_get-map, slice_get_within}
-use Rattle.bd_terms.specs.declared.node.Node.{Node}
+use Rattle.std.proofs.Common.{◌≡◌, ◌≢◌, ◌<◌, ◌∙◌, ℕ, zero, suc, Bool, true, false, List, [], ◌∷◌, ◌++◌, Contains, Some, if◌then◌else◌, length, slice_get, refl, sym, ap, subst, arith}
+use Rattle.std.specs.Prelude.{◌↔◌, slice_index_or}
+use Rattle.std.proofs.lemmas.Option.{get_or_from_slice_get, same_Some, slice_get-get_or, slice_get_within}
 use Rattle.bd_terms.specs.declared.node.Sym.{Sym}
 use Rattle.bd_terms.specs.declared.node.Sym.TheVariants.{Function}
 use Rattle.bd_function.specs.declared.flat.FlatSym.{FlatSym}
 use Rattle.bd_function.specs.Tables.{is_symbol}
 use Rattle.bd_function.proofs.Tabling.{is_symbol-same, is_symbol-self}
-use Rattle.bd_diverse.specs.Positive.{IsPositive}
-use Rattle.bd_about.specs.Applications.{HasRows, IsCountOf}
-use Rattle.bd_about.specs.inner.Counted.{IsPositivity, counted_rows, last_count}
+use Rattle.bd_cnf.specs.Literal.{Literal}
+use Rattle.bd_transitive.specs.declared.graph.Edge.{Edge}
+use Rattle.bd_tseitin.specs.declared.row.AtomVar.{AtomVar}
+use Rattle.bd_about.specs.Applications.{AreCountsOf, HasRows}
+use Rattle.bd_about.specs.Equations.{clauses_of, equations_of, is_variable_of}
 use Rattle.bd_about.specs.declared.counting.Applied.{Applied}
+use Rattle.bd_about.specs.declared.tallying.Tally.{Tally}
+use Rattle.bd_about.specs.inner.Counted.{AreItems, counted_rows, last_count}
+use Rattle.bd_about.specs.inner.Tallied.{no_tally}
 
 -- no symbol has two entries
 abbrev pub AreOnce : List FlatSym → Type 0
@@ -52,11 +56,6 @@ has_rows syms once f = record {
   unlisted = λ none. none-counted f 0 syms (λ i s at. none s (Contains-at syms i s at));
 }
 
--- the count at a place
-pub count-at : (applied : List Applied) (counts : List ℕ) → map (λ (a : Applied). a.count) applied ≡ counts → (f : ℕ) (a : Applied) → slice_get applied f ≡ Some a → get_or counts f 0 ≡ a.count
-count-at applied counts same f a at =
-    get_or_from_slice_get counts f a.count 0 (ap (λ xs. slice_get xs f) (sym same) ∙ slice_get-map (λ (x : Applied). x.count) applied f ∙ ap (option_map (λ (x : Applied). x.count)) at)
-
 -- what holds of the items at their places holds of one more
 pub each-more : {X : Type 0} (P : ℕ → X → Type 0) (xs : List X) (x : X) → ((k : ℕ) (y : X) → slice_get xs k ≡ Some y → P k y) → P (length xs) x
     → (k : ℕ) (y : X) → slice_get (xs ++ x ∷ []) k ≡ Some y → P k y
@@ -65,14 +64,36 @@ each-more P [] x old new (suc k) y at = absurd (cc at)
 each-more P (z ∷ xs) x old new zero y at = old 0 y at
 each-more P (z ∷ xs) x old new (suc k) y at = each-more (λ j. P (suc j)) xs x (λ j. old (suc j)) new k y at
 
--- the counts of the symbols' rows, each with whether its function is positive, are counts of the formula
-pub are-counts : (plain : List Node) (plain_root symbols : ℕ) (syms : List FlatSym) → AreOnce syms → (counts : List ℕ) → ((f : ℕ) → f < symbols → get_or counts f 0 ≡ last_count f 0 syms)
-    → (among : List Sym) → ((s : Sym) → Contains among s ↔ IsPositive plain plain_root s) → (applied : List Applied) → length applied ≡ symbols → IsPositivity counts among applied
-    → (f : ℕ) (a : Applied) → slice_get applied f ≡ Some a → IsCountOf plain plain_root syms f a
-are-counts plain plain_root symbols syms once counts known among positive applied size h f a at =
-    let inside : f < length applied = slice_get_within applied f a at in
-    let same : a.count ≡ last_count f 0 syms = sym (count-at applied counts h.counts_are f a at) ∙ known f (subst (λ n. f < n) size inside) in
-    record {
-      count = subst (HasRows syms (Function f)) (sym same) (has_rows syms once f);
-      positive = (λ is. (positive (Function f)).0 ((h.positive f a at).0 is), λ is. (h.positive f a at).1 ((positive (Function f)).1 is));
-    }
+-- the counts in lists are those of the formula
+pub are-counts : (count : ℕ) (syms : List FlatSym) (edges : List Edge) (clauses : List (List Literal)) (atoms : List AtomVar) (is : Sym → ℕ → Bool) → is ≡ is_variable_of syms → AreOnce syms
+    → (rows : List ℕ) (es cs : List Tally) → length rows ≡ count → ((f : ℕ) → f < count → slice_index_or rows f 0 ≡ last_count f 0 syms)
+    → ((f : ℕ) → f < count → (slice_index_or es f no_tally).count ≡ equations_of is edges (Function f))
+    → ((f : ℕ) → f < count → (slice_index_or cs f no_tally).count ≡ clauses_of is atoms clauses (Function f))
+    → (among : List Sym) (applied : List Applied) → AreItems rows es cs among applied → AreCountsOf count (Contains among) syms edges clauses atoms applied
+are-counts count syms edges clauses atoms is same once rows es cs size of_rows of_edges of_clauses among applied h = record {
+  size = h.size ∙ size;
+  each = λ f a at.
+      let item = h.each f a at in
+      let inside : f < count = subst (λ n. f < n) (h.size ∙ size) (slice_get_within applied f a at) in
+      record {
+        count = subst (HasRows syms (Function f)) (sym (item.count ∙ of_rows f inside)) (has_rows syms once f);
+        positive = item.positive;
+        equations = item.equations_are ∙ of_edges f inside ∙ ap (λ i. equations_of i edges (Function f)) same;
+        clauses_are = item.clauses_are ∙ of_clauses f inside ∙ ap (λ i. clauses_of i atoms clauses (Function f)) same;
+      };
+}
+
+-- and so where other words say which symbols are positive
+pub counts-alike : (count : ℕ) (P Q : Sym → Type 0) (syms : List FlatSym) (edges : List Edge) (clauses : List (List Literal)) (atoms : List AtomVar) (applied : List Applied)
+    → ((s : Sym) → P s ↔ Q s) → AreCountsOf count P syms edges clauses atoms applied → AreCountsOf count Q syms edges clauses atoms applied
+counts-alike count P Q syms edges clauses atoms applied same h = record {
+  size = h.size;
+  each = λ f a at.
+      let item = h.each f a at in
+      record {
+        count = item.count;
+        positive = (λ on. (same (Function f)).0 (item.positive.0 on), λ is. item.positive.1 ((same (Function f)).1 is));
+        equations = item.equations;
+        clauses_are = item.clauses_are;
+      };
+}

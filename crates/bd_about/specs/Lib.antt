@@ -6,8 +6,10 @@ pub mod Changed
 pub mod Reset
 pub mod Findings
 pub mod PartLines
+pub mod Equations
 pub mod Applications
-pub mod ApplicationLines
 pub mod UnreadLines
+pub mod ComparedLines
+pub mod ApplicationLines
 pub mod Lines
 pub mod inner

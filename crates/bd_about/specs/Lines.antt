@@ -5,7 +5,7 @@ use Rattle.bd_model.specs.declared.case.Condition.TheVariants.{Commute, Invarian
 use Rattle.bd_about.specs.declared.asking.Finding.{Finding}
 use Rattle.bd_about.specs.declared.asking.Finding.TheVariants.{Right, Wrong, Void, Undecided}
 use Rattle.bd_about.specs.declared.asking.Findings.{Findings}
-use Rattle.bd_about.specs.declared.counting.Applied.{Applied}
+use Rattle.bd_about.specs.declared.counting.Applications.{Applications}
 use Rattle.bd_about.specs.declared.unread.Unread.{Unread}
 use Rattle.bd_about.specs.declared.unread_lines.LetNames.{LetNames}
 use Rattle.bd_about.specs.ApplicationLines.{application_lines}
@@ -64,10 +64,9 @@ finding_lines r =
     (codes ", so this pipeline may never fetch")
 
 -- those before what is found
-abbrev pub first_lines : DesignView → LetNames → List Applied → Unread → List ℕ
-first_lines d names applied u =
-    part_lines d ++ application_lines d.symbols applied ++ unread_lines d names u
+abbrev pub first_lines : DesignView → LetNames → Applications → Unread → List ℕ
+first_lines d names a u = part_lines d ++ application_lines d a ++ unread_lines d names u
 
 -- all lines
-abbrev pub about_lines : DesignView → LetNames → List Applied → Unread → Findings → List ℕ
-about_lines d names applied u r = first_lines d names applied u ++ finding_lines r
+abbrev pub about_lines : DesignView → LetNames → Applications → Unread → Findings → List ℕ
+about_lines d names a u r = first_lines d names a u ++ finding_lines r

@@ -1,3 +1,6 @@
 pub mod Marking
 pub mod Asked
 pub mod Counted
+pub mod Owned
+pub mod Tallied
+pub mod Paired

@@ -9,7 +9,7 @@ ghost use Rattle.bd_about.specs.Unread.{IsUnread};
 
 use crate::application_lines::push_applications;
 use crate::asking::{Findings, findings_of};
-use crate::counting::{Applications, Applied, applications_of};
+use crate::counting::{Applications, applications_of};
 use crate::lines::push_findings;
 use crate::part_lines::parts_of;
 use crate::unread::{Unread, unread_of};
@@ -17,7 +17,7 @@ use crate::unread_lines::{LetNames, push_unread};
 use bd_model::Design;
 use std::alloc::{AllocError, Global};
 
-/// How often functions and predicates are applied, what nothing reads, what is found, and all as lines.
+/// What is counted of functions and predicates, what nothing reads, what is found, and all as lines.
 #[derive(Drop)]
 pub struct About {
     pub applications: Applications,
@@ -31,15 +31,17 @@ fn first_lines(
     alloc: Global,
     design: &Design,
     names: LetNames<'_>,
-    applied: &[Applied],
+    applications: &Applications,
     unread: &Unread,
 ) -> Result<Vec<u8>, AllocError>
-    requires { length applied.now ≡ length (design_view design.now).symbols }
+    requires applied { length applications.now.applied ≡ length (design_view design.now).symbols }
+    requires compared { length applications.now.compared
+        ≡ length (design_view design.now).symbols }
     ensures { IfOk result (λ text. text.items
-        ≡ first_lines (design_view design.now) names.entry applied.now unread.now) }
+        ≡ first_lines (design_view design.now) names.entry applications.now unread.now) }
 {
     let mut text = parts_of(alloc, design)?;
-    push_applications(&mut text, design.symbols.as_slice(), applied)?;
+    push_applications(&mut text, design, applications)?;
     push_unread(&mut text, design, names, unread)?;
     Ok(text)
 }
@@ -61,7 +63,7 @@ pub fn about_design(
 {
     let applications = applications_of(alloc, &design)?;
     let unread = unread_of(alloc, &design)?;
-    let mut text = first_lines(alloc, &design, names, applications.as_slice(), &unread)?;
+    let mut text = first_lines(alloc, &design, names, &applications, &unread)?;
     let findings = findings_of(alloc, design, given)?;
     push_findings(&mut text, &findings)?;
     Ok(About {

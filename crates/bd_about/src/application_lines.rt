@@ -1,21 +1,37 @@
-//! How often functions and predicates are applied, as lines that a designer reads.
+//! What is counted of functions and predicates, as lines that a designer reads.
 ghost use Rattle.std.specs.Prelude.{◌≡◌, ◌++◌, [], codes, length, OnOk};
 ghost use Rattle.bd_model.specs.DesignView.{design_view};
-ghost use Rattle.bd_about.specs.ApplicationLines.{application_lines, is_said, said, said_line};
+ghost use Rattle.bd_about.specs.ApplicationLines.{application_lines, count_lines, count_of, is_said, said, said_line};
 ghost use Rattle.bd_about.specs.PartLines.{comma, listed_names};
 
-use crate::counting::Applied;
+use crate::compared_lines::push_compared;
+use crate::counting::{Applications, Applied};
 use crate::part_lines::{push_count, push_name};
-use bd_model::Symbol;
+use bd_model::{Design, Symbol};
 use std::alloc::AllocError;
 
 /// Which functions and predicates a line names.
 #[derive(Clone, Copy)]
 pub(crate) enum Listing {
-    /// Those that are applied, each with its count.
+    /// Those that are applied, each with how often.
     Applied,
+    /// Those that have equations, each with how many.
+    Equations,
+    /// Those whose equations stand in clauses, each with in how many.
+    Clauses,
     /// The functions that are applied and aren't positive.
-    Compared,
+    NotPositive,
+}
+
+/// The count that the line says of a symbol.
+fn count_of(listing: Listing, applied: Applied) -> usize
+    ensures { result ≡ count_of listing applied }
+{
+    match listing {
+        Listing::Equations => applied.equations,
+        Listing::Clauses => applied.clauses,
+        Listing::Applied | Listing::NotPositive => applied.count,
+    }
 }
 
 /// Whether the line names a symbol, which is a predicate or a function.
@@ -23,8 +39,8 @@ fn is_said(listing: Listing, predicate: bool, applied: Applied) -> bool
     ensures { result ≡ is_said listing predicate applied }
 {
     match listing {
-        Listing::Applied => applied.count != 0,
-        Listing::Compared => applied.count != 0 && !predicate && !applied.positive,
+        Listing::NotPositive => applied.count != 0 && !predicate && !applied.positive,
+        _ => count_of(listing, applied) != 0,
     }
 }
 
@@ -41,8 +57,8 @@ fn push_said(
 {
     push_name(out, first, name)?;
     match listing {
-        Listing::Applied => push_count(out, " ", count),
-        Listing::Compared => Ok(()),
+        Listing::NotPositive => Ok(()),
+        _ => push_count(out, " ", count),
     }
 }
 
@@ -72,25 +88,44 @@ fn push_line(
     for (place, symbol) in symbols.iter().enumerate() {
         let applied = counts[place];
         if is_said(listing, symbol.predicate, applied) {
-            push_said(out, listing, none, symbol.name.as_slice(), applied.count)?;
+            let count = count_of(listing, applied);
+            push_said(out, listing, none, symbol.name.as_slice(), count)?;
             none = false;
         }
     }
     end_names(out, none)
 }
 
-/// Puts the lines on how often functions and predicates are applied after a text.
-pub fn push_applications(
-    out: &mut Vec<u8>,
-    symbols: &[Symbol],
-    applied: &[Applied],
-) -> Result<(), AllocError>
+/// Puts the lines on how often functions and predicates are applied, on their equations and clauses, and on which
+/// functions aren't positive, after a text.
+fn push_counts(out: &mut Vec<u8>, symbols: &[Symbol], applied: &[Applied]) -> Result<(), AllocError>
     requires { length applied.now ≡ length symbols.now }
     ensures { OnOk result (out.new.items
-        ≡ out.old.items ++ application_lines symbols.now applied.now) }
+        ≡ out.old.items ++ count_lines symbols.now applied.now) }
 {
     out.extend_from_slice(b"applications     ")?;
     push_line(out, Listing::Applied, symbols, applied)?;
+    out.extend_from_slice(b"equations        ")?;
+    push_line(out, Listing::Equations, symbols, applied)?;
+    out.extend_from_slice(b"clauses          ")?;
+    push_line(out, Listing::Clauses, symbols, applied)?;
     out.extend_from_slice(b"not positive     ")?;
-    push_line(out, Listing::Compared, symbols, applied)
+    push_line(out, Listing::NotPositive, symbols, applied)
+}
+
+/// Puts the lines on what is counted of functions and predicates, and on what each is compared with, after a text.
+pub fn push_applications(
+    out: &mut Vec<u8>,
+    design: &Design,
+    applications: &Applications,
+) -> Result<(), AllocError>
+    requires applied { length applications.now.applied ≡ length (design_view design.now).symbols }
+    requires compared { length applications.now.compared
+        ≡ length (design_view design.now).symbols }
+    ensures { OnOk result (out.new.items
+        ≡ out.old.items ++ application_lines (design_view design.now) applications.now) }
+{
+    let applied = applications.applied.as_slice();
+    push_counts(out, design.symbols.as_slice(), applied)?;
+    push_compared(out, design, applications.compared.as_slice())
 }

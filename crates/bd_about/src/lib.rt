@@ -4,17 +4,23 @@
 mod about;
 mod application_lines;
 mod asking;
+mod compared;
+mod compared_lines;
 mod counting;
+mod equations;
 mod lines;
 mod marks;
 mod named;
+mod owners;
 mod part_lines;
 mod reset;
+mod tallying;
 mod unread;
 mod unread_lines;
 
 pub use about::{About, about_design};
 pub use asking::{Finding, Findings, finding_of};
+pub use compared::{Comparisons, Symbols};
 pub use counting::{Applications, Applied};
 pub use unread::Unread;
 pub use unread_lines::LetNames;

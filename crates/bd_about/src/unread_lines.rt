@@ -16,7 +16,7 @@ pub struct LetNames<'a> {
 }
 
 /// What an entry of a sort is.
-fn entry_kind(sort: Sort) -> &'static str
+pub(crate) fn entry_kind(sort: Sort) -> &'static str
     ensures { result.now ≡ entry_kind sort }
 {
     match sort {

@@ -24,7 +24,7 @@ use Rattle.bd_about.specs.Lines.{about_lines}
 use Rattle.bd_about.specs.Unread.{IsUnread}
 use Rattle.bd_about.specs.declared.asking.Finding.{Finding}
 use Rattle.bd_about.specs.declared.asking.Findings.{Findings}
-use Rattle.bd_about.specs.declared.counting.Applied.{Applied}
+use Rattle.bd_about.specs.declared.counting.Applications.{Applications}
 use Rattle.bd_about.specs.declared.unread.Unread.{Unread as AllUnread}
 use Rattle.bd_about.specs.declared.unread_lines.LetNames.{LetNames}
 use Rattle.bd_case.specs.Text as case
@@ -154,12 +154,12 @@ pub record IsUnbroken (line_of : Judged → List ℕ) (d : DesignView) (c : Case
   pub line : text ≡ line_of judged
 
 -- what was found of the design, with an invariant exactly where a text is one, is true, and the text is the lines of
--- what is compared, of sizes, of how often functions and predicates are applied, of what nothing reads, where lets have
--- the names that the texts give them, and of what was found
+-- what is compared, of sizes, of what is counted of functions and predicates and with what each is compared, of what
+-- nothing reads, where lets have the names that the texts give them, and of what was found
 pub record IsDescribed (texts : Texts) (d : DesignView) (found : Findings) (text : List ℕ) :
     Type 0 where
   pub findings : AreFindings d (is_some texts.inv) found
-  pub applied : List Applied
+  pub applied : Applications
   pub are_applied : AreApplications d applied
   pub unread : AllUnread
   pub is_unread : IsUnread d unread
