@@ -59,6 +59,7 @@ impl Compared {
         Ok(pairs)
     }
 
+    /// No symbol, compared with nothing yet.
     fn new(alloc: Global) -> Compared
         ensures { result ≡ [] }
     {

@@ -52,6 +52,7 @@ fn push_line(
     push_parts(out, question, finding_words(found), meaning.as_bytes())
 }
 
+/// Puts the line on one flush cycle less after a text, if that was asked.
 fn push_less_flushed(
     out: &mut Vec<u8>,
     own: Finding,
@@ -87,6 +88,7 @@ fn push_asked(
     push_line(out, question, found, meaning)
 }
 
+/// Puts the line on whether reset meets the invariant after a text, if one is given.
 fn push_reset(out: &mut Vec<u8>, reset: Option<bool>) -> Result<(), AllocError>
     ensures { OnOk result (out.new.items ≡ out.old.items ++ reset_line reset) }
 {

@@ -31,6 +31,7 @@ impl Model for Owners {
 }
 
 impl Owners {
+    /// No variable has an owner yet.
     fn new(alloc: Global) -> Owners
         ensures { result ≡ [] }
     {
@@ -95,6 +96,7 @@ impl Model for Atoms {
 }
 
 impl Atoms {
+    /// No clause variable stands for an atom yet.
     fn new(alloc: Global) -> Atoms
         ensures { result ≡ [] }
     {

@@ -17,6 +17,7 @@ pub(crate) fn push_count(out: &mut Vec<u8>, what: &str, count: usize) -> Result<
     out.extend_from_slice(buffer.format(count).as_bytes())
 }
 
+/// Ends a line of names.
 fn end_line(out: &mut Vec<u8>) -> Result<(), AllocError>
     ensures { OnOk result (out.new.items ≡ out.old.items ++ codes "\n") }
 {

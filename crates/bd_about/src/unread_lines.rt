@@ -55,6 +55,7 @@ fn push_line(out: &mut Vec<u8>, kind: &str, name: &[u8]) -> Result<(), AllocErro
     push_parts(out, "read by nothing  ", kind, name)
 }
 
+/// Puts a line for each latch or memory that nothing reads after a text.
 fn push_entry_lines(out: &mut Vec<u8>, entries: &[Entry], places: &[u32]) -> Result<(), AllocError>
     ensures { OnOk result (out.new.items
         ≡ out.old.items ++ lines_at entry_line entries.now places.now) }
@@ -67,6 +68,7 @@ fn push_entry_lines(out: &mut Vec<u8>, entries: &[Entry], places: &[u32]) -> Res
     Ok(())
 }
 
+/// Puts a line for each input that nothing reads after a text.
 fn push_input_lines(out: &mut Vec<u8>, ports: &[Port], places: &[u32]) -> Result<(), AllocError>
     ensures { OnOk result (out.new.items
         ≡ out.old.items ++ lines_at input_line (map port_view ports.now) places.now) }
@@ -79,6 +81,7 @@ fn push_input_lines(out: &mut Vec<u8>, ports: &[Port], places: &[u32]) -> Result
     Ok(())
 }
 
+/// Puts a line for each function or predicate that nothing applies after a text.
 fn push_symbol_lines(
     out: &mut Vec<u8>,
     symbols: &[Symbol],
@@ -95,6 +98,7 @@ fn push_symbol_lines(
     Ok(())
 }
 
+/// Puts a line for each let that nothing reads after a text.
 fn push_let_lines(
     out: &mut Vec<u8>,
     kind: &str,

@@ -66,6 +66,7 @@ impl From<AllocError> for WordsFault {
 
     ghost from_gives = { λ _ fault. fault ≡ Memory };
 
+    /// Want of memory.
     fn from(_: AllocError) -> Self {
         WordsFault::Memory
     }

@@ -45,7 +45,7 @@ pub fn bounded<S: HonestSolver>(
     }
 }
 
-// The root that decides the question.
+/// The root that decides whether so many cycles are right.
 fn run_root(
     alloc: Global,
     graph: &mut Graph,
@@ -61,7 +61,7 @@ fn run_root(
     Ok(goal.root)
 }
 
-// The first cycle that breaks, of a trail of which one does.
+/// The first cycle that breaks, of a trail of which one does.
 fn broken_cycle(alloc: Global, design: &Design, trail: &Trail) -> Result<u32, AllocError>
     requires broken { IsBroken (design_view design.now) trail.now }
     requires short { length trail.now.inputs ≤ most_cycles }
@@ -72,7 +72,7 @@ fn broken_cycle(alloc: Global, design: &Design, trail: &Trail) -> Result<u32, Al
     Ok(cycle_of(judged))
 }
 
-// The cycle that is judged to be broken.
+/// The cycle that is judged to be broken.
 fn cycle_of(judged: TrailJudged) -> u32
     requires { (cycle : ℕ) × (judged ≡ TrailJudged.Broken cycle) }
     ensures { judged ≡ TrailJudged.Broken result }

@@ -41,7 +41,7 @@ pub struct Cdcl {
 }
 
 impl Cdcl {
-    /// Takes no memory.
+    /// The solver before its first search. Takes no memory.
     pub fn new(alloc: Global) -> Cdcl {
         Cdcl {
             alloc,

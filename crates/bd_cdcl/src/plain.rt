@@ -21,7 +21,7 @@ pub struct Plain {
 }
 
 impl Plain {
-    /// Takes no memory.
+    /// The plain solver, which keeps nothing between two formulas. Takes no memory.
     pub fn new(alloc: Global) -> Plain {
         Plain { alloc }
     }
@@ -34,6 +34,7 @@ impl Solver for Plain {
 
     ghost says = { λ _ problem budget found log. IsLaw problem budget found log };
 
+    /// Searches anew by decisions and their clauses.
     fn solve(&mut self, cnf: &Cnf, budget: u32, log: &mut Log) -> Result<Found, AllocError> {
         let mut search = PlainSearch {
             clauses: copied(self.alloc, cnf)?,

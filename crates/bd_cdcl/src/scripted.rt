@@ -19,6 +19,7 @@ impl Solver for Scripted {
     ghost says = { λ scripted _ _ found lines.
         (found ≡ scripted.found) × (lines ≡ scripted.lines) };
 
+    /// Says what the script says, with its log, whatever the formula and the budget.
     fn solve(&mut self, _cnf: &Cnf, _budget: u32, log: &mut Log) -> Result<Found, AllocError> {
         *log = self.lines.clone()?;
         self.found.clone()

@@ -25,6 +25,7 @@ pub enum Found {
 impl Clone for Found {
     ghost is_clone = { λ a b. b ≡ a };
 
+    /// A copy of what was found.
     fn clone(&self) -> Result<Self, AllocError> {
         match self {
             Found::Model(assignment) => Ok(Found::Model(assignment.clone()?)),
@@ -59,10 +60,10 @@ pub trait HonestSolver: Solver {
     ghost use Rattle.bd_cdcl.specs.declared.solver.Found.{Found};
     ghost use Rattle.bd_cdcl.specs.Law.{IsLaw};
 
-    /// It always is.
+    /// The solver is always honest.
     ghost is_honest: { (solver : Self) → IsTrue (Self.honest solver) };
 
-    /// Whatever it says meets the law.
+    /// Whatever the solver says meets the law.
     ghost law: { (solver : Self) (problem : Problem) (budget : ℕ) (found : Found)
         (log : List Line) → Self.says solver problem budget found log →
         IsLaw problem budget found log };

@@ -31,6 +31,7 @@ impl Model for Assignment {
 impl Clone for Assignment {
     ghost is_clone = { λ a b. b ≡ a };
 
+    /// A copy of the assignment.
     fn clone(&self) -> Result<Self, AllocError> {
         let values = self.values.clone()?;
         Ok(Assignment { values })

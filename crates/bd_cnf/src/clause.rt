@@ -34,6 +34,7 @@ impl Model for Clause {
 impl Clone for Clause {
     ghost is_clone = { λ a b. b ≡ a };
 
+    /// A copy of the clause.
     fn clone(&self) -> Result<Self, AllocError> {
         let lits = self.lits.clone()?;
         Ok(Clause { lits })
@@ -55,7 +56,7 @@ impl Clause {
         Ok(Clause::from_vec(copy))
     }
 
-    /// The same of literals that are given away. Takes no memory.
+    /// The clause of literals given away, in any order and with repeats; `None` if always true. Takes no memory.
     pub fn from_vec(lits: Vec<Lit>) -> Option<Clause>
         ensures literals { IfSome result (λ c. SameLiterals c lits.items) }
         ensures rising { IfSome result IsRising }
@@ -77,6 +78,7 @@ impl Clause {
         Clause { lits }
     }
 
+    /// The clause's literals, by rising variable and each once.
     pub fn lits(&self) -> &[Lit]
         ensures value { result.now ≡ self.now }
         ensures rising { IsRising self.now }

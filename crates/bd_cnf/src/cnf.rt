@@ -29,6 +29,7 @@ impl Model for Cnf {
 impl Clone for Cnf {
     ghost is_clone = { λ a b. b ≡ a };
 
+    /// A copy of the formula.
     fn clone(&self) -> Result<Self, AllocError> {
         let clauses = self.clauses.clone()?;
         Ok(Cnf {
@@ -47,12 +48,14 @@ impl Cnf {
         Cnf { vars, clauses }
     }
 
+    /// The greatest variable that the formula may use: its variables are numbered from 1.
     pub fn vars(&self) -> u64
         ensures { result ≡ self.now.vars }
     {
         self.vars
     }
 
+    /// The clauses, in order.
     pub fn clauses(&self) -> &[Clause]
         ensures value { result.now ≡ self.now.clauses }
         ensures within { AreWithin self.now.vars self.now.clauses }

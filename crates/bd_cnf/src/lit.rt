@@ -33,6 +33,7 @@ impl Lit {
         Lit { var, positive }
     }
 
+    /// The number of the literal's variable, from 1.
     pub fn var(self) -> u64
         ensures value { result ≡ self.var }
         ensures from_one { 0 < result }
@@ -40,6 +41,7 @@ impl Lit {
         self.var
     }
 
+    /// Whether the literal is a variable and not a negation.
     pub fn is_positive(self) -> bool
         ensures { result ≡ self.positive }
     {
@@ -64,6 +66,7 @@ impl fmt::Display for Lit {
 
     ghost output = { λ l. Some (literal_text l) };
 
+    /// Writes the literal as DIMACS CNF does: its variable, after a `-` if it is negated.
     fn fmt<W: fmt::Write>(&self, f: &mut fmt::Formatter<W>) -> fmt::Result {
         let var = self.var;
         if self.positive {

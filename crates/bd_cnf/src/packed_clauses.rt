@@ -34,7 +34,7 @@ impl Model for PackedClauses {
 }
 
 impl PackedClauses {
-    /// No clause. Takes no memory.
+    /// The list of no clause. Takes no memory.
     pub fn new(alloc: Global) -> PackedClauses
         ensures { result ≡ [] }
     {
@@ -44,6 +44,7 @@ impl PackedClauses {
         }
     }
 
+    /// How many clauses there are.
     pub fn len(&self) -> usize
         ensures value { result ≡ length self.now }
         ensures small { result < 2 ^ 63 }

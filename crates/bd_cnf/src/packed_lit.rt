@@ -29,6 +29,7 @@ impl Model for PackedLit {
 }
 
 impl PackedLit {
+    /// The literal as one number of 32 bits: twice its variable, and one more if it is negated.
     pub fn of(lit: Lit) -> PackedLit
         requires { lit.var < 2 ^ 31 }
         ensures { result ≡ lit }
@@ -38,6 +39,7 @@ impl PackedLit {
         PackedLit { number }
     }
 
+    /// The literal that the number stands for.
     pub fn lit(self) -> Lit
         ensures { result ≡ self }
     {
@@ -70,7 +72,7 @@ impl PackedLit {
         PackedLit { number }
     }
 
-    /// Whether the two are one literal.
+    /// Whether two packed literals are one.
     pub fn is(self, other: PackedLit) -> bool
         ensures { result ≡ literal_eq self other }
     {

@@ -3,10 +3,10 @@ use crate::lit::Lit;
 /// How many literals of a clause aren't false.
 #[derive(Clone, Copy)]
 pub enum ClauseStatus {
-    /// None.
+    /// No literal: the clause is false.
     Falsified,
-    /// This one alone.
+    /// This literal alone.
     Unit(Lit),
-    /// Two or more.
+    /// Two literals or more.
     Unresolved,
 }

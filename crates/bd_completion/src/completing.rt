@@ -56,7 +56,7 @@ pub fn complete<S: HonestSolver>(
     }
 }
 
-// The root that decides the question.
+/// The root that decides the question: that the abstraction agrees with flushing, or that a cycle is right by it.
 fn root_by(
     alloc: Global,
     graph: &mut Graph,

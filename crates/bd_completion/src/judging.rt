@@ -33,7 +33,7 @@ pub fn judge_by(
     }
 }
 
-// What it shows by the values of given expressions after their lets.
+/// What the case shows by the values of given expressions after their lets.
 fn judge_given(
     alloc: Global,
     design: &Design,
@@ -58,8 +58,8 @@ fn judge_given(
     }
 }
 
-// Whether some number of steps of the specification, at most the design's and allowed, lead from what the case's state
-// stands for to what `next` does, in which the cycle ends.
+/// Whether some number of steps of the specification, at most the design's and allowed, leads from what the case's
+/// state stands for to what `next` does, in which the cycle ends.
 fn commutes(
     alloc: Global,
     design: &Design,
@@ -80,7 +80,7 @@ fn commutes(
     steps_join(alloc, design, interp, state, inputs, before, &after)
 }
 
-// The values of given expressions after their lets, with no input.
+/// The values of given expressions after their lets, with no input.
 fn given(
     alloc: Global,
     lets: &Locals,

@@ -21,6 +21,7 @@ pub fn are_alike(first: &[Comparison], second: &[Comparison]) -> bool
     true
 }
 
+/// Whether two comparisons agree on whether the number of steps is allowed and on what differs.
 fn is_alike(first: &Comparison, second: &Comparison) -> bool
     ensures { IsTrue result ↔ IsAlike first.now second.now }
 {
@@ -28,6 +29,7 @@ fn is_alike(first: &Comparison, second: &Comparison) -> bool
         && same_differences(first.differences.as_slice(), second.differences.as_slice())
 }
 
+/// Whether two states differ from theirs at the same entries and addresses, entry by entry.
 fn same_differences(first: &[Difference], second: &[Difference]) -> bool
     ensures { IsTrue result ↔ AllZip IsSameDifference first.now second.now }
 {
@@ -42,6 +44,7 @@ fn same_differences(first: &[Difference], second: &[Difference]) -> bool
     true
 }
 
+/// Whether two entries differ alike: not at all, as latches, or as memories at the same addresses.
 fn same_difference(first: &Difference, second: &Difference) -> bool
     ensures { IsTrue result ↔ IsSameDifference first.now second.now }
 {

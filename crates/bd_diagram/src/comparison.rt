@@ -50,6 +50,7 @@ pub fn comparisons_of(
     Ok(Sequence::from_vec(comparisons))
 }
 
+/// How a number of steps, which leads to `reached`, compares with where the pipeline stands once it is flushed.
 fn comparison_of(
     alloc: Global,
     counts: &[u32],

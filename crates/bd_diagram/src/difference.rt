@@ -40,6 +40,7 @@ pub fn differences_of(
     Ok(Sequence::from_vec(differences))
 }
 
+/// What tells two values apart.
 fn difference_of(alloc: Global, first: &Value, second: &Value) -> Result<Difference, AllocError>
     ensures { IfOk result (λ d. d ≡ difference first.now second.now) }
 {
@@ -52,6 +53,7 @@ fn difference_of(alloc: Global, first: &Value, second: &Value) -> Result<Differe
     }
 }
 
+/// What tells two memories apart: the addresses of rows where they read differently, and their defaults.
 fn memory_difference_of(
     alloc: Global,
     first: &Memory,
@@ -91,6 +93,7 @@ fn note_differing(
     Ok(())
 }
 
+/// Whether a word is in a list.
 fn has(words: &[u64], word: u64) -> bool
     ensures { result ≡ list_any (λ w. w == word) words.now }
 {

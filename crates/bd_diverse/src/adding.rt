@@ -13,7 +13,7 @@ use bd_model::{Row, Rows, Scalar, Table, Words};
 use bd_terms::{Id, Node, Sym};
 use std::alloc::{AllocError, Global};
 
-// The tables without rows, whose values are those at no arguments.
+/// The tables that a new world begins with: no rows, and as default what each symbol has at no arguments.
 pub(crate) fn start(alloc: Global, tables: &[SymTable]) -> Result<Vec<SymTable>, AllocError>
     ensures { IfOk result (λ ts. ts.items ≡ map start_table tables.now) }
 {
@@ -24,7 +24,7 @@ pub(crate) fn start(alloc: Global, tables: &[SymTable]) -> Result<Vec<SymTable>,
     Ok(started)
 }
 
-// The table without rows.
+/// A symbol's table without rows.
 fn empty(alloc: Global, sym: Sym, default: Scalar) -> SymTable
     ensures { result ≡ record { sym = sym; table = record { default = default; rows = [] } } }
 {
@@ -37,8 +37,7 @@ fn empty(alloc: Global, sym: Sym, default: Scalar) -> SymTable
     }
 }
 
-// What a term denotes in the new world, from what those before it do there. A symbol's application puts a row into its
-// table.
+/// What a term denotes in the new world, from the terms before it. An application puts a row into its symbol's table.
 pub(crate) fn spread_term(
     alloc: Global,
     tables: &[SymTable],
@@ -66,7 +65,7 @@ pub(crate) fn spread_term(
     }
 }
 
-// The value of an application in the new world, after its row has been put after the others.
+/// The value of an application in the new world, after its row has been put after those of its symbol.
 fn spread_use(
     alloc: Global,
     tables: &[SymTable],
@@ -91,7 +90,7 @@ fn spread_use(
     Ok(value_at(spread, sym, &words))
 }
 
-// The value in an application's row.
+/// The value in an application's row: one of its own if the symbol is positive, and else the one that it had before.
 fn row_value(
     alloc: Global,
     tables: &[SymTable],
@@ -113,7 +112,7 @@ fn row_value(
     }
 }
 
-// The value of its own that the application at a place has. A number past 64 bits ends as want of memory.
+/// The value of its own that the application at a place has. A number past 64 bits ends as want of memory.
 fn own(bound: u64, place: usize) -> Result<u64, AllocError>
     ensures { IfOk result (λ word. word ≡ suc (bound + place)) }
 {
@@ -121,7 +120,7 @@ fn own(bound: u64, place: usize) -> Result<u64, AllocError>
     next.checked_add(place as u64).ok_or(AllocError)
 }
 
-// Puts a row after those of the symbol.
+/// Puts a row after those of the symbol, which gets a table if it has none.
 fn add_row(alloc: Global, tables: &mut Vec<SymTable>, sym: Sym, row: Row) -> Result<(), AllocError>
     ensures { OnOk result ((s : TheSym) →
         world_of_tables tables.new.items s
@@ -134,7 +133,7 @@ fn add_row(alloc: Global, tables: &mut Vec<SymTable>, sym: Sym, row: Row) -> Res
     push_row(tables, place, row)
 }
 
-// The place of the symbol's table, or after all.
+/// The place of the symbol's table, or the number of tables if it has none.
 fn place(tables: &[SymTable], sym: Sym) -> usize
     ensures place { result ≡ place_of tables.now sym }
     ensures inside { result ≤ length tables.now }
@@ -147,7 +146,7 @@ fn place(tables: &[SymTable], sym: Sym) -> usize
     tables.len()
 }
 
-// Puts a row after those of the table at the place.
+/// Puts a row after those of the table at the place.
 fn push_row(tables: &mut Vec<SymTable>, place: usize, row: Row) -> Result<(), AllocError>
     requires { place < length tables.old.items }
     ensures { OnOk result (tables.new.items ≡ row_pushed tables.old.items place row) }

@@ -15,8 +15,8 @@ use bd_terms::{Graph, Id, reached};
 use std::alloc::{AllocError, Global};
 
 /// The tables of a diverse world that makes the root false, as the given ones do: the first reached application of a
-/// positive symbol to equal words has a value of its own, and all else the value that it had. A value past 64 bits ends as
-/// want of memory.
+/// positive symbol to equal words has a value of its own, and all else the value that it had. A value past 64 bits ends
+/// as want of memory.
 pub fn diversify(
     alloc: Global,
     graph: &Graph,
@@ -56,7 +56,7 @@ pub fn is_true(
     Ok(scalar.truth())
 }
 
-// The tables of the world in which positive applications have values of their own.
+/// The tables of the world in which positive applications have values of their own.
 fn spread(
     alloc: Global,
     graph: &Graph,

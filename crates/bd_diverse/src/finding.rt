@@ -24,7 +24,7 @@ pub fn positive(alloc: Global, graph: &Graph, root: Id) -> Result<Positive, Allo
     uncompared(alloc, graph, &marks, &compared)
 }
 
-// The symbols with an application that a general equation compares.
+/// The symbols with an application that a general equation compares.
 fn compared(alloc: Global, graph: &Graph, marks: &[Ways]) -> Result<IndexSet<Sym>, AllocError>
     requires { length marks.now ≡ length graph.now }
     ensures { IfOk result (λ found. (s : TheSym) →
@@ -40,7 +40,7 @@ fn compared(alloc: Global, graph: &Graph, marks: &[Ways]) -> Result<IndexSet<Sym
     Ok(found)
 }
 
-// The symbols with a reached application that aren't among these.
+/// The symbols of the words that the root reaches, without those whose applications a general equation compares.
 fn uncompared(
     alloc: Global,
     graph: &Graph,
@@ -62,7 +62,7 @@ fn uncompared(
     Ok(Positive { symbols })
 }
 
-// Puts the symbol that a word applies into the set.
+/// Puts the symbol that a word applies into the set; another node changes nothing.
 fn add(symbols: &mut IndexSet<Sym>, node: &Node) -> Result<(), AllocError>
     ensures { OnOk result ((s : TheSym) →
         Contains symbols.new.keys s
@@ -77,7 +77,7 @@ fn add(symbols: &mut IndexSet<Sym>, node: &Node) -> Result<(), AllocError>
     }
 }
 
-// The same, unless it is among others.
+/// Puts the symbol that a word applies into the set, unless it is among the others.
 fn add_unless(
     symbols: &mut IndexSet<Sym>,
     node: &Node,
@@ -113,7 +113,7 @@ pub fn marked(alloc: Global, flat: &Flat, positive: &Positive) -> Result<Marked,
     Ok(marked)
 }
 
-// Puts the variables of these rows into the set.
+/// Puts the variables of a symbol's rows into the set.
 fn mark_rows(marked: &mut Marked, rows: &[FlatRow]) -> Result<(), AllocError>
     ensures { OnOk result ((x : ℕ) →
         (is_marked marked.new x ≡ true)

@@ -1,5 +1,5 @@
-//! Positive equality (Bryant, German and Velev 2001): function symbols whose applications may be taken as different from
-//! all else, and worlds in which they are.
+//! Positive equality (Bryant, German and Velev 2001): function symbols whose applications may be taken as different
+//! from all else, and worlds in which they are.
 #![tactic(auto)]
 
 mod adding;

@@ -21,7 +21,7 @@ pub(crate) struct Old {
     pub(crate) bound: u64,
 }
 
-// What is known of the world of the tables.
+/// What is known of the world of the tables: what each term denotes, the positive symbols, and a bound for its words.
 pub(crate) fn known(
     alloc: Global,
     graph: &Graph,

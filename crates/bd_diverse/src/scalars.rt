@@ -14,7 +14,7 @@ use bd_model::Scalar;
 use bd_terms::{Graph, Id, Node, Sym};
 use std::alloc::{AllocError, Global};
 
-// What each term denotes that rests on no memory.
+/// What each term denotes under the tables. One that rests on a memory gets a value that says nothing.
 pub(crate) fn scalars(
     alloc: Global,
     graph: &Graph,
@@ -31,7 +31,7 @@ pub(crate) fn scalars(
     Ok(done)
 }
 
-// What a node of no memory denotes, from what those before it do.
+/// What a node of no memory denotes, from what those before it do.
 fn evaluate(
     alloc: Global,
     tables: &[SymTable],
@@ -53,7 +53,7 @@ fn evaluate(
     }
 }
 
-// What a term that applies no symbol denotes, from what those before it do.
+/// What a term that applies no symbol denotes, from what those before it do. A memory or a read counts as false.
 pub(crate) fn connective(done: &[Scalar], node: &Node) -> Scalar
     ensures { result ≡ connective done.now node.now }
 {
@@ -71,7 +71,7 @@ pub(crate) fn connective(done: &[Scalar], node: &Node) -> Scalar
     }
 }
 
-// What a symbol has at words, in the world of the tables.
+/// What a symbol has at words, in the world of the tables: false where it has no table.
 pub(crate) fn value_at(tables: &[SymTable], sym: Sym, args: &[u64]) -> Scalar
     ensures { result ≡ at (world_of_tables tables.now sym) args.now }
 {
@@ -83,7 +83,7 @@ pub(crate) fn value_at(tables: &[SymTable], sym: Sym, args: &[u64]) -> Scalar
     Scalar::Bool(false)
 }
 
-// The words that these terms denote.
+/// The words that these terms denote, in order.
 pub(crate) fn words(alloc: Global, done: &[Scalar], ids: &[Id]) -> Result<Vec<u64>, AllocError>
     ensures { IfOk result (λ words. words.items ≡ map (word_at done.now) ids.now) }
 {
@@ -94,7 +94,7 @@ pub(crate) fn words(alloc: Global, done: &[Scalar], ids: &[Id]) -> Result<Vec<u6
     Ok(words)
 }
 
-// A number that no word among these exceeds.
+/// A number that no word among these scalars exceeds: the greatest of them, or 0.
 pub(crate) fn greatest_word(scalars: &[Scalar]) -> u64
     ensures { (k : ℕ) → word_at scalars.now k ≤ result }
 {
@@ -105,7 +105,7 @@ pub(crate) fn greatest_word(scalars: &[Scalar]) -> u64
     most
 }
 
-// A number that no word exceeds that a symbol has at no arguments.
+/// A number that no word exceeds that a symbol has at no arguments.
 pub(crate) fn greatest_constant(tables: &[SymTable]) -> u64
     ensures { (s : TheSym) → applied (world_of_tables tables.now) s [] ≤ result }
 {

@@ -56,13 +56,14 @@ impl Ways {
         free: true,
     };
 
-    // Whether some walk comes to the term.
+    /// Whether some walk comes to the term.
     pub(crate) fn is_any(self) -> bool
         ensures { result ≡ is_any self }
     {
         self.even || self.odd || self.control || self.compared || self.free
     }
 
+    /// The ways of both, as a term has them that two walks come to.
     fn joined(self, other: Ways) -> Ways
         ensures { result ≡ joined self other }
     {
@@ -75,7 +76,7 @@ impl Ways {
         }
     }
 
-    // Under one negation more.
+    /// The ways in which walks go on below a negation: even and odd change places.
     fn negated(self) -> Ways
         ensures { result ≡ negated_ways self }
     {
@@ -88,7 +89,7 @@ impl Ways {
         }
     }
 
-    // To the sides of an equation.
+    /// The ways in which walks go on from an equation to its sides.
     fn sides(self) -> Ways
         ensures { result ≡ side_ways self }
     {
@@ -102,7 +103,7 @@ impl Ways {
     }
 }
 
-// The ways in which walks from the root come to each term.
+/// The ways in which walks from the root come to each term.
 pub(crate) fn walked(alloc: Global, graph: &Graph, root: Id) -> Result<Vec<Ways>, AllocError>
     requires { root < length graph.now }
     ensures length { IfOk result (λ marks. length marks.items ≡ length graph.now) }
@@ -120,7 +121,7 @@ pub(crate) fn walked(alloc: Global, graph: &Graph, root: Id) -> Result<Vec<Ways>
     Ok(marks)
 }
 
-// Marks what walks go on to from a node to which they come in these ways.
+/// Marks what walks go on to from a node to which they come in these ways.
 fn mark_steps(marks: &mut [Ways], ways: Ways, node: &Node)
     requires { All (λ c. c < length marks.old) (children node.now) }
     ensures { marks.new ≡ with_flows marks.old (flows ways node.now) }
@@ -147,7 +148,7 @@ fn mark_steps(marks: &mut [Ways], ways: Ways, node: &Node)
     }
 }
 
-// Marks words that no general equation compares.
+/// Marks words that no general equation compares.
 fn mark_all(marks: &mut [Ways], ids: &[Id])
     requires { All (λ c. c < length marks.old) ids.now }
     ensures { marks.new ≡ with_flows marks.old (freely ids.now) }
@@ -157,6 +158,7 @@ fn mark_all(marks: &mut [Ways], ids: &[Id])
     }
 }
 
+/// Joins ways to those that a term has.
 fn mark(marks: &mut [Ways], id: Id, ways: Ways)
     requires { id < length marks.old }
     ensures { marks.new ≡ with_ways marks.old id ways }

@@ -30,6 +30,7 @@ impl Model for Constants {
 }
 
 impl Constants {
+    /// The map that holds no constant. It takes no memory.
     fn new(alloc: Global) -> Constants
         ensures { result ≡ [] }
     {
@@ -38,12 +39,14 @@ impl Constants {
         }
     }
 
+    /// The variable of the constant whose function has this number, if it is held.
     fn get(&self, function: u32) -> Option<u64>
         ensures { result ≡ variable_of self.now function }
     {
         self.variables.get(&function).copied()
     }
 
+    /// Keeps the variable of the constant whose function has this number.
     fn insert(&mut self, function: u32, variable: u64) -> Result<(), AllocError>
         ensures { OnOk result ((f : ℕ) → variable_of self.new f
             ≡ (if function == f then Some variable else variable_of self.old f)) }

@@ -38,6 +38,7 @@ pub(crate) enum Visit {
 }
 
 impl Encoding {
+    /// The encoding in which no term is passed and no equation settled. It takes no memory.
     pub(crate) fn new(alloc: Global) -> Encoding
         ensures prop { result.prop ≡ [] }
         ensures truths { result.truths.items ≡ [] }

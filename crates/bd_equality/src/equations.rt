@@ -23,6 +23,7 @@ impl Model for Equations {
 }
 
 impl Equations {
+    /// The map that keeps no equation's node. It takes no memory.
     pub(crate) fn new(alloc: Global) -> Equations
         ensures { result ≡ [] }
     {

@@ -32,6 +32,7 @@ impl Model for Pairs {
 }
 
 impl Pairs {
+    /// The set of no edge. It takes no memory.
     pub(crate) fn new(alloc: Global) -> Pairs
         ensures { result ≡ [] }
     {

@@ -1,8 +1,8 @@
 //! By which control an equation of two ite trees is taken apart. By the one that was made later, as in a decision
-//! diagram: so both words are taken apart from the same end. But where half of the earlier word's tree stands in that of
-//! the later one, this is the earlier one with more done before it, as a memory with more writes: it is taken apart first,
-//! until both are the same again. Without marked variables that serves less, and the later word is always taken apart
-//! first.
+//! diagram: so both words are taken apart from the same end. But where half of the earlier word's tree stands in that
+//! of the later one, this is the earlier one with more done before it, as a memory with more writes: it is taken apart
+//! first, until both are the same again. Without marked variables that serves less, and the later word is always taken
+//! apart first.
 ghost use Rattle.std.specs.Prelude.{◌<◌, IfOk, length};
 ghost use Rattle.bd_equality.specs.inner.Split.{IsChosen};
 
@@ -30,6 +30,7 @@ struct Seen {
 }
 
 impl Trees {
+    /// No walk yet, with room for marks on so many terms; `by_controls` says whether the later control may go first.
     pub(crate) fn new(alloc: Global, words: usize, by_controls: bool) -> Result<Trees, AllocError> {
         Ok(Trees {
             by_controls,

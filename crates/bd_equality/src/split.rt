@@ -13,7 +13,8 @@ pub(crate) struct Equation {
     pub(crate) right: Id,
 }
 
-/// What an equation rests on: a control, and the equations of what both words are where it is true and where it is false.
+/// What an equation rests on: a control, and the equations of what both words are where it is true and where it is
+/// false.
 #[derive(Clone, Copy)]
 pub(crate) struct Parts {
     pub(crate) yes: Equation,

@@ -9,7 +9,7 @@ use bd_model::{
 };
 use std::alloc::{AllocError, Global};
 
-/// The expression.
+/// The expression that a draft stands for.
 #[cycle(draft)]
 pub fn expr(alloc: Global, draft: &Draft) -> Result<Expr, AllocError> {
     match draft {
@@ -38,11 +38,13 @@ pub fn expr(alloc: Global, draft: &Draft) -> Result<Expr, AllocError> {
     }
 }
 
+/// The expression of a draft, in a box.
 #[cycle(draft)]
 fn boxed(alloc: Global, draft: &Draft) -> Result<Box<Expr>, AllocError> {
     Ok(Box::new(alloc, expr(alloc, draft)?)?)
 }
 
+/// The expressions of drafts, in order.
 #[cycle(draft)]
 fn exprs(alloc: Global, drafts: &[Draft]) -> Result<Exprs, AllocError> {
     let mut items = Vec::new(alloc);
@@ -52,10 +54,12 @@ fn exprs(alloc: Global, drafts: &[Draft]) -> Result<Exprs, AllocError> {
     Ok(Exprs { items })
 }
 
+/// The name with the bytes of a text.
 fn name(alloc: Global, text: &str) -> Result<Name, AllocError> {
     Ok(Sequence::from_vec(text.as_bytes().to_vec(alloc)?))
 }
 
+/// A symbol with the name and arity of a draft.
 fn symbol(alloc: Global, draft: &SymbolDraft) -> Result<Symbol, AllocError> {
     let (text, arity, predicate) = match draft {
         SymbolDraft::Function(text, arity) => (*text, *arity, false),
@@ -68,6 +72,7 @@ fn symbol(alloc: Global, draft: &SymbolDraft) -> Result<Symbol, AllocError> {
     })
 }
 
+/// The symbols of drafts, numbered in order.
 fn symbols(alloc: Global, drafts: &[SymbolDraft]) -> Result<Symbols, AllocError> {
     let mut symbols = Symbols::new(alloc);
     for draft in drafts {
@@ -76,6 +81,7 @@ fn symbols(alloc: Global, drafts: &[SymbolDraft]) -> Result<Symbols, AllocError>
     Ok(symbols)
 }
 
+/// The entries with these names and sorts, in order.
 fn entries(alloc: Global, drafts: &[(&str, Sort)]) -> Result<Entries, AllocError> {
     let mut entries = Entries::new(alloc);
     for (text, sort) in drafts {
@@ -87,6 +93,7 @@ fn entries(alloc: Global, drafts: &[(&str, Sort)]) -> Result<Entries, AllocError
     Ok(entries)
 }
 
+/// The inputs with these names, sorts and flush expressions, in order.
 fn ports(alloc: Global, drafts: &[(&str, Sort, Draft)]) -> Result<Ports, AllocError> {
     let mut ports = Ports::new(alloc);
     for (text, sort, idle) in drafts {
@@ -101,6 +108,7 @@ fn ports(alloc: Global, drafts: &[(&str, Sort, Draft)]) -> Result<Ports, AllocEr
     Ok(ports)
 }
 
+/// The lets with these sorts and expressions, in order.
 pub fn locals(alloc: Global, drafts: &[(Sort, Draft)]) -> Result<Locals, AllocError> {
     let mut locals = Locals::new(alloc);
     for (sort, value) in drafts {
@@ -112,6 +120,7 @@ pub fn locals(alloc: Global, drafts: &[(Sort, Draft)]) -> Result<Locals, AllocEr
     Ok(locals)
 }
 
+/// The exact items with these counts and conditions, in order.
 fn exacts(alloc: Global, drafts: &[(u32, Draft)]) -> Result<Exacts, AllocError> {
     let mut exacts = Exacts::new(alloc);
     for (count, when) in drafts {
@@ -123,6 +132,7 @@ fn exacts(alloc: Global, drafts: &[(u32, Draft)]) -> Result<Exacts, AllocError> 
     Ok(exacts)
 }
 
+/// The groups of constants that are kept apart, each by the symbols' numbers.
 fn distinct(alloc: Global, drafts: &[&[u32]]) -> Result<Distinct, AllocError> {
     let mut groups = Distinct::new(alloc);
     for places in drafts {
@@ -131,6 +141,7 @@ fn distinct(alloc: Global, drafts: &[&[u32]]) -> Result<Distinct, AllocError> {
     Ok(groups)
 }
 
+/// The machine that a draft stands for.
 fn machine(alloc: Global, draft: &MachineDraft) -> Result<Machine, AllocError> {
     Ok(Machine {
         entries: entries(alloc, draft.entries)?,
@@ -140,7 +151,7 @@ fn machine(alloc: Global, draft: &MachineDraft) -> Result<Machine, AllocError> {
     })
 }
 
-/// The design.
+/// The design that a draft stands for.
 pub fn design(alloc: Global, draft: &DesignDraft) -> Result<Design, AllocError> {
     Ok(Design {
         pipe: machine(alloc, &draft.pipe)?,
@@ -156,6 +167,7 @@ pub fn design(alloc: Global, draft: &DesignDraft) -> Result<Design, AllocError> 
     })
 }
 
+/// The rows of a memory, each an address and a word, in order.
 fn slots(alloc: Global, drafts: &[(u64, u64)]) -> Result<Slots, AllocError> {
     let mut slots = Slots::new(alloc);
     for (address, value) in drafts {
@@ -175,7 +187,7 @@ pub fn memory(alloc: Global, default: u64, rows: &[(u64, u64)]) -> Result<Memory
     })
 }
 
-/// What an entry holds.
+/// What an entry holds that a draft stands for.
 pub fn value(alloc: Global, held: &Held) -> Result<Value, AllocError> {
     match held {
         Held::Bit(b) => Ok(Value::Scalar(Scalar::Bool(*b))),
@@ -193,6 +205,7 @@ pub fn state(alloc: Global, drafts: &[Held]) -> Result<State, AllocError> {
     Ok(state)
 }
 
+/// The rows of a function's table, each its arguments and a word, in order.
 fn words(alloc: Global, drafts: &[(&[u64], u64)]) -> Result<Rows, AllocError> {
     let mut rows = Rows::new(alloc);
     for (args, word) in drafts {
@@ -204,6 +217,7 @@ fn words(alloc: Global, drafts: &[(&[u64], u64)]) -> Result<Rows, AllocError> {
     Ok(rows)
 }
 
+/// The rows of a predicate's table, each its arguments and a truth value, in order.
 fn truths(alloc: Global, drafts: &[(&[u64], bool)]) -> Result<Rows, AllocError> {
     let mut rows = Rows::new(alloc);
     for (args, truth) in drafts {
@@ -215,7 +229,7 @@ fn truths(alloc: Global, drafts: &[(&[u64], bool)]) -> Result<Rows, AllocError> 
     Ok(rows)
 }
 
-/// The table.
+/// The table of words or of truth values that a draft stands for.
 pub fn table(alloc: Global, draft: &TableDraft) -> Result<Table, AllocError> {
     match draft {
         TableDraft::Words(default, rows) => Ok(Table {
@@ -229,6 +243,7 @@ pub fn table(alloc: Global, draft: &TableDraft) -> Result<Table, AllocError> {
     }
 }
 
+/// The tables of drafts, one for each symbol in order.
 fn interp(alloc: Global, drafts: &[TableDraft]) -> Result<Interp, AllocError> {
     let mut interp = Interp::new(alloc);
     for draft in drafts {
@@ -237,7 +252,7 @@ fn interp(alloc: Global, drafts: &[TableDraft]) -> Result<Interp, AllocError> {
     Ok(interp)
 }
 
-/// The case.
+/// The case that a draft stands for.
 pub fn case(alloc: Global, draft: &CaseDraft) -> Result<Case, AllocError> {
     Ok(Case {
         interp: interp(alloc, draft.interp)?,
@@ -246,6 +261,7 @@ pub fn case(alloc: Global, draft: &CaseDraft) -> Result<Case, AllocError> {
     })
 }
 
+/// The inputs of each cycle of a trail.
 fn input_lists(alloc: Global, drafts: &[&[Scalar]]) -> Result<InputLists, AllocError> {
     let mut lists = InputLists::new(alloc);
     for inputs in drafts {
@@ -254,7 +270,7 @@ fn input_lists(alloc: Global, drafts: &[&[Scalar]]) -> Result<InputLists, AllocE
     Ok(lists)
 }
 
-/// The trail.
+/// The trail that a draft stands for.
 pub fn trail(alloc: Global, draft: &TrailDraft) -> Result<Trail, AllocError> {
     Ok(Trail {
         interp: interp(alloc, draft.interp)?,
@@ -263,17 +279,17 @@ pub fn trail(alloc: Global, draft: &TrailDraft) -> Result<Trail, AllocError> {
     })
 }
 
-/// Whether a design is this one.
+/// Whether a design is the one that a draft stands for.
 pub fn is_design(alloc: Global, found: &Design, draft: &DesignDraft) -> Result<bool, AllocError> {
     Ok(*found == design(alloc, draft)?)
 }
 
-/// Whether a case is this one, row by row.
+/// Whether a case is the one that a draft stands for, row by row.
 pub fn is_case(alloc: Global, found: &Case, draft: &CaseDraft) -> Result<bool, AllocError> {
     Ok(*found == case(alloc, draft)?)
 }
 
-/// Whether a state is this one, row by row.
+/// Whether a state is the one that a draft stands for, row by row.
 pub fn is_state(alloc: Global, found: &State, drafts: &[Held]) -> Result<bool, AllocError> {
     Ok(*found == state(alloc, drafts)?)
 }

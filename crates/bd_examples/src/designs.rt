@@ -34,19 +34,19 @@ const STALLING: DesignDraft = DesignDraft {
 /// A bit that turns unless it stalls.
 pub static STALLING_BIT: DesignDraft = STALLING;
 
-/// The same, with the claim that the bit is true.
+/// A bit that turns unless it stalls, with the claim that it is true.
 pub static RAISED_AT_FIRST: DesignDraft = DesignDraft {
     inv: BIT,
     ..STALLING
 };
 
-/// The same as the first, where a turn is exactly one step.
+/// A bit that turns unless it stalls, where a turn is exactly one step.
 pub static ONE_STEP_A_TURN: DesignDraft = DesignDraft {
     exact: &[(1, GO), (0, Not(&GO))],
     ..STALLING
 };
 
-/// The same, where a turn is to be no step.
+/// A bit that turns unless it stalls, where a turn is to be no step.
 pub static NO_STEP_A_TURN: DesignDraft = DesignDraft {
     exact: &[(0, GO)],
     ..STALLING
@@ -64,7 +64,7 @@ const BECOMES_TRUE: DesignDraft = DesignDraft {
     ..PLAIN
 };
 
-/// The same, where a cycle may be no step.
+/// A bit that becomes true, where a cycle may be no step.
 pub static NO_STEP_ALLOWED: DesignDraft = DesignDraft {
     steps: 0,
     ..BECOMES_TRUE
@@ -101,7 +101,7 @@ const DOUBLE: DesignDraft = DesignDraft {
 /// Two increments in a cycle, against one in a step.
 pub static DOUBLE_INCREMENT: DesignDraft = DOUBLE;
 
-/// The same, where a cycle may be two steps.
+/// Two increments in a cycle, against one in a step, where a cycle may be two steps.
 pub static TWO_STEPS: DesignDraft = DesignDraft { steps: 2, ..DOUBLE };
 
 const M: Draft = Entry(0);
@@ -218,13 +218,13 @@ const STAGES: DesignDraft = DesignDraft {
 /// read after the pending write.
 pub static TWO_STAGE: DesignDraft = STAGES;
 
-/// The same, with the claim that no write is pending.
+/// The pipeline of two stages, with the claim that no write is pending.
 pub static NOTHING_PENDING: DesignDraft = DesignDraft {
     inv: Not(&V),
     ..STAGES
 };
 
-/// The same as the first, with the operand read before the pending write.
+/// The pipeline of two stages, with the operand read before the pending write.
 pub static STALE_OPERAND: DesignDraft = DesignDraft {
     pipe: MachineDraft {
         nexts: &[NEXT_PC, RF2, Not(&STALL), DST_PC, OP_PC, Read(&RF, &SRC_PC)],
@@ -235,7 +235,7 @@ pub static STALE_OPERAND: DesignDraft = DesignDraft {
 
 const W: Draft = Entry(6);
 
-/// The same as the first, with a second valid bit, and the claim that the two are alike.
+/// The pipeline of two stages, with a second valid bit, and the claim that the two are alike.
 pub static TWIN_VALID_BITS: DesignDraft = DesignDraft {
     pipe: MachineDraft {
         entries: &[

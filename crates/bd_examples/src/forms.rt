@@ -62,13 +62,13 @@ const SEVEN: CaseDraft = CaseDraft {
 /// The predicate holds of 7, the latch and the input are 7, and the function has 5 there.
 pub static SEVENS: CaseDraft = SEVEN;
 
-/// The same, with an input of which the predicate doesn't hold.
+/// The case of sevens, but with an input of which the predicate doesn't hold.
 pub static SEVEN_AND_EIGHT: CaseDraft = CaseDraft {
     inputs: &[Scalar::Bool(true), Scalar::Word(8)],
     ..SEVEN
 };
 
-/// The same, where the predicate holds of nothing.
+/// The case of sevens, but with a predicate that holds of nothing.
 pub static HOLDS_OF_NOTHING: CaseDraft = CaseDraft {
     interp: &[Words(0, &[(&[7], 5)]), Truths(false, &[])],
     ..SEVEN
@@ -80,10 +80,10 @@ pub static LETS: [(Sort, Draft); 2] = [
     (Sort::Memory, Write(&M, &FIVE, &X)),
 ];
 
-/// The values of the two lets in the first case.
+/// The values of the two lets in the case of sevens.
 pub static LET_VALUES: [Held; 2] = [Word(5), Memory(0, &[(5, 7), (7, 3)])];
 
-/// Expressions, and their values in the first case.
+/// Expressions, and their values in the case of sevens.
 pub static FORMS: [(Draft, Held); 28] = [
     (Truth(true), Bit(true)),
     (B, Bit(false)),

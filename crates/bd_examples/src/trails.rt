@@ -69,7 +69,7 @@ const TWO_INSTRUCTIONS: TrailDraft = TrailDraft {
 
 pub static FETCHED: TrailDraft = TWO_INSTRUCTIONS;
 
-/// The same, where the second valid bit is alike.
+/// Two instructions, where the second valid bit is like the first.
 pub static TWINS_ALIKE: TrailDraft = TrailDraft {
     state: &[
         Word(1),
@@ -83,7 +83,7 @@ pub static TWINS_ALIKE: TrailDraft = TrailDraft {
     ..TWO_INSTRUCTIONS
 };
 
-/// The same, where it isn't.
+/// Two instructions, where the second valid bit isn't like the first.
 pub static TWINS_UNLIKE: TrailDraft = TrailDraft {
     state: &[
         Word(1),

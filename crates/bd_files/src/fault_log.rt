@@ -33,7 +33,7 @@ impl Model for FaultLog {
 }
 
 impl FaultLog {
-    /// No fault yet.
+    /// The log of no fault yet.
     pub fn new() -> Self
         ensures { result ≡ record { count = 0; blame = None } }
     {

@@ -81,6 +81,7 @@ impl Files for Shelf {
 
     ghost calls = { λ shelf. shelf.calls };
 
+    /// The first bytes of a file that the shelf holds; it fails where it is told to, and where there is no such file.
     fn load(&mut self, name: &str, most: usize) -> Result<Vec<u8>, LoadError>
         ensures given { IfOk result (λ bytes.
             load_of self.old name.now most ≡ Some bytes.items) }
@@ -109,6 +110,7 @@ impl Files for Shelf {
         }
     }
 
+    /// Holds the bytes under that name; it fails where it is told to.
     fn save(&mut self, name: &str, bytes: &[u8]) -> Result<(), SaveError>
         ensures called { Makes self.old.calls self.new.calls (saving name.now bytes.now ∷ []) }
         ensures ok { OnOk result

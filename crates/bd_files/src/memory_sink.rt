@@ -79,6 +79,7 @@ impl Sink for Page {
 
     ghost puts = { λ page. page.next };
 
+    /// Writes the bytes that there is room for, and at a put that is to fail at most as many as it keeps.
     fn put(&mut self, bytes: &[u8]) -> Result<(), PutError>
         ensures ok { is_ok result ≡ takes_all self.old (length bytes.now) }
         ensures page { self.new ≡ page_after self.old bytes.now }

@@ -27,14 +27,14 @@ fn noted(
     Some(calls)
 }
 
-/// A load.
+/// A load as a call that is noted.
 fn load(alloc: Global, name: &str, most: usize) -> Result<NotedCall, AllocError>
     ensures { IfOk result (λ c. call_of c ≡ loading name.now most) }
 {
     Ok(NotedCall::Load(String::from_str(alloc, name)?, most))
 }
 
-/// A save.
+/// A save as a call that is noted.
 fn save(alloc: Global, name: &str, bytes: &[u8]) -> Result<NotedCall, AllocError>
     ensures { IfOk result (λ c. call_of c ≡ saving name.now bytes.now) }
 {
@@ -42,7 +42,7 @@ fn save(alloc: Global, name: &str, bytes: &[u8]) -> Result<NotedCall, AllocError
     Ok(NotedCall::Save(name, Vec::from_slice(alloc, bytes)?))
 }
 
-/// Notes a load.
+/// Notes a load, if calls are still told.
 pub(crate) fn note_load(alloc: Global, calls: &mut Option<Vec<NotedCall>>, name: &str, most: usize)
     ensures { Makes (calls_of calls.old) (calls_of calls.new) (loading name.now most ∷ []) }
 {
@@ -50,7 +50,7 @@ pub(crate) fn note_load(alloc: Global, calls: &mut Option<Vec<NotedCall>>, name:
     *calls = noted(calls.take(), call);
 }
 
-/// Notes a save.
+/// Notes a save, if calls are still told.
 pub(crate) fn note_save(alloc: Global, calls: &mut Option<Vec<NotedCall>>, name: &str, bytes: &[u8])
     ensures { Makes (calls_of calls.old) (calls_of calls.new) (saving name.now bytes.now ∷ []) }
 {

@@ -9,7 +9,7 @@ use std::alloc::AllocError;
 /// Why a text is no proof that a design is right.
 #[derive(Drop)]
 pub enum ProofFault {
-    /// Its first fault over this formula, the kept one. Lines and columns count from 1, columns in bytes.
+    /// The text's first fault over this formula, the kept one. Lines and columns count from 1, columns in bytes.
     Bad {
         line: u64,
         column: u64,
@@ -23,6 +23,7 @@ pub enum ProofFault {
 impl From<AllocError> for ProofFault {
     ghost from_gives = { λ _ fault. fault ≡ Memory };
 
+    /// Want of memory as a fault of a proof.
     fn from(_error: AllocError) -> ProofFault {
         ProofFault::Memory
     }

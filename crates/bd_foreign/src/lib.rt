@@ -1,5 +1,5 @@
-//! Proofs of other solvers: a text in textual LRAT is checked over the kept formula of a design. Nobody need believe the
-//! solver.
+//! Proofs of other solvers: a text in textual LRAT is checked over the kept formula of a design. Nobody need believe
+//! the solver.
 #![tactic(auto)]
 
 mod fault;

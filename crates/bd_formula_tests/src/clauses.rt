@@ -79,16 +79,19 @@ fn shown(alloc: Global, atoms: &AtomVars) -> Result<String, AllocError> {
     Ok(text)
 }
 
+/// Whether the atoms of a formula, with their variables, have this text.
 fn has_atoms(alloc: Global, formula: &Formula, want: &str) -> Result<bool, AllocError> {
     let text = shown(alloc, &formula.atoms)?;
     Ok(text.as_str() == want)
 }
 
+/// Whether the clauses of a formula have this DIMACS text.
 fn has_text(alloc: Global, formula: &Formula, want: &str) -> Result<bool, AllocError> {
     let text = dimacs_text(alloc, &formula.cnf)?;
     Ok(text.as_slice() == want.as_bytes())
 }
 
+/// Each root becomes the clauses and gets the variables that were written by hand.
 #[test]
 fn roots_become_clauses(rt: HostRuntime) -> Result<(), Fail> {
     for &(nodes, want, atoms) in &FORMS {
@@ -117,6 +120,7 @@ fn gives_values(alloc: Global, formula: &Formula) -> Result<bool, AllocError> {
     )
 }
 
+/// An assignment gives a value to each atom of the formula, false where its variable has none, and to no other.
 #[test]
 fn assignments_give_values(rt: HostRuntime) -> Result<(), Fail> {
     let formula = form(&rt, "T 7, = 1 2, and 0 1")?;

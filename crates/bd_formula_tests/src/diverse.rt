@@ -12,8 +12,8 @@ use std::alloc::AllocError;
 use std::process::Abort;
 use std::test::Fail;
 
-/// f(x) = y, or not f(z) = m, or not (p and not a = b), or g(ite(n = q, x, z)) = y, or ite(c = d, a, b) = y. The symbols
-/// f, p, c, d, m, n and q aren't positive, g, x, y, z, a and b are.
+/// f(x) = y, or not f(z) = m, or not (p and not a = b), or g(ite(n = q, x, z)) = y, or ite(c = d, a, b) = y. The
+/// symbols f, p, c, d, m, n and q aren't positive, g, x, y, z, a and b are.
 const MIXED: &str =
     "I 1, I 2, I 3, F 0 0, = 3 1, F 0 2, I 8, = 5 6, not 7, I? 0, I 4, I 5, = 10 11, not 12, \
 and 9 13, not 14, I 9, I 10, = 16 17, ite 18 0 2, F 1 19, = 20 1, I 6, I 7, = 22 23, ite 24 10 11, = 25 1, \
@@ -38,11 +38,12 @@ static OTHERS: [Sym; 7] = [
     Sym::Input(10),
 ];
 
+/// Whether the symbols that were found positive by hand are so, and the others aren't.
 fn has_these(positive: &Positive) -> bool {
     POSITIVE.iter().all(|sym| positive.has(*sym)) && OTHERS.iter().all(|sym| !positive.has(*sym))
 }
 
-/// Exactly the variables of positive symbols are marked.
+/// Checks that exactly the variables of positive symbols are marked.
 fn check_marked(
     rt: &(impl Abort + AllocGlobal),
     flat: &Flat,
@@ -57,6 +58,7 @@ fn check_marked(
     Ok(())
 }
 
+/// Checks that the flat form of a formula has marked variables for its positive symbols alone.
 fn check_flat(
     rt: &(impl Abort + AllocGlobal),
     graph: &Graph,
@@ -70,6 +72,7 @@ fn check_flat(
     check_marked(rt, &flat, positive)
 }
 
+/// Checks which symbols of the mixed formula are positive, and which variables of its flat form are marked.
 fn mixed(rt: &(impl Abort + AllocGlobal), graph: &mut Graph) -> Result<(), AllocError> {
     let root = build_all(rt, graph, MIXED)?;
     assert!(rt; has(graph, root, Sort::Bool));
@@ -78,12 +81,14 @@ fn mixed(rt: &(impl Abort + AllocGlobal), graph: &mut Graph) -> Result<(), Alloc
     check_flat(rt, graph, root, &positive)
 }
 
+/// Symbols are found positive or not in a formula with each way to stand in an equation.
 #[test]
 fn symbols_are_positive_or_not(rt: HostRuntime) -> Result<(), Fail> {
     let mut graph = Graph::new(rt.alloc());
     Ok(mixed(&rt, &mut graph)?)
 }
 
+/// A symbol's table that has one word everywhere.
 fn constant(rt: &impl AllocGlobal, sym: Sym, word: u64) -> SymTable {
     SymTable {
         sym,
@@ -94,7 +99,7 @@ fn constant(rt: &impl AllocGlobal, sym: Sym, word: u64) -> SymTable {
     }
 }
 
-/// In the new world f(x), x and y have three different values.
+/// Whether f(x), x and y have three different values under the tables.
 fn are_different(tables: &[SymTable]) -> bool {
     let x = value_at(tables, Sym::Input(0), &[]);
     let y = value_at(tables, Sym::Input(1), &[]);
@@ -107,6 +112,7 @@ fn are_different(tables: &[SymTable]) -> bool {
     }
 }
 
+/// Checks that a formula is false under the tables, and that its values differ once they are made diverse.
 fn check_diverse(
     rt: &(impl Abort + AllocGlobal),
     graph: &Graph,
@@ -121,7 +127,7 @@ fn check_diverse(
     Ok(())
 }
 
-/// f 0 everywhere, x 0 and y 1.
+/// The tables in which f is 0 everywhere, x is 0 and y is 1.
 fn world(rt: &impl AllocGlobal) -> Result<FlatTables, AllocError> {
     let mut tables = FlatTables::new(rt.alloc());
     for (sym, word) in [
@@ -134,13 +140,14 @@ fn world(rt: &impl AllocGlobal) -> Result<FlatTables, AllocError> {
     Ok(tables)
 }
 
-/// The equation f(x) = y.
+/// Builds the equation f(x) = y, and checks that its values become different.
 fn equation(rt: &(impl Abort + AllocGlobal), graph: &mut Graph) -> Result<(), AllocError> {
     let root = build_all(rt, graph, "I 0, F 0 0, I 1, = 1 2")?;
     let tables = world(rt)?;
     check_diverse(rt, graph, root, &tables)
 }
 
+/// A world where f(x) and x are equal gets different values, since no general equation compares them.
 #[test]
 fn equal_values_become_different(rt: HostRuntime) -> Result<(), Fail> {
     let mut graph = Graph::new(rt.alloc());

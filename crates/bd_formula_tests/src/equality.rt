@@ -12,8 +12,8 @@ use std::alloc::{AllocError, Global};
 use std::process::Abort;
 use std::test::Fail;
 
-/// Terms, of which the last is the root, a group of constants that are kept apart, marked variables if any are, and the truth graph
-/// with its edges and those of the constants. Variables are numbered as constants come.
+/// Terms, of which the last is the root, a group of constants that are kept apart, marked variables if any are, and the
+/// truth graph with its edges and those of the constants. Variables are numbered as constants come.
 struct Case {
     terms: &'static str,
     group: &'static str,
@@ -107,6 +107,7 @@ static CASES: [Case; 9] = [
     },
 ];
 
+/// The set of these variables, to be marked.
 fn marked_of(alloc: Global, vars: &[u32]) -> Result<Marked, AllocError> {
     let mut marked = Marked::new(alloc);
     for var in vars {
@@ -115,6 +116,7 @@ fn marked_of(alloc: Global, vars: &[u32]) -> Result<Marked, AllocError> {
     Ok(marked)
 }
 
+/// The list of one group of constants that are kept apart, read from their numbers.
 fn group_of(alloc: Global, group: &str) -> Result<Distinct, AllocError> {
     let places = Sequence::from_vec(numbers(alloc, group)?);
     let mut groups = Distinct::new(alloc);
@@ -132,11 +134,13 @@ fn ends(alloc: Global, edges: &[Edge]) -> Result<String, AllocError> {
     Ok(text)
 }
 
+/// Whether the ends of the edges, in order, have this text.
 fn are_edges(alloc: Global, edges: &[Edge], want: &str) -> Result<bool, AllocError> {
     let text = ends(alloc, edges)?;
     Ok(text.as_str() == want)
 }
 
+/// Whether an encoded formula has the nodes and the edges of a case, and its last node as its root.
 fn is_as_told(alloc: Global, encoded: &Encoded, case: &Case) -> Result<bool, AllocError> {
     Ok(
         encoded.root.saturating_add(1) == encoded.prop.len()
@@ -146,6 +150,7 @@ fn is_as_told(alloc: Global, encoded: &Encoded, case: &Case) -> Result<bool, All
     )
 }
 
+/// Whether a flat formula is encoded as a case tells, with the marked variables or with none.
 fn check_encoded(
     alloc: Global,
     flat: &Flat,
@@ -157,12 +162,14 @@ fn check_encoded(
     is_as_told(alloc, &encoded, case)
 }
 
+/// Whether a flat formula is encoded as a case tells with the variables that the case marks.
 fn check_marked(alloc: Global, flat: &Flat, case: &Case) -> Result<bool, AllocError> {
     let vars = numbers(alloc, case.marked)?;
     let marked = marked_of(alloc, &vars)?;
     check_encoded(alloc, flat, Some(&marked), case)
 }
 
+/// Whether a flat formula is encoded as a case tells, whether the case marks variables or not.
 fn check_flat(alloc: Global, flat: &Flat, case: &Case) -> Result<bool, AllocError> {
     if case.marked.is_empty() {
         check_encoded(alloc, flat, None, case)
@@ -171,6 +178,7 @@ fn check_flat(alloc: Global, flat: &Flat, case: &Case) -> Result<bool, AllocErro
     }
 }
 
+/// Builds and flattens the terms of a case, and checks how they are encoded.
 fn check(
     rt: &(impl Abort + AllocGlobal),
     graph: &mut Graph,
@@ -183,6 +191,7 @@ fn check(
     Ok(())
 }
 
+/// Each case is encoded as the truth graph and the edges written by hand.
 #[test]
 fn formulas_are_encoded(rt: HostRuntime) -> Result<(), Fail> {
     for case in &CASES {

@@ -10,8 +10,8 @@ use std::test::Fail;
 /// p(g(x, f(x))) or f(x) = f(y), with x = y = 5: the first application of f counts.
 const TERMS: &str = "E 0, E 1, F 0 0, F 0 1, F 1 0 2, F? 2 4, = 2 3, or 5 6";
 
-/// An application is its symbol's earlier ones where the arguments are equal, and else its own variable. The equations of
-/// the arguments are joined from true on.
+/// An application is its symbol's earlier ones where the arguments are equal, and else its own variable. The equations
+/// of the arguments are joined from true on.
 const FLAT: &str = "V 0, V 1, V 2, V 3, true, = 0 1, ite 5 2 3, V 4, V? 5, = 2 6, or 8 9";
 
 /// What the table of the symbol has at words.
@@ -32,7 +32,7 @@ fn values(alloc: Global) -> Result<Values, AllocError> {
     Ok(values)
 }
 
-/// What the tables have at arguments.
+/// Whether the tables have what was worked out by hand at arguments.
 fn are_tables(tables: &[SymTable]) -> bool {
     value_at(tables, Sym::Entry(1), &[]) == Scalar::Word(5)
         && value_at(tables, Sym::Function(0), &[5]) == Scalar::Word(7)
@@ -41,12 +41,14 @@ fn are_tables(tables: &[SymTable]) -> bool {
         && value_at(tables, Sym::Function(2), &[8]) == Scalar::Bool(true)
 }
 
+/// Whether the values of the variables make the tables written by hand.
 fn has_tables(alloc: Global, flat: &Flat) -> Result<bool, AllocError> {
     let values = values(alloc)?;
     let tables = tables(alloc, flat, &values)?;
     Ok(are_tables(tables.as_slice()))
 }
 
+/// Builds and flattens the terms, and checks the flat form and the tables that values of its variables make.
 fn check(rt: &(impl Abort + AllocGlobal), graph: &mut Graph) -> Result<(), AllocError> {
     let root = build_all(rt, graph, TERMS)?;
     assert!(rt; has(graph, root, Sort::Bool) && has_no_memory(graph, root));
@@ -55,12 +57,14 @@ fn check(rt: &(impl Abort + AllocGlobal), graph: &mut Graph) -> Result<(), Alloc
     Ok(())
 }
 
+/// The flat form is the one written by hand, and its tables give each application its value.
 #[test]
 fn tables_show_the_applications(rt: HostRuntime) -> Result<(), Fail> {
     let mut graph = Graph::new(rt.alloc());
     Ok(check(&rt, &mut graph)?)
 }
 
+/// A set of marked variables has the one that was put in, and no other.
 #[test]
 fn sets_hold_what_was_put_in(rt: HostRuntime) -> Result<(), Fail> {
     let mut marked = Marked::new(rt.alloc());

@@ -1,6 +1,6 @@
 //! Graphs of terms as texts. The terms are parted by commas, and each names its parts by their places: `F 0 1` is the
-//! first function of the second term, `F? 0 1` that predicate of it; `E`, `I`, `A` and `V` are entries, inputs, addresses
-//! and variables.
+//! first function of the second term, `F? 0 1` that predicate of it; `E`, `I`, `A` and `V` are entries, inputs,
+//! addresses and variables.
 //!
 //! What a function owns is dropped at each of its ways out, and each drop is proved: so a function of these tests owns
 //! little, and hands the rest on by reference.
@@ -16,12 +16,14 @@ use bd_terms::{Graph, Id, Node, Sym};
 use std::alloc::{AllocError, Global};
 use std::process::Abort;
 
+/// Whether the graph has a term of this name and sort.
 pub(crate) fn has(graph: &Graph, id: Id, sort: Sort) -> bool
     ensures { IsTrue result → HasSort graph.now id sort }
 {
     id.index() < graph.len() && graph.sort(id) == sort
 }
 
+/// Whether the graph has a word for each of these names.
 fn are_words(graph: &Graph, ids: &[Id]) -> bool
     ensures { IsTrue result → All (λ id. HasSort graph.now id sort.Word) ids.now }
 {
@@ -280,7 +282,7 @@ fn shown(alloc: Global, graph: &Graph) -> Result<String, AllocError> {
     Ok(text)
 }
 
-/// Whether these are the terms of the graph.
+/// Whether the terms of the graph have this text.
 pub(crate) fn is_shown(alloc: Global, graph: &Graph, want: &str) -> Result<bool, AllocError> {
     let text = shown(alloc, graph)?;
     Ok(text.as_str() == want)

@@ -31,6 +31,7 @@ static ROWS: [(&str, &str); 4] = [
     ),
 ];
 
+/// Checks that removing the memories of a graph leaves the terms that are wanted, the root as the last.
 fn check_forwarded(
     rt: &(impl Abort + AllocGlobal),
     graph: &Graph,
@@ -44,6 +45,7 @@ fn check_forwarded(
     Ok(())
 }
 
+/// Builds terms, and checks what removing their memories leaves.
 fn check(
     rt: &(impl Abort + AllocGlobal),
     graph: &mut Graph,
@@ -54,6 +56,7 @@ fn check(
     check_forwarded(rt, graph, root, want)
 }
 
+/// Each read becomes a choice between the words written and what the memory first has.
 #[test]
 fn reads_go_down_to_what_was_written(rt: HostRuntime) -> Result<(), Fail> {
     for &(terms, want) in &ROWS {

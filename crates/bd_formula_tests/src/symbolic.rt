@@ -32,8 +32,8 @@ static SPEC: &[u8] = b"(specification
  (next m (write m p (z)))
  (next p step))";
 
-/// The terms: before the first cycle; the lets of the first cycle; its next expressions; the lets of the flush cycle, with
-/// the inputs before it; the flush expressions; the lets with their values; the next expressions; a step of the
+/// The terms: before the first cycle; the lets of the first cycle; its next expressions; the lets of the flush cycle,
+/// with the inputs before it; the flush expressions; the lets with their values; the next expressions; a step of the
 /// specification.
 const TERMS: &str = "init 0, E 1, E? 2, I? 0, I 1, \
 write 0 1 4, ite 2 5 0, read 6 1, not 3, ite 2 3 8, = 1 7, not 9, or 11 10, \
@@ -44,6 +44,7 @@ write 6 14 28, ite 19 29 6, read 30 14, ite 19 27 19, = 14 31, not 32, or 34 33,
 F 0 31, ite 27 14 36, F? 1 14, or 38 35, and 19 39, \
 F 0 1, write 0 1 28";
 
+/// Checks that these names stand for the terms at these places.
 fn are_at(rt: &impl Abort, ids: &TermIds, places: &[usize]) {
     assert_eq!(rt; ids.len(), places.len());
     for (id, place) in ids.as_slice().iter().zip(places) {
@@ -51,12 +52,13 @@ fn are_at(rt: &impl Abort, ids: &TermIds, places: &[usize]) {
     }
 }
 
+/// Checks that a symbolic state has its entries and its inputs at these places of the graph.
 fn state_is(rt: &impl Abort, state: &SymState, entries: &[usize], inputs: &[usize]) {
     are_at(rt, &state.entries, entries);
     are_at(rt, &state.inputs, inputs);
 }
 
-/// A cycle and its flush, and a step of the specification.
+/// Checks where the terms of a cycle, of its flush and of a step of the specification stand.
 fn runs(
     rt: &(impl Abort + AllocGlobal),
     graph: &mut Graph,
@@ -79,6 +81,7 @@ fn runs(
     Ok(())
 }
 
+/// Checks the cycles of a design in a graph of their own, and all terms that they leave there.
 fn runs_alone(rt: &(impl Abort + AllocGlobal), design: &Design) -> Result<(), AllocError>
     requires { IsLawful (design_view design.now) }
 {
@@ -88,6 +91,7 @@ fn runs_alone(rt: &(impl Abort + AllocGlobal), design: &Design) -> Result<(), Al
     Ok(())
 }
 
+/// Reads the small design, and checks its cycles.
 fn runs_example(rt: &(impl Abort + AllocGlobal)) -> Result<(), AllocError> {
     match read(rt, PIPE, SPEC) {
         Some(design) => runs_alone(rt, &design),
@@ -95,6 +99,7 @@ fn runs_example(rt: &(impl Abort + AllocGlobal)) -> Result<(), AllocError> {
     }
 }
 
+/// A cycle, its flush and a step of the specification make the terms written by hand.
 #[test]
 fn cycles_have_their_terms(rt: HostRuntime) -> Result<(), Fail> {
     runs_example(&rt)?;

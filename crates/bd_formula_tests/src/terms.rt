@@ -13,24 +13,26 @@ const TERMS: &str =
 read 8 4, ite 5 8 7, read 11 0, not 5, not 13, and 3 5, and 5 6, or 5 3, or 13 6, and 5 5, not 3, ite 20 5 6, \
 ite 5 6 6, V 7";
 
-/// What they are kept as.
+/// What the terms of each form are kept as.
 const KEPT: &str =
     "I 0, F 0 0, true, F 1 0 1, F? 2 0 1, = 0 3, init 0, write 6 0 1, read 7 0, read 7 3, \
 ite 4 7 6, read 10 0, not 4, and 4 5, or 12 5, not 2, V 7";
 
+/// Builds terms of each form, and checks what they are kept as.
 fn keeps_all(rt: &(impl Abort + AllocGlobal), graph: &mut Graph) -> Result<(), AllocError> {
     build_all(rt, graph, TERMS)?;
     assert!(rt; is_shown(rt.alloc(), graph, KEPT)?);
     Ok(())
 }
 
+/// Terms that come to others aren't kept, and an application made twice is kept once.
 #[test]
 fn each_term_is_simplified_and_kept_once(rt: HostRuntime) -> Result<(), Fail> {
     let mut graph = Graph::new(rt.alloc());
     Ok(keeps_all(&rt, &mut graph)?)
 }
 
-/// Of four terms the root reaches two.
+/// Checks that of four terms the root reaches two, and that these are marked.
 fn marks(rt: &(impl Abort + AllocGlobal), graph: &mut Graph) -> Result<(), AllocError> {
     let root = build_all(rt, graph, "I? 0, I? 1, not 1, not 0")?;
     assert!(rt; has(graph, root, Sort::Bool));
@@ -41,6 +43,7 @@ fn marks(rt: &(impl Abort + AllocGlobal), graph: &mut Graph) -> Result<(), Alloc
     Ok(())
 }
 
+/// Exactly the terms that the root reaches are marked.
 #[test]
 fn what_is_reached_is_marked(rt: HostRuntime) -> Result<(), Fail> {
     let mut graph = Graph::new(rt.alloc());

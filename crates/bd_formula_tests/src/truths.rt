@@ -11,7 +11,7 @@ fn at(numbers: &[u32], place: usize) -> u32 {
     numbers.get(place).copied().unwrap_or(0)
 }
 
-/// An operation on nodes of the graph.
+/// The node of an operation on nodes of the graph.
 fn make_over(
     rt: &impl Abort,
     prop: &mut Prop,
@@ -95,7 +95,7 @@ fn shown(alloc: Global, nodes: &[PropNode]) -> Result<String, AllocError> {
     Ok(text)
 }
 
-/// Whether these are the nodes.
+/// Whether the nodes have this text.
 pub(crate) fn are_shown(alloc: Global, nodes: &[PropNode], want: &str) -> Result<bool, AllocError> {
     let text = shown(alloc, nodes)?;
     Ok(text.as_str() == want)
@@ -110,7 +110,7 @@ ite 2 3 5";
 
 const KEPT: &str = "true, not 0, T 7, = 1 7, not 2, and 2 3, or 2 3, and 3 2, ite 2 3 5";
 
-/// Whether the node reaches just these.
+/// Whether the root reaches just the nodes that are true in the list.
 fn reaches(alloc: Global, prop: &Prop, root: usize, want: &[bool]) -> Result<bool, AllocError> {
     if root >= prop.len() {
         return Ok(false);
@@ -119,6 +119,7 @@ fn reaches(alloc: Global, prop: &Prop, root: usize, want: &[bool]) -> Result<boo
     Ok(marks.as_slice() == want)
 }
 
+/// Nodes that come to others aren't kept, and the root reaches those that it is made of.
 #[test]
 fn constructors_rewrite(rt: HostRuntime) -> Result<(), Fail> {
     let mut prop = Prop::new(rt.alloc());
@@ -129,6 +130,7 @@ fn constructors_rewrite(rt: HostRuntime) -> Result<(), Fail> {
     Ok(())
 }
 
+/// An atom has the value that was set, another has none, and where none is set its value is false.
 #[test]
 fn values_are_kept(rt: HostRuntime) -> Result<(), Fail> {
     let mut values = AtomValues::new(rt.alloc());

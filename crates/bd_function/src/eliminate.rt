@@ -68,7 +68,7 @@ pub fn flatten(alloc: Global, graph: &Graph, root: Id) -> Result<Flat, AllocErro
     })
 }
 
-// The term in the new graph.
+/// The term of a node in the new graph, where an application is a variable or a choice between variables.
 fn take(alloc: Global, taken: &mut Taken, ids: &[Id], node: &Node) -> Result<Id, AllocError>
     requires inside { All (λ c. c < length ids.now) (children node.now) }
     requires fits { FitsSorts taken.old.graph (renamed ids.now node.now) }
@@ -89,7 +89,7 @@ fn take(alloc: Global, taken: &mut Taken, ids: &[Id], node: &Node) -> Result<Id,
     }
 }
 
-// The term of a variable.
+/// The term of a variable, a word or a truth value by its sort.
 fn variable(graph: &mut Graph, var: u64, sort: Sort) -> Result<Id, AllocError>
     requires symbol { KeepsSymbol graph.old (symbol.Var var) 0 sort }
     requires sort { is_scalar sort ≡ true }
@@ -102,7 +102,7 @@ fn variable(graph: &mut Graph, var: u64, sort: Sort) -> Result<Id, AllocError>
     Ok(id)
 }
 
-// A variable of this sort that is in no earlier term.
+/// A variable of this sort that is in no earlier term.
 fn add_variable(taken: &mut Taken, sort: Sort) -> Result<Id, AllocError>
     requires taken { IsTaken taken.old }
     requires sort { is_scalar sort ≡ true }
@@ -114,7 +114,7 @@ fn add_variable(taken: &mut Taken, sort: Sort) -> Result<Id, AllocError>
     Ok(id)
 }
 
-// The place of the symbol's rows.
+/// The place of the symbol's rows, which are put after the others if the symbol has none yet.
 fn place(alloc: Global, taken: &mut Taken, sym: Sym) -> Result<usize, AllocError>
     requires { map (λ s. s.sym) taken.old.rows.items ≡ taken.old.symbols.keys }
     ensures { IfOk result (λ place. AddsSymbol taken.old taken.new sym place) }
@@ -127,7 +127,7 @@ fn place(alloc: Global, taken: &mut Taken, sym: Sym) -> Result<usize, AllocError
     Ok(place)
 }
 
-// Puts a row after the others of its symbol.
+/// Puts a row after the others of its symbol.
 fn push(rows: &mut Vec<FlatSym>, place: usize, row: FlatRow) -> Result<(), AllocError>
     requires { place < length rows.old.items }
     ensures { OnOk result (rows.new.items ≡ with_row rows.old.items place row) }
@@ -136,7 +136,7 @@ fn push(rows: &mut Vec<FlatSym>, place: usize, row: FlatRow) -> Result<(), Alloc
     Ok(())
 }
 
-// The application of the symbol, with a row after its others.
+/// The term for an application of the symbol, whose row is put after its others.
 fn apply(
     alloc: Global,
     taken: &mut Taken,
@@ -163,7 +163,7 @@ fn apply(
     Ok(id)
 }
 
-// The row of an application.
+/// The row of an application: its arguments and its variable.
 fn row_of(alloc: Global, args: &[Id], var: u64) -> Result<FlatRow, AllocError>
     ensures { IfOk result (λ row. row ≡ record { args = args.now; var = var }) }
 {

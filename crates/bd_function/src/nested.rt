@@ -12,7 +12,7 @@ use crate::flat::FlatRow;
 use bd_terms::{Graph, Id};
 use std::alloc::AllocError;
 
-// The conjunction of the equations between the arguments.
+/// The conjunction of the equations between arguments, pair by pair: true where there is none.
 pub(crate) fn equal(graph: &mut Graph, left: &[Id], right: &[Id]) -> Result<Id, AllocError>
     requires left { All (λ a. HasSort graph.old a sort.Word) left.now }
     requires right { All (λ a. HasSort graph.old a sort.Word) right.now }
@@ -32,7 +32,7 @@ pub(crate) fn equal(graph: &mut Graph, left: &[Id], right: &[Id]) -> Result<Id, 
     Ok(same)
 }
 
-// The variable of the first row with equal arguments, or else the own one.
+/// The variable of the first row with equal arguments, or else the own one.
 pub(crate) fn nested(
     graph: &mut Graph,
     variables: &[Id],

@@ -44,7 +44,7 @@ pub fn tables(alloc: Global, flat: &Flat, values: &Values) -> Result<FlatTables,
     Ok(FlatTables::from_vec(tables))
 }
 
-// What each term denotes.
+/// What each term of the flat graph denotes under values of its variables.
 fn scalars(alloc: Global, flat: &Flat, values: &Values) -> Result<Vec<Scalar>, AllocError>
     ensures denotes { IfOk result (λ done. map as_denoted done.items
         ≡ denotations (under (scalar_of values.now)) flat.now.graph) }
@@ -57,7 +57,7 @@ fn scalars(alloc: Global, flat: &Flat, values: &Values) -> Result<Vec<Scalar>, A
     Ok(done)
 }
 
-// What a node denotes, from what those before it do.
+/// What a node of the flat graph denotes, from what those before it do. A memory or a read counts as false.
 fn evaluate(values: &Values, done: &[Scalar], node: &Node) -> Scalar
     ensures { result ≡ node_scalar (scalar_of values.now) done.now node.now }
 {
@@ -77,6 +77,7 @@ fn evaluate(values: &Values, done: &[Scalar], node: &Node) -> Scalar
     }
 }
 
+/// The value of a symbol of no arguments: a variable's own, false for any other.
 fn symbol_value(values: &Values, sym: Sym) -> Scalar
     ensures { result ≡ symbol_value (scalar_of values.now) sym }
 {
@@ -86,7 +87,7 @@ fn symbol_value(values: &Values, sym: Sym) -> Scalar
     }
 }
 
-// The table of a symbol's rows.
+/// The table of a symbol's rows, under values of the variables.
 fn sym_table(
     alloc: Global,
     values: &Values,
@@ -110,7 +111,7 @@ fn sym_table(
     })
 }
 
-// The arguments' values, and the variable's.
+/// The row of an application: what its arguments denote, and its variable's value.
 fn row(alloc: Global, values: &Values, done: &[Scalar], row: &FlatRow) -> Result<Row, AllocError>
     ensures { IfOk result (λ r. r ≡ row_from (scalar_of values.now) done.now row.now) }
 {
@@ -124,7 +125,7 @@ fn row(alloc: Global, values: &Values, done: &[Scalar], row: &FlatRow) -> Result
     })
 }
 
-// The value where no row matches.
+/// A table's value where no row matches: 0 or false, but the first row's value where there are no arguments.
 fn default_of(rows: &[Row]) -> Scalar
     ensures { result ≡ default_of rows.now }
 {
@@ -140,6 +141,7 @@ fn default_of(rows: &[Row]) -> Scalar
     }
 }
 
+/// 0, or false for a truth value.
 fn zero_like(scalar: Scalar) -> Scalar
     ensures { result ≡ zero_like scalar }
 {

@@ -69,6 +69,7 @@ pub fn design_text(alloc: Global, depth: u32, drop: u32) -> Result<(Vec<u8>, Vec
     Ok((pipeline.into_bytes(), specification))
 }
 
+/// Adds the head of the pipeline: functions, counter, register file, and the latches of each stage.
 fn push_declarations(text: &mut String, depth: u32) -> Result<(), AllocError>
     requires { depth ≤ 12 }
     ensures { OnOk result (string_bytes text.new ≡ string_bytes text.old ++ declarations depth) }
@@ -77,6 +78,7 @@ fn push_declarations(text: &mut String, depth: u32) -> Result<(), AllocError>
     push_latches(text, depth)
 }
 
+/// Adds a valid bit and a target for each stage from 2 on, and a result for each from 3 on.
 fn push_latches(text: &mut String, depth: u32) -> Result<(), AllocError>
     requires { depth ≤ 12 }
     ensures { OnOk result (string_bytes text.new ≡ string_bytes text.old ++ latch_lines depth) }
@@ -91,6 +93,7 @@ fn push_latches(text: &mut String, depth: u32) -> Result<(), AllocError>
     Ok(())
 }
 
+/// Adds the input and the lets: the source register, the results of the stages, and the operand by each path.
 fn push_lets(text: &mut String, depth: u32, drop: u32) -> Result<(), AllocError>
     requires { depth ≤ 12 }
     ensures { OnOk result (string_bytes text.new ≡ string_bytes text.old ++ lets depth drop) }
@@ -102,6 +105,7 @@ fn push_lets(text: &mut String, depth: u32, drop: u32) -> Result<(), AllocError>
     push_operands(text, depth, drop)
 }
 
+/// Adds a let for the result that each stage from 3 on holds.
 fn push_results(text: &mut String, depth: u32) -> Result<(), AllocError>
     requires { depth ≤ 12 }
     ensures { OnOk result (
@@ -113,6 +117,7 @@ fn push_results(text: &mut String, depth: u32) -> Result<(), AllocError>
     Ok(())
 }
 
+/// Adds a let for the operand as each stage forwards it, from the last stage back to stage 2.
 fn push_operands(text: &mut String, depth: u32, drop: u32) -> Result<(), AllocError>
     requires { depth ≤ 12 }
     ensures { OnOk result (
@@ -124,6 +129,7 @@ fn push_operands(text: &mut String, depth: u32, drop: u32) -> Result<(), AllocEr
     Ok(())
 }
 
+/// Adds a let for the operand by the path from stage `i`, or by those of later stages alone if that path is dropped.
 fn push_operand(text: &mut String, i: u32, drop: u32) -> Result<(), AllocError>
     requires after_fetch { 2 ≤ i }
     requires bounded { i ≤ 12 }
@@ -141,6 +147,7 @@ fn push_operand(text: &mut String, i: u32, drop: u32) -> Result<(), AllocError>
     }
 }
 
+/// Adds the next values of all entries: the counter's, the register file's, and those of each stage.
 fn push_nexts(text: &mut String, depth: u32) -> Result<(), AllocError>
     requires { depth ≤ 12 }
     ensures { OnOk result (string_bytes text.new ≡ string_bytes text.old ++ nexts depth) }
@@ -154,6 +161,7 @@ fn push_nexts(text: &mut String, depth: u32) -> Result<(), AllocError>
     push_passing(text, depth)
 }
 
+/// Adds that each stage from 3 on takes over what the stage before it holds.
 fn push_passing(text: &mut String, depth: u32) -> Result<(), AllocError>
     requires { depth ≤ 12 }
     ensures { OnOk result (string_bytes text.new ≡ string_bytes text.old ++ passing_lines depth) }

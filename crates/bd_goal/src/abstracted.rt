@@ -16,7 +16,7 @@ use bd_symbolic::{SymState, project, sym_eval, sym_flush, sym_lets};
 use bd_terms::Graph;
 use std::alloc::{AllocError, Global};
 
-// The visible entries that a state stands for.
+/// The visible entries that a state stands for by an abstraction: flushing, or given expressions.
 pub(crate) fn abstracted(
     alloc: Global,
     graph: &mut Graph,
@@ -41,7 +41,7 @@ pub(crate) fn abstracted(
     }
 }
 
-// The terms of given expressions after their lets.
+/// The terms of an abstraction's given expressions in a state, after their lets.
 fn given(
     alloc: Global,
     graph: &mut Graph,

@@ -27,8 +27,8 @@ use bd_terms::{Graph, Id};
 use std::alloc::{AllocError, Global};
 
 /// The formula of so many cycles one after another, of which there may be none: where the invariant is true in the
-/// first state, each cycle stands for some allowed number of steps, by flushing. Input i of q inputs in cycle t, from 0,
-/// is `Input(t * q + i)`. Refused for want of memory, the graph may keep further nodes.
+/// first state, each cycle stands for some allowed number of steps, by flushing. Input i of q inputs in cycle t, from
+/// 0, is `Input(t * q + i)`. Refused for want of memory, the graph may keep further nodes.
 pub fn bounded_goal(
     alloc: Global,
     graph: &mut Graph,
@@ -68,7 +68,7 @@ pub(crate) struct Run {
     pub(crate) commutes: Id,
 }
 
-// That from a state in which the invariant is true each of one cycle or more commutes.
+/// The term that from a state in which the invariant is true each of one cycle or more commutes.
 fn right_run(
     alloc: Global,
     graph: &mut Graph,
@@ -92,7 +92,7 @@ fn right_run(
     graph.mk_implies(inside, run.commutes)
 }
 
-// The state before the first cycle, and that the invariant is true in it.
+/// A run of no cycle yet, from the state before the first, and the term that the invariant is true in it.
 fn no_cycle(alloc: Global, graph: &mut Graph, design: &Design) -> Result<(Id, Run), AllocError>
     requires lawful { IsLawful (design_view design.now) }
     requires keeps { KeepsDesign (design_view design.now) graph.old }
@@ -113,7 +113,7 @@ fn no_cycle(alloc: Global, graph: &mut Graph, design: &Design) -> Result<(Id, Ru
     Ok((inside, run))
 }
 
-// The cycle of this number, from 0, after those before it.
+/// The run with one cycle more, that of this number from 0, whose inputs are symbols of their own.
 fn one_cycle_more(
     alloc: Global,
     graph: &mut Graph,

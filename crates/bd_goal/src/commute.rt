@@ -23,8 +23,8 @@ use bd_symbolic::{SymState, TermIds, sym_eval, sym_lets, sym_spec_step};
 use bd_terms::{Graph, Id};
 use std::alloc::{AllocError, Global};
 
-// That the cycle from a state stands for some number of steps, at most the design's, from one visible state to another,
-// where memories are read at addresses from the first one on.
+/// The term that the cycle from a state stands for some allowed number of steps, at most the design's, from one visible
+/// state to another, where memories are read at addresses from the first one on.
 pub(crate) fn commutes(
     alloc: Global,
     graph: &mut Graph,
@@ -79,7 +79,7 @@ pub(crate) fn commutes(
     Ok(any)
 }
 
-// That the cycle stands for j steps: so many are allowed, and the two visible states are equal.
+/// The term that the cycle stands for j steps: so many are allowed, and the two visible states are equal.
 fn stands(
     graph: &mut Graph,
     design: &Design,
@@ -112,7 +112,7 @@ fn stands(
     graph.mk_and(allowed, same)
 }
 
-// The condition of each exact item before the cycle.
+/// The condition of each exact item before the cycle, in order.
 fn conditions(
     alloc: Global,
     graph: &mut Graph,
@@ -137,7 +137,7 @@ fn conditions(
     Ok(Sequence::from_vec(whens))
 }
 
-// That j steps are allowed: no exact item of another count has its condition true.
+/// The term that j steps are allowed: no exact item of another count has its condition true.
 fn allowed(graph: &mut Graph, design: &Design, whens: &TermIds, j: u32) -> Result<Id, AllocError>
     requires { AreConditions (design_view design.now) graph.old whens.now }
     ensures sorted { IfOk result (λ id. HasSort graph.new id sort.Bool) }
@@ -156,7 +156,7 @@ fn allowed(graph: &mut Graph, design: &Design, whens: &TermIds, j: u32) -> Resul
     Ok(all)
 }
 
-// True, or the negation of a condition.
+/// The true term if a count is free, and else the negation of a condition.
 fn unless(graph: &mut Graph, is_free: bool, when: Id) -> Result<Id, AllocError>
     requires { HasSort graph.old when sort.Bool }
     ensures sorted { IfOk result (λ id. HasSort graph.new id sort.Bool) }

@@ -84,9 +84,9 @@ pub fn goal_by(
     })
 }
 
-/// That an abstraction agrees with flushing in the first state, where the invariant is true there: latches are equal,
-/// and each memory reads equal at the address of its number. Refused for want of memory, the graph may keep further
-/// nodes.
+/// The formula that an abstraction agrees with flushing in the first state, where the invariant is true there: latches
+/// are equal, and each memory reads equal at the address of its number. Refused for want of memory, the graph may keep
+/// further nodes.
 pub fn agree_goal(
     alloc: Global,
     graph: &mut Graph,

@@ -18,7 +18,7 @@ use bd_symbolic::TermIds;
 use bd_terms::{Graph, Id, Sym};
 use std::alloc::AllocError;
 
-// How many of the visible entries are memories.
+/// How many of the visible entries are memories.
 pub(crate) fn memory_count(design: &Design) -> u32
     requires { IsLawful (design_view design.now) }
     ensures count { result ≡ memory_count (design_view design.now) }
@@ -31,8 +31,8 @@ pub(crate) fn memory_count(design: &Design) -> u32
     count
 }
 
-// That two visible states are equal, where the memory of number m is read at the address of number
-// `m * stride + first`, and no number is too large.
+/// The term that two visible states are equal, where the memory of number m is read at the address of number `m *
+/// stride + first`, and no number is too large.
 pub(crate) fn equal(
     graph: &mut Graph,
     design: &Design,
@@ -67,7 +67,7 @@ pub(crate) fn equal(
     Ok(all)
 }
 
-// How far the address of the next memory is.
+/// How far the number of the next memory's address is: the stride after a memory, else 0.
 fn advance(kind: Sort, stride: u32) -> u32
     ensures { result ≡ (if is_memory kind then stride else 0) }
 {
@@ -77,7 +77,7 @@ fn advance(kind: Sort, stride: u32) -> u32
     }
 }
 
-// That two terms of a sort are equal, memories as far as they are read at the address of this number.
+/// The term that two terms of a sort are equal, memories as far as they are read at the address of this number.
 fn equal_terms(
     graph: &mut Graph,
     kind: Sort,

@@ -40,7 +40,7 @@ pub fn meets(alloc: Global, graph: &mut Graph, design: &Design) -> Result<Id, Al
     graph.mk_not(inside)
 }
 
-// The invariant in a state.
+/// The term of the invariant in a state.
 pub(crate) fn invariant(
     alloc: Global,
     graph: &mut Graph,
@@ -62,7 +62,7 @@ pub(crate) fn invariant(
     sym_eval(alloc, graph, design, &design.inv, &alone, &lets)
 }
 
-// The state's entries, in which what uses no input is built.
+/// A state with the same entries and no inputs, in which what uses no input is built.
 pub(crate) fn without_inputs(alloc: Global, state: &SymState) -> Result<SymState, AllocError>
     ensures entries { IfOk result (λ alone. alone.entries ≡ state.now.entries) }
     ensures inputs { IfOk result (λ alone. alone.inputs ≡ []) }

@@ -11,7 +11,7 @@ pub fn goal_decides()
     ensures { GoalDecides }
 {}
 
-/// That the invariant is false is valid exactly where no fitting case meets it.
+/// The formula that the invariant is false is valid exactly where no fitting case meets it.
 pub fn meets_decides()
     ensures { MeetsDecides }
 {}

@@ -7,7 +7,7 @@ use crate::view::{View, put_arity, put_described};
 use bd_typer::Text;
 use std::alloc::AllocError;
 
-/// What helps at an application with a wrong number of words, or at such a row.
+/// What helps at an application or a row with a wrong number of words.
 pub fn wrong_arity(view: &View<'_>, out: &mut Lines) -> Result<(), AllocError> {
     if matches!(view.fault.file, Text::Case | Text::Trail) {
         return wrong_row(view, out);

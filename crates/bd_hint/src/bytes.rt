@@ -46,7 +46,7 @@ fn character(bytes: &[u8]) -> Option<u32> {
     }
 }
 
-/// What to do about a byte above 126, or below a space.
+/// Adds what to do about a byte above 126, or below a space.
 fn say_remedy(out: &mut Lines, bytes: &[u8]) -> Result<(), AllocError> {
     match character(bytes) {
         Some(0xFEFF) => out.say(&[

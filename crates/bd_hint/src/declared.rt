@@ -81,12 +81,12 @@ impl Kind {
         }
     }
 
-    /// Whether it's a latch or a memory.
+    /// Whether the name is declared as a latch or a memory.
     pub fn is_entry(self) -> bool {
         matches!(self, Kind::Latch(_) | Kind::Memory)
     }
 
-    /// Whether it's a let.
+    /// Whether the name is declared as a let.
     pub fn is_let(self) -> bool {
         matches!(self, Kind::Let(_))
     }

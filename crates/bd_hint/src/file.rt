@@ -38,7 +38,7 @@ pub fn atom_of(tree: &Tree) -> Option<&[u8]> {
     }
 }
 
-/// The atom at a place.
+/// The atom at a place of a list.
 pub fn atom_at(parts: &[Tree], place: usize) -> Option<&[u8]> {
     atom_of(parts.get(place)?)
 }
@@ -54,7 +54,7 @@ pub fn list_of(tree: &Tree) -> Option<Headed<'_>> {
 }
 
 impl<'t> Headed<'t> {
-    /// The name of an item, and where it stands.
+    /// The name of an item, and where that stands.
     pub fn name(self) -> Option<(usize, &'t [u8])> {
         let tree = self.parts.get(1)?;
         Some((offset_of(tree), atom_of(tree)?))
@@ -77,6 +77,7 @@ fn commented(alloc: Global, text: &[u8]) -> Result<Vec<u8>, AllocError> {
     Ok(bytes)
 }
 
+/// The trees of a text, none where it has a fault.
 fn trees_of(alloc: Global, text: &[u8]) -> Result<Trees, AllocError> {
     match read_trees(alloc, text) {
         Ok(trees) => Ok(trees),
@@ -99,17 +100,17 @@ impl<'a> File<'a> {
         Ok(File { source, trees })
     }
 
-    /// Its trees, of which a file has one.
+    /// The trees of the file, which should be one.
     pub fn trees(&self) -> &[Tree] {
         self.trees.as_slice()
     }
 
-    /// The word that its list begins with.
+    /// The word that the file's list begins with.
     pub fn head(&self) -> Option<&[u8]> {
         Some(list_of(self.trees().first()?)?.head)
     }
 
-    /// What follows that word.
+    /// What follows the first word of the file's list.
     pub fn items(&self) -> &[Tree] {
         match self.trees().first() {
             Some(tree) => parts_of(tree).unwrap_or(&[]).get(1..).unwrap_or(&[]),

@@ -68,7 +68,7 @@ pub fn operator_form(head: &[u8]) -> Option<&'static [u8]> {
     }
 }
 
-/// That a form is wanted, and how many parts are given after the head.
+/// Adds that a form is wanted, and how many parts are given after the head.
 pub fn say_wanted(out: &mut Lines, form: &[u8], list: Headed<'_>) -> Result<(), AllocError> {
     out.say(&[b"wanted: ", form])?;
     out.put(&[b"given: (", list.head, b" ..) with "])?;

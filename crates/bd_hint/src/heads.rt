@@ -47,7 +47,7 @@ fn answer_text(word: &[u8]) -> Option<&'static [u8]> {
     }
 }
 
-/// What the files of a kind look like.
+/// Adds what the files of a kind look like.
 fn say_form(out: &mut Lines, file: Text) -> Result<(), AllocError> {
     out.say(&[kind_text(file), b" is written ", kind_form(file)])
 }

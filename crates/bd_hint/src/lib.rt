@@ -1,8 +1,8 @@
 //! What helps after a fault of a file: further lines for its message.
 //!
-//! A message says where a fault stands and what it is. These lines say what ends the search for it: what is missing, what
-//! is wanted and what was found, where a name is declared and which one is near. They are taken from the bytes of the files
-//! alone, so a file with a fault helps as well. Nothing is proved of them but that making them is safe.
+//! A message says where a fault stands and what it is. These lines say what ends the search for it: what is missing,
+//! what is wanted and what was found, where a name is declared and which one is near. They are taken from the bytes of
+//! the files alone, so a file with a fault helps as well. Nothing is proved of them but that making them is safe.
 #![tactic(auto)]
 
 mod arities;

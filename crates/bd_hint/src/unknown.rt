@@ -115,7 +115,7 @@ fn at_application(
     out.say(&[b"), and one to truth values by predicate"])
 }
 
-/// How a latch or a memory would be declared, of the sort that is wanted.
+/// Adds how a latch or a memory would be declared, of the sort that is wanted.
 fn say_declaration(view: &View<'_>, out: &mut Lines, name: &[u8]) -> Result<(), AllocError> {
     out.put(&[b"no declared name is near: "])?;
     match wanted_sort(view) {

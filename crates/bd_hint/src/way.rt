@@ -8,7 +8,8 @@ use std::alloc::{AllocError, Global};
 /// More levels than a text has.
 const MOST_LEVELS: usize = 202;
 
-/// A list on the way, where it stands, and the place of the part that the way goes into. The first is of the file's trees.
+/// A list on the way, where it stands, and the place of the part that the way goes into. The first is of the file's
+/// trees.
 #[derive(Clone, Copy)]
 pub struct Level<'t> {
     pub offset: usize,
@@ -61,17 +62,17 @@ pub fn way_to<'t>(alloc: Global, trees: &'t [Tree], offset: usize) -> Result<Way
 }
 
 impl<'t> Way<'t> {
-    /// The innermost list around the end.
+    /// The innermost list around the end of the way.
     pub fn last(&self) -> Option<Level<'t>> {
         self.levels.as_slice().last().copied()
     }
 
-    /// The atom at the end.
+    /// The atom at the end of the way.
     pub fn atom(&self) -> Option<&'t [u8]> {
         atom_of(self.end?)
     }
 
-    /// The item around the end, where it stands, and the place of the part that the way goes into.
+    /// The item around the end of the way, where it stands, and the place of the part that the way goes into.
     pub fn item(&self) -> Option<(Headed<'t>, usize)> {
         let level = self.levels.as_slice().get(2).copied()?;
         let item = Headed {
@@ -82,12 +83,12 @@ impl<'t> Way<'t> {
         Some((item, level.place))
     }
 
-    /// How many lists there are around the end.
+    /// How many lists there are around the end of the way.
     pub fn depth(&self) -> usize {
         self.levels.len().saturating_sub(1)
     }
 
-    /// Whether the end is the name of an item of this head.
+    /// Whether the way ends at the name of an item of this head.
     pub fn is_name_of(&self, head: &[u8]) -> bool {
         match self.item() {
             Some((item, place)) => self.depth() == 2 && place == 1 && item.head == head,
@@ -95,7 +96,7 @@ impl<'t> Way<'t> {
         }
     }
 
-    /// How many parts follow the end, where it is what an expression's list begins with.
+    /// How many parts follow the end of the way, where that is what an expression's list begins with.
     pub fn applied(&self) -> Option<u64> {
         let last = self.last()?;
         if last.place == 0 && self.depth() >= 2 {

@@ -35,10 +35,12 @@ impl<S: FileSystem> Disk for S {
 
     type Created = S::File;
 
+    /// The file of that name, to be read from its beginning.
     fn open(&self, name: &str) -> io::Result<S::File> {
         fs::open(self, name)
     }
 
+    /// An empty file of that name, to be written.
     fn create(&self, name: &str) -> io::Result<S::File> {
         fs::create(self, name)
     }

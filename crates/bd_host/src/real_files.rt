@@ -57,6 +57,7 @@ impl<'a, D: Disk> Files for RealFiles<'a, D> {
 
     ghost calls = { λ _. None };
 
+    /// The first bytes of the file, at most `most + 1`; a call that fails is counted and blamed.
     fn load(&mut self, name: &str, most: usize) -> Result<Vec<u8>, LoadError> {
         let blamed = String::from_str(self.alloc, name).map_err(|_| LoadError::Memory)?;
         let result = load_file(self.alloc, self.disk, name, most);
@@ -66,6 +67,7 @@ impl<'a, D: Disk> Files for RealFiles<'a, D> {
         result
     }
 
+    /// Writes the file anew with these bytes; a call that fails is counted and blamed.
     fn save(&mut self, name: &str, bytes: &[u8]) -> Result<(), SaveError> {
         let blamed = String::from_str(self.alloc, name).map_err(|_| SaveError::Memory)?;
         let result = save_file(self.disk, name, bytes);
@@ -109,7 +111,7 @@ fn save_file<D: Disk>(disk: &D, name: &str, bytes: &[u8]) -> Result<(), SaveErro
     }
 }
 
-/// Want of memory is no fault of the device.
+/// The fault of a load that failed so: want of memory is no fault of the device.
 fn load_error(error: &Error) -> LoadError
     ensures memory { error_kind error.now ≡ ErrorKind.OutOfMemory → result ≡ LoadError.Memory }
     ensures failed { error_kind error.now ≢ ErrorKind.OutOfMemory → result ≡ LoadError.Failed }
@@ -120,7 +122,7 @@ fn load_error(error: &Error) -> LoadError
     }
 }
 
-/// Want of memory is no fault of the device.
+/// The fault of a save that failed so: want of memory is no fault of the device.
 fn save_error(error: &Error) -> SaveError
     ensures memory { error_kind error.now ≡ ErrorKind.OutOfMemory → result ≡ SaveError.Memory }
     ensures failed { error_kind error.now ≢ ErrorKind.OutOfMemory → result ≡ SaveError.Failed }

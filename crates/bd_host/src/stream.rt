@@ -42,6 +42,7 @@ impl<W: Write> Sink for Stream<W> {
 
     ghost puts = { λ _. None };
 
+    /// Writes the bytes to the writer, and counts a fault where that fails.
     fn put(&mut self, bytes: &[u8]) -> Result<(), PutError>
         ensures whole { OnOk result
             (Appends (W.contents self.old.writer) (W.contents self.new.writer) bytes.now) }

@@ -8,6 +8,7 @@ use std::io::{ErrorKind, Read, Write};
 use std::test::Fail;
 use std::{env, fs, io, process};
 
+/// A file gives back the first bytes of what was saved under its name, and is missing once it is removed.
 #[test]
 fn real_files_give_what_was_saved(rt: HostRuntime) -> Result<(), Fail> {
     let alloc = rt.alloc();
@@ -41,6 +42,7 @@ struct Broken {
 }
 
 impl Read for Broken {
+    /// Is interrupted at every other call; else it gives one byte, and fails where none is left.
     fn read(&mut self, buf: &mut [u8]) -> io::Result<usize> {
         self.is_interrupted = !self.is_interrupted;
         if self.is_interrupted {
@@ -69,6 +71,7 @@ fn read_count(alloc: Global, end: ErrorKind, most: usize) -> Result<usize, LoadE
     Ok(bytes.len())
 }
 
+/// A read goes on after an interruption, stops past the most bytes, and tells want of memory from a failure.
 #[test]
 fn reads_on_after_an_interruption(rt: HostRuntime) {
     for (end, most, want) in [
@@ -90,6 +93,7 @@ struct Narrow {
 }
 
 impl Write for Narrow {
+    /// Is interrupted at every other call; else it takes one byte while there is room, and then none.
     fn write(&mut self, buf: &[u8]) -> io::Result<usize> {
         self.is_interrupted = !self.is_interrupted;
         if self.is_interrupted {
@@ -102,6 +106,7 @@ impl Write for Narrow {
         Ok(1)
     }
 
+    /// Is interrupted at every other call; else it fails unless the writer can flush.
     fn flush(&mut self) -> io::Result<()> {
         self.is_interrupted = !self.is_interrupted;
         if self.is_interrupted {
@@ -114,6 +119,7 @@ impl Write for Narrow {
     }
 }
 
+/// A put goes on after interruptions, and each that the writer doesn't take whole and flush is counted.
 #[test]
 fn a_stream_counts_what_its_writer_refuses(rt: HostRuntime) {
     for (room, can_flush, text, answer, faults) in [
@@ -133,6 +139,7 @@ fn a_stream_counts_what_its_writer_refuses(rt: HostRuntime) {
     }
 }
 
+/// A stream over standard output and one over standard error each take a line.
 #[test]
 fn standard_output_and_error_take_a_line(rt: HostRuntime) {
     assert_eq!(rt; Stream::new(rt.stdout()).put(b"a line\n"), Ok(()));

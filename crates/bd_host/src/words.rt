@@ -34,6 +34,7 @@ pub trait Arguments {
 }
 
 impl<R: Env + AllocGlobal> Arguments for R {
+    /// The words of the command line, the program's name first.
     fn arguments(&self) -> io::Result<Args> {
         env::args(self)
     }
@@ -55,7 +56,7 @@ pub fn command_line<R: Arguments>(alloc: Global, system: &R) -> Result<Vec<Strin
     }
 }
 
-/// Want of memory isn't a word that isn't text.
+/// Why there are no words: want of memory, or for any other error a word that isn't text.
 fn words_error(error: &Error) -> WordsError
     ensures memory { error_kind error.now ≡ ErrorKind.OutOfMemory → result ≡ WordsError.Memory }
     ensures not_text { error_kind error.now ≢ ErrorKind.OutOfMemory →

@@ -62,7 +62,7 @@ pub(crate) fn case_of(
     })
 }
 
-// The sort of each input, once for each cycle.
+/// The sort of each input, once for each cycle.
 fn input_sorts(alloc: Global, ports: &[Port], cycles: u32) -> Result<Vec<Sort>, AllocError>
     ensures { IfOk result (λ sorts.
         sorts.items ≡ repeated cycles (map (λ (p : ThePort). p.sort) ports.now)) }
@@ -76,7 +76,8 @@ fn input_sorts(alloc: Global, ports: &[Port], cycles: u32) -> Result<Vec<Sort>, 
     Ok(sorts)
 }
 
-// The case of no table, where inputs have these sorts.
+/// The case without any symbol's table, whose inputs have these sorts: each constant has a number of its own, all else
+/// is 0 or false.
 fn blank(
     alloc: Global,
     design: &Design,
@@ -98,6 +99,7 @@ fn blank(
     })
 }
 
+/// The tables of a case where no symbol has one yet: a constant has a number of its own, all else is 0 or false.
 fn blank_interp(alloc: Global, symbols: &[Symbol], classes: usize) -> Result<Vec<Table>, AllocError>
     ensures { IfOk result (λ tables.
         tables.items ≡ functions_of classes (world_of_tables []) symbols.now) }
@@ -110,6 +112,7 @@ fn blank_interp(alloc: Global, symbols: &[Symbol], classes: usize) -> Result<Vec
     Ok(tables)
 }
 
+/// The values of entries where no symbol has a table yet: false, 0 or the memory of zeros.
 fn blank_state(alloc: Global, entries: &[Entry]) -> Result<Vec<Value>, AllocError>
     ensures { IfOk result (λ values. values.items ≡ state_of (world_of_tables []) entries.now) }
 {
@@ -121,6 +124,7 @@ fn blank_state(alloc: Global, entries: &[Entry]) -> Result<Vec<Value>, AllocErro
     Ok(values)
 }
 
+/// The value of each input before it has one: false or 0.
 fn blank_inputs(alloc: Global, sorts: &[Sort]) -> Result<Vec<Scalar>, AllocError>
     ensures { IfOk result (λ scalars.
         scalars.items ≡ map (λ s. scalar_as s (scalar.Bool false)) sorts.now) }
@@ -132,7 +136,7 @@ fn blank_inputs(alloc: Global, sorts: &[Sort]) -> Result<Vec<Scalar>, AllocError
     Ok(scalars)
 }
 
-// The table of a symbol that has none.
+/// The table of a symbol that has none: false everywhere.
 fn blank_table(alloc: Global) -> Table
     ensures { result ≡ no_table }
 {
@@ -142,7 +146,7 @@ fn blank_table(alloc: Global) -> Table
     }
 }
 
-// Gives a symbol its table.
+/// Puts a symbol's table where the case has it: as a function's, an entry's or an input's. Any other is dropped.
 fn place(
     alloc: Global,
     design: &Design,
@@ -181,6 +185,7 @@ fn place(
     }
 }
 
+/// Gives a function of the design its table; a number past the last function changes nothing.
 fn place_function(
     alloc: Global,
     interp: &mut Vec<Table>,
@@ -200,6 +205,7 @@ fn place_function(
     Ok(())
 }
 
+/// Gives an entry the value that its table shows; a number past the last entry changes nothing.
 fn place_entry(
     alloc: Global,
     state: &mut Vec<Value>,
@@ -218,6 +224,7 @@ fn place_entry(
     Ok(())
 }
 
+/// Gives an input its value, as one of its sort; a number past the last input changes nothing.
 fn place_input(inputs: &mut Vec<Scalar>, sorts: &[Sort], i: usize, value: Scalar)
     requires { length inputs.old.items ≡ length sorts.now }
     ensures there { (s : TheSort) → slice_get sorts.now i ≡ Some s →
@@ -229,7 +236,7 @@ fn place_input(inputs: &mut Vec<Scalar>, sorts: &[Sort], i: usize, value: Scalar
     }
 }
 
-// A function's table. A constant has no rows, and one without a variable a number of its own.
+/// A function's table. A constant has no rows, and one without a variable a number of its own.
 fn function_table(
     alloc: Global,
     classes: usize,
@@ -253,6 +260,7 @@ fn function_table(
     Ok(Table { default, rows })
 }
 
+/// The number of its own for a constant without a variable: at an odd place past the classes; variables have even ones.
 fn constant_number(classes: usize, f: usize) -> Result<u64, AllocError>
     ensures { IfOk result (λ number. number ≡ classes + 2 * f + 1) }
 {
@@ -260,6 +268,7 @@ fn constant_number(classes: usize, f: usize) -> Result<u64, AllocError>
     number.checked_add(1).ok_or(AllocError)
 }
 
+/// The sort of a symbol's applications.
 fn result_sort(symbol: &Symbol) -> Sort
     ensures { result ≡ result_sort symbol.now }
 {
@@ -270,7 +279,7 @@ fn result_sort(symbol: &Symbol) -> Sort
     }
 }
 
-// What an entry first holds: a memory has a row for each row of its table.
+/// What an entry first holds: a memory has a row for each row of its table.
 fn entry_value(alloc: Global, sort: Sort, table: &Table) -> Result<Value, AllocError>
     ensures { IfOk result (λ v. v ≡ entry_value sort table.now) }
 {
@@ -289,6 +298,7 @@ fn entry_value(alloc: Global, sort: Sort, table: &Table) -> Result<Value, AllocE
     }
 }
 
+/// The row of a memory that a table's row stands for: its first argument is the address.
 fn slot_of(row: &Row) -> Slot
     ensures { result ≡ slot_of row.now }
 {
@@ -298,7 +308,7 @@ fn slot_of(row: &Row) -> Slot
     }
 }
 
-// The scalar as one of the sort.
+/// The scalar as one of the sort: a truth value counts as 0, and a word as false.
 fn scalar_as(sort: Sort, scalar: Scalar) -> Scalar
     ensures { result ≡ scalar_as sort scalar }
 {

@@ -48,7 +48,7 @@ pub(crate) fn decode(
     decode_all(alloc, flat, &ends, order.vertices.len(), values)
 }
 
-// The value of each variable, from the classes of ends.
+/// The value of each variable: a word is its vertex's class or a number of its own, a truth value its atom's.
 fn decode_all(
     alloc: Global,
     flat: &Flat,
@@ -67,7 +67,7 @@ fn decode_all(
     Ok(decoded)
 }
 
-// The value of the variable that the node applies, if it applies one.
+/// Sets the value of the variable that the node applies, if it applies one.
 fn decode_node(
     decoded: &mut Values,
     ends: &IndexMap<u64, u64>,
@@ -91,7 +91,7 @@ fn decode_node(
     }
 }
 
-// The class of the variable's vertex, or a number of its own.
+/// The class of the variable's vertex, or a number of its own.
 fn word_of(ends: &IndexMap<u64, u64>, count: usize, var: u64) -> Result<u64, AllocError>
     ensures { IfOk result (λ word. word ≡ word_by ends.now.entries count var) }
 {
@@ -101,7 +101,7 @@ fn word_of(ends: &IndexMap<u64, u64>, count: usize, var: u64) -> Result<u64, All
     }
 }
 
-/// A number after the classes.
+/// The number past the classes of a variable in no edge, at twice its own; past 64 bits it ends as want of memory.
 pub(crate) fn own_number(classes: usize, index: u64) -> Result<u64, AllocError>
     ensures { IfOk result (λ number. number ≡ classes + 2 * index) }
 {
@@ -109,7 +109,7 @@ pub(crate) fn own_number(classes: usize, index: u64) -> Result<u64, AllocError>
     place.checked_add(classes as u64).ok_or(AllocError)
 }
 
-// The class of each end of an edge.
+/// The class of each end of an edge of the order.
 fn end_classes(
     alloc: Global,
     order: &Order,
@@ -124,7 +124,7 @@ fn end_classes(
     classes_at(alloc, &vertices, classes, order.edges.as_slice())
 }
 
-// The class of each end of these edges.
+/// The class of each end of these edges, where so many vertices have a class by their places.
 fn classes_at(
     alloc: Global,
     vertices: &IndexSet<u64>,
@@ -143,7 +143,7 @@ fn classes_at(
     Ok(ends)
 }
 
-// The vertices by their places.
+/// The vertices by their places.
 fn places(alloc: Global, vertices: &[u64]) -> Result<IndexSet<u64>, AllocError>
     requires { IsDistinct nat_eq vertices.now }
     ensures { IfOk result (λ places. places.keys ≡ vertices.now) }
@@ -155,20 +155,21 @@ fn places(alloc: Global, vertices: &[u64]) -> Result<IndexSet<u64>, AllocError>
     Ok(places)
 }
 
-// The class of a vertex.
+/// The class of a vertex.
 fn class_of(vertices: &IndexSet<u64>, classes: &[u64], vertex: u64) -> u64
     ensures { result ≡ class_of vertices.now.keys classes.now vertex }
 {
     class_at(classes, place_of(vertices, vertex))
 }
 
-// The place of a vertex: the number of vertices where it is not there.
+/// The place of a vertex: the number of vertices where it is not there.
 fn place_of(vertices: &IndexSet<u64>, vertex: u64) -> usize
     ensures { result ≡ place vertices.now.keys vertex }
 {
     vertices.get_index_of(&vertex).unwrap_or(vertices.len())
 }
 
+/// The class at a place, or 0 past the last.
 fn class_at(classes: &[u64], place: usize) -> u64
     ensures { result ≡ slice_index classes.now place }
 {

@@ -29,7 +29,7 @@ pub(crate) fn first_tables(alloc: Global, tables: FlatTables) -> Result<FlatTabl
     Ok(FlatTables::from_vec(first))
 }
 
-// Of rows with the same arguments the first one.
+/// The rows without those whose arguments an earlier row has.
 fn first_rows(alloc: Global, rows: Rows) -> Result<Rows, AllocError>
     ensures enough { IfOk result (λ first. AreEnough rows first) }
     ensures differ { IfOk result ArgumentsDiffer }
@@ -41,7 +41,7 @@ fn first_rows(alloc: Global, rows: Rows) -> Result<Rows, AllocError>
     rows_of(alloc, first)
 }
 
-// Puts the row after the others, unless one of them has its arguments.
+/// Puts the row after the others, unless one of them has its arguments.
 fn put_first(first: &mut IndexMap<Vec<u64>, Scalar>, row: Row) -> Result<(), AllocError>
     ensures same { OnOk result (HaveSameValues (map entry_row first.new.entries)
         (map entry_row first.old.entries ++ row ∷ [])) }
@@ -55,7 +55,7 @@ fn put_first(first: &mut IndexMap<Vec<u64>, Scalar>, row: Row) -> Result<(), All
     Ok(())
 }
 
-// The entries as rows.
+/// The rows of a map from arguments to values, in the map's order.
 fn rows_of(alloc: Global, first: IndexMap<Vec<u64>, Scalar>) -> Result<Rows, AllocError>
     ensures entries { IfOk result (λ rows. rows ≡ map entry_row first.entries) }
     ensures differ { IfOk result ArgumentsDiffer }

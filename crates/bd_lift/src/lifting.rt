@@ -20,8 +20,8 @@ use bd_transitive::{Order, classes};
 use std::alloc::{AllocError, Global};
 
 /// A case in whose world each symbol has the table of the values that the atoms stand for: a word variable has the
-/// class of its vertex, one in no edge a number of its own, and a truth variable its atom's value. Of rows with the same
-/// arguments the first one stays. A number past 64 bits ends as want of memory.
+/// class of its vertex, one in no edge a number of its own, and a truth variable its atom's value. Of rows with the
+/// same arguments the first one stays. A number past 64 bits ends as want of memory.
 pub fn lift(
     alloc: Global,
     design: &Design,
@@ -45,9 +45,9 @@ pub fn lift(
 }
 
 /// A trail with inputs for so many cycles, in whose world each symbol has the table of the values that the atoms stand
-/// for: a word variable has the class of its vertex, one in no edge a number of its own, and a truth variable its atom's
-/// value. Of rows with the same arguments the first one stays. Input i of q inputs in cycle t, from 0, is the input of
-/// number t * q + i. A number past 64 bits ends as want of memory.
+/// for: a word variable has the class of its vertex, one in no edge a number of its own, and a truth variable its
+/// atom's value. Of rows with the same arguments the first one stays. Input i of q inputs in cycle t, from 0, is the
+/// input of number t * q + i. A number past 64 bits ends as want of memory.
 pub fn lift_trail(
     alloc: Global,
     design: &Design,
@@ -74,7 +74,7 @@ pub fn lift_trail(
     trail_of(alloc, case, cycles, design.pipe.ports.len())
 }
 
-// The case with the inputs of all cycles one after another.
+/// The case that an order and the atoms' values stand for, with the inputs of all cycles one after another.
 fn lifted(
     alloc: Global,
     design: &Design,
@@ -104,7 +104,7 @@ fn lifted(
     case_of(alloc, design, cycles, order.vertices.len(), first)
 }
 
-// The trail whose cycles have so many inputs each.
+/// The trail of a case that has the inputs of all cycles one after another, so many each.
 fn trail_of(alloc: Global, case: Case, cycles: u32, width: usize) -> Result<Trail, AllocError>
     requires { length case.inputs ≡ cycles * width }
     ensures { IfOk result (λ t. t ≡ trail_of cycles width case) }
@@ -122,7 +122,7 @@ fn trail_of(alloc: Global, case: Case, cycles: u32, width: usize) -> Result<Trai
     })
 }
 
-// The inputs of each cycle.
+/// The inputs of each cycle, from those of all cycles one after another.
 fn cut(
     alloc: Global,
     inputs: &[Scalar],

@@ -24,6 +24,7 @@ impl<T: Clone + Drop> Clone for Sequence<T> {
 
     ghost is_clone = { λ a b. AllZip T.is_clone a b };
 
+    /// A copy of the list, item by item.
     fn clone(&self) -> Result<Self, AllocError> {
         Ok(Sequence {
             items: self.items.clone()?,
@@ -39,6 +40,7 @@ impl<T: PartialEq> PartialEq for Sequence<T> {
 
     ghost laws = { lists_per T.laws };
 
+    /// Whether both lists have equal items in order.
     fn eq(&self, other: &Self) -> bool {
         self.items == other.items
     }
@@ -78,7 +80,7 @@ impl<T> Sequence<T> {
         Sequence { items }
     }
 
-    /// The items. It takes no memory.
+    /// The items as a `Vec`. It takes no memory.
     pub fn into_vec(self) -> Vec<T>
         ensures { result.items ≡ self }
     {
@@ -101,14 +103,14 @@ impl<T> Sequence<T> {
         &self.items[i as usize]
     }
 
-    /// How many items.
+    /// How many items there are.
     pub fn len(&self) -> usize
         ensures { result ≡ length self.now }
     {
         self.items.len()
     }
 
-    /// Whether there is none.
+    /// Whether the list has no item.
     pub fn is_empty(&self) -> bool
         ensures { result ≡ (length self.now == 0) }
     {

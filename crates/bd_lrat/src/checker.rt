@@ -81,6 +81,7 @@ impl Checker {
         }
     }
 
+    /// Tests an addition on what stands: its id rises, its variables are the formula's, and its hints bear it out.
     fn check_addition(&mut self, id: u64, clause: &[Lit], hints: &Hints) -> Result<(), Refused>
         requires { IsRising clause.now }
         ensures answer { result ≡ addition_answer self.old id clause.now hints.now }

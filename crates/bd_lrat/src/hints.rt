@@ -34,6 +34,7 @@ impl Model for Hints {
 impl Clone for Hints {
     ghost is_clone = { λ a b. b ≡ a };
 
+    /// A copy of the hints.
     fn clone(&self) -> Result<Self, AllocError> {
         let ids = self.ids.clone()?;
         let rats = self.rats.clone()?;
@@ -79,14 +80,14 @@ impl Hints {
         Ok(())
     }
 
-    /// How many hints.
+    /// How many hints there are.
     pub fn len(&self) -> usize
         ensures { result ≡ length self.now }
     {
         self.ids.len()
     }
 
-    /// Whether there is none.
+    /// Whether there is no hint.
     pub fn is_empty(&self) -> bool
         ensures { result ≡ (length self.now == 0) }
     {
@@ -145,6 +146,7 @@ impl<'a> Iterator for HintsIter<'a> {
 
     ghost remaining = { item_count (λ hints. hints) };
 
+    /// The next hint of those left, if there is one.
     fn next(&mut self) -> Option<Hint> {
         let (&id, ids) = self.ids.split_first()?;
         let place = self.place;

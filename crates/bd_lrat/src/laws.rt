@@ -36,12 +36,12 @@ pub fn weakened_line_is_not_fresh()
     ensures { ¬ IsFresh (problem 3 square) (weakened_line ∷ []) }
 {}
 
-/// Two decisions, and no single one, lead to a conflict here.
+/// A formula in which two decisions, and no single one, lead to a conflict is unsettled.
 pub fn two_decisions_unsettle()
     ensures { IsUnsettled (numbered forced_apart) }
 {}
 
-/// Where the first decision gives the second variable the other value, nothing is unsettled.
+/// A formula in which the first decision gives the second variable the other value isn't unsettled.
 pub fn reached_decision_settles()
     ensures { ¬ IsUnsettled (numbered not_both) }
 {}
@@ -56,7 +56,7 @@ pub fn needed_clause_is_not_covered()
     ensures { ¬ IsCovered (numbered square) (yes 1 ∷ []) }
 {}
 
-/// So a log that begins with its deletion isn't a solver's, under whichever id.
+/// A log over the square and a unit clause that begins by deleting that clause isn't a solver's, under any id.
 pub fn needed_clause_is_not_deleted()
     ensures { (added : Option ℕ) (id : ℕ) →
         ¬ DeletesCovered (database_of (problem 2 square_and_unit)) added

@@ -36,6 +36,7 @@ pub enum Line {
 impl Clone for Line {
     ghost is_clone = { λ a b. b ≡ a };
 
+    /// A copy of the line.
     fn clone(&self) -> Result<Self, AllocError> {
         match self {
             Line::Add { id, clause, hints } => {

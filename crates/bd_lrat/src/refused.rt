@@ -33,6 +33,7 @@ pub enum AddError {
 impl From<Refused> for AddError {
     ghost from_gives = { λ r e. e ≡ add.Refused r };
 
+    /// A refusal as the reason why a line isn't added.
     fn from(refused: Refused) -> AddError {
         AddError::Refused(refused)
     }
@@ -41,6 +42,7 @@ impl From<Refused> for AddError {
 impl From<AllocError> for AddError {
     ghost from_gives = { λ _ e. e ≡ add.Memory };
 
+    /// Want of memory as the reason why a line isn't added.
     fn from(_error: AllocError) -> AddError {
         AddError::Memory
     }

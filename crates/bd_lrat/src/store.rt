@@ -39,6 +39,7 @@ impl Model for ClauseStore {
 }
 
 impl ClauseStore {
+    /// The store in which no clause stands and no id was given.
     pub(crate) fn new(alloc: Global) -> ClauseStore
         ensures { result ≡ store 0 map.empty }
     {
@@ -94,6 +95,7 @@ impl ClauseStore {
         }
     }
 
+    /// Takes out the clause under one id, if it stands.
     fn remove(&mut self, id: u64)
         ensures { self.new ≡ store self.old.last (map.remove self.old.clauses id) }
     {

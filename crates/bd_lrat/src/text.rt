@@ -15,6 +15,7 @@ impl fmt::Display for Hint {
 
     ghost output = { λ h. Some (hint_text h) };
 
+    /// Writes the hint as textual LRAT does.
     fn fmt<W: fmt::Write>(&self, f: &mut fmt::Formatter<W>) -> fmt::Result {
         match self {
             Hint::Unit(id) => write!(f, "{id}"),
@@ -34,6 +35,7 @@ pub fn lrat_text(alloc: Global, log: &Log) -> Result<Vec<u8>, AllocError>
     Ok(text.into_bytes())
 }
 
+/// Adds a line of a log in textual LRAT, with its end of line.
 fn push_line(text: &mut String, line: &Line) -> Result<(), AllocError>
     ensures { OnOk result (string_bytes text.new ≡ string_bytes text.old ++ line_text line.now) }
 {
@@ -52,6 +54,7 @@ fn push_line(text: &mut String, line: &Line) -> Result<(), AllocError>
     text.push_str("0\n")
 }
 
+/// Adds hints in textual LRAT, each with a space after it.
 fn push_hints(text: &mut String, hints: &Hints) -> Result<(), AllocError>
     ensures { OnOk result (string_bytes text.new ≡ string_bytes text.old ++ hints_text hints.now) }
 {
@@ -61,6 +64,7 @@ fn push_hints(text: &mut String, hints: &Hints) -> Result<(), AllocError>
     Ok(())
 }
 
+/// Adds ids in decimal, each with a space after it.
 fn push_ids(text: &mut String, ids: &[u64]) -> Result<(), AllocError>
     ensures { OnOk result (string_bytes text.new ≡ string_bytes text.old ++ ids_text ids.now) }
 {

@@ -42,6 +42,7 @@ impl PropagationTrail {
         Ok(PropagationTrail { values, literals })
     }
 
+    /// Whether the literal is taken as true.
     pub(crate) fn is_true(&self, lit: Lit) -> bool
         requires { lit.var < self.now.limit }
         ensures { result ≡ has_literal self.now.literals lit }
@@ -49,6 +50,7 @@ impl PropagationTrail {
         self.values[lit.var() as usize] == Some(lit.is_positive())
     }
 
+    /// Whether the literal's negation is taken as true.
     pub(crate) fn is_false(&self, lit: Lit) -> bool
         requires { lit.var < self.now.limit }
         ensures { result ≡ is_false self.now.literals lit }
@@ -79,7 +81,7 @@ impl PropagationTrail {
         }
     }
 
-    /// Takes all back, in the time of as many steps as there are literals.
+    /// Takes back all literals, in the time of as many steps as there are literals.
     pub(crate) fn clear(&mut self)
         ensures { self.new ≡ trail_of self.old.limit [] }
     {
@@ -88,7 +90,7 @@ impl PropagationTrail {
     }
 }
 
-/// Takes the values of those literals' variables out.
+/// Takes the values of the literals' variables out.
 fn unset(values: &mut [Option<bool>], lits: &[Lit])
     requires within { All (λ l. l.var < length values.old) lits.now }
     requires left { IsLeft values.old lits.now }

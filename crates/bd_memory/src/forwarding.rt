@@ -32,6 +32,7 @@ pub(crate) enum ReadState {
 }
 
 impl Forwarding {
+    /// An empty graph, with no old term passed and no read built.
     pub(crate) fn new(alloc: Global) -> Forwarding
         ensures graph { result.graph ≡ [] }
         ensures places { result.places.items ≡ [] }
@@ -44,7 +45,7 @@ impl Forwarding {
         }
     }
 
-    // The new place of an old term.
+    /// The new place of an old term.
     pub(crate) fn place(&self, id: Id) -> Id
         requires { id < length self.now.places.items }
         ensures { result ≡ place self.now.places.items id }
@@ -52,7 +53,7 @@ impl Forwarding {
         self.places[id.index()]
     }
 
-    // The place of the next term of the old graph: one of no meaning for a memory and what isn't marked.
+    /// The place of the next term of the old graph: one of no meaning for a memory and what isn't marked.
     pub(crate) fn next(
         &mut self,
         old: &Graph,
@@ -78,7 +79,7 @@ impl Forwarding {
         self.term(old, old.node(id))
     }
 
-    // The next term of the old graph, in the new one.
+    /// The next term of the old graph, in the new one.
     fn term(&mut self, old: &Graph, node: &Node) -> Result<Id, AllocError>
         ghost root: { ℕ }
         requires holds { Holds old.now root self.old }
@@ -105,8 +106,8 @@ impl Forwarding {
         }
     }
 
-    // The read of a memory of the old graph at an address of the new one. Memories whose reads wait for that of
-    // the one at hand stand in a stack, each below the one before it.
+    /// The read of a memory of the old graph at an address of the new one. Memories whose reads wait for that of the
+    /// one at hand stand in a stack, each below the one before it.
     fn read(&mut self, old: &Graph, memory: Id, address: Id) -> Result<Id, AllocError>
         ghost root: { ℕ }
         requires holds { Holds old.now root self.old }
@@ -142,7 +143,7 @@ impl Forwarding {
         }
     }
 
-    // The read of a memory, from the reads of those right below it.
+    /// The read of a memory, from the reads of those right below it, or the one among these that isn't built yet.
     fn read_from_below(
         &mut self,
         old: &Graph,
@@ -189,7 +190,7 @@ impl Forwarding {
     }
 }
 
-// The word at an address after a word is written: that word if the addresses are equal, else what was there.
+/// The word at an address after a word is written: that word if the addresses are equal, else what was there.
 fn written(graph: &mut Graph, at: Id, word: Id, address: Id, rest: Id) -> Result<Id, AllocError>
     requires at { HasSort graph.old at sort.Word }
     requires word { HasSort graph.old word sort.Word }

@@ -27,7 +27,7 @@ pub fn forward(alloc: Global, graph: &Graph, root: Id) -> Result<(Graph, Id), Al
     forward_marked(alloc, graph, root, &marks)
 }
 
-// The same, with what the root reaches marked.
+/// A graph without memories, made of the terms that are marked as reached, and the root in it.
 fn forward_marked(
     alloc: Global,
     graph: &Graph,

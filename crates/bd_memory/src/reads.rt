@@ -30,6 +30,7 @@ impl Model for Reads {
 }
 
 impl Reads {
+    /// The set in which no read is built. It takes no memory.
     pub(crate) fn new(alloc: Global) -> Reads
         ensures { result ≡ [] }
     {
@@ -38,14 +39,14 @@ impl Reads {
         }
     }
 
-    // The word of this memory at this address, if the read is built.
+    /// The word of this memory at this address, if the read is built.
     pub(crate) fn get(&self, memory: Id, address: Id) -> Option<Id>
         ensures { result ≡ known self.now memory address }
     {
         self.words.get(&ReadKey { memory, address }).copied()
     }
 
-    // Keeps the word of this memory at this address.
+    /// Keeps the word of this memory at this address.
     pub(crate) fn keep(&mut self, memory: Id, address: Id, word: Id) -> Result<(), AllocError>
         ensures { OnOk result ((m a : ℕ) → known self.new m a
             ≡ (if is_read memory address m a then Some word else known self.old m a)) }

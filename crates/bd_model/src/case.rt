@@ -31,6 +31,7 @@ impl Clone for Case {
 
     ghost is_clone = { λ c d. d ≡ c };
 
+    /// A copy of the case, of its interpretation, its state and its inputs.
     fn clone(&self) -> Result<Case, AllocError> {
         Ok(Case {
             interp: self.interp.clone()?,
@@ -56,6 +57,7 @@ impl Clone for Trail {
 
     ghost is_clone = { λ t u. u ≡ t };
 
+    /// A copy of the trail, of its interpretation, its first state and the inputs of each cycle.
     fn clone(&self) -> Result<Trail, AllocError> {
         Ok(Trail {
             interp: self.interp.clone()?,

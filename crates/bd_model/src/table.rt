@@ -22,7 +22,7 @@ impl Scalar {
     ghost use Rattle.bd_model.specs.Fits.{scalar_sort};
     ghost use Rattle.bd_model.specs.Value.{scalar_truth, scalar_word};
 
-    /// Its sort.
+    /// The sort of the scalar: word or bool.
     pub fn sort(self) -> Sort
         ensures { result ≡ scalar_sort self }
     {
@@ -68,6 +68,7 @@ impl Clone for Row {
 
     ghost is_clone = { λ old new. new ≡ old };
 
+    /// A copy of the row.
     fn clone(&self) -> Result<Row, AllocError> {
         Ok(Row {
             args: self.args.clone()?,
@@ -91,6 +92,7 @@ impl Clone for Table {
 
     ghost is_clone = { λ old new. new ≡ old };
 
+    /// A copy of the table, with its rows.
     fn clone(&self) -> Result<Table, AllocError> {
         Ok(Table {
             default: self.default,
@@ -103,7 +105,7 @@ impl Table {
     ghost use Rattle.std.specs.Prelude.{◌≡◌};
     ghost use Rattle.bd_model.specs.Table.{at};
 
-    /// The value at these arguments.
+    /// The value that a table has at these arguments.
     pub fn at(&self, args: &[u64]) -> Scalar
         ensures { result ≡ at self.now args.now }
     {
@@ -138,6 +140,7 @@ impl Clone for Memory {
 
     ghost is_clone = { λ old new. new ≡ old };
 
+    /// A copy of the memory, with its rows.
     fn clone(&self) -> Result<Memory, AllocError> {
         Ok(Memory {
             default: self.default,
@@ -150,7 +153,7 @@ impl Memory {
     ghost use Rattle.std.specs.Prelude.{◌≡◌, ◌↔◌, IsTrue, All};
     ghost use Rattle.bd_model.specs.Table.{read, ReadSame};
 
-    /// The word at this address.
+    /// The word that a memory has at this address.
     pub fn at(&self, addr: u64) -> u64
         ensures { result ≡ read self.now addr }
     {
@@ -162,7 +165,7 @@ impl Memory {
         self.default
     }
 
-    /// Whether both read equal at every address.
+    /// Whether two memories read equal at every address.
     pub fn same(&self, other: &Memory) -> bool
         ensures { IsTrue result ↔ ReadSame self.now other.now }
     {
@@ -174,6 +177,7 @@ impl Memory {
             && self.agrees(other, &others[..others.len() - common])
     }
 
+    /// Whether both memories have the same word at the address of each of these rows.
     fn agrees(&self, other: &Memory, slots: &[Slot]) -> bool
         ensures { IsTrue result
             ↔ All (λ s. read self.now s.address ≡ read other.now s.address) slots.now }
@@ -212,6 +216,7 @@ impl Clone for Value {
 
     ghost is_clone = { λ old new. new ≡ old };
 
+    /// A copy of what an entry holds.
     fn clone(&self) -> Result<Value, AllocError> {
         match self {
             Value::Scalar(scalar) => Ok(Value::Scalar(*scalar)),
@@ -225,7 +230,7 @@ impl Value {
     ghost use Rattle.bd_model.specs.Fits.{value_sort};
     ghost use Rattle.bd_model.specs.Same.{SameValue};
 
-    /// Its sort.
+    /// The sort of what an entry holds.
     pub fn sort(&self) -> Sort
         ensures { result ≡ value_sort self.now }
     {

@@ -129,6 +129,7 @@ pub fn differing_of(alloc: Global, view: &View<'_>) -> Result<Differing, AllocEr
     Ok(Differing { all, after })
 }
 
+/// The value in a column that a spot stands for.
 fn subject(column: Column, spot: Spot) -> Subject {
     match spot {
         Spot::Latch(entry) => Subject::Latch(column, entry),

@@ -106,7 +106,7 @@ struct Spot {
     named: Named,
 }
 
-/// `NAME VALUE`.
+/// The text `NAME VALUE` of an entry in a box.
 fn entry_text(alloc: Global, row: &Row, cell: &Cell) -> Result<Vec<u8>, AllocError> {
     let mut text = row.name.clone()?;
     text.push(b' ')?;

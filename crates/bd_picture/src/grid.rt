@@ -30,11 +30,11 @@ pub enum Content {
 pub enum Look {
     /// As it is.
     Plain,
-    /// It isn't what it was.
+    /// The value isn't what it was.
     Changed,
-    /// It is what it should be, with `=`.
+    /// The value is what it should be, with `=`.
     Same,
-    /// It isn't, with `#`.
+    /// The value isn't what it should be, with `#`.
     Different,
 }
 

@@ -33,7 +33,7 @@ struct Named<'a> {
 }
 
 impl Named<'_> {
-    /// Whether both sides differ in it at an address.
+    /// Whether both sides differ in the entry at an address.
     fn differs(self, spots: &Spots, address: u64) -> bool {
         match self.seen {
             Some(number) => spots.contains(&(number, address)),

@@ -35,7 +35,7 @@ fn push_memory(alloc: Global, out: &mut Vec<u8>, value: &Value) -> Result<(), Al
     out.extend_from_slice(b"}")
 }
 
-/// `NAME=VALUE`.
+/// The text `NAME=VALUE` of a let.
 fn let_item(alloc: Global, name: &[u8], value: &Value) -> Result<Vec<u8>, AllocError> {
     let mut item = Vec::from_slice(alloc, name)?;
     item.push(b'=')?;
@@ -107,7 +107,7 @@ pub fn lets(alloc: Global, view: &View<'_>, marks: &Marks) -> Result<Items, Allo
     })
 }
 
-/// `NAME(ARG,ARG)=VALUE`.
+/// The text `NAME(ARG,ARG)=VALUE` of a row of a function or predicate.
 fn row_item(
     alloc: Global,
     name: &[u8],
@@ -127,7 +127,7 @@ fn row_item(
     Ok(item)
 }
 
-/// `NAME(else)=VALUE`, or `NAME=VALUE` of a constant.
+/// The text `NAME(else)=VALUE` of a function's value elsewhere, or `NAME=VALUE` of a constant.
 fn default_item(alloc: Global, symbol: &Symbol, value: Scalar) -> Result<Vec<u8>, AllocError> {
     let mut item = Vec::from_slice(alloc, symbol.name.as_slice())?;
     if symbol.arity != 0 {

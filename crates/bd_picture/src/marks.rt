@@ -15,7 +15,7 @@ struct Addresses {
 }
 
 impl Addresses {
-    /// No addresses of so many entries or lets.
+    /// The marks of so many entries or lets, of which no address is marked.
     fn new(alloc: Global, count: usize) -> Result<Addresses, AllocError> {
         let mut of = Vec::new(alloc);
         for _number in 0..count {
@@ -24,6 +24,7 @@ impl Addresses {
         Ok(Addresses { of })
     }
 
+    /// Marks an address of the entry or let of this number; a number past the last changes nothing.
     fn add(&mut self, number: u32, address: u64) -> Result<(), AllocError> {
         if let Some(addresses) = self.of.get_mut(number as usize) {
             addresses.insert(address)?;
@@ -31,6 +32,7 @@ impl Addresses {
         Ok(())
     }
 
+    /// The marked addresses of the entry or let of this number; none past the last.
     fn get(&self, number: u32) -> Option<&BTreeSet<u64>> {
         self.of.get(number as usize)
     }
@@ -52,12 +54,12 @@ pub enum Marks {
 }
 
 impl Slice {
-    /// The addresses at which words of an entry of the pipeline are in it.
+    /// The addresses at which words of an entry of the pipeline are in the slice.
     pub fn addresses(&self, entry: u32) -> Option<&BTreeSet<u64>> {
         self.cells.get(entry)
     }
 
-    /// The addresses at which words of a let are in it, in the case's cycle.
+    /// The addresses at which words of a let are in the slice, in the case's cycle.
     pub fn let_addresses(&self, number: u32) -> Option<&BTreeSet<u64>> {
         self.lets.get(number)
     }

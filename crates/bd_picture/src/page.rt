@@ -149,7 +149,7 @@ fn plain(alloc: Global, tables: &Tables) -> Result<Vec<u8>, AllocError> {
     Ok(out)
 }
 
-/// The same, with a switch between some values and all.
+/// Where both sides end, the drawing and the states, with a switch between some values and all.
 fn switched(alloc: Global, some: &Tables, all: &Tables) -> Result<Vec<u8>, AllocError> {
     let mut out = Vec::from_slice(alloc, SWITCH)?;
     for (class, tables) in [("some", some), ("all", all)] {

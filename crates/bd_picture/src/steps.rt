@@ -27,7 +27,7 @@ fn heading(alloc: Global, count: u32, comparison: &Comparison) -> Result<Head, A
     })
 }
 
-/// The headings.
+/// The headings of the compared states.
 fn headings(alloc: Global, view: &View<'_>) -> Result<Vec<Head>, AllocError> {
     let mut heads = Vec::new(alloc);
     heads.push(Head {

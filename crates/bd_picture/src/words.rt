@@ -41,7 +41,7 @@ pub fn numbered(alloc: Global, word: &[u8], number: u64) -> Result<Vec<u8>, Allo
     Ok(text)
 }
 
-/// `NAME[ADDRESS]`.
+/// The text `NAME[ADDRESS]` of a memory's word.
 pub fn addressed(alloc: Global, name: &[u8], address: u64) -> Result<Vec<u8>, AllocError> {
     let mut text = Vec::from_slice(alloc, name)?;
     text.push(b'[')?;
@@ -50,7 +50,7 @@ pub fn addressed(alloc: Global, name: &[u8], address: u64) -> Result<Vec<u8>, Al
     Ok(text)
 }
 
-/// `NAME[else]`, the addresses that no row has.
+/// The text `NAME[else]` of a memory at the addresses that no row has.
 pub fn elsewhere(alloc: Global, name: &[u8]) -> Result<Vec<u8>, AllocError> {
     let mut text = Vec::from_slice(alloc, name)?;
     text.extend_from_slice(b"[else]")?;

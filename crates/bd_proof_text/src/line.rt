@@ -30,6 +30,7 @@ pub(crate) fn read_line(
     }
 }
 
+/// The addition of an id with the literals and the hints that follow it, each up to a `0`.
 fn read_addition(
     alloc: Global,
     first: Place,
@@ -44,6 +45,7 @@ fn read_addition(
     Ok(Line::Add { id, clause, hints })
 }
 
+/// The deletion of the ids that follow a `d` up to a `0`.
 fn read_deletion(
     alloc: Global,
     first: Place,
@@ -139,7 +141,7 @@ fn read_ids(alloc: Global, first: Place, tokens: &mut Tokens<'_>) -> Result<Clau
     Err(bad(first, Why::Form))
 }
 
-/// The literal of a token; 0 ends them.
+/// The literal of a token, or none at the `0` that ends the literals.
 fn literal_of(token: Token) -> Result<Option<Lit>, ReadFault>
     requires { IsCounted token.word }
     ensures { Gives (λ found. found) result (literal_word token.place token.word) }
@@ -152,7 +154,7 @@ fn literal_of(token: Token) -> Result<Option<Lit>, ReadFault>
     }
 }
 
-/// The hint of a token; 0 ends them.
+/// The hint of a token, or none at the `0` that ends the hints.
 fn hint_of(token: Token) -> Result<Option<Hint>, ReadFault>
     ensures { Gives (λ found. found) result (hint_word token.place token.word) }
 {
@@ -164,7 +166,7 @@ fn hint_of(token: Token) -> Result<Option<Hint>, ReadFault>
     }
 }
 
-/// The id of a token; 0 ends them, and none is negative.
+/// The id of a token, or none at the `0` that ends the ids; no id is negative.
 fn id_of(token: Token) -> Result<Option<u64>, ReadFault>
     ensures { Gives (λ found. found) result (id_word token.place token.word) }
 {

@@ -14,7 +14,7 @@ pub(crate) fn size_of(text: &[u8]) -> Option<u64>
     }
 }
 
-/// Whether they are decimal digits without a leading zero, 0 itself aside.
+/// Whether bytes are decimal digits without a leading zero, 0 itself aside.
 fn is_decimal(text: &[u8]) -> bool
     ensures { result ≡ is_decimal text.now }
 {

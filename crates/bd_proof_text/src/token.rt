@@ -23,7 +23,7 @@ pub(crate) enum Word {
     Zero,
     /// A number from 1 to 2^64 - 1.
     Positive(u64),
-    /// The same with a minus sign.
+    /// A number from 1 to 2^64 - 1 with a minus sign.
     Negative(u64),
     /// `d`.
     Delete,

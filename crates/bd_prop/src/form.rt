@@ -14,6 +14,7 @@ pub(crate) enum Rewrite {
     Fresh(PropNode),
 }
 
+/// Whether the node is the constant true.
 fn is_true(nodes: &[PropNode], id: usize) -> bool
     requires { id < length nodes.now }
     ensures { result ≡ is_true nodes.now id }
@@ -21,6 +22,7 @@ fn is_true(nodes: &[PropNode], id: usize) -> bool
     matches!(nodes[id], PropNode::True)
 }
 
+/// Whether the node is the negation of the constant true.
 fn is_false(nodes: &[PropNode], id: usize) -> bool
     requires graph { IsGraph nodes.now }
     requires within { id < length nodes.now }
@@ -32,6 +34,7 @@ fn is_false(nodes: &[PropNode], id: usize) -> bool
     }
 }
 
+/// What a negation comes out as: the node below where that is a negation itself.
 pub(crate) fn not_form(nodes: &[PropNode], a: usize) -> Rewrite
     requires graph { IsGraph nodes.now }
     requires within { a < length nodes.now }
@@ -46,6 +49,7 @@ pub(crate) fn not_form(nodes: &[PropNode], a: usize) -> Rewrite
     }
 }
 
+/// What a conjunction comes out as: one part where they are equal or one is constant.
 pub(crate) fn and_form(nodes: &[PropNode], a: usize, b: usize) -> Rewrite
     requires graph { IsGraph nodes.now }
     requires first { a < length nodes.now }
@@ -64,6 +68,7 @@ pub(crate) fn and_form(nodes: &[PropNode], a: usize, b: usize) -> Rewrite
     }
 }
 
+/// What a disjunction comes out as: one part where they are equal or one is constant.
 pub(crate) fn or_form(nodes: &[PropNode], a: usize, b: usize) -> Rewrite
     requires graph { IsGraph nodes.now }
     requires first { a < length nodes.now }
@@ -82,6 +87,7 @@ pub(crate) fn or_form(nodes: &[PropNode], a: usize, b: usize) -> Rewrite
     }
 }
 
+/// What a choice comes out as: a branch where the control is constant or the branches are equal.
 pub(crate) fn ite_form(nodes: &[PropNode], control: usize, first: usize, second: usize) -> Rewrite
     requires graph { IsGraph nodes.now }
     requires control { control < length nodes.now }

@@ -29,6 +29,7 @@ pub fn reached(alloc: Global, prop: &Prop, root: usize) -> Result<Marks, AllocEr
     Ok(Marks::from_vec(marks))
 }
 
+/// Marks the nodes that a node stands over.
 fn mark_children(marks: &mut [bool], node: PropNode)
     requires { All (λ c. c < length marks.old) (children node) }
     ensures { marks.new ≡ fold (λ m c. slice_set m c true) marks.old (children node) }

@@ -3,6 +3,7 @@ use bd_syntax::is_name;
 use bd_text::{read_trees, write_tree};
 use std::test::Fail;
 
+/// A tree is written with one space between its parts, equal texts have equal trees, and `let` is no name.
 #[test]
 fn written_tree(rt: HostRuntime) -> Result<(), Fail> {
     let trees = read_trees(rt.alloc(), b"( a  (b ;x\n c) )")?;

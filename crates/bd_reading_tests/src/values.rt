@@ -77,6 +77,7 @@ fn keeps_case(alloc: Global, design: &Design, text: &str) -> Result<bool, AllocE
     }
 }
 
+/// Whether the state of the case that is read is written as the text by hand.
 fn keeps_state(alloc: Global, design: &Design) -> Result<bool, AllocError> {
     match read_case(alloc, design, CASE.as_bytes()) {
         Ok(case) => writes_state(alloc, design, &case),
@@ -84,6 +85,7 @@ fn keeps_state(alloc: Global, design: &Design) -> Result<bool, AllocError> {
     }
 }
 
+/// Whether the text of the trail is read and written again.
 fn keeps_trail(alloc: Global, design: &Design) -> Result<bool, AllocError> {
     match read_trail(alloc, design, TRAIL.as_bytes()) {
         Ok(trail) => Ok(trail_text(alloc, design, &trail)?.as_slice() == TRAIL.as_bytes()),
@@ -91,12 +93,14 @@ fn keeps_trail(alloc: Global, design: &Design) -> Result<bool, AllocError> {
     }
 }
 
+/// Whether the texts of a case, of its state and of a trail are read and written again.
 fn keeps_each(alloc: Global, design: &Design) -> Result<bool, AllocError> {
     let case = keeps_case(alloc, design, CASE)?;
     let state = keeps_state(alloc, design)?;
     Ok(case && state && keeps_trail(alloc, design)?)
 }
 
+/// A case, its state and a trail with values of each sort are written as they were read.
 #[test]
 fn values_are_written_as_they_were_read(rt: HostRuntime) -> Result<(), Fail> {
     match design(rt.alloc(), PIPE) {
@@ -106,6 +110,7 @@ fn values_are_written_as_they_were_read(rt: HostRuntime) -> Result<(), Fail> {
     Ok(())
 }
 
+/// A case that gives constants of one group different words is written as it was read.
 #[test]
 fn constants_that_are_kept_apart_are_written(rt: HostRuntime) -> Result<(), Fail> {
     match design(rt.alloc(), CONSTANTS) {

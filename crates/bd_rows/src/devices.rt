@@ -41,6 +41,7 @@ impl<F: Files> Files for Watched<F> {
 
     ghost calls = { λ _. None };
 
+    /// Notes the call, and passes it on.
     fn load(&mut self, name: &str, most: usize) -> Result<Vec<u8>, LoadError> {
         if write!(self.calls, "load {name} {most}\n").is_err() {
             return Err(LoadError::Memory);
@@ -48,6 +49,7 @@ impl<F: Files> Files for Watched<F> {
         self.files.load(name, most)
     }
 
+    /// Notes the call, and passes it on.
     fn save(&mut self, name: &str, bytes: &[u8]) -> Result<(), SaveError> {
         if write!(self.calls, "save {name}\n").is_err() {
             return Err(SaveError::Memory);
@@ -70,6 +72,7 @@ impl<S: Sink> Sink for Counted<S> {
 
     ghost puts = { λ counted. S.puts counted.sink };
 
+    /// Counts the put, and passes it on.
     fn put(&mut self, bytes: &[u8]) -> Result<(), PutError> {
         self.puts = self.puts.saturating_add(1);
         self.sink.put(bytes)

@@ -30,12 +30,14 @@ pub enum RowFault {
 }
 
 impl From<AllocError> for RowFault {
+    /// Want of memory.
     fn from(_: AllocError) -> RowFault {
         RowFault::Memory
     }
 }
 
 impl<T: Drop> From<AllocFailed<T>> for RowFault {
+    /// Want of memory; what could not be put anywhere is dropped.
     fn from(_: AllocFailed<T>) -> RowFault {
         RowFault::Memory
     }

@@ -59,6 +59,7 @@ fn program<F: Files, O: Sink>(
     }
 }
 
+/// Runs the tables that the words name. The status is 0 where no row differs, and all tables were read.
 fn main(rt: HostRuntime) -> ExitCode {
     let counts = program(
         rt.alloc(),

@@ -11,6 +11,7 @@ use std::alloc::{AllocError, Global};
 use std::process::Abort;
 use std::test::Fail;
 
+/// Checks what the simulator gives for the values of all example forms after their two lets, in the case of sevens.
 fn on_sevens(rt: &impl Abort, alloc: Global) -> Result<(), AllocError> {
     let at = case(alloc, &SEVENS)?;
     let lets = locals(alloc, &LETS)?;
@@ -27,6 +28,7 @@ fn on_sevens(rt: &impl Abort, alloc: Global) -> Result<(), AllocError> {
     Ok(())
 }
 
+/// Each example form has its value where the simulator evaluates the lets before it.
 #[test]
 fn forms_are_valued(rt: HostRuntime) -> Result<(), Fail> {
     on_sevens(&rt, rt.alloc())?;
@@ -48,6 +50,7 @@ fn has_value(
     is_value(alloc, &found, held)
 }
 
+/// Whether a value that was found is the one that a test writes by hand.
 fn is_value(alloc: Global, found: &Value, held: &Held) -> Result<bool, AllocError> {
     let wanted = value(alloc, held)?;
     Ok(*found == wanted)
@@ -68,16 +71,19 @@ fn differs(
     Ok(None)
 }
 
+/// The first form with another value than the one wanted, in the case of sevens, where the lets are given.
 fn differs_on_sevens(alloc: Global, lets: &State) -> Result<Option<usize>, AllocError> {
     let at = case(alloc, &SEVENS)?;
     differs_in(alloc, &at, lets)
 }
 
+/// The first form of the example with each form that has another value than the one wanted in a case.
 fn differs_in(alloc: Global, at: &Case, lets: &State) -> Result<Option<usize>, AllocError> {
     let design = design(alloc, &EACH_FORM)?;
     differs(alloc, &design, at, lets)
 }
 
+/// Each example form has its value where the values of its two lets are given.
 #[test]
 fn forms_are_valued_under_lets(rt: HostRuntime) -> Result<(), Fail> {
     let lets = state(rt.alloc(), &LET_VALUES)?;
@@ -85,6 +91,7 @@ fn forms_are_valued_under_lets(rt: HostRuntime) -> Result<(), Fail> {
     Ok(())
 }
 
+/// The states that a design goes through in two cycles with the inputs of a case, from its state on.
 fn traced(alloc: Global, of: &DesignDraft, from: &CaseDraft) -> Result<States, AllocError> {
     let case = case(alloc, from)?;
     trace(alloc, &design(alloc, of)?, &case, 2)
@@ -109,6 +116,7 @@ fn goes_through(
     Ok(true)
 }
 
+/// A bit that is free to go turns over in each of two cycles.
 #[test]
 fn bit_trace(rt: HostRuntime) -> Result<(), Fail> {
     let states: [&[Held]; 3] = [&[Bit(false)], &[Bit(true)], &[Bit(false)]];
@@ -116,6 +124,7 @@ fn bit_trace(rt: HostRuntime) -> Result<(), Fail> {
     Ok(())
 }
 
+/// Two cycles put a row each before the rows that a memory has.
 #[test]
 fn memory_trace(rt: HostRuntime) -> Result<(), Fail> {
     let states: [&[Held]; 3] = [
@@ -166,6 +175,7 @@ static CALLS: [(Call, &[Held]); 4] = [
     ),
 ];
 
+/// The state that a call gives, from a case of the design or from the state that the call names.
 fn called(alloc: Global, design: &Design, at: &Case, call: Call) -> Result<State, AllocError> {
     match call {
         Call::Step => step(alloc, design, &at.interp, &at.state, &at.inputs),
@@ -175,11 +185,13 @@ fn called(alloc: Global, design: &Design, at: &Case, call: Call) -> Result<State
     }
 }
 
+/// The state that a call gives on the pipeline of two stages in the case whose write is pending.
 fn with_write_pending(alloc: Global, call: Call) -> Result<State, AllocError> {
     let at = case(alloc, &PENDING)?;
     called(alloc, &design(alloc, &TWO_STAGE)?, &at, call)
 }
 
+/// A step, a flush, a look and a step of the specification each give the state written by hand.
 #[test]
 fn pending_write_is_made(rt: HostRuntime) -> Result<(), Fail> {
     for (call, wanted) in &CALLS {

@@ -6,6 +6,7 @@ use bd_files::{FileCall, Files, LoadError, Page, PutError, SaveError, Shelf, Sin
 use std::alloc::{AllocError, Global};
 use std::test::Fail;
 
+/// A file of a shelf: its name and its bytes.
 fn file(alloc: Global, name: &str, text: &str) -> Result<(String, Vec<u8>), AllocError> {
     Ok((
         String::from_str(alloc, name)?,
@@ -21,6 +22,7 @@ fn shelf_of_two(alloc: Global, fails: Vec<u64>) -> Result<Shelf, AllocError> {
     Shelf::new(alloc, held, fails)
 }
 
+/// Whether a shelf loads this text where at most so many bytes are asked for.
 fn gives(shelf: &mut Shelf, name: &str, most: usize, text: &str) -> bool {
     match shelf.load(name, most) {
         Ok(bytes) => bytes.as_slice() == text.as_bytes(),
@@ -28,10 +30,12 @@ fn gives(shelf: &mut Shelf, name: &str, most: usize, text: &str) -> bool {
     }
 }
 
+/// Whether a shelf has a fault at a load of this name.
 fn fails_to_load(shelf: &mut Shelf, name: &str) -> bool {
     matches!(shelf.load(name, 9), Err(LoadError::Failed))
 }
 
+/// A shelf loads the first bytes of the files that it holds, and has a fault at a name that it doesn't hold.
 #[test]
 fn a_shelf_gives_what_it_holds(rt: HostRuntime) -> Result<(), Fail> {
     let mut shelf = shelf_of_two(rt.alloc(), Vec::new(rt.alloc()))?;
@@ -48,6 +52,7 @@ fn a_shelf_gives_what_it_holds(rt: HostRuntime) -> Result<(), Fail> {
     Ok(())
 }
 
+/// A shelf has a fault at the calls that it was told to fail at, counted from 1, and holds what others saved.
 #[test]
 fn a_shelf_fails_at_the_listed_calls(rt: HostRuntime) -> Result<(), Fail> {
     let mut shelf = shelf_of_two(rt.alloc(), vec![in rt.alloc(); 1, 3]?)?;
@@ -67,6 +72,7 @@ fn a_shelf_fails_at_the_listed_calls(rt: HostRuntime) -> Result<(), Fail> {
     Ok(())
 }
 
+/// A page keeps so many bytes of a put that it was told to fail at, and of any other what there is room for.
 #[test]
 fn a_page_keeps_what_a_failing_put_may_keep(rt: HostRuntime) -> Result<(), Fail> {
     let alloc = rt.alloc();
@@ -86,6 +92,7 @@ fn a_page_keeps_what_a_failing_put_may_keep(rt: HostRuntime) -> Result<(), Fail>
     Ok(())
 }
 
+/// Several pieces are put in order, and none after one that has a fault.
 #[test]
 fn pieces_are_put_up_to_the_first_fault(rt: HostRuntime) -> Result<(), Fail> {
     for (failing, answer, written, faults) in [
@@ -133,6 +140,7 @@ fn copy<F: Files, O: Sink>(files: &mut F, out: &mut O, name: &str) -> Copied
     }
 }
 
+/// A function over any files and any sink runs with a shelf and a page, and says which of them failed.
 #[test]
 fn a_shelf_and_a_page_stand_for_any_devices(rt: HostRuntime) -> Result<(), Fail> {
     let mut shelf = shelf_of_two(rt.alloc(), Vec::new(rt.alloc()))?;

@@ -117,7 +117,7 @@ const COPIED_TO: &[Held] = &[
     Memory(2, &[(4, 3), (6, 7)]),
 ];
 
-/// They differ at 5 by a row of the first, at 6 by a row of the second, and where neither has a row.
+/// Two memories that differ at 5 by a row of the first, at 6 by a row of the second, and where neither has a row.
 static DEFAULTS: CaseDraft = CaseDraft {
     state: COPIED_TO,
     ..NO_CASE
@@ -143,11 +143,13 @@ static COPY: Wanted = Wanted {
     ],
 };
 
+/// The diagram that a case of a design shows.
 fn diagram(alloc: Global, of: &DesignDraft, by: &CaseDraft) -> Result<Diagram, AllocError> {
     let case = case(alloc, by)?;
     diagram_of(alloc, &design(alloc, of)?, &case)
 }
 
+/// Whether these are the states written by hand, in order.
 fn are_states(alloc: Global, found: &States, wanted: &[&[Held]]) -> Result<bool, AllocError> {
     if found.len() != wanted.len() {
         return Ok(false);
@@ -169,6 +171,7 @@ fn has_inputs(flushing: &Flushing, inputs: &[Scalar]) -> bool {
         .all(|given| given.as_slice() == inputs)
 }
 
+/// Whether what tells two entries apart is what a test writes by hand.
 fn is_part(found: &Difference, wanted: Parts) -> bool {
     match (found, wanted) {
         (Difference::Nothing, Nothing) => true,
@@ -180,6 +183,7 @@ fn is_part(found: &Difference, wanted: Parts) -> bool {
     }
 }
 
+/// Whether the differences between two states are those written by hand, entry by entry.
 fn are_parts(found: &[Difference], wanted: &[Parts]) -> bool {
     found.len() == wanted.len()
         && found
@@ -188,6 +192,7 @@ fn are_parts(found: &[Difference], wanted: &[Parts]) -> bool {
             .all(|(difference, parts)| is_part(difference, *parts))
 }
 
+/// Whether a number of steps compares with the pipeline as it is written by hand, and isn't where that stands.
 fn is_steps(alloc: Global, found: &Comparison, wanted: &Steps) -> Result<bool, AllocError> {
     Ok(
         is_state(alloc, &found.visible, wanted.visible)?
@@ -197,6 +202,7 @@ fn is_steps(alloc: Global, found: &Comparison, wanted: &Steps) -> Result<bool, A
     )
 }
 
+/// Whether the numbers of steps compare with the pipeline as they are written by hand, in order.
 fn are_steps(alloc: Global, found: &[Comparison], wanted: &[Steps]) -> Result<bool, AllocError> {
     if found.len() != wanted.len() {
         return Ok(false);
@@ -209,6 +215,7 @@ fn are_steps(alloc: Global, found: &[Comparison], wanted: &[Steps]) -> Result<bo
     Ok(true)
 }
 
+/// Whether a diagram is the one written by hand, in each of its parts.
 fn is_diagram(alloc: Global, found: &Diagram, wanted: &Wanted) -> Result<bool, AllocError> {
     Ok(
         are_states(alloc, &found.before.states, wanted.before)?
@@ -221,6 +228,7 @@ fn is_diagram(alloc: Global, found: &Diagram, wanted: &Wanted) -> Result<bool, A
     )
 }
 
+/// Whether a case of a design has the diagram written by hand.
 fn shows(
     alloc: Global,
     of: &DesignDraft,
@@ -230,6 +238,7 @@ fn shows(
     is_diagram(alloc, &diagram(alloc, of, by)?, wanted)
 }
 
+/// A stale operand and a copied memory have the diagrams written by hand.
 #[test]
 fn both_ways_are_shown(rt: HostRuntime) -> Result<(), Fail> {
     assert!(rt; shows(rt.alloc(), &STALE_OPERAND, &PENDING, &STALE)?);

@@ -72,6 +72,7 @@ const SPECIFICATION: &str = "(specification
  (next rf (write rf (dst pc) (alu (op pc) (read rf (src pc))))))
 ";
 
+/// The generated pipeline and its specification are the texts written by hand, with all paths and with one left out.
 #[test]
 fn both_texts_are_those_written_by_hand(rt: HostRuntime) -> Result<(), Fail> {
     for (depth, drop, want) in [(2, 0, DEPTH_2), (3, 2, DEPTH_3_DROP_2)] {
@@ -82,6 +83,7 @@ fn both_texts_are_those_written_by_hand(rt: HostRuntime) -> Result<(), Fail> {
     Ok(())
 }
 
+/// The lines of a text, counted by their ends.
 fn lines(text: &[u8]) -> usize {
     text.iter().filter(|byte| **byte == b'\n').count()
 }
@@ -96,6 +98,7 @@ fn depth_decides_how_many_lines_there_are(rt: HostRuntime) -> Result<(), Fail> {
     Ok(())
 }
 
+/// Leaving out path 0, or one past the last, changes nothing; leaving out any other changes the pipeline.
 #[test]
 fn no_path_is_left_out_at_0_or_above_the_last(rt: HostRuntime) -> Result<(), Fail> {
     let (whole, _specification) = design_text(rt.alloc(), 4, 0)?;

@@ -30,6 +30,7 @@ fn shown(alloc: Global, of: &DesignDraft, by: &CaseDraft) -> Result<Option<Judge
     shown_by(alloc, of, &case)
 }
 
+/// What a case shows of a design; nothing where it doesn't fit.
 fn shown_by(alloc: Global, of: &DesignDraft, case: &Case) -> Result<Option<Judged>, AllocError> {
     let design = design(alloc, of)?;
     if !design.fits(case) {
@@ -38,6 +39,7 @@ fn shown_by(alloc: Global, of: &DesignDraft, case: &Case) -> Result<Option<Judge
     judge(alloc, &design, case).map(Some)
 }
 
+/// Each example case shows of its design what is expected: it holds, it breaks a condition, or it is outside.
 #[test]
 fn cases_are_judged(rt: HostRuntime) -> Result<(), Fail> {
     let alloc = rt.alloc();

@@ -27,15 +27,15 @@ fn left_of(alloc: Global, design: &Design, case: &Case) -> Result<Option<Case>, 
     }
 }
 
-/// Both increments stay: the second is what differs.
+/// What is left of two increments in a cycle: both stay, since the second is what differs.
 static TWO_INCREMENTS: CaseDraft = CaseDraft {
     interp: &[TableDraft::Words(0, &[(&[1], 2), (&[2], 3)])],
     state: &[Word(1)],
     ..NO_CASE
 };
 
-/// What is pending, where it is read, the result that the right operand has, and the register that it goes to. The old
-/// content of the register is never read.
+/// What is left of a stale operand: the pending write, where it is read, the result that the right operand has, and the
+/// register that it goes to. The old content of the register is never read.
 static STALE_READ: CaseDraft = CaseDraft {
     interp: &[
         TableDraft::Words(0, &[(&[1], 2)]),
@@ -74,13 +74,14 @@ static BOTH_COUNT: DesignDraft = DesignDraft {
     ..PLAIN
 };
 
-/// Either counter alone breaks the condition, and both differ.
+/// A case of the two counters: either alone breaks the condition, and both differ.
 static BOTH_COUNTED: CaseDraft = CaseDraft {
     interp: &[TableDraft::Words(0, &[(&[1], 2), (&[3], 4)])],
     state: &[Word(1), Word(3)],
     ..NO_CASE
 };
 
+/// Whether a case that breaks a condition of a design is made as small as the case written by hand.
 fn leaves(
     alloc: Global,
     of: &DesignDraft,
@@ -94,6 +95,7 @@ fn leaves(
     }
 }
 
+/// Each case that breaks a condition loses what isn't needed, and only that.
 #[test]
 fn cases_are_made_small(rt: HostRuntime) -> Result<(), Fail> {
     for (name, design, case, left) in [

@@ -21,6 +21,7 @@ enum Where {
 }
 
 impl Where {
+    /// Whether this place, written by hand, is one that was found.
     fn is(self, place: &Place) -> bool {
         match (self, place) {
             (Where::Latch(entry), Place::Latch(other)) => entry == *other,
@@ -35,6 +36,7 @@ impl Where {
         }
     }
 
+    /// Whether this place, written by hand, is among those that were found.
     fn is_in(self, places: &[Place]) -> bool {
         for place in places {
             if self.is(place) {
@@ -45,6 +47,7 @@ impl Where {
     }
 }
 
+/// Whether a place that was found is among those written by hand.
 fn is_one_of(place: &Place, wanted: &[Where]) -> bool {
     for other in wanted {
         if other.is(place) {
@@ -101,7 +104,7 @@ static WRITTEN: [Where; 11] = [
     Where::Row(ALU, &[9, 50]),
 ];
 
-/// What decides it where the operand is read before the pending write.
+/// What decides register 8 after the cycle where the operand is read before the pending write.
 static STALE: [Where; 7] = [
     Where::Input(0),
     Where::Latch(PC),
@@ -112,6 +115,7 @@ static STALE: [Where; 7] = [
     Where::Row(ALU, &[9, 40]),
 ];
 
+/// Whether the places written by hand are those that decide a spot of the diagram, in the case whose write is pending.
 fn decides(
     alloc: Global,
     of: &DesignDraft,
@@ -128,6 +132,7 @@ fn decides(
     Ok(are(places.as_slice(), wanted))
 }
 
+/// What decides a counter and a register is found before the cycle, after it and after the steps.
 #[test]
 fn slices_have_what_decides(rt: HostRuntime) -> Result<(), Fail> {
     let register = Spot::Cell(1, 8);
@@ -162,7 +167,7 @@ const HERE: CaseDraft = CaseDraft {
     ..NO_CASE
 };
 
-/// Each differs from the case with the pending write at one of the places that decide what register 8 has.
+/// Cases of which each differs from the one with the pending write at one place that decides what register 8 has.
 static CHANGED: [CaseDraft; 11] = [
     CaseDraft {
         inputs: &[Scalar::Bool(true)],
@@ -222,6 +227,7 @@ static CHANGED: [CaseDraft; 11] = [
     },
 ];
 
+/// The word that a state of the two stages has in the register at an address, or 0 where it has none.
 fn register(state: &State, address: u64) -> u64 {
     match state.as_slice().get(RF) {
         Some(Value::Memory(memory)) => memory.at(address),
@@ -238,6 +244,7 @@ fn flushed_register(alloc: Global, draft: &CaseDraft) -> Result<u64, AllocError>
     Ok(register(&end, 8))
 }
 
+/// A change at any place that decides register 8 changes what is in it.
 #[test]
 fn no_place_can_be_left_out(rt: HostRuntime) -> Result<(), Fail> {
     assert_eq!(rt; flushed_register(rt.alloc(), &PENDING)?, 60);

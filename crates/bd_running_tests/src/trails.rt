@@ -18,6 +18,7 @@ use bd_sim::judge_trail;
 use std::alloc::{AllocError, Global};
 use std::test::Fail;
 
+/// What a trail shows of a design. More than 16 cycles end the test as want of memory.
 fn shown(alloc: Global, of: &DesignDraft, by: &TrailDraft) -> Result<TrailJudged, AllocError> {
     let trail = trail(alloc, by)?;
     if trail.inputs.len() > 16 {
@@ -26,6 +27,7 @@ fn shown(alloc: Global, of: &DesignDraft, by: &TrailDraft) -> Result<TrailJudged
     shown_by(alloc, of, &trail)
 }
 
+/// What a trail of at most 16 cycles shows of a design.
 fn shown_by(alloc: Global, of: &DesignDraft, trail: &Trail) -> Result<TrailJudged, AllocError>
     requires { length trail.now.inputs ≤ most_cycles }
 {
@@ -33,6 +35,7 @@ fn shown_by(alloc: Global, of: &DesignDraft, trail: &Trail) -> Result<TrailJudge
     judge_trail(alloc, &design, trail)
 }
 
+/// Each example trail shows of its design what is expected: it holds, it is broken at a cycle, or it is outside.
 #[test]
 fn trails_are_judged(rt: HostRuntime) -> Result<(), Fail> {
     let alloc = rt.alloc();

@@ -22,6 +22,7 @@ static OTHERS: [(u64, &[(u64, u64)], bool); 4] = [
     (1, &[(1, 2), (2, 3)], false),
 ];
 
+/// A memory reads the first row at an address, and memories are the same if each address reads alike.
 #[test]
 fn first_row_counts(rt: HostRuntime) -> Result<(), Fail> {
     let alloc = rt.alloc();
@@ -36,6 +37,7 @@ fn first_row_counts(rt: HostRuntime) -> Result<(), Fail> {
     Ok(())
 }
 
+/// A table has the value of the row with all the arguments in order, and else its default.
 #[test]
 fn table_at_arguments(rt: HostRuntime) -> Result<(), Fail> {
     let table = table(rt.alloc(), &Words(0, &[(&[1, 2], 7)]))?;
@@ -140,15 +142,18 @@ static OF_EACH_SORT: [(CaseDraft, bool); 8] = [
     ),
 ];
 
+/// Whether a case fits a design, both as they are written in tests.
 fn fits(alloc: Global, of: &DesignDraft, by: &CaseDraft) -> Result<bool, AllocError> {
     let case = case(alloc, by)?;
     is_fitting(alloc, of, &case)
 }
 
+/// Whether a case fits a design that is written as a draft.
 fn is_fitting(alloc: Global, of: &DesignDraft, case: &Case) -> Result<bool, AllocError> {
     Ok(design(alloc, of)?.fits(case))
 }
 
+/// A case fits if its tables, entries and inputs have the design's sorts and constants kept apart differ.
 #[test]
 fn cases_fit(rt: HostRuntime) -> Result<(), Fail> {
     for (row, (case, wanted)) in CONSTANTS.iter().enumerate() {
@@ -162,11 +167,13 @@ fn cases_fit(rt: HostRuntime) -> Result<(), Fail> {
     Ok(())
 }
 
+/// Whether the designs that two drafts make are equal.
 fn are_alike(alloc: Global, first: &DesignDraft, other: &DesignDraft) -> Result<bool, AllocError> {
     let design = design(alloc, first)?;
     is_design(alloc, &design, other)
 }
 
+/// A design equals itself, and none that differs in one part.
 #[test]
 fn designs_are_compared(rt: HostRuntime) -> Result<(), Fail> {
     for (first, other, alike) in [
@@ -180,11 +187,13 @@ fn designs_are_compared(rt: HostRuntime) -> Result<(), Fail> {
     Ok(())
 }
 
+/// Whether a copy of the case that a draft makes equals the case of another draft.
 fn copy_is(alloc: Global, draft: &CaseDraft, other: &CaseDraft) -> Result<bool, AllocError> {
     let copy = case(alloc, draft)?.clone()?;
     is_case(alloc, &copy, other)
 }
 
+/// A copy of a case equals the case, and not one with another input.
 #[test]
 fn cases_are_compared(rt: HostRuntime) -> Result<(), Fail> {
     for (case, other, alike) in [

@@ -17,7 +17,7 @@ pub struct Apart {
     pub values: Inputs,
 }
 
-/// What differs in a case.
+/// The diagram of a case, and the values that its two sides have where they part.
 pub fn apart_of(alloc: Global, design: &Design, case: &Case) -> Result<Apart, AllocError>
     ensures { IfOk result (λ x. IsApart (design_view design.now) case.now x) }
 {
@@ -32,7 +32,7 @@ pub fn apart_of(alloc: Global, design: &Design, case: &Case) -> Result<Apart, Al
     })
 }
 
-/// Whether the same differs, with the same values.
+/// Whether two cases differ at the same entries and addresses, with the same values.
 pub fn is_same(first: &Apart, second: &Apart) -> bool
     ensures { IsTrue result
         ↔ (AllZip IsAlike first.now.diagram.comparisons second.now.diagram.comparisons
@@ -44,6 +44,7 @@ pub fn is_same(first: &Apart, second: &Apart) -> bool
     ) && are_same(first.values.as_slice(), second.values.as_slice())
 }
 
+/// Whether two lists have the same values in order.
 fn are_same(first: &[Scalar], second: &[Scalar]) -> bool
     ensures { IsTrue result ↔ AllZip IsSameScalar first.now second.now }
 {
@@ -58,7 +59,7 @@ fn are_same(first: &[Scalar], second: &[Scalar]) -> bool
     true
 }
 
-/// Puts what differs after so many steps: the values of the pipeline, then those of the specification.
+/// Puts what differs after a number of steps: the values of the pipeline, then those of the specification.
 fn push_compared(
     values: &mut Vec<Scalar>,
     visible: &[Value],
@@ -73,6 +74,7 @@ fn push_compared(
     push_where(values, differences, comparison.visible.as_slice())
 }
 
+/// Puts what a state has wherever its entries differ, in the order of the entries.
 fn push_where(
     values: &mut Vec<Scalar>,
     differences: &[Difference],
@@ -87,6 +89,7 @@ fn push_where(
     Ok(())
 }
 
+/// Puts what an entry has where it differs: a latch's value, or a memory's words.
 fn push_at(
     values: &mut Vec<Scalar>,
     difference: &Difference,
@@ -105,6 +108,7 @@ fn push_at(
     Ok(())
 }
 
+/// Puts the words that a memory has at the addresses that differ, and its default if that differs too.
 fn push_words(
     values: &mut Vec<Scalar>,
     difference: &MemoryDifference,

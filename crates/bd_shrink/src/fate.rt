@@ -14,7 +14,7 @@ pub enum Fate {
 }
 
 impl Fate {
-    /// What is left of a scalar.
+    /// What this fate leaves of a scalar.
     pub fn scalar(self, scalar: Scalar) -> Scalar
         ensures { result ≡ scalar_left self scalar }
     {
@@ -24,7 +24,7 @@ impl Fate {
         }
     }
 
-    /// What is left of a word.
+    /// What this fate leaves of a word.
     pub fn word(self, word: u64) -> u64
         ensures { result ≡ word_left self word }
     {
@@ -45,7 +45,7 @@ pub fn zero(scalar: Scalar) -> Scalar
     }
 }
 
-/// The fate at this place, and on to the next. What has none goes.
+/// The fate at this place, which moves on to the next. What has no fate goes.
 pub fn next_fate(fates: &[Fate], at: &mut usize) -> Fate
     ensures fate { result ≡ first_fate (drop at.old fates.now) }
     ensures rest { drop at.new fates.now ≡ drop 1 (drop at.old fates.now) }

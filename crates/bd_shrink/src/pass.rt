@@ -23,6 +23,7 @@ pub fn lowered_once(question: &Question, fates: Vec<Fate>) -> Result<Vec<Fate>, 
     Ok(left)
 }
 
+/// The fates with less at one place, or unchanged where nothing less is shown.
 fn less_at(question: &Question, fates: Vec<Fate>, place: usize) -> Result<Vec<Fate>, AllocError>
     requires known { IsKnown question.now }
     requires shown { ShowsBy question.now fates.items }

@@ -10,7 +10,7 @@ use bd_model::{
 };
 use std::alloc::{AllocError, Global};
 
-/// What is left of the case.
+/// What the fates leave of the case.
 pub fn remnant_of(alloc: Global, case: &Case, fates: &[Fate]) -> Result<Case, AllocError>
     ensures { IfOk result (λ s. s ≡ remnant fates.now case.now) }
 {
@@ -25,6 +25,7 @@ pub fn remnant_of(alloc: Global, case: &Case, fates: &[Fate]) -> Result<Case, Al
     })
 }
 
+/// What is left of an interpretation, by the fates from a place on; the place moves past those that are used.
 fn left_of_tables(
     alloc: Global,
     tables: &[Table],
@@ -42,6 +43,7 @@ fn left_of_tables(
     Ok(Sequence::from_vec(left))
 }
 
+/// What is left of a table: its default, which can't go, and each row that stays or has its value made 0.
 fn left_of_table(
     alloc: Global,
     table: &Table,
@@ -57,6 +59,7 @@ fn left_of_table(
     Ok(Table { default, rows })
 }
 
+/// What is left of a table's rows, a fate for each.
 fn left_of_rows(
     alloc: Global,
     rows: &[Row],
@@ -74,6 +77,7 @@ fn left_of_rows(
     Ok(Sequence::from_vec(left))
 }
 
+/// Puts a row as its fate leaves it: whole, with the value 0 or false, or not at all.
 fn push_row(left: &mut Vec<Row>, row: &Row, fate: Fate) -> Result<(), AllocError>
     ensures { OnOk result (left.new.items ≡ left.old.items ++ row_left fate row.now) }
 {
@@ -88,6 +92,7 @@ fn push_row(left: &mut Vec<Row>, row: &Row, fate: Fate) -> Result<(), AllocError
     Ok(())
 }
 
+/// What is left of a state, by the fates from a place on; the place moves past those that are used.
 fn left_of_values(
     alloc: Global,
     values: &[Value],
@@ -105,6 +110,7 @@ fn left_of_values(
     Ok(Sequence::from_vec(left))
 }
 
+/// What is left of an entry's value: a scalar by one fate, a memory by one for its default and one for each row.
 fn left_of_value(
     alloc: Global,
     value: &Value,
@@ -126,6 +132,7 @@ fn left_of_value(
     }
 }
 
+/// What is left of a memory's rows, a fate for each.
 fn left_of_slots(
     alloc: Global,
     slots: &[Slot],
@@ -143,6 +150,7 @@ fn left_of_slots(
     Ok(Sequence::from_vec(left))
 }
 
+/// Puts a memory's row as its fate leaves it: whole, with the word 0, or not at all.
 fn push_slot(left: &mut Vec<Slot>, slot: Slot, fate: Fate) -> Result<(), AllocError>
     ensures { OnOk result (left.new.items ≡ left.old.items ++ slot_left fate slot) }
 {
@@ -157,6 +165,7 @@ fn push_slot(left: &mut Vec<Slot>, slot: Slot, fate: Fate) -> Result<(), AllocEr
     Ok(())
 }
 
+/// What is left of the inputs: each as it is, or 0 or false.
 fn left_of_scalars(
     alloc: Global,
     scalars: &[Scalar],

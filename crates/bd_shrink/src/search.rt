@@ -41,7 +41,7 @@ fn shows(question: &Question, case: &Case) -> Result<bool, AllocError>
     keeps(question, case)
 }
 
-/// Whether the same differs in a case as in the whole one, where the diagram is what they break.
+/// Whether a case differs as the whole one does, where the diagram is what they break.
 fn keeps(question: &Question, case: &Case) -> Result<bool, AllocError>
     requires { IsKnown question.now }
     ensures { IfOk result (λ b. IsTrue b ↔ Keeps (design_view question.now.design.now)
@@ -53,6 +53,7 @@ fn keeps(question: &Question, case: &Case) -> Result<bool, AllocError>
     }
 }
 
+/// Whether the two sides of a case's diagram part where those of the whole case do, with the same values.
 fn keeps_differences(question: &Question, case: &Case) -> Result<bool, AllocError>
     requires { IsKnown question.now }
     ensures { IfOk result (λ b. IsTrue b ↔ KeepsDifferences (design_view question.now.design.now)
@@ -63,6 +64,7 @@ fn keeps_differences(question: &Question, case: &Case) -> Result<bool, AllocErro
     Ok(is_same(question.apart, &apart))
 }
 
+/// Whether a judgement is that this condition is broken.
 fn is_broken(judged: Judged, which: Condition) -> bool
     ensures { IsTrue result ↔ (judged ≡ Judged.Broken which) }
 {
@@ -73,7 +75,7 @@ fn is_broken(judged: Judged, which: Condition) -> bool
     }
 }
 
-/// Whether what these fates leave of the case shows it.
+/// Whether what these fates leave of the case shows what the whole case does.
 pub fn shows_by(question: &Question, fates: &[Fate]) -> Result<bool, AllocError>
     requires { IsKnown question.now }
     ensures { IfOk result (λ b. IsTrue b ↔ ShowsBy question.now fates.now) }
@@ -82,7 +84,7 @@ pub fn shows_by(question: &Question, fates: &[Fate]) -> Result<bool, AllocError>
     shows(question, &left)
 }
 
-/// Fates that leave less at one place, if there are such by which it is still shown.
+/// Fates that leave less at one place, if what they leave still shows what the whole case does.
 pub fn lowered(question: &Question, fates: &Vec<Fate>) -> Result<Option<Vec<Fate>>, AllocError>
     requires { IsKnown question.now }
     ensures { IfOk result (λ found. MatchOption found
@@ -99,7 +101,7 @@ pub fn lowered(question: &Question, fates: &Vec<Fate>) -> Result<Option<Vec<Fate
     Ok(None)
 }
 
-/// Fates that leave less at this place, if there are such by which it is still shown.
+/// Fates that leave less at this place, if what they leave still shows what the whole case does.
 pub fn lowered_at(
     question: &Question,
     fates: &Vec<Fate>,
@@ -121,6 +123,7 @@ pub fn lowered_at(
     }
 }
 
+/// The fates with this one at a place, if what they leave still shows it.
 fn tried(
     question: &Question,
     fates: &Vec<Fate>,
@@ -142,6 +145,7 @@ fn tried(
     }
 }
 
+/// A copy of the fates, with this one at a place.
 fn with_fate(fates: &Vec<Fate>, place: usize, fate: Fate) -> Result<Vec<Fate>, AllocError>
     requires { place < length fates.now.items }
     ensures { IfOk result (λ v. v.items ≡ slice_set fates.now.items place fate) }

@@ -8,7 +8,7 @@ use crate::fate::Fate;
 use bd_model::{Case, Table, Value};
 use std::alloc::{AllocError, Global};
 
-/// That each row and each value stays.
+/// The fates by which each row and each value of a case stays.
 pub fn whole(alloc: Global, case: &Case) -> Result<Vec<Fate>, AllocError>
     ensures { IfOk result (λ fates. remnant fates.items case.now ≡ case.now) }
 {
@@ -19,6 +19,7 @@ pub fn whole(alloc: Global, case: &Case) -> Result<Vec<Fate>, AllocError>
     Ok(fates)
 }
 
+/// Puts a fate that stays for each table's default and each of its rows.
 fn push_tables(fates: &mut Vec<Fate>, tables: &[Table]) -> Result<(), AllocError>
     ensures { OnOk result (fates.new.items ≡ fates.old.items ++ flat_map stay_table tables.now) }
 {
@@ -29,6 +30,7 @@ fn push_tables(fates: &mut Vec<Fate>, tables: &[Table]) -> Result<(), AllocError
     Ok(())
 }
 
+/// Puts a fate that stays for each entry's value and each row of its memory.
 fn push_values(fates: &mut Vec<Fate>, values: &[Value]) -> Result<(), AllocError>
     ensures { OnOk result (fates.new.items ≡ fates.old.items ++ flat_map stay_value values.now) }
 {
@@ -38,6 +40,7 @@ fn push_values(fates: &mut Vec<Fate>, values: &[Value]) -> Result<(), AllocError
     Ok(())
 }
 
+/// Puts a fate that stays for a value, and one for each of its rows if it is a memory.
 fn push_value(fates: &mut Vec<Fate>, value: &Value) -> Result<(), AllocError>
     ensures { OnOk result (fates.new.items ≡ fates.old.items ++ stay_value value.now) }
 {
@@ -48,6 +51,7 @@ fn push_value(fates: &mut Vec<Fate>, value: &Value) -> Result<(), AllocError>
     }
 }
 
+/// Puts so many fates that stay.
 fn push_stays(fates: &mut Vec<Fate>, count: usize) -> Result<(), AllocError>
     ensures { OnOk result (fates.new.items ≡ fates.old.items ++ replicate count Fate.Stays) }
 {

@@ -103,6 +103,7 @@ pub fn exact_counts(alloc: Global, design: &Design, case: &Case) -> Result<Vec<u
     counts_of_cycle(alloc, design, &case.interp, &case.state, &case.inputs)
 }
 
+/// The counts of the exact items whose condition is true in the cycle from a state, in the design's order.
 fn counts_of_cycle(
     alloc: Global,
     design: &Design,
@@ -120,6 +121,7 @@ fn counts_of_cycle(
     true_counts(&env, design.exact.as_slice())
 }
 
+/// The counts of the exact items whose condition is true where names stand for these values, in order.
 fn true_counts(env: &Env, items: &[Exact]) -> Result<Vec<u32>, AllocError>
     ensures { IfOk result (λ v. v.items ≡ counts_in (env_view env.now) (map exact_view items.now)) }
 {
@@ -132,6 +134,7 @@ fn true_counts(env: &Env, items: &[Exact]) -> Result<Vec<u32>, AllocError>
     Ok(counts)
 }
 
+/// Whether a number of steps is allowed and leads to a state that can't be told from the flushed one.
 fn stands(counts: &[u32], count: u32, after: &State, reached: &State) -> bool
     ensures { IsTrue result
         ↔ (AllByRecursion (λ n. n ≡ count) counts.now × Same after.now reached.now) }

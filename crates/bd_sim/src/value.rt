@@ -3,8 +3,8 @@
 //! A value is found form by form. What gives a scalar is valued as a scalar, and a read goes down the writes of its
 //! memory to the first with its address, so no memory is copied but where one is handed out. The lets of a machine are
 //! valued once, in order, and kept where later expressions name them; a memory is kept as the writes that made it. What
-//! no lawful design has is false, 0 or the memory of zeros, so no call has a condition on sorts. Recursion goes down the
-//! expression alone.
+//! no lawful design has is false, 0 or the memory of zeros, so no call has a condition on sorts. Recursion goes down
+//! the expression alone.
 ghost use Rattle.std.specs.Prelude.{◌≡◌, IfOk, false, map, slice_index_or};
 ghost use Rattle.std.specs.List.{list_all, list_any};
 ghost use Rattle.bd_model.specs.Table.{at, read, write};
@@ -249,6 +249,7 @@ pub fn scalar(env: &Env, expr: &Expr) -> Result<Scalar, AllocError>
     }
 }
 
+/// The value of an expression as a truth value: false where it is a word or a memory.
 #[cycle(scalar)]
 pub fn truth(env: &Env, expr: &Expr) -> Result<bool, AllocError>
     ensures { IfOk result (λ b. b ≡ is_true (value_of (env_view env.now) (expr_view expr.now))) }
@@ -256,6 +257,7 @@ pub fn truth(env: &Env, expr: &Expr) -> Result<bool, AllocError>
     Ok(scalar(env, expr)?.truth())
 }
 
+/// The value of an expression as a word: 0 where it is a truth value or a memory.
 #[cycle(scalar)]
 fn word(env: &Env, expr: &Expr) -> Result<u64, AllocError>
     ensures { IfOk result (λ n. n ≡ word_of (value_of (env_view env.now) (expr_view expr.now))) }
@@ -293,6 +295,7 @@ fn read_at(env: &Env, memory: &Expr, address: u64) -> Result<u64, AllocError>
     }
 }
 
+/// Whether each of these expressions is true. Those after the first that isn't are not valued.
 #[cycle(scalar)]
 fn all_true(env: &Env, parts: &Exprs) -> Result<bool, AllocError>
     ensures { IfOk result (λ b. b
@@ -306,6 +309,7 @@ fn all_true(env: &Env, parts: &Exprs) -> Result<bool, AllocError>
     Ok(true)
 }
 
+/// Whether one of these expressions is true. Those after the first that is are not valued.
 #[cycle(scalar)]
 fn any_true(env: &Env, parts: &Exprs) -> Result<bool, AllocError>
     ensures { IfOk result (λ b. b
@@ -319,6 +323,7 @@ fn any_true(env: &Env, parts: &Exprs) -> Result<bool, AllocError>
     Ok(false)
 }
 
+/// The values of expressions as words, in order.
 #[cycle(scalar)]
 fn words(env: &Env, parts: &Exprs) -> Result<Vec<u64>, AllocError>
     ensures { IfOk result (λ v. v.items
@@ -331,6 +336,7 @@ fn words(env: &Env, parts: &Exprs) -> Result<Vec<u64>, AllocError>
     Ok(words)
 }
 
+/// A copy of the value of the entry at a place, false past the last.
 pub fn value_at(values: &[Value], i: u32) -> Result<Value, AllocError>
     ensures { IfOk result (λ v. v ≡ slice_index_or values.now i (truth_value false)) }
 {
@@ -340,6 +346,7 @@ pub fn value_at(values: &[Value], i: u32) -> Result<Value, AllocError>
     }
 }
 
+/// The value of the entry at a place: false where it is a memory, and past the last.
 fn scalar_at(values: &[Value], i: u32) -> Scalar
     ensures { result ≡ scalar_of (slice_index_or values.now i (truth_value false)) }
 {
@@ -349,6 +356,7 @@ fn scalar_at(values: &[Value], i: u32) -> Scalar
     }
 }
 
+/// The value of the input at a place, false past the last.
 fn input_at(inputs: &[Scalar], i: u32) -> Scalar
     ensures { result ≡ slice_index_or inputs.now i (Scalar.Bool false) }
 {
@@ -358,6 +366,7 @@ fn input_at(inputs: &[Scalar], i: u32) -> Scalar
     }
 }
 
+/// What the symbol of a number has at arguments, false past the last symbol.
 fn table_at(interp: &[Table], f: u32, args: &[u64]) -> Scalar
     ensures { result ≡ at (table_of interp.now f) args.now }
 {

@@ -178,6 +178,7 @@ fn over(slots: Vec<Slot>, below: Option<&Memory>) -> Result<Memory, AllocError>
     })
 }
 
+/// The memory that the entry at a place holds, if it holds one.
 fn memory_of(values: &[Value], i: usize) -> Option<&Memory>
     ensures { memory_of (slice_index_or values.now i (truth false)) ≡ or_zeros result }
 {

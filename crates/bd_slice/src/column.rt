@@ -31,6 +31,7 @@ pub fn run_of(
     }
 }
 
+/// The values of all entries before the cycle, once the pipeline is flushed for so many cycles.
 fn run_before(
     alloc: Global,
     graph: &mut Graph,
@@ -47,6 +48,7 @@ fn run_before(
     Ok(line.end)
 }
 
+/// The values of all entries after the cycle, once the pipeline is flushed for so many cycles more.
 fn run_after(
     alloc: Global,
     graph: &mut Graph,
@@ -63,6 +65,7 @@ fn run_after(
     Ok(line.end)
 }
 
+/// The visible values after so many steps of the specification from where the flushed pipeline stands.
 fn run_steps(
     alloc: Global,
     graph: &mut Graph,

@@ -61,6 +61,7 @@ impl Clone for TracedMemory {
 
     ghost is_clone = { λ old new. new ≡ old };
 
+    /// A copy of the memory, with its links.
     fn clone(&self) -> Result<TracedMemory, AllocError> {
         Ok(TracedMemory {
             base: self.base,
@@ -82,6 +83,7 @@ impl Clone for Kept {
 
     ghost is_clone = { λ old new. new ≡ old };
 
+    /// A copy of what is kept of a value.
     fn clone(&self) -> Result<Kept, AllocError> {
         match self {
             Kept::Scalar(traced) => Ok(Kept::Scalar(*traced)),

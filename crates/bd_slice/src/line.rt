@@ -21,7 +21,7 @@ pub struct Line {
 }
 
 impl Line {
-    /// The state at a place, where the last has this one.
+    /// The state at a place, where the last state has the place `last`.
     pub fn at(&self, place: u32, last: u32) -> Option<&[Kept]>
         ensures { IfSome result (λ state. (o : Other) (states : ℕ → List Value) →
             FollowsLine o self.now last states → FollowsState o state.now (states place)) }

@@ -183,7 +183,7 @@ impl History {
 }
 
 impl Column {
-    /// Its number of flush cycles or steps.
+    /// The column's number of flush cycles or steps.
     pub fn number(self) -> u32 {
         match self {
             Column::Before(n) | Column::After(n) | Column::Steps(n) => n,

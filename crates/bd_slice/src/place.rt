@@ -17,6 +17,7 @@ impl Clone for Place {
 
     ghost is_clone = { λ old new. new ≡ old };
 
+    /// A copy of the place.
     fn clone(&self) -> Result<Place, AllocError> {
         match self {
             Place::Latch(entry) => Ok(Place::Latch(*entry)),

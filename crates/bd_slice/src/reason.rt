@@ -1,8 +1,8 @@
-//! Why values of a run are what they are: each value with the facts behind it, from the values that are asked for down to
-//! the case.
+//! Why values of a run are what they are: each value with the facts behind it, from the values that are asked for down
+//! to the case.
 //!
-//! These are the rules by which a slice is made, over the values of the same run. Nothing is proved of them but that they
-//! are safe.
+//! These are the rules by which a slice is made, over the values of the same run. Nothing is proved of them but that
+//! they are safe.
 use crate::finding::{Found, Here, Path, find, find_word};
 use crate::moment::History;
 use crate::place::{Column, Spot, Want};

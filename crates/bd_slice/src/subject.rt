@@ -29,7 +29,7 @@ pub enum Subject {
 }
 
 impl Subject {
-    /// The cycle in which it is worked out: none where it is the case's, or taken over as what is visible.
+    /// The cycle in which a value is worked out: none where it is the case's, or taken over as what is visible.
     pub fn cycle(self) -> Option<Cycle> {
         match self {
             Subject::Latch(column, _) | Subject::Cell(column, _, _) => column.reached_by(),
@@ -42,7 +42,7 @@ impl Subject {
 }
 
 impl Column {
-    /// The cycle that ends in it.
+    /// The cycle that ends in a column.
     pub fn reached_by(self) -> Option<Cycle> {
         match self {
             Column::Before(0) | Column::Steps(0) => None,
@@ -55,7 +55,7 @@ impl Column {
 }
 
 impl Cycle {
-    /// The column in which it begins.
+    /// The column in which a cycle begins.
     pub fn begins_at(self) -> Column {
         match self {
             Cycle::Case => Column::Before(0),
@@ -68,8 +68,8 @@ impl Cycle {
 }
 
 /// What the value of a part of an expression comes from: a name that stands for a value of the run, the branch that an
-/// `ite` takes, the one part that decides an `and`, an `or` or an `implies`, a `write` that a read at this address meets or
-/// passes (to which other address), or an application.
+/// `ite` takes, the one part that decides an `and`, an `or` or an `implies`, a `write` that a read at this address
+/// meets or passes (to which other address), or an application.
 #[derive(Drop)]
 pub enum Finding {
     Rests(Subject, Scalar),

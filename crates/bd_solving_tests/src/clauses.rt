@@ -15,23 +15,26 @@ fn spelled(alloc: Global, clause: Option<&Clause>) -> Result<String, AllocError>
     Ok(text)
 }
 
+/// Whether a clause has this text; `none` stands for no clause.
 fn is_spelled(alloc: Global, clause: Option<&Clause>, want: &str) -> Result<bool, AllocError> {
     let text = spelled(alloc, clause)?;
     Ok(text.as_str() == want)
 }
 
-/// Whether the clause of the literals is this one.
+/// Whether the clause made of the literals of a text, which stay, is the one wanted.
 fn is_of(alloc: Global, text: &str, want: &str) -> Result<bool, AllocError> {
     let lits = literals(alloc, text)?;
     let clause = Clause::of(alloc, &lits)?;
     is_spelled(alloc, clause.as_ref(), want)
 }
 
+/// Whether the clause made of the literals of a text, which it takes, is the one wanted.
 fn is_from_vec(alloc: Global, text: &str, want: &str) -> Result<bool, AllocError> {
     let clause = Clause::from_vec(literals(alloc, text)?);
     is_spelled(alloc, clause.as_ref(), want)
 }
 
+/// A clause has each literal once, and literals of both signs make none, by either way to make one.
 #[test]
 fn clauses_drop_repeats_and_refuse_both_signs(rt: HostRuntime) -> Result<(), Fail> {
     for (text, want) in [("2 -1 2", "-1 2 "), ("1 -1", "none")] {
@@ -48,7 +51,7 @@ fn second(alloc: Global, value: bool) -> Result<Assignment, AllocError> {
     Ok(a)
 }
 
-/// Whether it satisfies the formula. What isn't held is false.
+/// Whether the assignment that holds variable 2 alone satisfies the formula, where what isn't held is false.
 fn satisfies(rt: &(impl Abort + AllocGlobal), value: bool, text: &str) -> Result<bool, AllocError> {
     let a = second(rt.alloc(), value)?;
     assert!(rt; a.get(1).is_none() && a.value(2) == value);
@@ -56,6 +59,7 @@ fn satisfies(rt: &(impl Abort + AllocGlobal), value: bool, text: &str) -> Result
     Ok(cnf.satisfied(&a))
 }
 
+/// An assignment satisfies a formula if it makes a literal of each clause true.
 #[test]
 fn assignments_satisfy_formulas(rt: HostRuntime) -> Result<(), Fail> {
     assert!(&rt; satisfies(&rt, false, "1 -2\n-1 -2\n")? && !satisfies(&rt, false, SQUARE)?);
@@ -63,11 +67,13 @@ fn assignments_satisfy_formulas(rt: HostRuntime) -> Result<(), Fail> {
     Ok(())
 }
 
+/// Whether a formula is written as the DIMACS CNF of the square.
 fn has_text(alloc: Global, cnf: &Cnf) -> Result<bool, AllocError> {
     let text = dimacs_text(alloc, cnf)?;
     Ok(text.as_slice() == b"p cnf 2 4\n1 2 0\n1 -2 0\n-1 2 0\n-1 -2 0\n".as_slice())
 }
 
+/// The four clauses over two variables are written as DIMACS CNF.
 #[test]
 fn the_square_is_written(rt: HostRuntime) -> Result<(), Fail> {
     let cnf = formula(&rt, 2, SQUARE)?;

@@ -1,7 +1,7 @@
 //! Formulas as texts: a line for each clause, whose literals are written as DIMACS CNF writes them.
 //!
-//! What a function owns is dropped at each of its ways out, and each drop is proved: so a function here owns little, and
-//! hands the rest on by reference.
+//! What a function owns is dropped at each of its ways out, and each drop is proved: so a function here owns little,
+//! and hands the rest on by reference.
 use bd_cnf::{Clause, Clauses, Cnf, Lit};
 use std::alloc::{AllocError, Global};
 use std::process::Abort;

@@ -66,24 +66,28 @@ fn log(rt: &(impl Abort + AllocGlobal), text: &str) -> Result<Log, AllocError> {
 
 const REFUTATION: &str = "5 -1 0 3 4\n6 0 5 1 2\n6 d 1 2\n";
 
-/// Its last line isn't accepted.
+/// The square's refutation with a line more, which isn't accepted.
 const REFUSED: &str = "5 -1 0 3 4\n6 0 5 1 2\n6 d 1 2\n7 -1 0 3\n";
 
+/// Whether a log refutes the four clauses over two variables.
 fn square_is_refuted(rt: &(impl Abort + AllocGlobal), log: &Log) -> Result<bool, AllocError> {
     let cnf = formula(rt, 2, SQUARE)?;
     refutes(rt.alloc(), &cnf, log)
 }
 
+/// The number, from 1, of the line at which a log's check over the square ends; none where all are accepted.
 fn line_refused(rt: &(impl Abort + AllocGlobal), log: &Log) -> Result<Option<u64>, AllocError> {
     let cnf = formula(rt, 2, SQUARE)?;
     refused_line(rt.alloc(), &cnf, log)
 }
 
+/// Whether a log is written as this LRAT text.
 fn has_text(alloc: Global, log: &Log, want: &str) -> Result<bool, AllocError> {
     let text = lrat_text(alloc, log)?;
     Ok(text.as_slice() == want.as_bytes())
 }
 
+/// A log by hand refutes the square, and is written as LRAT.
 #[test]
 fn the_square_is_refuted(rt: HostRuntime) -> Result<(), Fail> {
     let log = log(&rt, REFUTATION)?;
@@ -92,6 +96,7 @@ fn the_square_is_refuted(rt: HostRuntime) -> Result<(), Fail> {
     Ok(())
 }
 
+/// A line that its hints don't bear out is refused by its number, though an earlier one adds the empty clause.
 #[test]
 fn a_line_is_refused(rt: HostRuntime) -> Result<(), Fail> {
     let log = log(&rt, REFUSED)?;
@@ -129,6 +134,7 @@ fn checks_lines(rt: &(impl Abort + AllocGlobal), checker: &mut Checker) -> Resul
     Ok(())
 }
 
+/// A clause that a log adds can be used, and one that it deletes can't.
 #[test]
 fn lines_are_checked_and_added(rt: HostRuntime) -> Result<(), Fail> {
     let mut checker = Checker::new(rt.alloc(), &formula(&rt, 2, SQUARE)?)?;

@@ -79,6 +79,7 @@ fn outcome(
     Ok((conflict, count, start, watch.trail().as_slice().len()))
 }
 
+/// Checks a row's false clause, and how many literals are true then and once the last decision is taken back.
 fn row_is_as_told(rt: &(impl Abort + AllocGlobal), row: Row) -> Result<(), AllocError> {
     let (vars, clauses, decisions, conflict, count, before) = row;
     let mut watch = Watch::load(rt.alloc(), &formula(rt, vars, clauses)?)?;
@@ -90,6 +91,7 @@ fn row_is_as_told(rt: &(impl Abort + AllocGlobal), row: Row) -> Result<(), Alloc
     Ok(())
 }
 
+/// The units of a formula are made true, and a clause that is false then is named.
 #[test]
 fn units_are_true_at_the_start(rt: HostRuntime) -> Result<(), Fail> {
     for &(vars, clauses, conflict) in &STARTS {
@@ -99,6 +101,7 @@ fn units_are_true_at_the_start(rt: HostRuntime) -> Result<(), Fail> {
     Ok(())
 }
 
+/// What follows from each decision is made true, and no longer is once the decision is taken back.
 #[test]
 fn decisions_are_propagated(rt: HostRuntime) -> Result<(), Fail> {
     for &row in &ROWS {

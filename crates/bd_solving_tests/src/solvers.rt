@@ -28,7 +28,7 @@ const HALF_SQUARES: &str = "1 2\n1 -2\n2 3\n-2 3\n";
 
 const SQUARE_LOG: &str = "5 1 0 1 2 0\n6 0 5 3 4 0\n";
 
-/// The greatest variable is decided first.
+/// The square's log where the greatest variable is decided first.
 const SQUARE_TURNED: &str = "5 2 0 1 3 0\n6 0 5 2 4 0\n";
 
 const CUBE_START: &str = "9 1 2 0 1 2 0\n10 1 0 9 3 4 0\n";
@@ -37,7 +37,7 @@ const CUBE_LOG: &str = "9 1 2 0 1 2 0\n10 1 0 9 3 4 0\n11 2 0 10 5 6 0\n12 0 10 
 
 const CUBE_TURNED_START: &str = "9 2 3 0 1 5 0\n10 3 0 9 3 7 0\n";
 
-/// The second variable was true last, so it is decided to be true.
+/// The cube's log where the greatest variable is decided first; the second was true last, so it is decided to be true.
 const CUBE_TURNED: &str = "9 2 3 0 1 5 0\n10 3 0 9 3 7 0\n11 -2 0 10 4 8 0\n12 0 10 11 2 6 0\n";
 
 static ROWS: [Row; 14] = [
@@ -71,6 +71,7 @@ static ROWS: [Row; 14] = [
     (3, CUBE, 4, "refuted", CUBE_LOG, CUBE_TURNED),
 ];
 
+/// The word by which a row names what was found.
 fn word(found: &Found) -> &'static str {
     match found {
         Found::Model(_) => "model",
@@ -93,6 +94,7 @@ fn answer<S: HonestSolver>(
     solver.solve(cnf, budget, log)
 }
 
+/// Whether a log is written as this LRAT text.
 fn has_text(alloc: Global, log: &Log, want: &str) -> Result<bool, AllocError> {
     let text = lrat_text(alloc, log)?;
     Ok(text.as_slice() == want.as_bytes())
@@ -127,6 +129,7 @@ fn says_twice<S: HonestSolver>(
     Ok(says(rt.alloc(), solver, &cnf, row, lines)? && says(rt.alloc(), solver, &cnf, row, lines)?)
 }
 
+/// The solver that learns clauses of decisions says what each row tells, with the log written by hand.
 #[test]
 fn decision_clauses_settle_formulas_within_the_budget(rt: HostRuntime) -> Result<(), Fail> {
     let mut solver = Plain::new(rt.alloc());
@@ -137,6 +140,7 @@ fn decision_clauses_settle_formulas_within_the_budget(rt: HostRuntime) -> Result
     Ok(())
 }
 
+/// The solver that learns first unique implication points says what each row tells, with the log written by hand.
 #[test]
 fn unique_implication_points_settle_formulas_within_the_budget(
     rt: HostRuntime,
@@ -199,6 +203,7 @@ fn additions(log: &Log) -> usize {
         .count()
 }
 
+/// Whether a line of a log adds a clause.
 fn is_addition(line: &Line) -> bool {
     match line {
         Line::Add { .. } => true,
@@ -216,8 +221,8 @@ fn first_deletion(log: &Log) -> Option<&[u64]> {
     None
 }
 
-/// The first two clauses are true at level 0 once the last variable is learned. The clause which says that it is true is
-/// its reason.
+/// The first two clauses are true at level 0 once the last variable is learned. The clause which says that it is true
+/// is its reason.
 fn deletes_first(alloc: Global, cnf: &Cnf) -> Result<bool, AllocError> {
     let mut log = Log::new(alloc);
     let found = Cdcl::new(alloc).solve(cnf, 300, &mut log)?;
@@ -225,6 +230,7 @@ fn deletes_first(alloc: Global, cnf: &Cnf) -> Result<bool, AllocError> {
     Ok(word(&found) == "spent" && additions(&log) == 300 && first_deletion(&log) == Some(deleted))
 }
 
+/// The first deletion of a long log names the clauses that a learned unit makes true, but not its reason.
 #[test]
 fn clauses_that_level_zero_makes_true_are_deleted(rt: HostRuntime) -> Result<(), Fail> {
     let mut cnf = formula(&rt, 58, "57 58\n-57 58\n")?;
@@ -240,6 +246,7 @@ fn says_script(alloc: Global, solver: &mut Scripted, cnf: &Cnf) -> Result<bool, 
     Ok(word(&found) == "refuted" && log.len() == 0)
 }
 
+/// A scripted solver says the same at each call.
 #[test]
 fn a_script_is_said_each_time(rt: HostRuntime) -> Result<(), Fail> {
     let cnf = formula(&rt, 1, "")?;

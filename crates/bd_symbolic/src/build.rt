@@ -15,7 +15,7 @@ use bd_model::Design;
 use bd_terms::{Graph, Id, Sym};
 use std::alloc::AllocError;
 
-// A truth value.
+/// The term of a truth value: true, or its negation.
 pub(crate) fn constant(graph: &mut Graph, value: bool) -> Result<Id, AllocError>
     ensures denotes { IfOk result (λ id. Denotes graph.new id (λ w. Truth value)) }
     ensures sorted { IfOk result (λ id. HasSort graph.new id sort.Bool) }
@@ -26,7 +26,7 @@ pub(crate) fn constant(graph: &mut Graph, value: bool) -> Result<Id, AllocError>
     if value { Ok(yes) } else { graph.mk_not(yes) }
 }
 
-// The equality of truth values: the second where the first is true, else its negation.
+/// The equality of truth values: the second where the first is true, else its negation.
 pub(crate) fn iff(graph: &mut Graph, a: Id, b: Id) -> Result<Id, AllocError>
     requires first { HasSort graph.old a sort.Bool }
     requires second { HasSort graph.old b sort.Bool }
@@ -40,7 +40,7 @@ pub(crate) fn iff(graph: &mut Graph, a: Id, b: Id) -> Result<Id, AllocError>
     graph.mk_ite(a, b, denied)
 }
 
-// A symbol of the design applied to words.
+/// The term of a symbol of the design applied to words: a word, or a truth value if the symbol is a predicate.
 pub(crate) fn apply(
     graph: &mut Graph,
     design: &Design,

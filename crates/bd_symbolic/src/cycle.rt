@@ -67,7 +67,7 @@ pub fn sym_spec_step(
     Ok(SymState { entries, inputs })
 }
 
-// The terms of a machine's next expressions.
+/// The terms of a machine's next expressions in a state, after its lets.
 pub(crate) fn next_entries(
     alloc: Global,
     graph: &mut Graph,
@@ -88,7 +88,7 @@ pub(crate) fn next_entries(
     next_terms(alloc, graph, design, &machine.nexts, state, &lets)
 }
 
-// A term for each expression.
+/// A term for each next expression, in order, over a state and the terms of the lets.
 fn next_terms(
     alloc: Global,
     graph: &mut Graph,

@@ -54,7 +54,7 @@ pub fn sym_eval(
     eval(graph, &names, expr)
 }
 
-// The term of an expression.
+/// The term of an expression over the terms that its names stand for.
 #[cycle(eval)]
 pub(crate) fn eval(graph: &mut Graph, names: &Context, expr: &Expr) -> Result<Id, AllocError>
     requires { IsReady graph.old (names_view names.now) (expr_view expr.now) }
@@ -110,7 +110,7 @@ pub(crate) fn eval(graph: &mut Graph, names: &Context, expr: &Expr) -> Result<Id
     }
 }
 
-// The conjunction of the terms of expressions.
+/// The conjunction of the terms of expressions: true where there is none.
 #[cycle(eval)]
 fn all_of(graph: &mut Graph, names: &Context, parts: &Exprs) -> Result<Id, AllocError>
     requires { AreReady graph.old (names_view names.now) (expr_views parts.now) sort.Bool }
@@ -125,7 +125,7 @@ fn all_of(graph: &mut Graph, names: &Context, parts: &Exprs) -> Result<Id, Alloc
     Ok(all)
 }
 
-// The disjunction of the terms of expressions.
+/// The disjunction of the terms of expressions: false where there is none.
 #[cycle(eval)]
 fn any_of(graph: &mut Graph, names: &Context, parts: &Exprs) -> Result<Id, AllocError>
     requires { AreReady graph.old (names_view names.now) (expr_views parts.now) sort.Bool }
@@ -140,7 +140,7 @@ fn any_of(graph: &mut Graph, names: &Context, parts: &Exprs) -> Result<Id, Alloc
     Ok(any)
 }
 
-// The terms of words.
+/// The terms of expressions of words, in order, as a symbol's arguments.
 #[cycle(eval)]
 fn words_of(graph: &mut Graph, names: &Context, parts: &Exprs) -> Result<Vec<Id>, AllocError>
     requires { AreReady graph.old (names_view names.now) (expr_views parts.now) sort.Word }

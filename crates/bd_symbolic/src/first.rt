@@ -18,8 +18,8 @@ use bd_model::{Design, Sort};
 use bd_terms::{Graph, Id, Sym};
 use std::alloc::{AllocError, Global};
 
-/// The state before the first cycle: a symbol of the design for each latch and each input, and the first contents of each
-/// memory. Refused for want of memory, the graph may keep further nodes.
+/// The state before the first cycle: a symbol of the design for each latch and each input, and the first contents of
+/// each memory. Refused for want of memory, the graph may keep further nodes.
 pub fn sym_state(alloc: Global, graph: &mut Graph, design: &Design) -> Result<SymState, AllocError>
     requires lawful { IsLawful (design_view design.now) }
     requires keeps { KeepsDesign (design_view design.now) graph.old }
@@ -32,8 +32,8 @@ pub fn sym_state(alloc: Global, graph: &mut Graph, design: &Design) -> Result<Sy
     Ok(SymState { entries, inputs })
 }
 
-/// A symbol of the design for each latch, and the first contents of each memory. Refused for want of memory, the graph may
-/// keep further nodes.
+/// A symbol of the design for each latch, and the first contents of each memory. Refused for want of memory, the graph
+/// may keep further nodes.
 pub fn sym_entries(alloc: Global, graph: &mut Graph, design: &Design) -> Result<TermIds, AllocError>
     requires lawful { IsLawful (design_view design.now) }
     requires keeps { KeepsDesign (design_view design.now) graph.old }
@@ -65,7 +65,7 @@ pub fn sym_inputs(
     first_inputs(alloc, graph, design, cycle)
 }
 
-// A term for each entry.
+/// A term for each entry of the pipeline before the first cycle, in order.
 fn first_entries(alloc: Global, graph: &mut Graph, design: &Design) -> Result<TermIds, AllocError>
     requires lawful { IsLawful (design_view design.now) }
     requires keeps { KeepsDesign (design_view design.now) graph.old }
@@ -81,7 +81,7 @@ fn first_entries(alloc: Global, graph: &mut Graph, design: &Design) -> Result<Te
     Ok(entries)
 }
 
-// A term for each input in a cycle.
+/// A term for each input in a cycle. Cycles count from 0, and have symbols of inputs of their own.
 fn first_inputs(
     alloc: Global,
     graph: &mut Graph,
@@ -106,7 +106,7 @@ fn first_inputs(
     Ok(inputs)
 }
 
-// The term of the entry at a place.
+/// The term of the entry at a place before the first cycle: a symbol for a latch, the first contents for a memory.
 fn first_entry(graph: &mut Graph, place: u32, sort: Sort) -> Result<Id, AllocError>
     requires keeps { KeepsUse graph.old (sort_use (symbol.Entry place) sort) }
     ensures term { IfOk result (IsFirstTerm graph.new (symbol.Entry place) sort) }
@@ -119,7 +119,7 @@ fn first_entry(graph: &mut Graph, place: u32, sort: Sort) -> Result<Id, AllocErr
     }
 }
 
-// A symbol of arity 0.
+/// The term of a symbol of arity 0: a truth value or a word.
 fn first_latch(graph: &mut Graph, sym: Sym, sort: Sort) -> Result<Id, AllocError>
     requires latch { sort ≢ kind.Memory }
     requires keeps { KeepsUse graph.old (sort_use sym sort) }

@@ -1,8 +1,8 @@
 //! Flush cycles, over terms.
 //!
-//! The inputs of a flush cycle are the terms of the flush expressions in the state before it, built anew for each cycle. A
-//! flush expression uses no input, so those of the cycle before it may stand for the inputs meanwhile: where they are
-//! constants, as mostly, the lets come out as the same terms and are kept once.
+//! The inputs of a flush cycle are the terms of the flush expressions in the state before it, built anew for each
+//! cycle. A flush expression uses no input, so those of the cycle before it may stand for the inputs meanwhile: where
+//! they are constants, as mostly, the lets come out as the same terms and are kept once.
 ghost use Rattle.std.specs.Prelude.{◌≡◌, IfOk, map};
 ghost use Rattle.std.specs.List.{AllByRecursion};
 ghost use Rattle.bd_model.specs.DesignView.{design_view, port_view, PortView};
@@ -22,8 +22,8 @@ use bd_model::{Design, Ports};
 use bd_terms::Graph;
 use std::alloc::{AllocError, Global};
 
-/// The state after the flush cycles, and the inputs of this state. Refused for want of memory, the graph may keep further
-/// nodes.
+/// The state after the flush cycles, and the inputs of this state. Refused for want of memory, the graph may keep
+/// further nodes.
 pub fn sym_flush(
     alloc: Global,
     graph: &mut Graph,
@@ -53,7 +53,7 @@ pub fn sym_flush(
     })
 }
 
-// The state after one flush cycle, and the cycle's inputs.
+/// The state after one flush cycle, and the inputs of that cycle.
 fn flush_cycle(
     alloc: Global,
     graph: &mut Graph,
@@ -80,7 +80,7 @@ fn flush_cycle(
     })
 }
 
-// The terms of the flush expressions.
+/// The terms of the flush expressions in a state, after the pipeline's lets.
 fn idle_inputs(
     alloc: Global,
     graph: &mut Graph,
@@ -101,7 +101,7 @@ fn idle_inputs(
     Ok(inputs)
 }
 
-// A term for each flush expression.
+/// A term for each input's flush expression, in order, over a state and the terms of the lets.
 fn idle_terms(
     alloc: Global,
     graph: &mut Graph,

@@ -1,8 +1,8 @@
 //! Expressions and cycles of the two machines over terms, for all states at once.
 //!
 //! An expression is built form by form as its value is found, with terms in place of values. So the term denotes the
-//! value in every world in which the terms that the names stand for denote what the names stand for. A cycle builds each
-//! let once and then each next expression, all over the terms of the old state.
+//! value in every world in which the terms that the names stand for denote what the names stand for. A cycle builds
+//! each let once and then each next expression, all over the terms of the old state.
 #![tactic(auto)]
 
 mod build;

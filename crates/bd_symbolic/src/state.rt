@@ -15,7 +15,7 @@ pub struct SymState {
     pub inputs: TermIds,
 }
 
-// The same terms.
+/// A copy of a list of terms.
 pub(crate) fn copy_of(ids: &TermIds) -> Result<TermIds, AllocError>
     ensures { IfOk result (λ copy. copy ≡ ids.now) }
 {

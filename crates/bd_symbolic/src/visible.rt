@@ -38,7 +38,7 @@ pub fn project(alloc: Global, design: &Design, state: &SymState) -> Result<SymSt
     })
 }
 
-// The term at a place, from 0.
+/// The term at a place of a list, from 0; the first term of a graph where there is no such place.
 fn term_at(ids: &TermIds, place: u32) -> Id
     ensures { result ≡ slice_index_or ids.now place 0 }
 {

@@ -88,7 +88,7 @@ impl Graph {
         true
     }
 
-    // The Id of the node, which is put after the others if it isn't there.
+    /// The Id of the node, which is put after the others if it isn't there.
     pub(crate) fn keep(&mut self, node: Node) -> Result<Id, AllocError>
         requires fits { FitsSorts self.old node }
         requires symbols { KeepsUses self.old node }
@@ -106,7 +106,7 @@ impl Graph {
         Ok(Id::new(index))
     }
 
-    // The sort that the node has in this graph.
+    /// The sort that the node has in this graph.
     fn node_sort(&self, node: &Node) -> Sort
         requires { FitsSorts self.now node.now }
         ensures { result ≡ node_sort (sorts self.now) node.now }

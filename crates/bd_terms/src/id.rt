@@ -29,14 +29,14 @@ impl Model for Id {
 }
 
 impl Id {
-    // The name of the node at this place.
+    /// The Id of the node at this place.
     pub(crate) fn new(index: usize) -> Id
         ensures { result ≡ index }
     {
         Id { index }
     }
 
-    /// The place.
+    /// The place of the node in its graph, from 0.
     pub fn index(self) -> usize
         ensures { result ≡ self }
     {
@@ -91,6 +91,7 @@ impl Ids {
 impl Clone for Ids {
     ghost is_clone = { λ old new. new ≡ old };
 
+    /// A copy of the Ids.
     fn clone(&self) -> Result<Ids, AllocError> {
         Ids::from_slice(*self.items.allocator(), self.as_slice())
     }
@@ -101,6 +102,7 @@ impl PartialEq for Ids {
 
     ghost laws = { lists_per (partial_equiv_from_equiv nat_eq_equiv) };
 
+    /// Whether both have the same Ids in order.
     fn eq(&self, other: &Ids) -> bool {
         self.items == other.items
     }
@@ -115,6 +117,7 @@ impl Hash for Ids {
 
     ghost respects_eq = { (items_Alike (same_Alike fed.usize unsigned_Decides)).fed };
 
+    /// Feeds the Ids to a hasher.
     fn hash<H: Hasher>(&self, state: &mut H) {
         self.items.hash(state);
     }

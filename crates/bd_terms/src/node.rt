@@ -60,7 +60,7 @@ impl Node {
         Ok(node)
     }
 
-    // Whether the node applies the symbol to so many arguments and as a term of this sort, if it applies it.
+    /// Whether the node applies the symbol to so many arguments and as a term of this sort, if it applies it.
     pub(crate) fn keeps_symbol(&self, sym: Sym, arity: usize, sort: Sort) -> bool
         ensures { IsTrue result ↔ NodeKeepsSymbol self.now sym arity sort }
     {

@@ -51,7 +51,7 @@ pub fn reached(graph: &Graph, root: Id) -> Result<ReachedTerms, AllocError>
     Ok(ReachedTerms { items })
 }
 
-// Marks what the node stands over.
+/// Marks the terms that the node stands over.
 fn mark_children(marks: &mut [bool], node: &Node)
     requires { All (λ c. c < length marks.old) (children node.now) }
     ensures { marks.new ≡ marked marks.old (children node.now) }

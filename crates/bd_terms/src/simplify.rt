@@ -18,7 +18,7 @@ pub enum Outcome {
 }
 
 impl Graph {
-    // What the node comes out as.
+    /// What the node comes out as: a term that is there, or a node that is still to be kept.
     pub(crate) fn simplified(&self, node: Node) -> Outcome
         requires { FitsSorts self.now node }
         ensures outcome { result ≡ simplified self.now node }
@@ -35,6 +35,7 @@ impl Graph {
         }
     }
 
+    /// What the negation of a term comes out as: that of a negation is the term below it.
     fn negation(&self, a: Id) -> Outcome
         requires { a < length self.now }
         ensures { result ≡ simplified self.now (node.Not a) }
@@ -45,6 +46,7 @@ impl Graph {
         }
     }
 
+    /// What a conjunction comes out as: one part where they are equal or one is constant.
     fn conjunction(&self, a: Id, b: Id) -> Outcome
         requires first { a < length self.now }
         requires second { b < length self.now }
@@ -59,6 +61,7 @@ impl Graph {
         }
     }
 
+    /// What a disjunction comes out as: one part where they are equal or one is constant.
     fn disjunction(&self, a: Id, b: Id) -> Outcome
         requires first { a < length self.now }
         requires second { b < length self.now }
@@ -73,6 +76,7 @@ impl Graph {
         }
     }
 
+    /// What a choice comes out as: a branch where the control is constant or the branches are equal.
     fn choice(&self, control: Id, yes: Id, no: Id) -> Outcome
         requires { control < length self.now }
         ensures { result ≡ simplified self.now (node.Ite control yes no) }
@@ -86,6 +90,7 @@ impl Graph {
         }
     }
 
+    /// Whether the term is the constant true.
     fn is_true(&self, id: Id) -> bool
         requires { id < length self.now }
         ensures { result ≡ is_true self.now id }
@@ -93,6 +98,7 @@ impl Graph {
         matches!(self.node(id), Node::True)
     }
 
+    /// Whether the term is the negation of the constant true.
     fn is_false(&self, id: Id) -> bool
         requires { id < length self.now }
         ensures { result ≡ is_false self.now id }
@@ -104,6 +110,7 @@ impl Graph {
     }
 }
 
+/// What an equation of words comes out as: true where both sides are one term.
 fn equation(a: Id, b: Id) -> Outcome
     ensures { result ≡ (if a == b then outcome.Built node.True else outcome.Built (node.Eq a b)) }
 {

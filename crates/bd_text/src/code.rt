@@ -132,6 +132,7 @@ impl Code {
 impl fmt::Display for Code {
     ghost output = { λ code. Some (code_name code ++ 32 ∷ code_text code) };
 
+    /// Writes the code and the text after it, as a message has them.
     fn fmt<W: fmt::Write>(&self, f: &mut fmt::Formatter<W>) -> fmt::Result {
         let name = self.name();
         let text = self.text();

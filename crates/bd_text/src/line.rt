@@ -30,7 +30,7 @@ impl Line {
         line
     }
 
-    /// Its bytes.
+    /// The bytes of the line, without its end.
     pub fn bytes(self, text: &[u8]) -> &[u8] {
         text.get(self.start..self.end).unwrap_or(&[])
     }

@@ -18,7 +18,7 @@ pub enum Tree {
     Atom {
         /// Where its first byte stands.
         offset: usize,
-        /// Its bytes.
+        /// The atom's bytes.
         text: Bytes,
     },
     /// Trees between `(` and `)`.
@@ -59,7 +59,7 @@ impl Trees {
         self.items.len()
     }
 
-    /// Whether there is none.
+    /// Whether there is no tree.
     pub fn is_empty(&self) -> bool
         ensures { IsTrue result ↔ (node_count (nodes_of self.now) ≡ 0) }
     {

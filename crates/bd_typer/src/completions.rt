@@ -19,7 +19,7 @@ use bd_model::{Expr, Exprs};
 use bd_syntax::{Abstract, CompAst, FormFault};
 use std::alloc::Global;
 
-/// `(abstract NAME EXPR)`
+/// Sets the expression of an entry by `(abstract NAME EXPR)`.
 #[tactic(auto, unfolding(crate::specs::Completions::typed_abstract))]
 fn typed_abstract(
     alloc: Global,

@@ -197,7 +197,7 @@ pub struct Counted {
     again: Option<usize>,
 }
 
-/// One offset more of what must stand once, if there is one.
+/// Counts one offset more of what must stand once, if there is one.
 fn count(counted: Counted, offset: Option<usize>) -> Counted
     ensures { result ≡ counted_with counted offset }
 {

@@ -67,7 +67,7 @@ fn leaf_value(names: Lookup<'_>, inputs: bool, leaf: &Spot) -> Result<(Expr, Sor
     }
 }
 
-/// One of them, of the wanted sort.
+/// The expression of `true`, `false` or a name, of the wanted sort.
 #[tactic(auto, unfolding(crate::specs::Typing::typed_leaf))]
 fn leaf(names: Lookup<'_>, inputs: bool, want: Sort, leaf: &Spot) -> Result<Expr, FormFault>
     ensures { Gives expr_view result

@@ -27,7 +27,7 @@ pub fn uses_input(flags: &[bool], expr: &Expr) -> bool
     }
 }
 
-/// Whether one of them does.
+/// Whether one of these expressions uses an input, also through lets.
 #[cycle(uses)]
 fn any_uses_input(flags: &[bool], exprs: &Exprs) -> bool
     ensures { result ≡ any_uses_input flags.now (expr_views exprs.now) }

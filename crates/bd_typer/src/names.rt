@@ -45,7 +45,7 @@ pub struct NameMap<'a> {
 }
 
 impl<'a> NameMap<'a> {
-    /// No names.
+    /// The map of no name.
     pub fn new(alloc: Global) -> NameMap<'a>
         ensures { meanings result ≡ no_names }
     {
@@ -54,7 +54,7 @@ impl<'a> NameMap<'a> {
         }
     }
 
-    /// From now on the name means this.
+    /// Lets the name mean this from now on.
     pub fn declare(&mut self, name: &'a [u8], meaning: Meaning) -> Result<(), AllocError>
         ensures { OnOk result
             (meanings self.new ≡ declare (meanings self.old) name.now meaning) }

@@ -100,7 +100,7 @@ fn three(alloc: Global, parts: Vec<Expr>) -> Result<Option<Three>, AllocError>
     )))
 }
 
-/// An operator of two parts.
+/// The expression of an operator of two parts.
 fn of_two(operator: Operator, a: Box<Expr>, b: Box<Expr>) -> Expr
     ensures { expr_view result ≡ of_two operator (expr_view a.value) (expr_view b.value) }
 {
@@ -112,7 +112,7 @@ fn of_two(operator: Operator, a: Box<Expr>, b: Box<Expr>) -> Expr
     }
 }
 
-/// An operator of three parts.
+/// The expression of an operator of three parts.
 fn of_three(operator: Operator, a: Box<Expr>, b: Box<Expr>, c: Box<Expr>) -> Expr
     ensures { expr_view result
         ≡ of_three operator (expr_view a.value) (expr_view b.value) (expr_view c.value) }
@@ -123,7 +123,7 @@ fn of_three(operator: Operator, a: Box<Expr>, b: Box<Expr>, c: Box<Expr>) -> Exp
     }
 }
 
-/// An operator of one part.
+/// The expression of the operator of one part, `not`; any other number of parts makes false.
 #[tactic(auto, using(crate::proofs::Operations::not_one))]
 fn of_one_part(alloc: Global, parts: Vec<Expr>) -> Result<Expr, AllocError>
     ensures { IfOk result (λ e. expr_view e ≡ of_one_part (map expr_view parts.items)) }
@@ -134,6 +134,7 @@ fn of_one_part(alloc: Global, parts: Vec<Expr>) -> Result<Expr, AllocError>
     }
 }
 
+/// The expression of an operator of two parts; any other number of parts makes false.
 #[tactic(auto, using(crate::proofs::Operations::not_two))]
 fn of_two_parts(alloc: Global, operator: Operator, parts: Vec<Expr>) -> Result<Expr, AllocError>
     ensures { IfOk result (λ e. expr_view e ≡ of_two_parts operator (map expr_view parts.items)) }
@@ -144,6 +145,7 @@ fn of_two_parts(alloc: Global, operator: Operator, parts: Vec<Expr>) -> Result<E
     }
 }
 
+/// The expression of an operator of three parts; any other number of parts makes false.
 #[tactic(auto, using(crate::proofs::Operations::not_three))]
 fn of_three_parts(alloc: Global, operator: Operator, parts: Vec<Expr>) -> Result<Expr, AllocError>
     ensures { IfOk result (λ e. expr_view e

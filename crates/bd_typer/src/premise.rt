@@ -18,7 +18,7 @@ pub enum Premise {
 }
 
 impl Premise {
-    /// Its file.
+    /// The file that says this of states.
     pub fn file(self) -> Text
         ensures { result ≡ premise_file self }
     {

@@ -19,7 +19,7 @@ pub struct Scope<'a> {
     pub inputs: u32,
 }
 
-/// A name of its own.
+/// A copy of a name, for the design to keep.
 pub fn copied(alloc: Global, name: &Spot) -> Result<Name, AllocError>
     ensures { IfOk result (λ copy. copy ≡ name.now.text) }
 {
@@ -27,7 +27,7 @@ pub fn copied(alloc: Global, name: &Spot) -> Result<Name, AllocError>
 }
 
 impl<'a> Scope<'a> {
-    /// A latch or memory.
+    /// Takes a latch or memory into the scope.
     fn entry(&mut self, alloc: Global, name: &'a Spot, sort: Sort) -> Result<(), AllocError>
         requires { length self.old.entries < most_items }
         ensures { (all : List Symbol) → OnOk result
@@ -41,7 +41,7 @@ impl<'a> Scope<'a> {
         Ok(())
     }
 
-    /// An input.
+    /// Takes an input into the scope.
     fn input(&mut self, name: &'a Spot, sort: Sort) -> Result<(), AllocError>
         requires { self.old.inputs < most_items }
         ensures { (all : List Symbol) → OnOk result
@@ -56,7 +56,7 @@ impl<'a> Scope<'a> {
         Ok(())
     }
 
-    /// A function or predicate, which has the number of the other file's one of the name, or the next.
+    /// Takes a function or predicate into the scope, with the number of the other file's one of the name, or the next.
     fn symbol(
         &mut self,
         alloc: Global,
@@ -93,7 +93,7 @@ impl<'a> Scope<'a> {
         self.names.declare(text, meaning)
     }
 
-    /// One item: a let is there, and means nothing before it.
+    /// Takes one item into the scope: a let is there, and means nothing before it.
     fn item(
         &mut self,
         alloc: Global,

@@ -137,7 +137,7 @@ impl<'a> Typed<'a> {
         }
     }
 
-    /// `(input NAME SORT EXPR)`
+    /// Goes through `(input NAME SORT EXPR)`.
     #[tactic(auto, unfolding(crate::specs::Walk::typed_input))]
     fn input(
         &mut self,
@@ -184,7 +184,7 @@ impl<'a> Typed<'a> {
         Ok(())
     }
 
-    /// `(let NAME SORT EXPR)`
+    /// Goes through `(let NAME SORT EXPR)`.
     #[tactic(auto, unfolding(crate::specs::Walk::typed_let))]
     fn local(
         &mut self,
@@ -205,7 +205,7 @@ impl<'a> Typed<'a> {
         Ok(())
     }
 
-    /// `(next NAME EXPR)`
+    /// Goes through `(next NAME EXPR)`.
     #[tactic(auto, unfolding(crate::specs::Walk::typed_next))]
     fn next(
         &mut self,
@@ -224,7 +224,7 @@ impl<'a> Typed<'a> {
         Ok(())
     }
 
-    /// `(exact N EXPR)`
+    /// Goes through `(exact N EXPR)`.
     #[tactic(auto, unfolding(crate::specs::Walk::typed_exact))]
     fn exact(
         &mut self,
@@ -241,7 +241,7 @@ impl<'a> Typed<'a> {
         Ok(())
     }
 
-    /// `(distinct NAME NAME ..)`
+    /// Goes through `(distinct NAME NAME ..)`.
     #[tactic(auto, unfolding(crate::specs::Walk::typed_distinct))]
     fn distinct(
         &mut self,
@@ -257,7 +257,7 @@ impl<'a> Typed<'a> {
         Ok(())
     }
 
-    /// One item, in whose lets inputs may be used or not.
+    /// Goes through one item, in whose lets inputs may be used or not.
     fn item(
         &mut self,
         alloc: Global,
@@ -289,7 +289,7 @@ impl<'a> Typed<'a> {
         }
     }
 
-    /// The items in the order of the text.
+    /// Goes through the items in the order of the text.
     pub fn items(
         &mut self,
         alloc: Global,

@@ -51,10 +51,12 @@ fn joined(alloc: Global, comp: &str) -> Result<Joined, DesignFault> {
     completed_design(alloc, pipe, spec, comp, Some(inv))
 }
 
+/// What a case shows by the abstraction of a completed design.
 fn judged_case(alloc: Global, joined: &Joined, case: &Case) -> Result<Option<Judged>, AllocError> {
     Ok(Some(judge_by(alloc, &joined.design, &joined.abs, case)?))
 }
 
+/// What the case that a text denotes shows by an abstraction; nothing if the text has a fault.
 fn judged_text(alloc: Global, joined: &Joined, case: &str) -> Result<Option<Judged>, AllocError> {
     match read_case(alloc, &joined.design, case.as_bytes()) {
         Ok(case) => judged_case(alloc, joined, &case),
@@ -62,6 +64,7 @@ fn judged_text(alloc: Global, joined: &Joined, case: &str) -> Result<Option<Judg
     }
 }
 
+/// What a case shows by a completion, both as texts; nothing if one of them has a fault.
 fn judged(alloc: Global, comp: &str, case: &str) -> Result<Option<Judged>, AllocError> {
     match joined(alloc, comp) {
         Ok(joined) => judged_text(alloc, &joined, case),
@@ -69,6 +72,7 @@ fn judged(alloc: Global, comp: &str, case: &str) -> Result<Option<Judged>, Alloc
     }
 }
 
+/// Each case shows by its completion what is expected: it holds, it breaks a condition, or it is outside.
 #[test]
 fn cases_are_judged_by_a_completion(rt: HostRuntime) -> Result<(), Fail> {
     for &(comp, case, want) in &ROWS {

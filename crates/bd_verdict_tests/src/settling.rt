@@ -10,11 +10,11 @@ use std::test::Fail;
 /// The four clauses over two variables, which no assignment satisfies, a line each.
 const SQUARE: &str = "1 2\n1 -2\n-1 2\n-1 -2\n";
 
-/// The same without the last.
+/// The first three of the four clauses over two variables, a line each.
 const OPEN: &str = "1 2\n1 -2\n-1 2\n";
 
-/// The clauses over two variables, what is said, a model by the variables that are true, the budget, the lines of the log,
-/// and what that comes to. A line has its id, its literals, 0 and its hints; `d` begins a deletion.
+/// The clauses over two variables, what is said, a model by the variables that are true, the budget, the lines of the
+/// log, and what that comes to. A line has its id, its literals, 0 and its hints; `d` begins a deletion.
 static ROWS: [(&str, &str, u32, &str, &str); 13] = [
     (SQUARE, "refuted", 9, "5 -1 0 4", "bad proof 1"),
     (SQUARE, "refuted", 9, "", "no end 0"),
@@ -146,7 +146,7 @@ fn assignment(alloc: Global, vars: &str) -> Result<Assignment, AllocError> {
     Ok(assignment)
 }
 
-/// What is said.
+/// What the scripted solver says by these words: a model with its true variables, `spent`, or that it is refuted.
 fn found(alloc: Global, said: &str) -> Result<Found, AllocError> {
     match said.strip_prefix("model") {
         Some(vars) => Ok(Found::Model(assignment(alloc, vars)?)),
@@ -155,7 +155,7 @@ fn found(alloc: Global, said: &str) -> Result<Found, AllocError> {
     }
 }
 
-/// What it comes to.
+/// What a checked answer comes to, in words.
 fn shown(alloc: Global, settled: &Settled) -> Result<String, AllocError> {
     let mut text = String::new(alloc);
     match settled {
@@ -180,7 +180,7 @@ fn script(
     Ok(Scripted { found, lines })
 }
 
-/// What the solver's answer comes to.
+/// What the scripted solver's answer comes to once it is checked, in words.
 fn settled(
     alloc: Global,
     solver: &mut Scripted,
@@ -191,6 +191,7 @@ fn settled(
     shown(alloc, &settled)
 }
 
+/// What a scripted answer to the clauses comes to, with this budget and this log, in words.
 fn outcome(
     rt: &(impl Abort + AllocGlobal),
     clauses: &str,
@@ -203,6 +204,7 @@ fn outcome(
     settled(rt.alloc(), &mut solver, &cnf, budget)
 }
 
+/// Each answer of a solver, also one that lies, comes to what its row says.
 #[test]
 fn answers_are_checked(rt: HostRuntime) -> Result<(), Fail> {
     for &(clauses, said, budget, lines, want) in &ROWS {

@@ -98,6 +98,7 @@ fn verdict(
     }
 }
 
+/// The plain solver comes to each verdict: correct, wrong by either condition, void and undecided.
 #[test]
 fn the_plain_solver_gives_each_verdict(rt: HostRuntime) -> Result<(), Fail> {
     for &(pipe, spec, inv, budget, want) in &ROWS {

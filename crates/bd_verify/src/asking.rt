@@ -17,9 +17,9 @@ use std::alloc::{AllocError, Global};
 /// Whether some fitting case is such as is asked.
 #[derive(Drop)]
 pub(crate) enum Decision {
-    /// None is.
+    /// No fitting case is.
     None(Work),
-    /// This one is.
+    /// This case is.
     Some(Case, Work),
     /// The budget was spent.
     Spent(Work),

@@ -25,9 +25,9 @@ use std::alloc::{AllocError, Global};
 /// Whether a root is true in every world that keeps the constants apart.
 #[derive(Drop)]
 pub enum Decided {
-    /// It is.
+    /// The root is true in each of them.
     Valid(Work),
-    /// It is false in the world of this trail.
+    /// The root is false in the world of this trail.
     False(Trail, Work),
     /// The budget was spent.
     Spent(Work),
@@ -62,7 +62,7 @@ pub fn decide<S: HonestSolver>(
     )
 }
 
-/// The same in either mode.
+/// Whether a root over the symbols of a design is true in every world that keeps the constants apart, in a mode.
 pub(crate) fn decide_by<S: HonestSolver>(
     alloc: Global,
     solver: &mut S,
@@ -120,6 +120,7 @@ fn lifted(
     )
 }
 
+/// The formula and the log of an answer.
 fn work(reduction: Reduction, log: Log) -> Work
     ensures cnf { result.cnf ≡ reduction.formula.cnf }
     ensures log { result.log ≡ log }

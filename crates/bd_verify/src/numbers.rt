@@ -19,7 +19,7 @@ pub(crate) struct Numbers {
 }
 
 impl Numbers {
-    /// These rows.
+    /// The numbers of the atoms of these rows, where variables up to `vars` are taken.
     pub(crate) fn of(alloc: Global, vars: u64, atoms: AtomVars) -> Result<Numbers, AllocError>
         requires { AreRows vars atoms }
         ensures vars { IfOk result (λ n. n.vars ≡ vars) }

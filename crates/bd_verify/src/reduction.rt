@@ -54,7 +54,7 @@ pub(crate) fn reduced(
     })
 }
 
-/// The formula of a flat one.
+/// The clauses of a flat formula's negation, and the order of its edges.
 fn formula_of(
     alloc: Global,
     design: &Design,

@@ -102,6 +102,7 @@ fn additions(log: &Log) -> u64
         .count() as u64
 }
 
+/// Whether a line adds a clause of one literal or more.
 fn adds_literals(line: &Line) -> bool
     ensures { result ≡ adds_literals line.now }
 {

@@ -47,7 +47,7 @@ pub struct Work {
 /// What a pipeline is found to be. Each verdict has the work of the question that gave it.
 #[derive(Drop)]
 pub enum Verdict {
-    /// It obeys its specification. Where an invariant was given: a case that meets it and breaks nothing.
+    /// The pipeline obeys its specification. Where an invariant was given: a case that meets it and breaks nothing.
     Correct(Option<Case>, Work),
     /// A case breaks the condition.
     Wrong(Condition, Case, Work),
@@ -100,7 +100,7 @@ pub fn verify<S: HonestSolver>(
     }
 }
 
-/// Whether a case breaks a condition, where this one, if any, meets the invariant.
+/// The verdict by whether some case breaks a condition; `met`, if given, is a case that meets the invariant.
 fn breaks<S: HonestSolver>(
     alloc: Global,
     solver: &mut S,

@@ -64,6 +64,7 @@ fn program<F: Files, O: Sink, E: Sink>(
     }
 }
 
+/// The companion on the host's command line, files, standard output and standard error.
 fn main(rt: HostRuntime) -> ExitCode {
     program(
         rt.alloc(),

@@ -41,7 +41,7 @@ pub fn walk(alloc: Global, graph: &Graph, root: Id) -> Result<Vec<Id>, AllocErro
     Ok(finished)
 }
 
-// Puts a visit to each child on the stack, to the first one on top.
+/// Puts a visit to each child on the stack, to the first one on top.
 fn push_children(visits: &mut Vec<Visit>, node: &Node) -> Result<(), AllocError>
     ensures { OnOk result (visits.new.items ≡ visits.old.items ++ entries (children node.now)) }
 {
@@ -56,7 +56,7 @@ fn push_children(visits: &mut Vec<Visit>, node: &Node) -> Result<(), AllocError>
     }
 }
 
-// Puts a visit to each of these on the stack, to the first one on top.
+/// Puts a visit to each of these terms on the stack, to the first one on top.
 fn push_all(visits: &mut Vec<Visit>, ids: &[Id]) -> Result<(), AllocError>
     ensures { OnOk result (visits.new.items ≡ visits.old.items ++ entries ids.now) }
 {

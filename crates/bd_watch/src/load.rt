@@ -26,7 +26,7 @@ fn first_two(lits: &[Lit]) -> (PackedLit, PackedLit)
     (PackedLit::of(lits[0]), PackedLit::of(lits[1]))
 }
 
-/// The only literal besides those two, if there is one.
+/// The only literal of a clause besides the two that it watches, if there is one.
 fn third(lits: &[Lit], first: PackedLit, second: PackedLit) -> Option<PackedLit>
     requires { IsBelow (2 ^ 31) lits.now }
     ensures { IfSome result (IsThird lits.now first second) }
@@ -68,6 +68,7 @@ fn watcher(lits: &[Lit], clause: u32, watched: PackedLit, blocker: PackedLit) ->
     }
 }
 
+/// So many empty lists of watchers.
 fn empty_lists(alloc: Global, count: usize) -> Result<Vec<WatchList>, AllocError>
     ensures { IfOk result (λ lists. lists.items ≡ replicate count []) }
 {

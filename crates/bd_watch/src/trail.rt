@@ -34,14 +34,14 @@ impl Model for Assigned {
 }
 
 impl Assigned {
-    /// The literal.
+    /// The literal that was taken as true.
     pub fn literal(self) -> PackedLit
         ensures { result ≡ self.literal }
     {
         self.literal
     }
 
-    /// The id of the clause that implied it, if it is no decision.
+    /// The id of the clause that implied the literal, if it is no decision.
     pub fn reason(self) -> Option<u64>
         ensures { result ≡ self.reason }
     {

@@ -34,17 +34,17 @@ pub struct Watch {
 
 /// What came of a clause whose watched literal has become false.
 enum Visited {
-    /// It watches another in its place.
+    /// The clause watches another literal in its place.
     Moved,
-    /// It is true.
+    /// The clause is true.
     Kept,
-    /// It is true by the other that it watches.
+    /// The clause is true by the other literal that it watches.
     Blocked(PackedLit),
-    /// It is false.
+    /// The clause is false.
     Conflict,
 }
 
-/// A literal of the clause, besides the other, that isn't false.
+/// A literal of the clause that isn't false, besides the other that it watches.
 fn replacement(trail: &AssignmentTrail, clause: &[PackedLit], other: PackedLit) -> Option<PackedLit>
     requires { IsBelow trail.now.limit clause.now }
     ensures some { IfSome result

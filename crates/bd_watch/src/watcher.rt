@@ -30,7 +30,7 @@ pub(crate) struct WatchedPair {
 }
 
 impl WatchedPair {
-    /// The other of the two, if the literal is one of them.
+    /// Of the two literals that a clause watches, the other one, if this is one of them.
     pub(crate) fn other(self, packed: PackedLit) -> Option<PackedLit>
         ensures some { IfSome result (AreTwo self packed) }
         ensures none { IfNone result (IsOneOf self packed → ⊥) }
@@ -44,7 +44,7 @@ impl WatchedPair {
         None
     }
 
-    /// The watcher of its first literal.
+    /// The watcher of the pair's first literal.
     pub(crate) fn watcher(&self, clause: u32) -> Watcher
         ensures clause { result.clause ≡ clause }
         ensures blocker { result.blocker ≡ self.now.second }
@@ -80,6 +80,7 @@ impl Model for WatchList {
 }
 
 impl WatchList {
+    /// The list of no watcher. It takes no memory.
     pub(crate) fn new(alloc: Global) -> WatchList
         ensures { result ≡ [] }
     {
@@ -111,6 +112,7 @@ impl WatchList {
         };
     }
 
+    /// Puts a watcher after the others.
     pub(crate) fn push(&mut self, watcher: Watcher) -> Result<(), AllocError>
         ensures ok { OnOk result (self.new ≡ self.old ++ watcher ∷ []) }
         ensures err { OnErr result (self.new ≡ self.old) }

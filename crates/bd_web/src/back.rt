@@ -15,7 +15,7 @@ pub struct Parts {
 }
 
 impl Parts {
-    /// None yet.
+    /// The list of no part. It takes no memory.
     fn new(alloc: Global) -> Parts
         ensures { AreParts result.bytes.items result.lengths.items [] }
     {

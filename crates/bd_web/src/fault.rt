@@ -16,7 +16,7 @@ pub enum Fault {
 }
 
 impl Fault {
-    /// The status that the page gets.
+    /// The status that the page gets for a fault.
     pub fn status(self) -> u32
         ensures { result ≡ status_of self }
     {

@@ -42,7 +42,7 @@ impl Folder {
         }
     }
 
-    /// Its files.
+    /// The files of the folder, each with its name.
     pub fn files(&self) -> &[(String, Vec<u8>)]
         ensures { files_of result.now ≡ self.now.files }
     {
@@ -60,6 +60,7 @@ impl Files for Folder {
 
     ghost calls = { λ _. None };
 
+    /// The first bytes of a file of the folder; it fails where there is no file of that name.
     fn load(&mut self, name: &str, most: usize) -> Result<Vec<u8>, LoadError>
         ensures given { IfOk result (λ bytes.
             option_map (take (most + 1)) (bytes_of self.old.files name.now) ≡ Some bytes.items) }
@@ -79,6 +80,7 @@ impl Files for Folder {
         }
     }
 
+    /// Puts a file of that name in front of the others; only want of memory makes it fail.
     fn save(&mut self, name: &str, bytes: &[u8]) -> Result<(), SaveError>
         ensures ok { OnOk result (self.new ≡ saved self.old name.now bytes.now) }
         ensures never_fails { ¬ IsErrOf result SaveError.Failed }

@@ -83,7 +83,7 @@ fn files(alloc: Global, parts: &[&[u8]]) -> Result<Vec<(String, Vec<u8>)>, Fault
     Ok(files)
 }
 
-/// So many words, and then files.
+/// Reads what the page hands in: so many words, and then files.
 pub fn read_handed(
     alloc: Global,
     bytes: &[u8],

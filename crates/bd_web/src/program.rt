@@ -52,7 +52,7 @@ fn run_companion<F: Files, O: Sink, E: Sink>(
     bd_show::run(alloc, words, files, out, err).status()
 }
 
-/// The status of a run of the one that the words name.
+/// The status of a run of the program, or of the companion where the words name it.
 pub fn run<F: Files, O: Sink, E: Sink>(
     alloc: Global,
     words: &[String],

@@ -57,6 +57,7 @@ pub fn taken_over(alloc: Global, reason: &Reason) -> Result<Option<Subject>, All
     Ok(None)
 }
 
+/// The value by a name at the end of a way down, if this fact is that the value there rests on it.
 fn rests_at(fact: &Fact, path: &[u64]) -> Option<Subject> {
     match fact.finding {
         Finding::Rests(subject, _) if fact.path.as_slice() == path => Some(subject),

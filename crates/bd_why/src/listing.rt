@@ -114,6 +114,7 @@ impl<'a> Listing<'a> {
         })
     }
 
+    /// The item that stands at a place of the text's list, if there is such a place.
     fn item(&self, place: Option<&usize>) -> Option<Item<'_>> {
         item_of(list_of(&self.trees).get(*place?)?)
     }
@@ -150,7 +151,7 @@ impl<'a> Listing<'a> {
         None
     }
 
-    /// The last part, which is the expression of an invariant.
+    /// The last part of the text's list, which is the expression of an invariant.
     pub fn last(&self) -> Option<Item<'_>> {
         let expression = list_of(&self.trees).last()?;
         Some(Item {

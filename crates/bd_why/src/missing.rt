@@ -35,7 +35,7 @@ pub fn missing_text(
     Ok(text)
 }
 
-/// Puts the entries of the pipeline, which are all.
+/// Puts the names of the pipeline's entries, which are all that there are, parted by commas.
 fn push_entries(out: &mut Vec<u8>, design: &Design) -> Result<(), AllocError> {
     for (place, entry) in design.pipe.entries.as_slice().iter().enumerate() {
         if place != 0 {
@@ -49,7 +49,7 @@ fn push_entries(out: &mut Vec<u8>, design: &Design) -> Result<(), AllocError> {
     Ok(())
 }
 
-/// Puts the columns.
+/// Puts the columns of a design's tables: those before the cycle, those after it and those of steps.
 fn push_columns(out: &mut Vec<u8>, design: &Design) -> Result<(), AllocError> {
     push_range(out, Column::Before(0), Column::Before(design.flush))?;
     out.extend_from_slice(b", ")?;
@@ -58,6 +58,7 @@ fn push_columns(out: &mut Vec<u8>, design: &Design) -> Result<(), AllocError> {
     push_range(out, Column::Steps(0), Column::Steps(design.steps))
 }
 
+/// Puts the columns from one to another, as `before to before.3`, or the one if they are the same.
 fn push_range(out: &mut Vec<u8>, first: Column, last: Column) -> Result<(), AllocError> {
     push_column(out, first)?;
     if first == last {

@@ -1,9 +1,9 @@
 //! In which order the items behind a value are told.
 //!
-//! The way of the wrong value comes first: what it was copied from, and the arguments in which its function differs from
-//! the other side's. Then comes what is nearest to that. A word that the other side doesn't have is nearer than one that
-//! both have. Each item is told once. Where a value only stays what it was, its item is told of a cycle in which it
-//! changes, if there is one.
+//! The way of the wrong value comes first: what it was copied from, and the arguments in which its function differs
+//! from the other side's. Then comes what is nearest to that. A word that the other side doesn't have is nearer than
+//! one that both have. Each item is told once. Where a value only stays what it was, its item is told of a cycle in
+//! which it changes, if there is one.
 
 use crate::decided::{is_held, rests_of, taken_over};
 use crate::suspect::suspects_of;
@@ -27,6 +27,7 @@ fn words_of(alloc: Global, reasons: &Reasons) -> Result<IndexSet<u64>, AllocErro
     Ok(words)
 }
 
+/// Puts the word of a value into the set; a truth value has none.
 fn add_word(words: &mut IndexSet<u64>, value: Scalar) -> Result<(), AllocError> {
     if let Scalar::Word(word) = value {
         words.insert(word)?;
@@ -66,8 +67,8 @@ struct Met {
     is_suspect: bool,
 }
 
-/// A search from a value down to what it rests on: the values met at each distance from it and not left yet, and how far
-/// the search is.
+/// A search from a value down to what it rests on: the values met at each distance from it and not left yet, and how
+/// far the search is.
 #[derive(Drop)]
 struct Search {
     alloc: Global,
@@ -77,6 +78,7 @@ struct Search {
 }
 
 impl Search {
+    /// The search that begins at a value, which may be wrong itself.
     fn new(alloc: Global, root: Subject) -> Result<Search, AllocError> {
         let mut search = Search {
             alloc,
@@ -128,8 +130,8 @@ impl Search {
         Ok(None)
     }
 
-    /// Goes on with what a value rests on. What may be wrong is as near as the value itself, and so is a truth value that
-    /// is copied, and what it was before where it only stays that.
+    /// Goes on with what a value rests on. What may be wrong is as near as the value itself, and so is a truth value
+    /// that is copied, and what it was before where it only stays that.
     fn go_on(
         &mut self,
         reason: &Reason,

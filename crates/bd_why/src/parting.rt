@@ -110,6 +110,7 @@ fn has_row(value: Option<&Value>, address: u64) -> bool {
     }
 }
 
+/// Whether a memory has a row at this address.
 fn has_slot(memory: &Memory, address: u64) -> bool {
     let mut slots = memory.rows.as_slice().iter();
     slots.any(|slot| slot.address == address)

@@ -30,7 +30,7 @@ fn line_count(text: &[u8]) -> usize {
 }
 
 impl Report {
-    /// No line.
+    /// The report of no line.
     pub fn new(alloc: Global) -> Report {
         Report {
             text: Vec::new(alloc),
@@ -45,7 +45,7 @@ impl Report {
         text
     }
 
-    /// Puts lines after those before.
+    /// Puts lines after those that the report has.
     fn put(&mut self, text: &[u8]) -> Result<(), AllocError> {
         self.text.extend_from_slice(text)?;
         self.lines = self.lines.saturating_add(line_count(text));
@@ -109,8 +109,8 @@ impl Report {
         self.put(text.as_slice())
     }
 
-    /// Tells an item, if it isn't told and there is room, with the line of its text if that is wanted and says more than
-    /// a name.
+    /// Tells an item, if it isn't told and there is room, with the line of its text if that is wanted and says more
+    /// than a name.
     fn item(
         &mut self,
         alloc: Global,

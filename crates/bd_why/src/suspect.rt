@@ -41,6 +41,7 @@ pub fn suspects_of(
     Ok(suspects)
 }
 
+/// Whether a value is a word, and not a truth value.
 fn is_word(value: Scalar) -> bool {
     matches!(value, Scalar::Word(_))
 }

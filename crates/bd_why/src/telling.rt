@@ -50,7 +50,7 @@ pub fn shown(
     Ok(out)
 }
 
-/// That the flush cycles of a text are too few.
+/// The line which says that the flush cycles of a text are too few.
 pub fn told_short(
     alloc: Global,
     source: Source<'_>,
@@ -148,6 +148,7 @@ fn push_excerpt(
     push_carets(out, text, other.start, offset_of(part), end)
 }
 
+/// Puts a line of a text, indented by two spaces.
 fn push_line(out: &mut Vec<u8>, line: &[u8]) -> Result<(), AllocError> {
     out.extend_from_slice(b"  ")?;
     out.extend_from_slice(line)?;

@@ -88,7 +88,7 @@ fn first_goal(design: &Design, judged: Judged, diagram: &Diagram) -> Goal {
     }
 }
 
-/// What a text asks for.
+/// What is explained where a text asks for it.
 fn asked_goal(design: &Design, diagram: &Diagram, text: &[u8]) -> Result<Goal, Missing> {
     let asked = asked_of(design, text)?;
     match asked.column {
@@ -104,7 +104,7 @@ fn asked_goal(design: &Design, diagram: &Diagram, text: &[u8]) -> Result<Goal, M
     }
 }
 
-/// Both sides of a visible entry, and any other one after the cycle.
+/// What is explained of an entry without a column: both sides of a visible one, any other after the cycle.
 fn without_column(design: &Design, diagram: &Diagram, asked: Asked<'_>) -> Result<Goal, Missing> {
     if let Ok(entry) = asked.entry(design.spec.entries.as_slice()) {
         if let Some(sides) = both_sides(design, nearest(diagram), entry, asked.address) {
@@ -115,6 +115,7 @@ fn without_column(design: &Design, diagram: &Diagram, asked: Asked<'_>) -> Resul
     Ok(Goal::One(subject(asked, Column::After(0), entry)))
 }
 
+/// The value that is asked for in a column: a latch's, or a memory's word if an address is named.
 fn subject(asked: Asked<'_>, column: Column, entry: u32) -> Subject {
     match asked.address {
         Some(address) => Subject::Cell(column, entry, address),

@@ -33,6 +33,7 @@ pub fn push_column(out: &mut Vec<u8>, column: Column) -> Result<(), AllocError> 
     }
 }
 
+/// Puts a column by its first word and the flush cycles after it, as `after.2`; `after` stands for none.
 fn push_flushed(out: &mut Vec<u8>, start: &[u8], cycles: u32) -> Result<(), AllocError> {
     out.extend_from_slice(start)?;
     if cycles == 0 {
@@ -56,6 +57,7 @@ pub fn push_cycle(out: &mut Vec<u8>, cycle: Cycle) -> Result<(), AllocError> {
     }
 }
 
+/// Puts a flush cycle by the columns that it leads from and to, as `before to f1` or `after f1 to f2`.
 fn push_flush(out: &mut Vec<u8>, start: &[u8], cycles: u32) -> Result<(), AllocError> {
     let cycles = u64::from(cycles);
     out.extend_from_slice(start)?;

@@ -93,6 +93,7 @@ fn program<F: Files, O: Sink, E: Sink>(
     }
 }
 
+/// The program on the host's command line, files, standard output and standard error.
 fn main(rt: HostRuntime) -> ExitCode {
     program(
         rt.alloc(),

@@ -87,6 +87,7 @@ static ROWS: [Row; 6] = [
     },
 ];
 
+/// The words of a `check` of two names, or why there are no words.
 fn words_of(
     alloc: Global,
     names: Result<(&str, &str), WordsError>,
@@ -102,6 +103,7 @@ fn words_of(
     Ok(Ok(words))
 }
 
+/// A file of a shelf: its name and its bytes.
 fn file(alloc: Global, name: &str, text: &str) -> Result<(String, Vec<u8>), AllocError> {
     Ok((
         String::from_str(alloc, name)?,
@@ -109,6 +111,7 @@ fn file(alloc: Global, name: &str, text: &str) -> Result<(String, Vec<u8>), Allo
     ))
 }
 
+/// The shelf with a row's pipeline `p` and specification `s`, of which no call is to fail.
 fn shelf(alloc: Global, row: &Row) -> Result<Shelf, AllocError> {
     let pipe = file(alloc, "p", row.pipe)?;
     let spec = file(alloc, "s", row.spec)?;
@@ -121,11 +124,13 @@ fn holds(alloc: Global, row: &Row) -> Result<bool, AllocError> {
     holds_over(alloc, row, &mut files)
 }
 
+/// Whether the program ends and prints as the row says, over these files.
 fn holds_over(alloc: Global, row: &Row, files: &mut Shelf) -> Result<bool, AllocError> {
     let mut out = Page::new(alloc, 80, Vec::new(alloc))?;
     holds_on(alloc, row, files, &mut out)
 }
 
+/// Whether the program ends and prints as the row says, over these files and on this page.
 fn holds_on(
     alloc: Global,
     row: &Row,
@@ -142,6 +147,7 @@ fn holds_on(
     )
 }
 
+/// The program ends with the status and the lines of each kind of answer.
 #[test]
 fn ends_with_the_status_of_the_answer(rt: HostRuntime) -> Result<(), Fail> {
     for row in &ROWS {

@@ -66,7 +66,7 @@ fn any_marked(marks: &[bool], start: usize, end: usize) -> bool
 }
 
 impl Analysis {
-    /// With room for trails of the variables up to `vars`.
+    /// The analysis in which nothing is marked, with room for trails of the variables up to `vars`.
     pub(crate) fn new(alloc: Global, vars: u64) -> Result<Analysis, AllocError>
         ensures { IfOk result (IsClear (vars + 1)) }
     {
@@ -78,6 +78,7 @@ impl Analysis {
         })
     }
 
+    /// Takes the mark off a place, and keeps its literal for the learned clause.
     fn keep(&mut self, place: usize, packed: PackedLit) -> Result<(), AllocError>
         requires { place < length self.old.marks.items }
         ensures { OnOk result (Keeps self.old self.new place packed) }
@@ -87,6 +88,8 @@ impl Analysis {
         Ok(())
     }
 
+    /// Resolves the literal at a place with its reason, the clause of that id: marks what this rests on, and notes the
+    /// id.
     fn resolve(&mut self, watch: &Watch, place: usize, id: u64) -> Result<(), AllocError>
         requires watching { IsWatching watch.now }
         requires assigned { IsSomeAnd (get (numbered watch.now.clauses) id)

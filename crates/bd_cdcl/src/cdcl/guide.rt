@@ -17,7 +17,7 @@ pub(crate) struct Guide {
 }
 
 impl Guide {
-    /// For the variables up to `vars`.
+    /// The guide of a search over the variables up to `vars`.
     pub(crate) fn new(alloc: Global, vars: u64) -> Result<Guide, AllocError> {
         Ok(Guide {
             queue: VariableQueue::new(alloc, vars)?,

@@ -90,6 +90,7 @@ fn clause_of(alloc: Global, kept: &[PackedLit]) -> Result<Clause, AllocError>
     }
 }
 
+/// The literals that are kept packed, in order.
 fn lits_of(alloc: Global, kept: &[PackedLit]) -> Result<Vec<Lit>, AllocError>
     ensures { IfOk result (λ lits. lits.items ≡ kept.now) }
 {

@@ -23,7 +23,7 @@ pub(crate) struct Reach {
 }
 
 impl Reach {
-    /// With room for trails of the variables up to `vars`.
+    /// The search that came nowhere yet, with room for trails of the variables up to `vars`.
     pub(crate) fn new(alloc: Global, vars: u64) -> Result<Reach, AllocError> {
         let limit = vars.checked_add(1).ok_or(AllocError)? as usize;
         Ok(Reach {

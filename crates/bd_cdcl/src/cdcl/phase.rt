@@ -11,7 +11,7 @@ pub(crate) struct SavedPhases {
 }
 
 impl SavedPhases {
-    /// For the variables up to `vars`.
+    /// The saved signs of the variables up to `vars`, each negative at first.
     pub(crate) fn new(alloc: Global, vars: u64) -> Result<SavedPhases, AllocError> {
         let count = vars.checked_add(1).ok_or(AllocError)? as usize;
         Ok(SavedPhases {

@@ -40,6 +40,7 @@ pub(crate) struct Restarts {
 }
 
 impl Restarts {
+    /// The averages before any clause was learned.
     pub(crate) fn new() -> Restarts {
         Restarts {
             late: 0,

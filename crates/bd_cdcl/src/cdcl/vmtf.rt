@@ -29,13 +29,13 @@ pub(crate) struct VariableQueue {
     /// By variable, when it was put at the end of the queue: apart from the links, since a backjump
     /// reads nothing else.
     moved: Vec<u64>,
-    /// The one at the end of the queue.
+    /// The variable at the end of the queue.
     last: usize,
-    /// Those after it have values.
+    /// The variables after this one have values.
     next: usize,
     /// How often a variable was put at the end.
     moves: u64,
-    /// Those of the conflict at hand.
+    /// The variables that were seen in the conflict at hand.
     seen: Vec<Seen>,
 }
 
@@ -68,6 +68,7 @@ impl VariableQueue {
         self.next = self.last;
     }
 
+    /// The neighbours of a variable in the queue; none past the last variable.
     fn neighbours(&self, var: usize) -> Option<Neighbours> {
         self.links.get(var).copied()
     }

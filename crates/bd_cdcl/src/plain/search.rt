@@ -46,6 +46,7 @@ pub(crate) fn copied(alloc: Global, cnf: &Cnf) -> Result<Vec<Clause>, AllocError
     Ok(copy)
 }
 
+/// A copy of a clause, which is in order already.
 fn copy_of(alloc: Global, clause: &Clause) -> Result<Clause, AllocError>
     ensures same { IfOk result (λ copy. copy ≡ clause.now) }
     ensures rising { IfOk result IsRising }
@@ -54,6 +55,7 @@ fn copy_of(alloc: Global, clause: &Clause) -> Result<Clause, AllocError>
     Ok(Clause::from_rising(lits))
 }
 
+/// The negations of literals, in order.
 fn negations(alloc: Global, lits: &[Lit]) -> Result<Vec<Lit>, AllocError>
     ensures { IfOk result (λ found. found.items ≡ map negate lits.now) }
 {
