@@ -1,5 +1,7 @@
+pub mod Inputs
 pub mod Loads
 pub mod Readable
 pub mod Refusals
 pub mod Answers
+pub mod Trails
 pub mod Asked

@@ -1,5 +1,5 @@
 -- Texts that are read as a design can be read once more.
-use Rattle.std.proofs.Common.{◌≡◌, ℕ, List, refl, inl, inr}
+use Rattle.std.proofs.Common.{◌≡◌, ℕ, List, refl, subst, inl, inr}
 use Rattle.std.specs.Prelude.{Option, Some, None, Result, Ok, Err, IfOk, codes}
 use Rattle.bd_model.specs.DesignView.{DesignView, design_view}
 use Rattle.bd_model.specs.declared.design.Design.{Design}
@@ -16,7 +16,7 @@ use Rattle.bd_typer.specs.declared.fault.Text.{Text}
 use Rattle.bd_typer.specs.declared.fault.Text.TheVariants.{Pipe, Spec}
 use Rattle.bd_typer.specs.declared.fault.TypeFault.{TypeFault}
 use Rattle.bd_typer.specs.declared.premise.Premise.{Premise}
-use Rattle.bd_typer.specs.declared.premise.Premise.TheVariants.{Invariant}
+use Rattle.bd_typer.specs.declared.premise.Premise.TheVariants.{Invariant, Start}
 use Rattle.bd_app.proofs.Sources.{denotes_same}
 use Rattle.bd_show.specs.Files.{AreDesign, Texts}
 use Rattle.bd_show.specs.LetNames.{AreReadable, IsInvariantTextIf, IsMachineText}
@@ -88,3 +88,7 @@ readable_same t p s i d on pipe spec inv = readable t (design_view d) (denotes_s
 pub readable_result : (t : Texts) (p s : List ℕ) (i : Option (List ℕ)) (r : Result Design TypeFault) → OnDesign r (DenotesWith Invariant p s i) → p ≡ t.pipe → s ≡ t.spec → i ≡ t.inv → IfOk r (λ x. AreReadable t)
 readable_result t p s i (Ok d) on pipe spec inv = readable_same t p s i d on pipe spec inv
 readable_result t p s i (Err e) on pipe spec inv = tt
+
+pub started_result : (t : Texts) (p s : List ℕ) (i : Option (List ℕ)) (r : Result Design TypeFault) → OnDesign r (DenotesWith Start p s i) → p ≡ t.pipe → IfOk r (λ x. IsMachineText Pipeline t.pipe)
+started_result t p s i (Ok d) on pipe = subst (λ b. IsMachineText Pipeline b) pipe (pipe_readable Start p s i (design_view d) on)
+started_result t p s i (Err e) on pipe = tt

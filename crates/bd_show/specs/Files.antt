@@ -1,15 +1,18 @@
 -- The files that a question reads, and the one that it saves to.
-use Rattle.std.specs.Prelude.{◌≡◌, ◌⊎◌, ◌==◌, ◌||◌, ℕ, List, [], ◌∷◌, ◌++◌, Option, Some, None, Result, Ok, Err, if◌then◌else◌}
+use Rattle.std.specs.Prelude.{◌≡◌, ◌⊎◌, ◌==◌, ◌||◌, ◌&&◌, ℕ, Bool, false, not, List, [], ◌∷◌, ◌++◌, codes, Option, Some, None, Result, Ok, Err, if◌then◌else◌}
+use Rattle.std.specs.List.{starts_with}
 use Rattle.bd_files.specs.Devices.{Blame, Held}
 use Rattle.bd_files.specs.declared.devices.FileCall.TheVariants as call
 use Rattle.bd_text.specs.declared.code.Code.{Code}
 use Rattle.bd_model.specs.DesignView.{DesignView}
-use Rattle.bd_model.specs.Fits.{Fits}
+use Rattle.bd_model.specs.Fits.{Fits, TrailFits}
 use Rattle.bd_model.specs.declared.case.Case.{Case}
-use Rattle.bd_case.specs.Reads.{IsReading}
+use Rattle.bd_model.specs.declared.case.Trail.{Trail}
+use Rattle.bd_case.specs.Reads.{IsReading, IsTrailReading}
 use Rattle.bd_syntax.specs.Reading.{Fault}
-use Rattle.bd_typer.specs.Denotes.{Denotes}
+use Rattle.bd_typer.specs.Denotes.{Denotes, DenotesWith}
 use Rattle.bd_typer.specs.Faults.{FileFault}
+use Rattle.bd_typer.specs.declared.premise.Premise.TheVariants.{Start}
 use Rattle.bd_typer.specs.declared.fault.Text.{Text}
 use Rattle.bd_typer.specs.declared.fault.Text.TheVariants as text
 use Rattle.bd_app.specs.Words.{Name, given}
@@ -83,6 +86,40 @@ pub record AreCase (texts : Texts) (d : DesignView) (c : Case) : Type 0 where
   pub case : IsCaseOf d texts.case (Ok c)
   pub fits : Fits d c
 
+-- ---- what texts are where a trail stands in the place of a case
+
+-- `trail` begins the first list of a text, comments aside
+abbrev pub begins_trail : Bool → List ℕ → Bool
+begins_trail comment [] = false
+begins_trail comment (b ∷ bytes) =
+    if b == 10 then begins_trail false bytes
+    else (if not comment && (b == 40) then starts_with (λ x y. x == y) bytes (codes "trail")
+    else begins_trail (comment || (b == 59)) bytes)
+
+abbrev pub is_trail : Option (List ℕ) → Bool
+is_trail None = false
+is_trail (Some bytes) = begins_trail false (commented bytes)
+
+abbrev pub has_trail : Texts → Bool
+has_trail texts = is_trail texts.case
+
+-- the files are this design, whose invariant is the start, or have this first fault
+abbrev pub AreStarted : Texts → Result DesignView FileFault → Type 0
+AreStarted texts reading = DenotesWith Start texts.pipe texts.spec texts.inv reading
+
+-- the text of a trail is this trail of the design, or has this first fault
+abbrev pub IsTrailOf : DesignView → Option (List ℕ) → Result Trail Fault → Type 0
+IsTrailOf d None reading = ⊥
+IsTrailOf d (Some bytes) reading = IsTrailReading d (commented bytes) reading
+
+-- the texts are a design with a start and this trail of it
+pub record AreTrail (texts : Texts) (d : DesignView) (t : Trail) : Type 0 where
+  pub design : AreStarted texts (Ok d)
+  pub trail : IsTrailOf d texts.case (Ok t)
+  pub fits : TrailFits d t
+
+-- ---- names, and faults
+
 abbrev pub or_none : Option (List ℕ) → List ℕ
 or_none None = []
 or_none (Some bytes) = bytes
@@ -92,6 +129,7 @@ abbrev pub name_in : Names → Text → Name
 name_in names text.Pipe = names.pipe
 name_in names text.Spec = names.spec
 name_in names text.Inv = or_none names.inv
+name_in names text.Start = or_none names.inv
 name_in names text.Proof = or_none names.proof
 name_in names _ = or_none names.case
 
@@ -99,6 +137,7 @@ abbrev pub bytes_in : Texts → Text → List ℕ
 bytes_in texts text.Pipe = texts.pipe
 bytes_in texts text.Spec = texts.spec
 bytes_in texts text.Inv = or_none texts.inv
+bytes_in texts text.Start = or_none texts.inv
 bytes_in texts text.Proof = or_none texts.proof
 bytes_in texts _ = or_none texts.case
 
@@ -112,3 +151,10 @@ IsTextFault texts file offset code =
     AreDesign texts (Err (record { file = file; offset = offset; code = code }))
     ⊎ ((file ≡ text.Case) × (d : DesignView) × AreDesign texts (Ok d)
     × IsCaseOf d texts.case (Err (record { offset = offset; code = code })))
+
+-- this is the first fault of texts with a trail: of the design's, or of the trail where the design has none
+abbrev pub IsStartedFault : Texts → Text → ℕ → Code → Type 0
+IsStartedFault texts file offset code =
+    AreStarted texts (Err (record { file = file; offset = offset; code = code }))
+    ⊎ ((file ≡ text.Trail) × (d : DesignView) × AreStarted texts (Ok d)
+    × IsTrailOf d texts.case (Err (record { offset = offset; code = code })))

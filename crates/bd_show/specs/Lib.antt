@@ -2,6 +2,7 @@ pub mod Open
 pub mod Place
 pub mod Files
 pub mod LetNames
+pub mod Trails
 pub mod Answer
 pub mod Commands
 pub mod Meaning

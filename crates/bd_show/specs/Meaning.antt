@@ -1,5 +1,5 @@
 -- What the answers to a question say of its texts, and what is left of the files.
-use Rattle.std.specs.Prelude.{◌≡◌, ◌⊎◌, ◌≤◌, ◌++◌, ℕ, Bool, true, false, List, [], ◌∷◌, codes, Option, None, Some, IfSome, is_some, Ok}
+use Rattle.std.specs.Prelude.{◌≡◌, ◌⊎◌, ◌≤◌, ◌+◌, ◌++◌, ℕ, Bool, true, false, List, [], ◌∷◌, codes, Option, None, Some, IfSome, is_some, Ok}
 use Rattle.bd_model.specs.DesignView.{DesignView}
 use Rattle.bd_cnf.specs.Problem.{Problem}
 use Rattle.bd_lrat.specs.Log.{IsRefutation}
@@ -7,8 +7,13 @@ use Rattle.bd_model.specs.Conditions.{IsJudged}
 use Rattle.bd_model.specs.Right.{IsRight}
 use Rattle.bd_model.specs.declared.case.Case.{Case}
 use Rattle.bd_model.specs.declared.case.Condition.{Condition}
+use Rattle.bd_model.specs.declared.case.Condition.TheVariants.{Commute}
 use Rattle.bd_model.specs.declared.case.Judged.{Judged}
 use Rattle.bd_model.specs.declared.case.Judged.TheVariants.{Holds, Outside, Broken}
+use Rattle.bd_model.specs.declared.case.Trail.{Trail}
+use Rattle.bd_model.specs.declared.case.TrailJudged.{TrailJudged}
+use Rattle.bd_model.specs.declared.case.TrailJudged.TheVariants as trail
+use Rattle.bd_model.specs.TrailJudged.{IsTrailJudged}
 use Rattle.bd_proof_text.specs.ProofText.{fault}
 use Rattle.bd_proof_text.specs.Tokens.{place}
 use Rattle.bd_proof_text.specs.declared.fault.Why.{Why}
@@ -34,14 +39,18 @@ use Rattle.bd_picture.specs.Sentence.{sentence}
 use Rattle.bd_app.specs.Files.{IsFirstLong, KeepsAllBut}
 use Rattle.bd_app.specs.Meaning.{FilesSeen}
 use Rattle.bd_app.specs.ProofFaults.{cause_text}
+use Rattle.bd_app.specs.Retrace.{retraced_words}
 use Rattle.bd_app.specs.Verdicts.{IsVerdict, verdict_words}
 use Rattle.bd_app.specs.Words.{Name}
 use Rattle.bd_app.specs.declared.verdict.Asked.{Asked}
 use Rattle.bd_show.specs.Place.{fault_text, placed}
-use Rattle.bd_show.specs.Files.{AreCase, AreDesign, BlamesLoad, BlamesSave, HoldTexts, IsTextFault, Names, Texts, bytes_in, files_of, name_in, or_none}
+use Rattle.bd_text.specs.declared.code.Code.{Code}
+use Rattle.bd_typer.specs.declared.fault.Text.{Text}
+use Rattle.bd_show.specs.Files.{AreCase, AreDesign, AreStarted, AreTrail, BlamesLoad, BlamesSave, HoldTexts, IsStartedFault, IsTextFault, Names, Texts, bytes_in, files_of, has_trail, name_in, or_none}
+use Rattle.bd_show.specs.Trails.{cycle_case, cycles_text, unstarted}
 use Rattle.bd_show.specs.LetNames.{AreLetNames}
 use Rattle.bd_show.specs.declared.answer.Ended.{Ended}
-use Rattle.bd_show.specs.declared.answer.Ended.TheVariants.{Checked, Shown, Shrunk, Explained, Unknown, Unbroken, Described, Proved, BadProof, Refused, TooLong, Unread, Unsaved, Memory}
+use Rattle.bd_show.specs.declared.answer.Ended.TheVariants.{Checked, Shown, Traced, Shrunk, Explained, Unknown, Unbroken, Described, Proved, BadProof, Refused, TooLong, Unread, Unsaved, Memory}
 
 -- what is asked: whether a design is right, in a mode and with a budget; what a case shows, all of it or what is left
 -- of it, maybe with a page; what is left of a case; why a value of a case, all of it or what is left of it, is what it
@@ -108,6 +117,32 @@ pub record IsShown (whole : Bool) (d : DesignView) (c : Case) (judged : Judged) 
   pub shown_judged : IsJudged d shown judged
   pub rest : List ℕ
   pub begins : text ≡ sentence d judged ++ rest
+
+-- after an empty line the cycle of this number, drawn as it is
+pub record IsCycleShown (d : DesignView) (t : Trail) (cycle : ℕ) (text : List ℕ) : Type 0 where
+  pub place : ℕ
+  pub is_place : cycle ≡ place + 1
+  pub drawn : List ℕ
+  pub is_drawn : IsShown true d (cycle_case d t place) (Broken Commute) drawn
+  pub begins : text ≡ 10 ∷ drawn
+
+abbrev pub IsBreakShown : DesignView → Trail → TrailJudged → List ℕ → Type 0
+IsBreakShown d t (trail.Broken cycle) text = IsCycleShown d t cycle text
+IsBreakShown d t trail.Holds text = text ≡ []
+IsBreakShown d t trail.Outside text = text ≡ []
+
+-- the line of a judgement, each cycle with its inputs, and the one that breaks
+pub record IsTrailShown (d : DesignView) (t : Trail) (judged : TrailJudged) (text : List ℕ) :
+    Type 0 where
+  pub shown : List ℕ
+  pub is_shown : IsBreakShown d t judged shown
+  pub lines : text ≡ retraced_words judged ++ 10 ∷ (cycles_text d.pipe.ports 1 t.inputs ++ shown)
+
+-- the judgement is the trail's own, and each cycle is one of the design without its start
+pub record IsTraced (d : DesignView) (t : Trail) (judged : TrailJudged) (text : List ℕ) :
+    Type 0 where
+  pub is_judged : IsTrailJudged d t judged
+  pub shown : IsTrailShown (unstarted d) t judged text
 
 -- what is asked of the design
 abbrev pub asked_of : Check → Asked
@@ -189,15 +224,35 @@ OfDesign texts P = (d : DesignView) × AreDesign texts (Ok d) × P d
 abbrev pub OfCase : Texts → (DesignView → Case → Type 0) → Type 0
 OfCase texts P = (d : DesignView) × (c : Case) × AreCase texts d c × P d c
 
+abbrev pub OfTrail : Texts → (DesignView → Trail → Type 0) → Type 0
+OfTrail texts P = (d : DesignView) × (t : Trail) × AreTrail texts d t × P d t
+
+-- this is the first fault of the texts that are asked about: `show` takes a trail in the place of a case
+abbrev pub IsAskedFault : Question → Texts → Text → ℕ → Code → Type 0
+IsAskedFault (show q) texts file offset code =
+    ((has_trail texts ≡ true) × IsStartedFault texts file offset code)
+    ⊎ ((has_trail texts ≡ false) × IsTextFault texts file offset code)
+IsAskedFault (check q) texts file offset code = IsTextFault texts file offset code
+IsAskedFault (shrink names) texts file offset code = IsTextFault texts file offset code
+IsAskedFault (explain q) texts file offset code = IsTextFault texts file offset code
+IsAskedFault (about names) texts file offset code = IsTextFault texts file offset code
+IsAskedFault (recheck q) texts file offset code = IsTextFault texts file offset code
+
+-- the text begins with the place and the name of a fault
+abbrev pub IsRefusedText : Names → Texts → Text → ℕ → Code → List ℕ → Type 0
+IsRefusedText names texts file offset code text =
+    (rest : List ℕ)
+    × (text ≡ fault_text (name_in names file) (bytes_in texts file) offset code ++ rest)
+
 -- what an answer says of the texts that were read
 abbrev pub Says : Question → Texts → Ended → List ℕ → Type 0
 Says q texts (Refused file offset code) text =
-    IsTextFault texts file offset code
-    × (rest : List ℕ)
-    × (text ≡ fault_text (name_in (asked_names q) file) (bytes_in texts file) offset code ++ rest)
+    IsAskedFault q texts file offset code
+    × IsRefusedText (asked_names q) texts file offset code text
 Says (check q) texts (Checked found) text =
     OfDesign texts (λ d. IsChecked (asked_of q) d found text)
 Says (show q) texts (Shown j) text = OfCase texts (λ d c. IsShown q.whole d c j text)
+Says (show q) texts (Traced j) text = OfTrail texts (λ d t. IsTraced d t j text)
 Says (shrink names) texts (Shrunk k) text = OfCase texts (λ d c. IsSmaller d c k text)
 Says (shrink names) texts (Unbroken j) text =
     OfCase texts (λ d c. IsUnbroken nothing_to_shrink d c j text)
@@ -242,28 +297,39 @@ Blames q before after Unsaved =
 Blames q before after Memory = Unit {0}
 Blames q before after e = after.blame ≡ before.blame
 
--- the page of what is shown of a case is held under this name: its title is the sentence of the case's judgement
-pub record HoldsPage (names : Names) (before after : Option Held) (j : Judged) (name : Name) :
-    Type 0 where
+-- the page of what is shown is held under this name: its title is the sentence of a case's judgement, on a design as
+-- which the texts are read
+pub record HoldsPage (AreRead : Texts → DesignView → Type 0) (names : Names)
+    (before after : Option Held) (j : Judged) (name : Name) : Type 0 where
   pub design : DesignView
   pub is_design : IfSome before (λ h. (texts : Texts) × HoldTexts h names texts
-      × AreDesign texts (Ok design))
+      × AreRead texts design)
   pub bytes : List ℕ
   pub page : IsPage (sentence design j) bytes
   pub held : IsHeld after name bytes
+
+-- an answer with a page: a case is shown, or a trail with the cycle that breaks
+abbrev pub HasPage : Ended → Type 0
+HasPage (Shown j) = Unit {0}
+HasPage (Traced (trail.Broken cycle)) = Unit {0}
+HasPage e = ⊥
 
 -- the files stand as they were, or there was a page to be saved
 abbrev pub MayHaveSaved : Question → FilesSeen → FilesSeen → Type 0
 MayHaveSaved q before after =
     (after.held ≡ before.held)
-    ⊎ ((j : Judged) × (text : List ℕ) × Means q before.held (Shown j) text)
+    ⊎ ((e : Ended) × (text : List ℕ) × HasPage e × Means q before.held e text)
 
 -- what is saved: the page of what is shown, where one is asked for; nothing before another answer, unless the save of
 -- such a page failed or wanted memory
 abbrev pub Saves : Question → FilesSeen → FilesSeen → Ended → Type 0
 Saves q before after (Shown j) =
     (name : Name) → asked_page q ≡ Some name →
-    HoldsPage (asked_names q) before.held after.held j name
+    HoldsPage (λ t d. AreDesign t (Ok d)) (asked_names q) before.held after.held j name
+Saves q before after (Traced (trail.Broken cycle)) =
+    (name : Name) → asked_page q ≡ Some name →
+    HoldsPage (λ t d. AreStarted t (Ok d)) (asked_names q) before.held after.held
+    (Broken Commute) name
 Saves q before after Unsaved = MayHaveSaved q before after
 Saves q before after Memory = MayHaveSaved q before after
 Saves q before after e = after.held ≡ before.held

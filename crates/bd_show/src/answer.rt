@@ -4,7 +4,7 @@ ghost use Rattle.bd_show.specs.Answer.{HasReport, status_of};
 
 use bd_about::{Finding, Findings};
 use bd_foreign::Why;
-use bd_model::{Condition, Judged};
+use bd_model::{Condition, Judged, TrailJudged};
 use bd_text::Code;
 use bd_typer::Text;
 
@@ -15,6 +15,8 @@ pub enum Ended {
     Checked(Finding),
     /// What the case shows was shown.
     Shown(Judged),
+    /// What the trail shows was shown.
+    Traced(TrailJudged),
     /// A small case that breaks the same condition was printed.
     Shrunk(Condition),
     /// Why a value of the case is what it is was explained.
@@ -70,6 +72,7 @@ impl Ended {
         match self {
             Ended::Checked(Finding::Right)
             | Ended::Shown(Judged::Holds)
+            | Ended::Traced(TrailJudged::Holds)
             | Ended::Explained(Judged::Holds)
             | Ended::Shrunk(_)
             | Ended::Described(_)
@@ -77,6 +80,7 @@ impl Ended {
             | Ended::Told => 0,
             Ended::Checked(Finding::Wrong(_))
             | Ended::Shown(Judged::Broken(_))
+            | Ended::Traced(TrailJudged::Broken(_))
             | Ended::Explained(Judged::Broken(_)) => 1,
             Ended::Usage | Ended::Unknown => 2,
             Ended::Refused { .. } | Ended::BadProof { .. } | Ended::TooLong(_) => 3,
@@ -84,7 +88,9 @@ impl Ended {
             Ended::Unread(_) | Ended::Unsaved | Ended::Unwritten => 5,
             Ended::Memory => 6,
             Ended::Checked(Finding::Void) => 7,
-            Ended::Shown(Judged::Outside) | Ended::Explained(Judged::Outside) => 8,
+            Ended::Shown(Judged::Outside)
+            | Ended::Traced(TrailJudged::Outside)
+            | Ended::Explained(Judged::Outside) => 8,
             Ended::Unbroken(_) => 9,
         }
     }
@@ -97,6 +103,7 @@ impl Ended {
             self,
             Ended::Checked(_)
                 | Ended::Shown(_)
+                | Ended::Traced(_)
                 | Ended::Explained(_)
                 | Ended::Shrunk(_)
                 | Ended::Described(_)

@@ -1,13 +1,13 @@
 //! The command line, read with `clap`.
-ghost use Rattle.std.specs.Prelude.{◌≡◌, false, None, Some, IfOk, IfErr};
+ghost use Rattle.std.specs.Prelude.{◌≡◌, [], false, None, Some, IfOk, IfErr};
 ghost use Rattle.std.specs.Option.{option_map};
 ghost use Rattle.clap.specs.Values.{kind_of};
-ghost use Rattle.clap.specs.Words.{app_of, found_of, rows_of, shape_of};
+ghost use Rattle.clap.specs.Words.{app_of, found_of, rows_of, shape_of, with_subcommand};
 ghost use Rattle.clap.specs.declared.builder.command.Command.TheViews.{out-Command as fields_of};
 ghost use Rattle.bd_app.specs.Words.{texts_of};
 ghost use Rattle.bd_show.specs.Files.{names_of};
 ghost use Rattle.bd_show.specs.Commands.{about_command, about_question, case_names, check_command, check_question, command_line, design_names, proof_names, question_of, recheck_command, recheck_question, show_command, show_question, shrink_command, shrink_question, taken, why_command, why_question};
-ghost use Rattle.bd_show.specs.inner.Asked.{IsParsed, IsToldBy, IsWordsFault, asked};
+ghost use Rattle.bd_show.specs.inner.Asked.{IsParsed, IsToldBy, IsWordsFault, asked, first_commands};
 
 use crate::checking::CheckOptions;
 use crate::load::FileNames;
@@ -118,31 +118,51 @@ fn recheck_command<'a>(alloc: Global) -> Result<clap::Command<'a>, AllocError>
     with(command, flag(alloc, "diverse"))
 }
 
+/// The command line with one more command, of which this is said.
+fn with_command<'a>(
+    line: clap::Command<'a>,
+    command: clap::Command<'a>,
+    about: &'a str,
+) -> Result<clap::Command<'a>, AllocError>
+    requires { (fields_of command).has_globals ≡ false }
+    ensures { IfOk result (λ r.
+        app_of r ≡ with_subcommand (app_of line.entry) (shape_of command.entry)) }
+{
+    line.subcommand(command.about(about))
+}
+
+/// The command line with its first three commands.
+fn first_commands<'a>(alloc: Global) -> Result<clap::Command<'a>, AllocError>
+    ensures { IfOk result (λ c. app_of c ≡ first_commands) }
+{
+    let bare = clap::Command::new(alloc, "bd_view").version("1.0.0");
+    let with_check = with_command(bare, check_command(alloc)?, CHECK)?;
+    let with_show = with_command(with_check, show_command(alloc)?, SHOW)?;
+    with_command(with_show, shrink_command(alloc)?, SHRINK)
+}
+
 /// The whole command line.
 fn command_line<'a>(alloc: Global) -> Result<clap::Command<'a>, AllocError>
     ensures { IfOk result (λ c. app_of c ≡ command_line) }
 {
-    let check = check_command(alloc)?.about(
-        "Says whether a pipeline is right, and where it isn't, what a case shows",
-    );
-    let show = show_command(alloc)?.about("Shows what a case shows: both ways round its diagram");
-    let shrink = shrink_command(alloc)?.about("Prints a small case that breaks the same condition");
-    let why = why_command(alloc)?.about("Explains why a value of a case is what it is");
-    let about = about_command(alloc)?.about(
-        "Says what nothing reads and what the verdict rests on",
-    );
-    let recheck = recheck_command(alloc)?.about(
-        "Checks a proof in LRAT that a pipeline is right, with --diverse by positive equality",
-    );
-    clap::Command::new(alloc, "bd_view")
-        .version("1.0.0")
-        .subcommand(check)?
-        .subcommand(show)?
-        .subcommand(shrink)?
-        .subcommand(why)?
-        .subcommand(about)?
-        .subcommand(recheck)
+    let first = first_commands(alloc)?;
+    let with_why = with_command(first, why_command(alloc)?, WHY)?;
+    let with_about = with_command(with_why, about_command(alloc)?, ABOUT)?;
+    with_command(with_about, recheck_command(alloc)?, RECHECK)
 }
+
+const CHECK: &str = "Says whether a pipeline is right, and where it isn't, what a case shows";
+
+const SHOW: &str = "Shows what a case or a trail shows: both ways round its diagram";
+
+const SHRINK: &str = "Prints a small case that breaks the same condition";
+
+const WHY: &str = "Explains why a value of a case is what it is";
+
+const ABOUT: &str = "Says what nothing reads and what the verdict rests on";
+
+const RECHECK: &str =
+    "Checks a proof in LRAT that a pipeline is right, with --diverse by positive equality";
 
 /// The names of the files of a design.
 #[tactic(auto, unfolding(crate::specs::Commands::design_names))]

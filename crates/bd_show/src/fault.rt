@@ -1,11 +1,11 @@
 //! Answers that refuse files.
-ghost use Rattle.std.specs.Prelude.{◌≡◌, ◌++◌, codes, IfOk};
+ghost use Rattle.std.specs.Prelude.{◌≡◌, ◌++◌, codes, true, IfOk};
 ghost use Rattle.bd_app.specs.Loading.{bytes_of};
-ghost use Rattle.bd_show.specs.Files.{bytes_in, name_in, names_of, or_none};
-ghost use Rattle.bd_show.specs.Meaning.{Question, Says, asked_names};
+ghost use Rattle.bd_show.specs.Files.{IsStartedFault, bytes_in, has_trail, name_in, names_of, or_none};
+ghost use Rattle.bd_show.specs.Meaning.{IsRefusedText, Question, Says, Show, asked_names};
 ghost use Rattle.bd_show.specs.inner.Loaded.{texts_view};
-ghost use Rattle.bd_show.specs.inner.Read.{AreRefused};
-ghost use Rattle.bd_show.specs.inner.Answered.{IsRefusal, IsUnloaded};
+ghost use Rattle.bd_show.specs.inner.Read.{AreRefused, IsRefusedBy};
+ghost use Rattle.bd_show.specs.inner.Answered.{IsRefusal, IsUnloaded, TakesCase};
 
 use crate::answer::{Answer, Ended};
 use crate::load::{FileNames, Texts};
@@ -22,7 +22,7 @@ fn name_in<'a>(names: FileNames<'a>, file: Text) -> &'a str
     match file {
         Text::Pipe => names.pipe,
         Text::Spec => names.spec,
-        Text::Inv => names.inv.unwrap_or(""),
+        Text::Inv | Text::Start => names.inv.unwrap_or(""),
         Text::Proof => names.proof.unwrap_or(""),
         _ => names.case.unwrap_or(""),
     }
@@ -45,7 +45,7 @@ fn bytes_in(texts: &Texts, file: Text) -> &[u8]
     match file {
         Text::Pipe => texts.pipe.as_slice(),
         Text::Spec => texts.spec.as_slice(),
-        Text::Inv => or_none(&texts.inv),
+        Text::Inv | Text::Start => or_none(&texts.inv),
         Text::Proof => or_none(&texts.proof),
         _ => or_none(&texts.case),
     }
@@ -68,12 +68,17 @@ fn push_source<'a>(
     Ok(())
 }
 
-/// The texts under their names.
+/// The texts under their names, for a fault of this file.
 fn sources_of<'a>(
     alloc: Global,
     names: FileNames<'a>,
     texts: &'a Texts,
+    file: Text,
 ) -> Result<Vec<Source<'a>>, AllocError> {
+    let (case, inv) = match file {
+        Text::Trail | Text::Start => (Text::Trail, Text::Start),
+        _ => (Text::Case, Text::Inv),
+    };
     let mut sources = Vec::new(alloc);
     sources.push(Source {
         file: Text::Pipe,
@@ -85,8 +90,8 @@ fn sources_of<'a>(
         name: names.spec,
         text: texts.spec.as_slice(),
     })?;
-    push_source(&mut sources, Text::Case, names.case, &texts.case)?;
-    push_source(&mut sources, Text::Inv, names.inv, &texts.inv)?;
+    push_source(&mut sources, case, names.case, &texts.case)?;
+    push_source(&mut sources, inv, names.inv, &texts.inv)?;
     Ok(sources)
 }
 
@@ -97,8 +102,28 @@ fn hint(
     texts: &Texts,
     fault: Fault,
 ) -> Result<Vec<u8>, AllocError> {
-    let sources = sources_of(alloc, names, texts)?;
+    let sources = sources_of(alloc, names, texts, fault.file)?;
     hint_of(alloc, sources.as_slice(), fault)
+}
+
+/// The answer that a file is refused, at an offset, for a fault of this code.
+fn refusal(
+    alloc: Global,
+    names: FileNames<'_>,
+    texts: &Texts,
+    fault: Fault,
+) -> Result<Answer, AllocError>
+    ensures ended { IfOk result (λ a. a.ended ≡ Ended.Refused fault.file fault.offset fault.code) }
+    ensures text { IfOk result (λ a. IsRefusedText (names_of names.entry) (texts_view texts.now)
+        fault.file fault.offset fault.code a.text.items) }
+{
+    let Fault { file, offset, code } = fault;
+    let name = name_in(names, file).as_bytes();
+    let mut text = fault_text(alloc, name, bytes_in(texts, file), offset, code)?;
+    let hint = hint(alloc, names, texts, fault)?;
+    text.extend_from_slice(hint.as_slice())?;
+    let ended = Ended::Refused { file, offset, code };
+    Ok(Answer { ended, text })
 }
 
 /// The answer that texts are refused.
@@ -111,17 +136,32 @@ pub fn refused(
     requires { AreRefused (texts_view texts.now) fault }
     ensures ended { IfOk result (λ a. IsRefusal a.ended) }
     ensures says { IfOk result (λ a. (q : Question) → asked_names q ≡ names_of names.entry →
-        Says q (texts_view texts.now) a.ended a.text.items) }
+        TakesCase q (texts_view texts.now) → Says q (texts_view texts.now) a.ended a.text.items) }
 {
     match fault {
         DesignFault::Bad { file, offset, code } => {
-            let name = name_in(names, file).as_bytes();
-            let mut text = fault_text(alloc, name, bytes_in(texts, file), offset, code)?;
-            let fault = Fault { file, offset, code };
-            let hint = hint(alloc, names, texts, fault)?;
-            text.extend_from_slice(hint.as_slice())?;
-            let ended = Ended::Refused { file, offset, code };
-            Ok(Answer { ended, text })
+            refusal(alloc, names, texts, Fault { file, offset, code })
+        }
+        DesignFault::Memory => Err(AllocError),
+    }
+}
+
+/// The answer that texts with a trail are refused.
+pub fn refused_trail(
+    alloc: Global,
+    names: FileNames<'_>,
+    texts: &Texts,
+    fault: DesignFault,
+) -> Result<Answer, AllocError>
+    requires fault { IsRefusedBy (IsStartedFault (texts_view texts.now)) fault }
+    requires trail { has_trail (texts_view texts.now) ≡ true }
+    ensures ended { IfOk result (λ a. IsRefusal a.ended) }
+    ensures says { IfOk result (λ a. (q : Show) → q.names ≡ names_of names.entry →
+        Says (Question.show q) (texts_view texts.now) a.ended a.text.items) }
+{
+    match fault {
+        DesignFault::Bad { file, offset, code } => {
+            refusal(alloc, names, texts, Fault { file, offset, code })
         }
         DesignFault::Memory => Err(AllocError),
     }

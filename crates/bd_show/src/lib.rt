@@ -15,6 +15,7 @@ mod read;
 mod rechecking;
 mod show;
 mod shrinking;
+mod trail;
 mod why;
 
 pub use answer::Ended;

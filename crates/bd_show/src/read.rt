@@ -1,19 +1,21 @@
 //! Reading the texts of files.
 //!
-//! All files are loaded before the first is read, and a design is read before its case.
-ghost use Rattle.std.specs.Prelude.{◌≡◌, ◌==◌, ◌||◌, if◌then◌else◌, Ok, IfOk, IfErr};
+//! All files are loaded before the first is read, and a design is read before its case or its trail.
+ghost use Rattle.std.specs.Prelude.{◌≡◌, ◌≤◌, ◌==◌, ◌||◌, if◌then◌else◌, false, length, true, Ok, IfOk, IfErr};
 ghost use Rattle.bd_model.specs.DesignView.{design_view};
 ghost use Rattle.bd_model.specs.Lawful.{IsLawful};
-ghost use Rattle.bd_show.specs.Files.{AreCase, AreDesign, commented};
-ghost use Rattle.bd_show.specs.LetNames.{AreReadable};
+ghost use Rattle.bd_model.specs.Limits.{most_cycles};
+ghost use Rattle.bd_syntax.specs.declared.ast.Kind.TheVariants.{Pipeline};
+ghost use Rattle.bd_show.specs.Files.{AreCase, AreDesign, AreStarted, AreTrail, IsStartedFault, begins_trail, commented, has_trail};
+ghost use Rattle.bd_show.specs.LetNames.{AreReadable, IsMachineText};
 ghost use Rattle.bd_show.specs.inner.Loaded.{AreFew, texts_view};
-ghost use Rattle.bd_show.specs.inner.Read.{AreRefused};
+ghost use Rattle.bd_show.specs.inner.Read.{AreRefused, IsRefusedBy};
 
 use crate::load::Texts;
 use bd_app::loading::loaded_slice;
-use bd_case::{CaseFault, read_case};
-use bd_model::{Case, Design};
-use bd_typer::{DesignFault, Text, design_of};
+use bd_case::{CaseFault, TrailFault, read_case, read_trail};
+use bd_model::{Case, Design, Trail};
+use bd_typer::{DesignFault, Premise, Text, design_of, design_with};
 use std::alloc::{AllocError, Global};
 
 /// The design of texts.
@@ -30,6 +32,23 @@ pub fn design(alloc: Global, texts: &Texts) -> Result<Design, DesignFault>
         texts.spec.as_slice(),
         loaded_slice(&texts.inv),
     )
+}
+
+/// The design of texts whose third is a start.
+pub fn started(alloc: Global, texts: &Texts) -> Result<Design, DesignFault>
+    requires { AreFew (texts_view texts.now) }
+    ensures read { IfOk result (λ d. AreStarted (texts_view texts.now) (Ok (design_view d))) }
+    ensures lawful { IfOk result (λ d. IsLawful (design_view d)) }
+    ensures readable { IfOk result (λ _. IsMachineText Pipeline (texts_view texts.now).pipe) }
+    ensures refused { IfErr result (IsRefusedBy (IsStartedFault (texts_view texts.now))) }
+{
+    let start = match &texts.inv {
+        Some(start) => Some(start.as_slice()),
+        None => None,
+    };
+    let pipe = texts.pipe.as_slice();
+    let spec = texts.spec.as_slice();
+    design_with(alloc, pipe, spec, Premise::Start, start)
 }
 
 /// The first byte of a case's text, where `wrong` and `correct` begin a comment.
@@ -74,5 +93,57 @@ pub fn case(alloc: Global, design: &Design, texts: &Texts) -> Result<Case, Desig
             code,
         }),
         Err(CaseFault::Memory) => Err(DesignFault::Memory),
+    }
+}
+
+/// Whether `trail` begins the first list of a text.
+fn begins_trail(text: &[u8]) -> bool
+    ensures { result ≡ begins_trail false text.now }
+{
+    let mut comment = false;
+    for (at, byte) in text.iter().enumerate() {
+        if *byte == b'\n' {
+            comment = false;
+        } else if !comment && *byte == b'(' {
+            return text[at + 1..].starts_with(b"trail");
+        } else {
+            comment = comment || *byte == b';';
+        }
+    }
+    false
+}
+
+/// Whether a trail stands in the place of a case.
+pub fn has_trail(alloc: Global, texts: &Texts) -> Result<bool, AllocError>
+    ensures { IfOk result (λ b. b ≡ has_trail (texts_view texts.now)) }
+{
+    let Some(bytes) = &texts.case else {
+        return Ok(false);
+    };
+    let text = commented(alloc, bytes.as_slice())?;
+    Ok(begins_trail(text.as_slice()))
+}
+
+/// The trail of texts, of which this is the design.
+pub fn trail(alloc: Global, design: &Design, texts: &Texts) -> Result<Trail, DesignFault>
+    requires design { AreStarted (texts_view texts.now) (Ok (design_view design.now)) }
+    requires lawful { IsLawful (design_view design.now) }
+    requires trail { has_trail (texts_view texts.now) ≡ true }
+    ensures read { IfOk result (AreTrail (texts_view texts.now) (design_view design.now)) }
+    ensures short { IfOk result (λ t. length t.inputs ≤ most_cycles) }
+    ensures refused { IfErr result (IsRefusedBy (IsStartedFault (texts_view texts.now))) }
+{
+    let Some(bytes) = &texts.case else {
+        unreachable!()
+    };
+    let text = commented(alloc, bytes.as_slice())?;
+    match read_trail(alloc, design, text.as_slice()) {
+        Ok(trail) => Ok(trail),
+        Err(TrailFault::Bad { offset, code }) => Err(DesignFault::Bad {
+            file: Text::Trail,
+            offset,
+            code,
+        }),
+        Err(TrailFault::Memory) => Err(DesignFault::Memory),
     }
 }

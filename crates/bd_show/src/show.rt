@@ -1,5 +1,5 @@
-//! `show`: what a case shows, as tables, and as a page.
-ghost use Rattle.std.specs.Prelude.{◌≡◌, Ok, IfOk, MatchOption, None};
+//! `show`: what a case or a trail shows, as tables, and as a page.
+ghost use Rattle.std.specs.Prelude.{◌≡◌, false, Ok, IfOk, MatchOption, None};
 ghost use Rattle.bd_model.specs.Conditions.{IsJudged};
 ghost use Rattle.bd_model.specs.DesignView.{design_view};
 ghost use Rattle.bd_model.specs.Fits.{Fits};
@@ -9,7 +9,7 @@ ghost use Rattle.bd_app.specs.Meaning.{files_seen};
 ghost use Rattle.bd_app.specs.Words.{given};
 ghost use Rattle.bd_picture.specs.Page.{IsPage};
 ghost use Rattle.bd_picture.specs.Sentence.{sentence};
-ghost use Rattle.bd_show.specs.Files.{AreDesign, names_of};
+ghost use Rattle.bd_show.specs.Files.{AreDesign, has_trail, names_of};
 ghost use Rattle.bd_show.specs.LetNames.{AreReadable};
 ghost use Rattle.bd_show.specs.Meaning.{IsLeft, IsShown, Question, Says};
 ghost use Rattle.bd_show.specs.inner.Answered.{IsDoneOn, IsDrawn, IsSaved, show_of};
@@ -19,7 +19,8 @@ use crate::answer::{Answer, Ended};
 use crate::fault::{joined, refused, unloaded};
 use crate::load::{FileNames, Texts, load_texts};
 use crate::names::machine_lets;
-use crate::read::{case, design};
+use crate::read::{case, design, has_trail};
+use crate::trail::on_trail;
 use bd_diagram::diagram_of;
 use bd_files::{Files, SaveError};
 use bd_model::{Case, Design, Judged};
@@ -39,9 +40,9 @@ pub struct ShowOptions<'a> {
 
 /// An answer, and its page where one is shown.
 #[derive(Drop)]
-struct Seen {
-    answer: Answer,
-    page: Option<Vec<u8>>,
+pub struct Seen {
+    pub answer: Answer,
+    pub page: Option<Vec<u8>>,
 }
 
 /// What is shown of a case: all of it, or where it breaks a condition what is left of it.
@@ -64,7 +65,7 @@ pub fn left(
 }
 
 /// What is printed of a case: all of its values, or only those that what is broken rests on.
-fn drawn(
+pub fn drawn(
     alloc: Global,
     design: &Design,
     case: &Case,
@@ -133,7 +134,7 @@ fn on_case(
 }
 
 /// The answer that texts are refused, without a page.
-fn unseen(answer: Result<Answer, AllocError>) -> Result<Seen, AllocError>
+pub fn unseen(answer: Result<Answer, AllocError>) -> Result<Seen, AllocError>
     ensures answer { IfOk result (λ r. answer ≡ Ok r.answer) }
     ensures page { IfOk result (λ r. r.page ≡ None) }
 {
@@ -152,6 +153,7 @@ fn on_design(
 ) -> Result<Seen, AllocError>
     requires design { AreDesign (texts_view texts.now) (Ok (design_view design.now)) }
     requires lawful { IsLawful (design_view design.now) }
+    requires case { has_trail (texts_view texts.now) ≡ false }
     requires readable { AreReadable (texts_view texts.now) }
     ensures says { IfOk result (λ r. Says (Question.show (show_of options.entry))
         (texts_view texts.now) r.answer.ended r.answer.text.items) }
@@ -165,9 +167,10 @@ fn on_design(
     }
 }
 
-/// The answer on texts.
-fn on_texts(alloc: Global, options: ShowOptions<'_>, texts: &Texts) -> Result<Seen, AllocError>
-    requires { AreFew (texts_view texts.now) }
+/// The answer on texts without a trail.
+fn on_no_trail(alloc: Global, options: ShowOptions<'_>, texts: &Texts) -> Result<Seen, AllocError>
+    requires few { AreFew (texts_view texts.now) }
+    requires case { has_trail (texts_view texts.now) ≡ false }
     ensures says { IfOk result (λ r. Says (Question.show (show_of options.entry))
         (texts_view texts.now) r.answer.ended r.answer.text.items) }
     ensures drawn { IfOk result (λ r.
@@ -176,6 +179,21 @@ fn on_texts(alloc: Global, options: ShowOptions<'_>, texts: &Texts) -> Result<Se
     match design(alloc, texts) {
         Ok(design) => on_design(alloc, options, texts, &design),
         Err(fault) => unseen(refused(alloc, options.names, texts, fault)),
+    }
+}
+
+/// The answer on texts.
+fn on_texts(alloc: Global, options: ShowOptions<'_>, texts: &Texts) -> Result<Seen, AllocError>
+    requires { AreFew (texts_view texts.now) }
+    ensures says { IfOk result (λ r. Says (Question.show (show_of options.entry))
+        (texts_view texts.now) r.answer.ended r.answer.text.items) }
+    ensures drawn { IfOk result (λ r.
+        IsDrawn (texts_view texts.now) r.answer.ended (bytes_of r.page)) }
+{
+    if has_trail(alloc, texts)? {
+        on_trail(alloc, options, texts)
+    } else {
+        on_no_trail(alloc, options, texts)
     }
 }
 

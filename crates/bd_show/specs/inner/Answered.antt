@@ -1,10 +1,16 @@
 -- What the parts of a run say.
-use Rattle.std.specs.Prelude.{◌≡◌, ◌⊎◌, ◌≤◌, ◌++◌, ℕ, List, codes, true, is_some, Option, Some, None, Result, Ok, Err, IfOk, MatchOption}
+use Rattle.std.specs.Prelude.{◌≡◌, ◌⊎◌, ◌≤◌, ◌<◌, ◌+◌, ◌++◌, ℕ, List, length, codes, true, false, is_some, Option, Some, None, Result, Ok, Err, IfOk, MatchOption}
 use Rattle.std.specs.declared.alloc.AllocError.{AllocError}
 use Rattle.bd_text.specs.declared.code.Code.{Code}
 use Rattle.bd_typer.specs.declared.fault.Text.{Text}
+use Rattle.bd_model.specs.Conditions.{IsJudged}
 use Rattle.bd_model.specs.DesignView.{DesignView}
 use Rattle.bd_model.specs.declared.case.Case.{Case}
+use Rattle.bd_model.specs.declared.case.Condition.TheVariants.{Commute}
+use Rattle.bd_model.specs.declared.case.Judged.TheVariants.{Broken}
+use Rattle.bd_model.specs.declared.case.Trail.{Trail}
+use Rattle.bd_model.specs.declared.case.TrailJudged.{TrailJudged}
+use Rattle.bd_model.specs.declared.case.TrailJudged.TheVariants as trail
 use Rattle.bd_files.specs.Devices.{Held, Holds, Rose}
 use Rattle.bd_app.specs.Files.{KeepsAllBut}
 use Rattle.bd_app.specs.Meaning.{FilesSeen}
@@ -13,8 +19,9 @@ use Rattle.bd_app.specs.declared.loading.LoadFault.{LoadFault}
 use Rattle.bd_app.specs.declared.loading.LoadFault.TheVariants.{Failed, TooLong, Memory}
 use Rattle.bd_picture.specs.Page.{IsPage}
 use Rattle.bd_picture.specs.Sentence.{sentence}
-use Rattle.bd_show.specs.Files.{BlamesSave, Names, Texts, name_in, names_of, or_none}
-use Rattle.bd_show.specs.Meaning.{Check, Explain, IsAnswered, IsChecked, IsBadProof, IsDescribed, IsProved, IsShown, IsSmaller, IsUnbroken, OfDesign, Question, Recheck, Show, asked_of, nothing_to_explain, nothing_to_shrink}
+use Rattle.bd_show.specs.Files.{AreStarted, BlamesSave, Names, Texts, has_trail, name_in, names_of, or_none}
+use Rattle.bd_show.specs.Meaning.{Check, Explain, IsAnswered, IsChecked, IsBadProof, IsDescribed, IsProved, IsShown, IsSmaller, IsTrailShown, IsUnbroken, OfDesign, Question, Recheck, Show, asked_of, nothing_to_explain, nothing_to_shrink, show}
+use Rattle.bd_show.specs.Trails.{cycle_case}
 use Rattle.bd_show.specs.declared.answer.Answer.{Answer}
 use Rattle.bd_show.specs.declared.answer.Ended.{Ended}
 use Rattle.bd_show.specs.declared.answer.Ended.TheVariants as ended
@@ -62,6 +69,11 @@ IsDoneOn q before after r = IsAnswered q before after (ended_of r) (text_of r)
 abbrev pub IsRefusal : Ended → Type 0
 IsRefusal e = (file : Text) × (offset : ℕ) × (code : Code) × (e ≡ ended.Refused file offset code)
 
+-- a question that takes no trail, or is given none
+abbrev pub TakesCase : Question → Texts → Type 0
+TakesCase (show q) texts = has_trail texts ≡ false
+TakesCase _ texts = Unit {0}
+
 -- the answer that a file gave no bytes
 abbrev pub IsUnloaded : Names → LoadFault → Ended → List ℕ → Type 0
 IsUnloaded names (Failed file) e text =
@@ -101,10 +113,40 @@ IsOfProof q d bytes (ended.BadProof line column why) text =
     IsBadProof q.mode (or_none q.names.proof) d bytes line column why text
 IsOfProof q d bytes e text = ⊥
 
+-- the page of a cycle that breaks, or none
+abbrev pub IsTrailPage : DesignView → TrailJudged → Option (List ℕ) → Type 0
+IsTrailPage d (trail.Broken cycle) page =
+    MatchOption page ⊥ (IsPage (sentence d (Broken Commute)))
+IsTrailPage d trail.Holds page = page ≡ None
+IsTrailPage d trail.Outside page = page ≡ None
+
+abbrev pub OfStarted : Texts → (DesignView → Type 0) → Type 0
+OfStarted texts P = (d : DesignView) × AreStarted texts (Ok d) × P d
+
+-- the cycle of this number breaks, as a case of the design
+pub record IsBreaking (d : DesignView) (t : Trail) (cycle : ℕ) : Type 0 where
+  pub place : ℕ
+  pub is_place : cycle ≡ place + 1
+  pub within : place < length t.inputs
+  pub case_judged : IsJudged d (cycle_case d t place) (Broken Commute)
+
+-- the cycle that is judged to break does so
+abbrev pub IsBreakingIf : DesignView → Trail → TrailJudged → Type 0
+IsBreakingIf d t judged = (cycle : ℕ) → judged ≡ trail.Broken cycle → IsBreaking d t cycle
+
+-- what `show` says of a trail of a design without its start
+pub record IsTrailSeen (d : DesignView) (t : Trail) (judged : TrailJudged) (e : Ended)
+    (text : List ℕ) (page : Option (List ℕ)) : Type 0 where
+  pub ended : e ≡ ended.Traced judged
+  pub shown : IsTrailShown d t judged text
+  pub drawn : IsTrailPage d judged page
+
 -- a page is drawn of what is shown of a case, with the sentence of its judgement as its title, and of nothing else
 abbrev pub IsDrawn : Texts → Ended → Option (List ℕ) → Type 0
 IsDrawn texts (ended.Shown j) page =
     OfDesign texts (λ d. MatchOption page ⊥ (IsPage (sentence d j)))
+IsDrawn texts (ended.Traced j) page =
+    OfStarted texts (λ d. IsTrailPage d j page)
 IsDrawn texts e page = page ≡ None
 
 -- a page that was drawn is held under the name that is given for it

@@ -1,11 +1,11 @@
 -- The commands as the definitions see them, and why words ask nothing.
-use Rattle.std.specs.Prelude.{◌≡◌, ◌≢◌, ◌⊎◌, ℕ, List, [], None}
+use Rattle.std.specs.Prelude.{◌≡◌, ◌≢◌, ◌⊎◌, ℕ, true, false, List, [], ◌∷◌, None, codes}
 use Rattle.clap.specs.Faults.{fault_of}
-use Rattle.clap.specs.Simple.{subcommand_of, subcommand_rows_of}
+use Rattle.clap.specs.Simple.{App, new_shape, subcommand_of, subcommand_rows_of}
 use Rattle.clap.specs.declared.error.kind.ErrorKind.{ErrorKind}
 use Rattle.clap.specs.declared.error.kind.ErrorKind.TheVariants as kind
 use Rattle.clap.specs.declared.parser.matches.ArgMatches.{ArgMatches}
-use Rattle.bd_show.specs.Commands.{AreMisused, AskHelp, command_line, taken}
+use Rattle.bd_show.specs.Commands.{AreMisused, AskHelp, check_command, command_line, show_command, shrink_command, taken}
 use Rattle.bd_show.specs.Files.{names_of}
 use Rattle.bd_show.specs.Meaning.{Question, check, show, shrink, explain, about, recheck}
 use Rattle.bd_show.specs.inner.Answered.{check_of, recheck_of, show_of, why_of}
@@ -22,6 +22,13 @@ asked (Shrink names) = shrink (names_of names)
 asked (Why options) = explain (why_of options)
 asked (About names) = about (names_of names)
 asked (Recheck options) = recheck (recheck_of options)
+
+-- the command line with its first three commands
+abbrev pub first_commands : App
+first_commands = record {
+  top = record (new_shape (codes "bd_view")) { is_leaf = false; has_version = true };
+  subs = check_command ∷ show_command ∷ shrink_command ∷ [];
+}
 
 -- clap finds no fault in the words, and met this subcommand
 pub record IsParsed (words : List (List ℕ)) (m : ArgMatches) : Type 0 where

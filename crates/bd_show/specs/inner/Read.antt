@@ -1,8 +1,15 @@
 -- Why texts aren't read.
+use Rattle.std.specs.Prelude.{ℕ}
+use Rattle.bd_text.specs.declared.code.Code.{Code}
+use Rattle.bd_typer.specs.declared.fault.Text.{Text}
 use Rattle.bd_typer.specs.declared.fault.TypeFault.{TypeFault}
 use Rattle.bd_typer.specs.declared.fault.TypeFault.TheVariants.{Bad, Memory}
 use Rattle.bd_show.specs.Files.{IsTextFault, Texts}
 
+-- a fault of which this holds, unless memory ran out
+abbrev pub IsRefusedBy : (Text → ℕ → Code → Type 0) → TypeFault → Type 0
+IsRefusedBy IsFault (Bad file offset code) = IsFault file offset code
+IsRefusedBy IsFault Memory = Unit {0}
+
 abbrev pub AreRefused : Texts → TypeFault → Type 0
-AreRefused texts (Bad file offset code) = IsTextFault texts file offset code
-AreRefused texts Memory = Unit {0}
+AreRefused texts fault = IsRefusedBy (IsTextFault texts) fault
