@@ -54,7 +54,7 @@ PROGRAMS: Dict[str, Tuple[Command, ...]] = {
         Command("check", "whether a pipeline is right, and where it isn't, what a case shows", ("PIPE", "SPEC"),
                 ("INV",), (("--diverse", ""), BUDGET)),
         Command("show", "both ways round a case's diagram", ("PIPE", "SPEC", "CASE"), ("INV",),
-                (("--whole", ""), ("--html", "FILE"))),
+                (("--whole", ""), ("--comp", "COMP"), ("--html", "FILE"))),
         Command("shrink", "a small case that breaks the same condition", ("PIPE", "SPEC", "CASE"), ("INV",)),
         Command("why", "why a value of a case is what it is", ("PIPE", "SPEC", "CASE"), ("INV",),
                 (("--of", "VALUE"), ("--whole", ""))),

@@ -17,7 +17,7 @@ each_push P [] x h p = (p, tt)
 each_push P (y ∷ ys) x h p = (h.0, each_push P ys x h.1 p)
 
 -- the same design but for its flush cycles, steps, exact items and invariant
-abbrev changed : DesignView → ℕ → ℕ → List ExactView → List LocalView → ExprView → DesignView
+abbrev pub changed : DesignView → ℕ → ℕ → List ExactView → List LocalView → ExprView → DesignView
 changed d flush steps exact lets inv = record d { flush = flush; steps = steps; exact = exact; inv_locals = lets; inv = inv }
 
 machine_still : (d : DesignView) (f s : ℕ) (x : List ExactView) (ls : List LocalView) (i : ExprView) (m : MachineView) → IsLawfulMachine d m → IsLawfulMachine (changed d f s x ls i) m
@@ -26,7 +26,7 @@ machine_still d f s x ls i m h = record { locals = h.locals; nexts = h.nexts; lo
 exacts_still : (d : DesignView) (f s : ℕ) (x : List ExactView) (ls : List LocalView) (i : ExprView) (es : List ExactView) → AllByRecursion (IsLawfulExact d) es → AllByRecursion (IsLawfulExact (changed d f s x ls i)) es
 exacts_still d f s x ls i es h = each_still (IsLawfulExact d) (IsLawfulExact (changed d f s x ls i)) (λ e p. record { count = p.count; when = p.when; limits = p.limits }) es h
 
-changed_lawful : (d : DesignView) (f s : ℕ) (x : List ExactView) (ls : List LocalView) (i : ExprView) → IsLawful d → f ≤ 64 → s ≤ 8 → AllByRecursion (IsLawfulExact d) x → length x ≤ most_items
+pub changed_lawful : (d : DesignView) (f s : ℕ) (x : List ExactView) (ls : List LocalView) (i : ExprView) → IsLawful d → f ≤ 64 → s ≤ 8 → AllByRecursion (IsLawfulExact d) x → length x ≤ most_items
     → LetsHaveSorts (without_lets (inv_context d)) ls → HasSort (inv_context (changed d f s x ls i)) i sort.Bool → AllByRecursion (λ (l : LocalView). IsWithinLimits l.value) ls → IsWithinLimits i → length ls ≤ most_items
     → IsLawful (changed d f s x ls i)
 changed_lawful d f s x ls i h flush steps exact few lets inv let_limits inv_limits few_lets = record {

@@ -12,3 +12,4 @@ pub mod RowCounts
 pub mod Owned
 pub mod Tallied
 pub mod Pairing
+pub mod WithParts

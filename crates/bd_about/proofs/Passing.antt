@@ -11,7 +11,7 @@ use Rattle.bd_about.specs.Reached.{IsReached, by_root, by_let}
 use Rattle.bd_about.specs.inner.Marking.{AreMarked, LeadsOn, UseEarlier}
 use Rattle.bd_about.specs.declared.named.Named.{Named}
 use Rattle.bd_about.specs.declared.named.Named.TheVariants as named
-use Rattle.bd_about.specs.declared.marks.Marks.{Marks}
+use Rattle.bd_about.specs.declared.marks.NameMarks.{NameMarks}
 use Rattle.bd_list.proofs.Truths.{or_left, or_right}
 
 pub or_cases : (a b : Bool) → (a || b) ≡ true → (a ≡ true) ⊎ (b ≡ true)
@@ -19,12 +19,12 @@ or_cases true b h = inl refl
 or_cases false b h = inr h
 
 -- the lets from the i-th on were passed
-pub record Passed (lets : List LocalView) (first now : Marks) (i : ℕ) : Type 0 where
+pub record Passed (lets : List LocalView) (first now : NameMarks) (i : ℕ) : Type 0 where
   pub sound : (roots : List ExprView) → AreMarked roots first → (x : Named) → is_marked now x ≡ true → IsReached roots lets x
   pub kept : (x : Named) → is_marked first x ≡ true → is_marked now x ≡ true
   pub closed : (j : ℕ) (l : LocalView) (x : Named) → i ≤ j → slice_get lets j ≡ Some l → is_marked now (named.Local j) ≡ true → names x l.value ≡ true → is_marked now x ≡ true
 
-pub passed_none : (lets : List LocalView) (first : Marks) (i : ℕ) → length lets ≤ i → Passed lets first first i
+pub passed_none : (lets : List LocalView) (first : NameMarks) (i : ℕ) → length lets ≤ i → Passed lets first first i
 passed_none lets first i past = record {
   sound = λ roots marked x on. by_root x (sym (marked.each x) ∙ on);
   kept = λ x on. on;
@@ -42,7 +42,7 @@ both_and false b h k = absurd (cc h)
 here_or_later : (i j : ℕ) → i ≤ j → (j ≡ i) ⊎ (suc i ≤ j)
 here_or_later i j h = elim (le_cases i j h) [ inl e ↦ inl (sym e) | inr p ↦ inr (omega (arith, p)) ]
 
-was_marked : (lets : List LocalView) (first now next : Marks) (i : ℕ) (l : LocalView) → Passed lets first now (suc i) → slice_get lets i ≡ Some l
+was_marked : (lets : List LocalView) (first now next : NameMarks) (i : ℕ) (l : LocalView) → Passed lets first now (suc i) → slice_get lets i ≡ Some l
     → Adds now next (λ x. is_marked now (named.Local i) && names x l.value) → (j : ℕ) (m : LocalView) (x : Named) → slice_get lets j ≡ Some m → is_marked now (named.Local j) ≡ true → names x m.value ≡ true
     → (j ≡ i) ⊎ (suc i ≤ j) → is_marked next x ≡ true
 was_marked lets first now next i l h at adds j m x at_j old uses (inl same) =
@@ -52,7 +52,7 @@ was_marked lets first now next i l h at adds j m x at_j old uses (inl same) =
 was_marked lets first now next i l h at adds j m x at_j old uses (inr more) = adds.each x ∙ or_left _ _ (h.closed j m x more at_j old uses)
 
 -- one let more is passed: where it is marked, what it names is marked too
-pub passed_more : (lets : List LocalView) (first now next : Marks) (i : ℕ) (l : LocalView) → UseEarlier lets → Passed lets first now (suc i) → slice_get lets i ≡ Some l
+pub passed_more : (lets : List LocalView) (first now next : NameMarks) (i : ℕ) (l : LocalView) → UseEarlier lets → Passed lets first now (suc i) → slice_get lets i ≡ Some l
     → Adds now next (λ x. is_marked now (named.Local i) && names x l.value) → Passed lets first next i
 passed_more lets first now next i l earlier h at adds = record {
   sound = λ roots marked x on. elim (or_cases _ _ (sym (adds.each x) ∙ on)) [
@@ -66,9 +66,9 @@ passed_more lets first now next i l earlier h at adds = record {
   ];
 }
 
-all_reached : (lets : List LocalView) (first now : Marks) → Passed lets first now 0 → (roots : List ExprView) → AreMarked roots first → (x : Named) → IsReached roots lets x → is_marked now x ≡ true
+all_reached : (lets : List LocalView) (first now : NameMarks) → Passed lets first now 0 → (roots : List ExprView) → AreMarked roots first → (x : Named) → IsReached roots lets x → is_marked now x ≡ true
 all_reached lets first now h roots marked x (by_root y on) = h.kept y (marked.each y ∙ on)
 all_reached lets first now h roots marked x (by_let y i l reached at uses) = h.closed i l y (omega arith) at (all_reached lets first now h roots marked (named.Local i) reached) uses
 
-pub passed_all : (lets : List LocalView) (first now : Marks) → Passed lets first now 0 → LeadsOn lets first now
+pub passed_all : (lets : List LocalView) (first now : NameMarks) → Passed lets first now 0 → LeadsOn lets first now
 passed_all lets first now h = record { each = λ roots marked. record { each = λ x. (h.sound roots marked x, all_reached lets first now h roots marked x) } }

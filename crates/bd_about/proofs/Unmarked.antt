@@ -7,7 +7,7 @@ use Rattle.bd_model.specs.declared.design.Design.{Design}
 use Rattle.bd_about.specs.Reached.{InInvariant, InPipe, InSpec, pipe_roots}
 use Rattle.bd_about.specs.Unread.{IsUnread}
 use Rattle.bd_about.specs.inner.Marking.{AreReached, unset_below}
-use Rattle.bd_about.specs.declared.marks.Marks.{Marks}
+use Rattle.bd_about.specs.declared.marks.NameMarks.{NameMarks}
 use Rattle.bd_about.specs.declared.named.Named.TheVariants.{Entry, Input, Local, Symbol}
 use Rattle.bd_about.specs.declared.unread.Unread.{Unread}
 use Rattle.bd_about.proofs.Listing.{are_unread, reads_either, reads_no_more}
@@ -19,7 +19,7 @@ flag flags i = slice_index_or flags i false
 abbrev pub in_none : List Bool → List Bool → List Bool → ℕ → List ℕ
 in_none a b c n = unset_below (λ i. (flag a i || flag b i) || flag c i) n
 
-pub all_listed : (d : Design) (pipe spec inv : Marks) (u : Unread) → AreReached (pipe_roots (design_view d)) (design_view d).pipe.locals pipe
+pub all_listed : (d : Design) (pipe spec inv : NameMarks) (u : Unread) → AreReached (pipe_roots (design_view d)) (design_view d).pipe.locals pipe
     → AreReached (design_view d).spec.nexts (design_view d).spec.locals spec → AreReached ((design_view d).inv ∷ []) (design_view d).inv_locals inv
     → u.lets ≡ in_none pipe.locals.items [] [] (length d.pipe.locals) → u.spec_lets ≡ in_none spec.locals.items [] [] (length d.spec.locals)
     → u.inv_lets ≡ in_none inv.locals.items [] [] (length d.inv_locals) → u.entries ≡ in_none pipe.entries.items inv.entries.items [] (length d.pipe.entries)

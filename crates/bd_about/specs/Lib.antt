@@ -12,4 +12,6 @@ pub mod UnreadLines
 pub mod ComparedLines
 pub mod ApplicationLines
 pub mod Lines
+pub mod Conjuncts
+pub mod AllLines
 pub mod inner

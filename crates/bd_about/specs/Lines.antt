@@ -1,4 +1,4 @@
--- What is found, as the lines that are printed, and all lines.
+-- What is found, as the lines that are printed, and the lines before it.
 use Rattle.std.specs.Prelude.{◌++◌, ℕ, Bool, true, false, List, [], codes, Option, None, Some, if◌then◌else◌}
 use Rattle.bd_model.specs.DesignView.{DesignView}
 use Rattle.bd_model.specs.declared.case.Condition.TheVariants.{Commute, Invariant}
@@ -66,7 +66,3 @@ finding_lines r =
 -- those before what is found
 abbrev pub first_lines : DesignView → LetNames → Applications → Unread → List ℕ
 first_lines d names a u = part_lines d ++ application_lines d a ++ unread_lines d names u
-
--- all lines
-abbrev pub about_lines : DesignView → LetNames → Applications → Unread → Findings → List ℕ
-about_lines d names a u r = first_lines d names a u ++ finding_lines r

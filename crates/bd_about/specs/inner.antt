@@ -4,3 +4,4 @@ pub mod Counted
 pub mod Owned
 pub mod Tallied
 pub mod Paired
+pub mod Conjuncts

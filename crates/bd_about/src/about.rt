@@ -1,14 +1,17 @@
 //! All that is said of a design.
-ghost use Rattle.std.specs.Prelude.{◌≡◌, length, IfOk};
+ghost use Rattle.std.specs.Prelude.{◌≡◌, ◌++◌, length, IfOk, OnOk};
 ghost use Rattle.bd_model.specs.DesignView.{design_view};
 ghost use Rattle.bd_model.specs.Lawful.{IsLawful};
 ghost use Rattle.bd_about.specs.Applications.{AreApplications};
 ghost use Rattle.bd_about.specs.Findings.{AreFindings};
-ghost use Rattle.bd_about.specs.Lines.{about_lines, first_lines};
+ghost use Rattle.bd_about.specs.AllLines.{about_lines, all_finding_lines};
+ghost use Rattle.bd_about.specs.Conjuncts.{AreConjuncts};
+ghost use Rattle.bd_about.specs.Lines.{first_lines};
 ghost use Rattle.bd_about.specs.Unread.{IsUnread};
 
 use crate::application_lines::push_applications;
-use crate::asking::{Findings, findings_of};
+use crate::asking::{Finding, Findings, findings_of, found};
+use crate::conjuncts::{on_conjuncts, push_conjuncts};
 use crate::counting::{Applications, applications_of};
 use crate::lines::push_findings;
 use crate::part_lines::parts_of;
@@ -17,12 +20,19 @@ use crate::unread_lines::{LetNames, push_unread};
 use bd_model::Design;
 use std::alloc::{AllocError, Global};
 
+/// What is found of a design, and without each conjunct of its invariant.
+#[derive(Drop)]
+pub struct AllFindings {
+    pub findings: Findings,
+    pub without: Vec<Finding>,
+}
+
 /// What is counted of functions and predicates, what nothing reads, what is found, and all as lines.
 #[derive(Drop)]
 pub struct About {
     pub applications: Applications,
     pub unread: Unread,
-    pub findings: Findings,
+    pub found: AllFindings,
     pub text: Vec<u8>,
 }
 
@@ -46,6 +56,30 @@ fn first_lines(
     Ok(text)
 }
 
+/// What is found of a lawful design, with an invariant or without one, also without each conjunct of it.
+fn all_findings(alloc: Global, design: Design, given: bool) -> Result<AllFindings, AllocError>
+    requires { IsLawful (design_view design) }
+    ensures findings { IfOk result (λ r. AreFindings (design_view design) given r.findings) }
+    ensures without { IfOk result (λ r.
+        AreConjuncts (design_view design) given r.findings.own r.without.items) }
+{
+    let own = found(alloc, &design, given)?;
+    let (without, design) = on_conjuncts(alloc, design, given, own)?;
+    Ok(AllFindings {
+        findings: findings_of(alloc, design, given, own)?,
+        without,
+    })
+}
+
+/// Puts the lines of all that is found after a text.
+fn push_all_findings(out: &mut Vec<u8>, found: &AllFindings) -> Result<(), AllocError>
+    ensures { OnOk result (out.new.items
+        ≡ out.old.items ++ all_finding_lines found.now.findings found.now.without.items) }
+{
+    push_findings(out, &found.findings)?;
+    push_conjuncts(out, found.without.as_slice())
+}
+
 /// What is said of a lawful design, with an invariant or without one.
 pub fn about_design(
     alloc: Global,
@@ -57,19 +91,22 @@ pub fn about_design(
     ensures applications { IfOk result (λ a.
         AreApplications (design_view design) a.applications) }
     ensures unread { IfOk result (λ a. IsUnread (design_view design) a.unread) }
-    ensures findings { IfOk result (λ a. AreFindings (design_view design) given a.findings) }
-    ensures lines { IfOk result (λ a. a.text.items
-        ≡ about_lines (design_view design) names.entry a.applications a.unread a.findings) }
+    ensures findings { IfOk result (λ a.
+        AreFindings (design_view design) given a.found.findings) }
+    ensures without { IfOk result (λ a.
+        AreConjuncts (design_view design) given a.found.findings.own a.found.without.items) }
+    ensures lines { IfOk result (λ a. a.text.items ≡ about_lines (design_view design)
+        names.entry a.applications a.unread a.found.findings a.found.without.items) }
 {
     let applications = applications_of(alloc, &design)?;
     let unread = unread_of(alloc, &design)?;
     let mut text = first_lines(alloc, &design, names, &applications, &unread)?;
-    let findings = findings_of(alloc, design, given)?;
-    push_findings(&mut text, &findings)?;
+    let found = all_findings(alloc, design, given)?;
+    push_all_findings(&mut text, &found)?;
     Ok(About {
         applications,
         unread,
-        findings,
+        found,
         text,
     })
 }

@@ -70,7 +70,7 @@ pub fn finding_of(verdict: &Verdict) -> Finding
 }
 
 /// What is found of a design, in diverse mode with the default budget.
-fn found(alloc: Global, design: &Design, given: bool) -> Result<Finding, AllocError>
+pub fn found(alloc: Global, design: &Design, given: bool) -> Result<Finding, AllocError>
     requires { IsLawful (design_view design.now) }
     ensures { IfOk result (IsFinding (design_view design.now) given) }
 {
@@ -260,12 +260,18 @@ fn on_no_steps(alloc: Global, design: Design, given: bool) -> Result<Option<Find
     Ok(Some(found(alloc, &changed, given)?))
 }
 
-/// What is found of a lawful design, with an invariant or without one.
-pub fn findings_of(alloc: Global, design: Design, given: bool) -> Result<Findings, AllocError>
-    requires { IsLawful (design_view design) }
-    ensures { IfOk result (AreFindings (design_view design) given) }
+/// What is found of a lawful design, with an invariant or without one, of which this is found as it is.
+pub fn findings_of(
+    alloc: Global,
+    design: Design,
+    given: bool,
+    own: Finding,
+) -> Result<Findings, AllocError>
+    requires lawful { IsLawful (design_view design) }
+    requires own { IsFinding (design_view design) given own }
+    ensures findings { IfOk result (AreFindings (design_view design) given) }
+    ensures own { IfOk result (λ r. r.own ≡ own) }
 {
-    let own = found(alloc, &design, given)?;
     let (less_flushed, design) = on_less_flushed(alloc, design, given)?;
     let (more_flushed, design) = on_more_flushed(alloc, design, own, given)?;
     let (more_steps, design) = on_more_steps(alloc, design, own, given)?;

@@ -19,10 +19,10 @@ use std::alloc::{AllocError, Global};
 use std::marker::Model;
 
 /// A list of symbols.
-pub type Symbols = Sequence<Sym>;
+pub type Partners = Sequence<Sym>;
 
 /// The symbols with which each function or predicate is compared, in their order.
-pub type Comparisons = Sequence<Symbols>;
+pub type AllPartners = Sequence<Partners>;
 
 /// Two symbols.
 #[derive(Clone, Copy, PartialEq, Eq, Hash)]
@@ -99,7 +99,7 @@ impl Compared {
     }
 
     /// The symbols with which one is compared, of these.
-    fn with(&self, alloc: Global, symbol: Sym, symbols: &[FlatSym]) -> Result<Symbols, AllocError>
+    fn with(&self, alloc: Global, symbol: Sym, symbols: &[FlatSym]) -> Result<Partners, AllocError>
         ensures { IfOk result (λ found.
             found ≡ symbols_among (has_pair self.now symbol) symbols.now) }
     {
@@ -119,7 +119,7 @@ fn comparisons(
     functions: usize,
     pairs: &Compared,
     symbols: &[FlatSym],
-) -> Result<Comparisons, AllocError>
+) -> Result<AllPartners, AllocError>
     requires { functions ≤ most_items }
     ensures size { IfOk result (λ lists. length lists ≡ functions) }
     ensures lists { IfOk result (λ lists. (f : ℕ) (list : List TheSymbol) →
@@ -140,7 +140,7 @@ pub(crate) fn comparisons_of(
     owners: &Owners,
     edges: &[Edge],
     symbols: &[FlatSym],
-) -> Result<Comparisons, AllocError>
+) -> Result<AllPartners, AllocError>
     requires { functions ≤ most_items }
     ensures size { IfOk result (λ lists. length lists ≡ functions) }
     ensures lists { IfOk result (λ lists. (f : ℕ) (list : List TheSymbol) →

@@ -5,7 +5,7 @@ ghost use Rattle.bd_about.specs.ComparedLines.{all_compared, compared_line, entr
 ghost use Rattle.bd_about.specs.PartLines.{comma};
 ghost use Rattle.bd_about.specs.UnreadLines.{line_if};
 
-use crate::compared::Symbols;
+use crate::compared::Partners;
 use crate::unread_lines::entry_kind;
 use bd_model::{Design, Entry, Port, Symbol};
 use bd_terms::Sym;
@@ -123,7 +123,7 @@ fn push_comparisons(
     out: &mut Vec<u8>,
     design: &Design,
     symbols: &[Symbol],
-    compared: &[Symbols],
+    compared: &[Partners],
 ) -> Result<(), AllocError>
     requires { length compared.now ≡ length symbols.now }
     ensures { OnOk result (out.new.items ≡ out.old.items
@@ -144,7 +144,7 @@ fn push_comparisons(
 pub(crate) fn push_compared(
     out: &mut Vec<u8>,
     design: &Design,
-    compared: &[Symbols],
+    compared: &[Partners],
 ) -> Result<(), AllocError>
     requires { length compared.now ≡ length (design_view design.now).symbols }
     ensures { OnOk result (out.new.items

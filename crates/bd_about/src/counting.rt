@@ -16,7 +16,7 @@ ghost use Rattle.bd_about.specs.Equations.{is_variable_of};
 ghost use Rattle.bd_about.specs.inner.Counted.{AreCounted, AreItems, IsCountedFlat, IsCountedPlain, IsPlainOf, counted_rows, last_count};
 ghost use Rattle.bd_about.specs.inner.Owned.{is_owned};
 
-use crate::compared::{Comparisons, comparisons_of};
+use crate::compared::{AllPartners, comparisons_of};
 use crate::equations::{clause_counts, equation_counts};
 use crate::owners::Owners;
 use crate::tallying::Tally;
@@ -50,7 +50,7 @@ pub struct Applied {
 #[derive(Drop)]
 pub struct Applications {
     pub applied: Sequence<Applied>,
-    pub compared: Comparisons,
+    pub compared: AllPartners,
 }
 
 /// Sets the count of a function or predicate to that of its rows.

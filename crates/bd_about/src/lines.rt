@@ -21,7 +21,7 @@ fn finding_words(found: Finding) -> &'static str
 }
 
 /// Whether the pipeline was found to be right.
-fn is_right(found: Finding) -> bool
+pub fn is_right(found: Finding) -> bool
     ensures { result ≡ is_right found }
 {
     matches!(found, Finding::Right)
@@ -40,7 +40,7 @@ fn same_verdict(one: Finding, other: Finding) -> bool
 }
 
 /// Puts the line of a question after a text: what was found, and what that means besides.
-fn push_line(
+pub fn push_line(
     out: &mut Vec<u8>,
     question: &str,
     found: Finding,

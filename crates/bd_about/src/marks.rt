@@ -10,7 +10,7 @@ use std::alloc::{AllocError, Global};
 
 /// Marks on entries, inputs, lets and symbols. What stands past the end of a list isn't marked.
 #[derive(Drop)]
-pub struct Marks {
+pub struct NameMarks {
     pub entries: Vec<bool>,
     pub inputs: Vec<bool>,
     pub locals: Vec<bool>,
@@ -37,12 +37,12 @@ pub fn is_set(flags: &[bool], i: u32) -> bool
     flags.get(i as usize).copied().unwrap_or(false)
 }
 
-impl Marks {
+impl NameMarks {
     /// No marks.
     pub fn new(alloc: Global) -> Self
         ensures { (x : Named) → is_marked result x ≡ false }
     {
-        Marks {
+        NameMarks {
             entries: Vec::new(alloc),
             inputs: Vec::new(alloc),
             locals: Vec::new(alloc),
@@ -72,7 +72,7 @@ impl Marks {
 
 /// Marks what an expression names. It goes as deep as the expression nests.
 #[cycle(adds)]
-pub fn add_expr(marks: &mut Marks, expr: &Expr) -> Result<(), AllocError>
+pub fn add_expr(marks: &mut NameMarks, expr: &Expr) -> Result<(), AllocError>
     ensures { OnOk result (Adds marks.old marks.new (λ x. names x (expr_view expr.now))) }
 {
     match expr {
@@ -100,7 +100,7 @@ pub fn add_expr(marks: &mut Marks, expr: &Expr) -> Result<(), AllocError>
 
 /// Marks what expressions name.
 #[cycle(adds)]
-pub fn add_exprs(marks: &mut Marks, exprs: &Exprs) -> Result<(), AllocError>
+pub fn add_exprs(marks: &mut NameMarks, exprs: &Exprs) -> Result<(), AllocError>
     ensures { OnOk result (Adds marks.old marks.new (λ x. any_names x (expr_views exprs.now))) }
 {
     for expr in &exprs.items {

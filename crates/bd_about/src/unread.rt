@@ -10,7 +10,7 @@ ghost use Rattle.bd_about.specs.Unread.{IsUnread};
 ghost use Rattle.bd_about.specs.inner.Marking.{AreMarked, AreReached, LeadsOn, UseEarlier, unset_below};
 ghost use Rattle.bd_model.specs.Limits.{most_items};
 
-use crate::marks::{Marks, add_expr, add_exprs, is_set};
+use crate::marks::{NameMarks, add_expr, add_exprs, is_set};
 use crate::named::Named;
 use bd_model::{Design, Exact, Local, Places, Port, Sequence};
 use std::alloc::{AllocError, Global};
@@ -28,7 +28,7 @@ pub struct Unread {
 }
 
 /// Marks what the flush values of inputs name.
-fn add_ports(marks: &mut Marks, ports: &[Port]) -> Result<(), AllocError>
+fn add_ports(marks: &mut NameMarks, ports: &[Port]) -> Result<(), AllocError>
     ensures { OnOk result (Adds marks.old marks.new (λ x.
         any_of x (map (λ (p : PortView). p.idle) (map port_view ports.now)))) }
 {
@@ -39,7 +39,7 @@ fn add_ports(marks: &mut Marks, ports: &[Port]) -> Result<(), AllocError>
 }
 
 /// Marks what the conditions of exact items name.
-fn add_exacts(marks: &mut Marks, items: &[Exact]) -> Result<(), AllocError>
+fn add_exacts(marks: &mut NameMarks, items: &[Exact]) -> Result<(), AllocError>
     ensures { OnOk result (Adds marks.old marks.new (λ x.
         any_of x (map (λ (e : ExactView). e.when) (map exact_view items.now)))) }
 {
@@ -50,7 +50,7 @@ fn add_exacts(marks: &mut Marks, items: &[Exact]) -> Result<(), AllocError>
 }
 
 /// Marks entries.
-fn add_entries(marks: &mut Marks, places: &[u32]) -> Result<(), AllocError>
+fn add_entries(marks: &mut NameMarks, places: &[u32]) -> Result<(), AllocError>
     ensures { OnOk result (Adds marks.old marks.new (λ x. any_of x (map Entry places.now))) }
 {
     for place in places {
@@ -60,7 +60,7 @@ fn add_entries(marks: &mut Marks, places: &[u32]) -> Result<(), AllocError>
 }
 
 /// Marks what a let names, where it is marked.
-fn add_let(marks: &mut Marks, i: usize, local: &Local) -> Result<(), AllocError>
+fn add_let(marks: &mut NameMarks, i: usize, local: &Local) -> Result<(), AllocError>
     ensures { OnOk result (Adds marks.old marks.new (λ x.
         is_marked marks.old (Named.Local i) && names x (local_view local.now).value)) }
 {
@@ -72,7 +72,7 @@ fn add_let(marks: &mut Marks, i: usize, local: &Local) -> Result<(), AllocError>
 }
 
 /// Marks what the values of marked lets name, the last let first, since a let names earlier ones alone.
-fn add_lets(marks: &mut Marks, lets: &[Local]) -> Result<(), AllocError>
+fn add_lets(marks: &mut NameMarks, lets: &[Local]) -> Result<(), AllocError>
     requires { UseEarlier (map local_view lets.now) }
     ensures { OnOk result (LeadsOn (map local_view lets.now) marks.old marks.new) }
 {
@@ -85,10 +85,10 @@ fn add_lets(marks: &mut Marks, lets: &[Local]) -> Result<(), AllocError>
 }
 
 /// Marks what the pipeline works with.
-fn pipe_roots(alloc: Global, design: &Design) -> Result<Marks, AllocError>
+fn pipe_roots(alloc: Global, design: &Design) -> Result<NameMarks, AllocError>
     ensures { IfOk result (AreMarked (pipe_roots (design_view design.now))) }
 {
-    let mut marks = Marks::new(alloc);
+    let mut marks = NameMarks::new(alloc);
     add_exprs(&mut marks, &design.pipe.nexts)?;
     add_ports(&mut marks, design.pipe.ports.as_slice())?;
     add_exacts(&mut marks, design.exact.as_slice())?;
@@ -97,7 +97,7 @@ fn pipe_roots(alloc: Global, design: &Design) -> Result<Marks, AllocError>
 }
 
 /// What the pipeline reaches.
-fn in_pipe(alloc: Global, design: &Design) -> Result<Marks, AllocError>
+fn in_pipe(alloc: Global, design: &Design) -> Result<NameMarks, AllocError>
     requires { IsLawful (design_view design.now) }
     ensures { IfOk result (AreReached (pipe_roots (design_view design.now))
         (design_view design.now).pipe.locals) }
@@ -108,24 +108,24 @@ fn in_pipe(alloc: Global, design: &Design) -> Result<Marks, AllocError>
 }
 
 /// What the specification reaches.
-fn in_spec(alloc: Global, design: &Design) -> Result<Marks, AllocError>
+fn in_spec(alloc: Global, design: &Design) -> Result<NameMarks, AllocError>
     requires { IsLawful (design_view design.now) }
     ensures { IfOk result (AreReached (design_view design.now).spec.nexts
         (design_view design.now).spec.locals) }
 {
-    let mut marks = Marks::new(alloc);
+    let mut marks = NameMarks::new(alloc);
     add_exprs(&mut marks, &design.spec.nexts)?;
     add_lets(&mut marks, design.spec.locals.as_slice())?;
     Ok(marks)
 }
 
 /// What the invariant reaches.
-fn in_invariant(alloc: Global, design: &Design) -> Result<Marks, AllocError>
+fn in_invariant(alloc: Global, design: &Design) -> Result<NameMarks, AllocError>
     requires { IsLawful (design_view design.now) }
     ensures { IfOk result (AreReached ((design_view design.now).inv ∷ [])
         (design_view design.now).inv_locals) }
 {
-    let mut marks = Marks::new(alloc);
+    let mut marks = NameMarks::new(alloc);
     add_expr(&mut marks, &design.inv)?;
     add_lets(&mut marks, design.inv_locals.as_slice())?;
     Ok(marks)
@@ -168,9 +168,9 @@ pub fn unread_of(alloc: Global, design: &Design) -> Result<Unread, AllocError>
 fn listed(
     alloc: Global,
     design: &Design,
-    pipe: &Marks,
-    spec: &Marks,
-    inv: &Marks,
+    pipe: &NameMarks,
+    spec: &NameMarks,
+    inv: &NameMarks,
 ) -> Result<Unread, AllocError>
     requires lawful { IsLawful (design_view design.now) }
     requires pipe { AreReached (pipe_roots (design_view design.now))

@@ -4,21 +4,21 @@ use Rattle.std.specs.Prelude.{Some, slice_get}
 use Rattle.std.specs.List.{AllByRecursion}
 use Rattle.std.proofs.lemmas.Option.{slice_get_within}
 use Rattle.bd_model.specs.DesignView.{DesignView}
-use Rattle.bd_model.specs.Cycle.{step}
+use Rattle.bd_model.specs.Cycle.{step, spec_steps}
 use Rattle.bd_model.specs.Conditions.{IsAllowed, Commutes}
 use Rattle.bd_model.specs.declared.table.Value.{Value}
 use Rattle.bd_model.specs.declared.case.Case.{Case}
-use Rattle.bd_diagram.specs.Diagrams.{stands_at, reached_by, IsComparison, AreComparisons, IsDiagram}
+use Rattle.bd_diagram.specs.Diagrams.{IsComparisonOf, AreComparisonsOf, IsDiagram}
 use Rattle.bd_diagram.specs.Laws.{CommutesWhereSame}
 use Rattle.bd_diagram.specs.inner.Compared.{IsCompared}
 use Rattle.bd_diagram.specs.declared.comparison.Comparison.{Comparison}
 
 -- what is compared with the counts that are forced is compared with the design's
-pub compared : (d : DesignView) (c : Case) (counts items : List ℕ) (j : ℕ) (reached stands : List Value) (x : Comparison)
-    → ((n : ℕ) → AllByRecursion (λ m. m ≡ n) counts ↔ IsAllowed d c.interp c.state c.inputs n) → items ≡ counts → reached ≡ reached_by d c j → stands ≡ stands_at d c
-    → IsCompared items j reached stands x → IsComparison d c j x
-compared d c counts items j reached stands x allowed same_items is_reached is_stands h =
-    let g = rw (same_items, is_reached, is_stands) at h in
+pub compared : (d : DesignView) (c : Case) (counts items : List ℕ) (j : ℕ) (first reached stands : List Value) (x : Comparison)
+    → ((n : ℕ) → AllByRecursion (λ m. m ≡ n) counts ↔ IsAllowed d c.interp c.state c.inputs n) → items ≡ counts → reached ≡ spec_steps j d c.interp first
+    → IsCompared items j reached stands x → IsComparisonOf d c first stands j x
+compared d c counts items j first reached stands x allowed same_items is_reached h =
+    let g = rw (same_items, is_reached) at h in
     record {
       visible = g.visible;
       allowed = (λ t. (allowed j).0 (g.allowed.0 t), λ a. g.allowed.1 ((allowed j).1 a));
@@ -34,17 +34,17 @@ slice_get_push (z ∷ xs) y x zero h = inl h
 slice_get_push (z ∷ xs) y x (suc j) h = ⊎_elim (λ e. inl e) (λ (e : (j ≡ length xs) × (y ≡ x)). inr (ap suc e.0, e.1)) (slice_get_push xs y x j h)
 
 -- one comparison more
-pub compared_more : (d : DesignView) (c : Case) (xs new : List Comparison) (y : Comparison) (j : ℕ) → AreComparisons d c xs → length xs ≡ j → IsComparison d c j y → new ≡ xs ++ y ∷ []
-    → AreComparisons d c new
-compared_more d c xs new y j before count here put =
-    let all : AreComparisons d c (xs ++ y ∷ []) = λ k x h.
+pub compared_more : (d : DesignView) (c : Case) (first stands : List Value) (xs new : List Comparison) (y : Comparison) (j : ℕ) → AreComparisonsOf d c first stands xs → length xs ≡ j
+    → IsComparisonOf d c first stands j y → new ≡ xs ++ y ∷ [] → AreComparisonsOf d c first stands new
+compared_more d c first stands xs new y j before count here put =
+    let all : AreComparisonsOf d c first stands (xs ++ y ∷ []) = λ k x h.
     ⊎_elim (λ (e : slice_get xs k ≡ Some x). before k x e)
     (λ (e : (k ≡ length xs) × (y ≡ x)).
     let at_j : j ≡ k = cc in
-    let at_k = subst (λ i. IsComparison d c i y) at_j here in
-    subst (λ z. IsComparison d c k z) e.1 at_k)
+    let at_k = subst (λ i. IsComparisonOf d c first stands i y) at_j here in
+    subst (λ z. IsComparisonOf d c first stands k z) e.1 at_k)
     (slice_get_push xs y x k h) in
-    subst (λ zs. AreComparisons d c zs) (sym put) all
+    subst (λ zs. AreComparisonsOf d c first stands zs) (sym put) all
 
 -- there is an item at each place
 pub item_at : {X : Type 0} (xs : List X) (j : ℕ) → j < length xs → (x : X) × (slice_get xs j ≡ Some x)
@@ -66,8 +66,9 @@ commutes d c g is = (
 )
 
 -- one step more
-pub next_reached : (d : DesignView) (c : Case) (reached next : List Value) (j : ℕ) → reached ≡ reached_by d c j → next ≡ step d.spec c.interp reached [] → next ≡ reached_by d c (j + 1)
-next_reached d c reached next j is moved = rw (add-one, moved, is)
+pub next_reached : (d : DesignView) (c : Case) (first reached next : List Value) (j : ℕ) → reached ≡ spec_steps j d c.interp first → next ≡ step d.spec c.interp reached []
+    → next ≡ spec_steps (j + 1) d c.interp first
+next_reached d c first reached next j is moved = rw (add-one, moved, is)
 
 pub counted_more : (xs new : List Comparison) (y : Comparison) (j : ℕ) → length xs ≡ j → new ≡ xs ++ y ∷ [] → length new ≡ j + 1
 counted_more xs new y j h put = omega (arith, ap length put, length-append xs (y ∷ []))

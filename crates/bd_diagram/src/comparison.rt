@@ -1,8 +1,8 @@
-//! The specification after each number of steps, compared with where the pipeline stands after the cycle.
+//! The specification after each number of steps, compared with what the pipeline's state stands for after the cycle.
 ghost use Rattle.std.specs.Prelude.{◌≡◌, ◌↔◌, suc, length, IfOk, IsTrue};
 ghost use Rattle.std.specs.List.{AllByRecursion};
 ghost use Rattle.bd_model.specs.DesignView.{design_view};
-ghost use Rattle.bd_diagram.specs.Diagrams.{stands_at, reached_by, AreComparisons};
+ghost use Rattle.bd_diagram.specs.Diagrams.{AreComparisonsOf, IsOther};
 ghost use Rattle.bd_diagram.specs.inner.Compared.{IsCompared};
 
 use crate::difference::{Differences, differences_of};
@@ -23,23 +23,22 @@ pub struct Comparison {
 /// A list of comparisons, that of no step first.
 pub type Comparisons = Sequence<Comparison>;
 
-/// Each number of steps, up to the design's, where the pipeline is flushed at `first` before the cycle and at `stands`
-/// after it.
+/// Each number of steps, up to the design's, where the pipeline's state stands for `first` before the cycle and for
+/// `stands` after it.
 pub fn comparisons_of(
     alloc: Global,
     design: &Design,
     case: &Case,
-    first: State,
+    first: &State,
     stands: &State,
 ) -> Result<Comparisons, AllocError>
-    requires first { first ≡ reached_by (design_view design.now) case.now 0 }
-    requires stands { stands.now ≡ stands_at (design_view design.now) case.now }
     ensures counts { IfOk result (λ xs. length xs ≡ suc design.now.steps) }
-    ensures each { IfOk result (λ xs. AreComparisons (design_view design.now) case.now xs) }
+    ensures each { IfOk result
+        (AreComparisonsOf (design_view design.now) case.now first.now stands.now) }
 {
     let counts = exact_counts(alloc, design, case)?;
     let mut comparisons = Vec::new(alloc);
-    let mut reached = first;
+    let mut reached = first.clone()?;
     for count in 0..design.steps {
         let next = spec_step(alloc, design, &case.interp, &reached)?;
         comparisons.push(comparison_of(alloc, counts.as_slice(), count, reached, stands)?)?;
@@ -50,7 +49,7 @@ pub fn comparisons_of(
     Ok(Sequence::from_vec(comparisons))
 }
 
-/// How a number of steps, which leads to `reached`, compares with where the pipeline stands once it is flushed.
+/// How a number of steps, which leads to `reached`, compares with what the pipeline's state stands for.
 fn comparison_of(
     alloc: Global,
     counts: &[u32],
@@ -65,6 +64,18 @@ fn comparison_of(
         same: same(stands.as_slice(), reached.as_slice()),
         differences: differences_of(alloc, stands.as_slice(), reached.as_slice())?,
         visible: reached,
+    })
+}
+
+/// What else the state stands for, compared with what is visible once the pipeline is flushed.
+pub fn other_of(alloc: Global, flushed: &State, other: State) -> Result<Comparison, AllocError>
+    ensures { IfOk result (IsOther flushed.now other) }
+{
+    Ok(Comparison {
+        allowed: true,
+        same: same(flushed.as_slice(), other.as_slice()),
+        differences: differences_of(alloc, flushed.as_slice(), other.as_slice())?,
+        visible: other,
     })
 }
 

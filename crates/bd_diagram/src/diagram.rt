@@ -36,7 +36,7 @@ pub fn diagram_of(alloc: Global, design: &Design, case: &Case) -> Result<Diagram
     let lets = let_values(alloc, design, interp, &case.state, &case.inputs)?;
     let first = visible_end(alloc, design, &before)?;
     let visible = visible_end(alloc, design, &after)?;
-    let comparisons = comparisons_of(alloc, design, case, first, &visible)?;
+    let comparisons = comparisons_of(alloc, design, case, &first, &visible)?;
     Ok(Diagram {
         before,
         after,
@@ -47,7 +47,7 @@ pub fn diagram_of(alloc: Global, design: &Design, case: &Case) -> Result<Diagram
 }
 
 /// What is visible in the last of the states.
-fn visible_end(alloc: Global, design: &Design, flushing: &Flushing) -> Result<State, AllocError>
+pub fn visible_end(alloc: Global, design: &Design, flushing: &Flushing) -> Result<State, AllocError>
     requires { design.now.flush < length flushing.now.states }
     ensures { IfOk result (λ s. s ≡ look (design_view design.now)
         (slice_index_or flushing.now.states design.now.flush [])) }

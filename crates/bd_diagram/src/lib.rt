@@ -1,6 +1,7 @@
 //! The two ways round the commuting diagram of a case, and where they part (Burch and Dill 1994).
 #![tactic(auto)]
 
+mod abstracted;
 mod alike;
 mod comparison;
 mod diagram;
@@ -8,6 +9,7 @@ mod difference;
 mod flushing;
 mod laws;
 
+pub use abstracted::{contrast_with, diagram_between};
 pub use alike::are_alike;
 pub use comparison::{Comparison, Comparisons};
 pub use diagram::{Diagram, diagram_of};

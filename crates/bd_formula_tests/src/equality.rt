@@ -14,7 +14,7 @@ use std::test::Fail;
 
 /// Terms, of which the last is the root, a group of constants that are kept apart, marked variables if any are, and the
 /// truth graph with its edges and those of the constants. Variables are numbered as constants come.
-struct Case {
+struct EqualityCase {
     terms: &'static str,
     group: &'static str,
     marked: &'static str,
@@ -23,9 +23,9 @@ struct Case {
     apart: &'static str,
 }
 
-static CASES: [Case; 9] = [
+static CASES: [EqualityCase; 9] = [
     // two variables
-    Case {
+    EqualityCase {
         terms: "F 0, F 1, = 0 1",
         group: "",
         marked: "",
@@ -34,7 +34,7 @@ static CASES: [Case; 9] = [
         apart: "",
     },
     // one word and itself
-    Case {
+    EqualityCase {
         terms: "F 0, = 0 0",
         group: "",
         marked: "",
@@ -43,7 +43,7 @@ static CASES: [Case; 9] = [
         apart: "",
     },
     // the constant true
-    Case {
+    EqualityCase {
         terms: "true",
         group: "",
         marked: "",
@@ -52,7 +52,7 @@ static CASES: [Case; 9] = [
         apart: "",
     },
     // an ite against one of its branches
-    Case {
+    EqualityCase {
         terms: "F? 0, F 1, F 2, ite 0 1 2, = 3 1",
         group: "",
         marked: "",
@@ -61,7 +61,7 @@ static CASES: [Case; 9] = [
         apart: "",
     },
     // an ite against an ite
-    Case {
+    EqualityCase {
         terms: "F? 0, F? 1, F 2, F 3, ite 0 2 3, ite 1 2 3, = 4 5",
         group: "",
         marked: "",
@@ -70,7 +70,7 @@ static CASES: [Case; 9] = [
         apart: "",
     },
     // a marked variable
-    Case {
+    EqualityCase {
         terms: "F 0, F 1, = 0 1",
         group: "0 1",
         marked: "1",
@@ -79,7 +79,7 @@ static CASES: [Case; 9] = [
         apart: "",
     },
     // two constants that are compared, and one without a variable
-    Case {
+    EqualityCase {
         terms: "F 0, F 1, = 0 1",
         group: "1 5 0",
         marked: "",
@@ -88,7 +88,7 @@ static CASES: [Case; 9] = [
         apart: "0 1 ",
     },
     // two constants that are not compared with each other
-    Case {
+    EqualityCase {
         terms: "F? 3, F 0, F 1, ite 0 1 2, F 2, = 3 4",
         group: "0 1",
         marked: "",
@@ -97,7 +97,7 @@ static CASES: [Case; 9] = [
         apart: "1 2 ",
     },
     // connectives
-    Case {
+    EqualityCase {
         terms: "F 0, F 1, = 0 1, F? 2, not 2, and 4 3, or 5 3, ite 3 6 2",
         group: "",
         marked: "",
@@ -141,7 +141,7 @@ fn are_edges(alloc: Global, edges: &[Edge], want: &str) -> Result<bool, AllocErr
 }
 
 /// Whether an encoded formula has the nodes and the edges of a case, and its last node as its root.
-fn is_as_told(alloc: Global, encoded: &Encoded, case: &Case) -> Result<bool, AllocError> {
+fn is_as_told(alloc: Global, encoded: &Encoded, case: &EqualityCase) -> Result<bool, AllocError> {
     Ok(
         encoded.root.saturating_add(1) == encoded.prop.len()
             && are_shown(alloc, encoded.prop.nodes(), case.nodes)?
@@ -155,7 +155,7 @@ fn check_encoded(
     alloc: Global,
     flat: &Flat,
     marked: Option<&Marked>,
-    case: &Case,
+    case: &EqualityCase,
 ) -> Result<bool, AllocError> {
     let distinct = group_of(alloc, case.group)?;
     let encoded = encode(alloc, flat, &distinct, marked)?;
@@ -163,14 +163,14 @@ fn check_encoded(
 }
 
 /// Whether a flat formula is encoded as a case tells with the variables that the case marks.
-fn check_marked(alloc: Global, flat: &Flat, case: &Case) -> Result<bool, AllocError> {
+fn check_marked(alloc: Global, flat: &Flat, case: &EqualityCase) -> Result<bool, AllocError> {
     let vars = numbers(alloc, case.marked)?;
     let marked = marked_of(alloc, &vars)?;
     check_encoded(alloc, flat, Some(&marked), case)
 }
 
 /// Whether a flat formula is encoded as a case tells, whether the case marks variables or not.
-fn check_flat(alloc: Global, flat: &Flat, case: &Case) -> Result<bool, AllocError> {
+fn check_flat(alloc: Global, flat: &Flat, case: &EqualityCase) -> Result<bool, AllocError> {
     if case.marked.is_empty() {
         check_encoded(alloc, flat, None, case)
     } else {
@@ -182,7 +182,7 @@ fn check_flat(alloc: Global, flat: &Flat, case: &Case) -> Result<bool, AllocErro
 fn check(
     rt: &(impl Abort + AllocGlobal),
     graph: &mut Graph,
-    case: &Case,
+    case: &EqualityCase,
 ) -> Result<(), AllocError> {
     let root = build_all(rt, graph, case.terms)?;
     assert!(rt; has(graph, root, Sort::Bool) && has_no_memory(graph, root));

@@ -1,14 +1,14 @@
 //! Functions that take another number of words, or that the files declare differently: E10, E15, E16 and E18.
 
 use crate::cases::wrong_row;
-use crate::declared::{Declared, Kind};
+use crate::declared::{Declaration, Declared};
 use crate::lines::Lines;
-use crate::view::{View, put_arity, put_described};
+use crate::view::{FaultView, put_arity, put_described};
 use bd_typer::Text;
 use std::alloc::AllocError;
 
 /// What helps at an application or a row with a wrong number of words.
-pub fn wrong_arity(view: &View<'_>, out: &mut Lines) -> Result<(), AllocError> {
+pub fn wrong_arity(view: &FaultView<'_>, out: &mut Lines) -> Result<(), AllocError> {
     if matches!(view.fault.file, Text::Case | Text::Trail) {
         return wrong_row(view, out);
     }
@@ -26,7 +26,7 @@ pub fn wrong_arity(view: &View<'_>, out: &mut Lines) -> Result<(), AllocError> {
 }
 
 /// What helps at a latch or memory of the specification that the pipeline hasn't.
-pub fn not_in_pipeline(view: &View<'_>, out: &mut Lines) -> Result<(), AllocError> {
+pub fn not_in_pipeline(view: &FaultView<'_>, out: &mut Lines) -> Result<(), AllocError> {
     let Some(name) = view.way.atom() else {
         return Ok(());
     };
@@ -41,7 +41,7 @@ pub fn not_in_pipeline(view: &View<'_>, out: &mut Lines) -> Result<(), AllocErro
 }
 
 /// What helps at a name that the two files declare differently.
-pub fn differs(view: &View<'_>, out: &mut Lines) -> Result<(), AllocError> {
+pub fn differs(view: &FaultView<'_>, out: &mut Lines) -> Result<(), AllocError> {
     let Some(name) = view.way.atom() else {
         return Ok(());
     };
@@ -57,7 +57,7 @@ pub fn differs(view: &View<'_>, out: &mut Lines) -> Result<(), AllocError> {
 }
 
 /// What helps at a name in a group of constants that is none.
-pub fn not_constant(view: &View<'_>, out: &mut Lines) -> Result<(), AllocError> {
+pub fn not_constant(view: &FaultView<'_>, out: &mut Lines) -> Result<(), AllocError> {
     let Some(name) = view.way.atom() else {
         return Ok(());
     };
@@ -66,7 +66,7 @@ pub fn not_constant(view: &View<'_>, out: &mut Lines) -> Result<(), AllocError> 
     };
     view.note(out, b"", &found)?;
     match found.kind {
-        Kind::Function(_) => out.say(&[b"distinct is of functions of no word"]),
+        Declaration::Function(_) => out.say(&[b"distinct is of functions of no word"]),
         _ => out.say(&[b"distinct is of constants, which are declared by (function NAME 0)"]),
     }
 }

@@ -2,7 +2,7 @@
 
 use crate::forms::operator_form;
 use crate::lines::Lines;
-use crate::view::View;
+use crate::view::FaultView;
 use std::alloc::AllocError;
 
 /// What is written in place of a sign that other languages have as an operator.
@@ -64,7 +64,7 @@ fn at_strange(out: &mut Lines, atom: &[u8], byte: u8) -> Result<(), AllocError> 
 }
 
 /// What helps at an atom that is no name.
-pub fn not_name(view: &View<'_>, out: &mut Lines) -> Result<(), AllocError> {
+pub fn not_name(view: &FaultView<'_>, out: &mut Lines) -> Result<(), AllocError> {
     let Some(atom) = view.way.atom() else {
         return Ok(());
     };

@@ -1,7 +1,7 @@
 //! Brackets that don't match.
 
 use crate::lines::Lines;
-use crate::source::{Fault, Source};
+use crate::source::{FaultPlace, NamedFile};
 use std::alloc::AllocError;
 
 /// The brackets of a text as far as it is read.
@@ -46,7 +46,11 @@ pub fn ended_before(text: &[u8], offset: usize) -> Option<usize> {
 }
 
 /// What helps where brackets don't match: how many are missing, or where the file's list ends early.
-pub fn unbalanced(out: &mut Lines, source: Source<'_>, fault: Fault) -> Result<(), AllocError> {
+pub fn unbalanced(
+    out: &mut Lines,
+    source: NamedFile<'_>,
+    fault: FaultPlace,
+) -> Result<(), AllocError> {
     let found = brackets_before(source.text, fault.offset);
     match (found.open, found.ended) {
         (0, Some(at)) => out.note(

@@ -1,7 +1,7 @@
 //! Bytes that aren't allowed, and lists that nest too deep.
 
 use crate::lines::Lines;
-use crate::source::{Fault, Source};
+use crate::source::{FaultPlace, NamedFile};
 use std::alloc::AllocError;
 
 /// What to write in place of a character.
@@ -65,7 +65,11 @@ fn say_remedy(out: &mut Lines, bytes: &[u8]) -> Result<(), AllocError> {
 }
 
 /// What helps at a byte that isn't allowed.
-pub fn at_byte(out: &mut Lines, source: Source<'_>, fault: Fault) -> Result<(), AllocError> {
+pub fn at_byte(
+    out: &mut Lines,
+    source: NamedFile<'_>,
+    fault: FaultPlace,
+) -> Result<(), AllocError> {
     let bytes = source.text.get(fault.offset..).unwrap_or(&[]);
     match bytes.first() {
         Some(0xFF | 0xFE) if fault.offset == 0 => {

@@ -5,7 +5,7 @@ use crate::entries::{entry_form, entry_head, say_values};
 use crate::file::{list_of, parts_of};
 use crate::lines::Lines;
 use crate::near::nearest_word;
-use crate::view::{View, put_arity, put_described};
+use crate::view::{FaultView, put_arity, put_described};
 use std::alloc::AllocError;
 
 /// What entries begin with.
@@ -19,14 +19,14 @@ const HEADS: [&[u8]; 6] = [
 ];
 
 /// The declaration of the name of the entry around a fault.
-fn entry_of<'v>(view: &View<'v>) -> Option<Declared<'v>> {
+fn entry_of<'v>(view: &FaultView<'v>) -> Option<Declared<'v>> {
     let (item, _) = view.way.item()?;
     let (_, name) = item.name()?;
     view.usable(name)
 }
 
 /// What helps at a malformed entry.
-pub fn malformed_entry(view: &View<'_>, out: &mut Lines) -> Result<(), AllocError> {
+pub fn malformed_entry(view: &FaultView<'_>, out: &mut Lines) -> Result<(), AllocError> {
     let list = match (view.way.item(), view.way.end) {
         (Some((item, _)), _) => Some(item),
         (None, Some(tree)) => list_of(tree),
@@ -45,7 +45,7 @@ pub fn malformed_entry(view: &View<'_>, out: &mut Lines) -> Result<(), AllocErro
 }
 
 /// What helps at a value of another sort, or at a name of another kind.
-pub fn wrong_value(view: &View<'_>, out: &mut Lines) -> Result<(), AllocError> {
+pub fn wrong_value(view: &FaultView<'_>, out: &mut Lines) -> Result<(), AllocError> {
     let Some(declared) = entry_of(view) else {
         return Ok(());
     };
@@ -65,7 +65,7 @@ pub fn wrong_value(view: &View<'_>, out: &mut Lines) -> Result<(), AllocError> {
 }
 
 /// What helps at a value that is no word.
-pub fn wrong_number(view: &View<'_>, out: &mut Lines) -> Result<(), AllocError> {
+pub fn wrong_number(view: &FaultView<'_>, out: &mut Lines) -> Result<(), AllocError> {
     match entry_of(view) {
         Some(declared) => say_values(out, &declared),
         None => Ok(()),
@@ -73,7 +73,7 @@ pub fn wrong_number(view: &View<'_>, out: &mut Lines) -> Result<(), AllocError> 
 }
 
 /// What helps at a row with another number of parts.
-pub fn wrong_row(view: &View<'_>, out: &mut Lines) -> Result<(), AllocError> {
+pub fn wrong_row(view: &FaultView<'_>, out: &mut Lines) -> Result<(), AllocError> {
     let Some(declared) = entry_of(view) else {
         return Ok(());
     };
@@ -90,7 +90,7 @@ pub fn wrong_row(view: &View<'_>, out: &mut Lines) -> Result<(), AllocError> {
 }
 
 /// Adds where the entry of a name stands first.
-pub fn entry_twice(view: &View<'_>, out: &mut Lines) -> Result<(), AllocError> {
+pub fn entry_twice(view: &FaultView<'_>, out: &mut Lines) -> Result<(), AllocError> {
     let Some(name) = view.way.atom() else {
         return Ok(());
     };

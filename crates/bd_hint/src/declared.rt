@@ -8,7 +8,7 @@ use std::alloc::{AllocError, Global};
 
 /// What a name is declared as.
 #[derive(Clone, Copy, PartialEq, Eq)]
-pub enum Kind {
+pub enum Declaration {
     Latch(Sort),
     Memory,
     Input(Sort),
@@ -21,7 +21,7 @@ pub enum Kind {
 #[derive(Clone, Copy)]
 pub struct Declared<'t> {
     pub file: Text,
-    pub kind: Kind,
+    pub kind: Declaration,
     pub at: usize,
     pub name: &'t [u8],
     pub item: Headed<'t>,
@@ -54,20 +54,22 @@ fn arity_of(text: &[u8]) -> Option<u64> {
     }
 }
 
-impl Kind {
+impl Declaration {
     /// The sort of the name as a value.
     pub fn sort(self) -> Option<Sort> {
         match self {
-            Kind::Latch(sort) | Kind::Input(sort) | Kind::Let(sort) => Some(sort),
-            Kind::Memory => Some(Sort::Memory),
-            Kind::Function(_) | Kind::Predicate(_) => None,
+            Declaration::Latch(sort) | Declaration::Input(sort) | Declaration::Let(sort) => {
+                Some(sort)
+            }
+            Declaration::Memory => Some(Sort::Memory),
+            Declaration::Function(_) | Declaration::Predicate(_) => None,
         }
     }
 
     /// How many words an application of the name takes.
     pub fn arity(self) -> Option<u64> {
         match self {
-            Kind::Function(arity) | Kind::Predicate(arity) => Some(arity),
+            Declaration::Function(arity) | Declaration::Predicate(arity) => Some(arity),
             _ => None,
         }
     }
@@ -75,33 +77,33 @@ impl Kind {
     /// The sort of an application of the name.
     pub fn result(self) -> Option<Sort> {
         match self {
-            Kind::Function(_) => Some(Sort::Word),
-            Kind::Predicate(_) => Some(Sort::Bool),
+            Declaration::Function(_) => Some(Sort::Word),
+            Declaration::Predicate(_) => Some(Sort::Bool),
             _ => None,
         }
     }
 
     /// Whether the name is declared as a latch or a memory.
     pub fn is_entry(self) -> bool {
-        matches!(self, Kind::Latch(_) | Kind::Memory)
+        matches!(self, Declaration::Latch(_) | Declaration::Memory)
     }
 
     /// Whether the name is declared as a let.
     pub fn is_let(self) -> bool {
-        matches!(self, Kind::Let(_))
+        matches!(self, Declaration::Let(_))
     }
 }
 
 /// What an item declares its name as.
-fn kind_of(item: Headed<'_>) -> Option<Kind> {
+fn kind_of(item: Headed<'_>) -> Option<Declaration> {
     let second = atom_at(item.parts, 2);
     match item.head {
-        b"latch" => Some(Kind::Latch(sort_named(second?)?)),
-        b"memory" => Some(Kind::Memory),
-        b"input" => Some(Kind::Input(sort_named(second?)?)),
-        b"let" => Some(Kind::Let(sort_named(second?)?)),
-        b"function" => Some(Kind::Function(arity_of(second?)?)),
-        b"predicate" => Some(Kind::Predicate(arity_of(second?)?)),
+        b"latch" => Some(Declaration::Latch(sort_named(second?)?)),
+        b"memory" => Some(Declaration::Memory),
+        b"input" => Some(Declaration::Input(sort_named(second?)?)),
+        b"let" => Some(Declaration::Let(sort_named(second?)?)),
+        b"function" => Some(Declaration::Function(arity_of(second?)?)),
+        b"predicate" => Some(Declaration::Predicate(arity_of(second?)?)),
         _ => None,
     }
 }

@@ -2,7 +2,7 @@
 
 use crate::file::{File, Headed, atom_at, atom_of, list_of, parts_of};
 use crate::lines::Lines;
-use crate::view::View;
+use crate::view::FaultView;
 use bd_typer::Text;
 use indexmap::IndexMap;
 use std::alloc::{AllocError, Global};
@@ -51,7 +51,7 @@ fn say_alike<'t>(
 }
 
 /// What helps at constants with equal values: two of them, and where they are kept apart.
-pub fn not_distinct(view: &View<'_>, out: &mut Lines) -> Result<(), AllocError> {
+pub fn not_distinct(view: &FaultView<'_>, out: &mut Lines) -> Result<(), AllocError> {
     let values = values_in(view.alloc, view.file)?;
     for file in view.files {
         if !matches!(file.source.file, Text::Pipe | Text::Spec) {

@@ -1,6 +1,6 @@
 //! Entries of cases and trails: how each is written.
 
-use crate::declared::{Declared, Kind};
+use crate::declared::{Declaration, Declared};
 use crate::lines::Lines;
 use crate::view::put_described;
 use bd_model::Sort;
@@ -20,19 +20,19 @@ pub fn entry_form(head: &[u8]) -> Option<&'static [u8]> {
 }
 
 /// The word that the entry of a declared name begins with.
-pub fn entry_head(kind: Kind) -> &'static [u8] {
+pub fn entry_head(kind: Declaration) -> &'static [u8] {
     match kind {
-        Kind::Latch(_) => b"latch",
-        Kind::Memory => b"memory",
-        Kind::Input(_) => b"input",
-        Kind::Function(_) => b"function",
-        Kind::Predicate(_) => b"predicate",
-        Kind::Let(_) => b"let",
+        Declaration::Latch(_) => b"latch",
+        Declaration::Memory => b"memory",
+        Declaration::Input(_) => b"input",
+        Declaration::Function(_) => b"function",
+        Declaration::Predicate(_) => b"predicate",
+        Declaration::Let(_) => b"let",
     }
 }
 
 /// The sort of the values that the entry of a declared name has.
-fn value_sort(kind: Kind) -> Sort {
+fn value_sort(kind: Declaration) -> Sort {
     match (kind.sort(), kind.result()) {
         (Some(Sort::Memory), _) => Sort::Word,
         (Some(sort), _) => sort,

@@ -1,6 +1,6 @@
 //! The trees of a file.
 
-use crate::source::Source;
+use crate::source::NamedFile;
 use bd_syntax::lists::offset_of;
 use bd_text::{TextFault, Tree, Trees, read_trees};
 use bd_typer::Text;
@@ -9,7 +9,7 @@ use std::alloc::{AllocError, Global};
 /// A file and its trees, none where its brackets don't match or a byte isn't allowed.
 #[derive(Drop)]
 pub struct File<'a> {
-    pub source: Source<'a>,
+    pub source: NamedFile<'a>,
     trees: Trees,
 }
 
@@ -88,7 +88,7 @@ fn trees_of(alloc: Global, text: &[u8]) -> Result<Trees, AllocError> {
 
 impl<'a> File<'a> {
     /// A file with its trees.
-    pub fn new(alloc: Global, source: Source<'a>) -> Result<File<'a>, AllocError> {
+    pub fn new(alloc: Global, source: NamedFile<'a>) -> Result<File<'a>, AllocError> {
         let trees = match source.file {
             Text::Case | Text::Trail => {
                 let text = commented(alloc, source.text)?;

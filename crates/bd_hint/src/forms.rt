@@ -5,7 +5,7 @@ use crate::file::{Headed, atom_at, list_of, parts_of};
 use crate::lines::Lines;
 use crate::near::nearest_word;
 use crate::source::{kind_form, kind_text};
-use crate::view::View;
+use crate::view::FaultView;
 use bd_syntax::Operator;
 use bd_syntax::lists::offset_of;
 use bd_text::Tree;
@@ -96,7 +96,7 @@ fn swallowed<'t>(list: Headed<'t>) -> Option<&'t Tree> {
 }
 
 /// Where the item begins that the end of the way stands in, if that is inside another item.
-pub fn stray(view: &View<'_>) -> Option<usize> {
+pub fn stray(view: &FaultView<'_>) -> Option<usize> {
     let last = view.way.last()?;
     let head = atom_at(last.parts, 0)?;
     if view.way.depth() > 2 && item_form(head).is_some() {
@@ -108,7 +108,7 @@ pub fn stray(view: &View<'_>) -> Option<usize> {
 
 /// What helps at a list with a wrong number of parts.
 fn at_form(
-    view: &View<'_>,
+    view: &FaultView<'_>,
     out: &mut Lines,
     form: &[u8],
     list: Headed<'_>,
@@ -121,7 +121,7 @@ fn at_form(
 }
 
 /// What helps where an item begins with a word that no item has.
-fn unknown_item(view: &View<'_>, out: &mut Lines, head: &[u8]) -> Result<(), AllocError> {
+fn unknown_item(view: &FaultView<'_>, out: &mut Lines, head: &[u8]) -> Result<(), AllocError> {
     let file = view.fault.file;
     if matches!(file, Text::Inv | Text::Start) {
         return out.say(&[
@@ -139,7 +139,7 @@ fn unknown_item(view: &View<'_>, out: &mut Lines, head: &[u8]) -> Result<(), All
 }
 
 /// What helps at a list with the wrong parts.
-fn at_list(view: &View<'_>, out: &mut Lines, tree: &Tree) -> Result<(), AllocError> {
+fn at_list(view: &FaultView<'_>, out: &mut Lines, tree: &Tree) -> Result<(), AllocError> {
     let is_item = view.way.depth() == 1;
     let Some(list) = list_of(tree) else {
         return match (is_item, parts_of(tree)) {
@@ -158,7 +158,7 @@ fn at_list(view: &View<'_>, out: &mut Lines, tree: &Tree) -> Result<(), AllocErr
 }
 
 /// Whether the end of the way is the expression of an invariant or a start.
-fn is_value(view: &View<'_>) -> bool {
+fn is_value(view: &FaultView<'_>) -> bool {
     match view.way.last() {
         Some(level) => {
             matches!(view.fault.file, Text::Inv | Text::Start)
@@ -169,7 +169,7 @@ fn is_value(view: &View<'_>) -> bool {
 }
 
 /// What helps at a part of an item that is no sort, name or number.
-fn at_part(view: &View<'_>, out: &mut Lines) -> Result<(), AllocError> {
+fn at_part(view: &FaultView<'_>, out: &mut Lines) -> Result<(), AllocError> {
     let Some((item, place)) = view.way.item() else {
         return Ok(());
     };
@@ -189,7 +189,7 @@ fn at_part(view: &View<'_>, out: &mut Lines) -> Result<(), AllocError> {
 }
 
 /// What helps at a malformed form.
-pub fn malformed(view: &View<'_>, out: &mut Lines) -> Result<(), AllocError> {
+pub fn malformed(view: &FaultView<'_>, out: &mut Lines) -> Result<(), AllocError> {
     let file = view.fault.file;
     match (view.way.end, view.way.depth()) {
         (Some(_), 0) => out.say(&[kind_text(file), b" is written ", kind_form(file)]),
@@ -209,7 +209,7 @@ pub fn malformed(view: &View<'_>, out: &mut Lines) -> Result<(), AllocError> {
 }
 
 /// Whether the end of the way stands where a name, a sort or a number is wanted.
-fn names_part(view: &View<'_>) -> bool {
+fn names_part(view: &FaultView<'_>) -> bool {
     match view.way.item() {
         Some((item, place)) => {
             item_form(item.head).is_some()
@@ -221,7 +221,7 @@ fn names_part(view: &View<'_>) -> bool {
 }
 
 /// What helps at a number that is none or out of range.
-pub fn at_number(view: &View<'_>, out: &mut Lines) -> Result<(), AllocError> {
+pub fn at_number(view: &FaultView<'_>, out: &mut Lines) -> Result<(), AllocError> {
     let form = match view.way.item() {
         Some((item, _)) => item_form(item.head),
         None => None,
@@ -236,7 +236,7 @@ pub fn at_number(view: &View<'_>, out: &mut Lines) -> Result<(), AllocError> {
 }
 
 /// What helps at an item that stands in a file of another kind.
-pub fn elsewhere(view: &View<'_>, out: &mut Lines) -> Result<(), AllocError> {
+pub fn elsewhere(view: &FaultView<'_>, out: &mut Lines) -> Result<(), AllocError> {
     let file = view.fault.file;
     let head = match view.way.end {
         Some(tree) => list_of(tree),

@@ -5,7 +5,7 @@ use crate::file::{atom_of, parts_of};
 use crate::lines::Lines;
 use crate::near::nearest_word;
 use crate::source::{kind_form, kind_of, kind_text};
-use crate::view::View;
+use crate::view::FaultView;
 use bd_typer::Text;
 use std::alloc::AllocError;
 
@@ -53,7 +53,7 @@ fn say_form(out: &mut Lines, file: Text) -> Result<(), AllocError> {
 }
 
 /// What helps where a list begins with a word that isn't wanted.
-fn other_head(view: &View<'_>, out: &mut Lines, head: &[u8]) -> Result<(), AllocError> {
+fn other_head(view: &FaultView<'_>, out: &mut Lines, head: &[u8]) -> Result<(), AllocError> {
     let file = view.fault.file;
     if let Some(kind) = kind_of(head) {
         out.say(&[
@@ -77,7 +77,7 @@ fn other_head(view: &View<'_>, out: &mut Lines, head: &[u8]) -> Result<(), Alloc
 }
 
 /// What helps where a case or a trail begins with another number than is wanted.
-fn at_number(view: &View<'_>, out: &mut Lines) -> Result<(), AllocError> {
+fn at_number(view: &FaultView<'_>, out: &mut Lines) -> Result<(), AllocError> {
     match view.fault.file {
         Text::Trail => out.say(&[
             b"a trail is written (trail CYCLES ENTRY ..), over 0 to 16 cycles",
@@ -87,7 +87,7 @@ fn at_number(view: &View<'_>, out: &mut Lines) -> Result<(), AllocError> {
 }
 
 /// What helps where a file has no list, or begins with something else.
-fn without_list(view: &View<'_>, out: &mut Lines, word: &[u8]) -> Result<(), AllocError> {
+fn without_list(view: &FaultView<'_>, out: &mut Lines, word: &[u8]) -> Result<(), AllocError> {
     if matches!(view.fault.file, Text::Case | Text::Trail) {
         if let Some(text) = answer_text(word) {
             return out.say(&[text]);
@@ -100,7 +100,7 @@ fn without_list(view: &View<'_>, out: &mut Lines, word: &[u8]) -> Result<(), All
 }
 
 /// What helps where a file isn't one list with the head of its kind.
-pub fn at_head(view: &View<'_>, out: &mut Lines) -> Result<(), AllocError> {
+pub fn at_head(view: &FaultView<'_>, out: &mut Lines) -> Result<(), AllocError> {
     let source = view.file.source;
     let Some(tree) = view.way.end else {
         return without_list(view, out, first_word(source.text));

@@ -14,17 +14,17 @@ use crate::inputs::not_allowed;
 use crate::lines::Lines;
 use crate::missing::{counts, not_once};
 use crate::sorts::wrong_sort;
-use crate::source::{Fault, Source};
+use crate::source::{FaultPlace, NamedFile};
 use crate::twice::declared_twice;
 use crate::unknown::unknown;
-use crate::view::View;
+use crate::view::FaultView;
 use crate::way::way_to;
 use bd_text::Code;
 use bd_typer::Text;
 use std::alloc::{AllocError, Global};
 
 /// The files with their trees.
-fn files_of<'a>(alloc: Global, sources: &[Source<'a>]) -> Result<Vec<File<'a>>, AllocError> {
+fn files_of<'a>(alloc: Global, sources: &[NamedFile<'a>]) -> Result<Vec<File<'a>>, AllocError> {
     let mut files = Vec::new(alloc);
     for source in sources {
         files.push(File::new(alloc, *source)?)?;
@@ -38,7 +38,7 @@ fn file_of<'f>(files: &'f [File<'f>], kind: Text) -> Option<&'f File<'f>> {
 }
 
 /// The source of a kind.
-fn source_of<'a>(sources: &[Source<'a>], kind: Text) -> Option<Source<'a>> {
+fn source_of<'a>(sources: &[NamedFile<'a>], kind: Text) -> Option<NamedFile<'a>> {
     sources.iter().copied().find(|source| source.file == kind)
 }
 
@@ -48,12 +48,12 @@ fn by_declared<'f>(
     out: &mut Lines,
     files: &'f [File<'f>],
     declared: &'f [Declared<'f>],
-    fault: Fault,
+    fault: FaultPlace,
 ) -> Result<(), AllocError> {
     let Some(file) = file_of(files, fault.file) else {
         return Ok(());
     };
-    let view = View {
+    let view = FaultView {
         alloc,
         fault,
         file,
@@ -69,14 +69,14 @@ fn by_trees<'f>(
     alloc: Global,
     out: &mut Lines,
     files: &'f [File<'f>],
-    fault: Fault,
+    fault: FaultPlace,
 ) -> Result<(), AllocError> {
     let declared = declarations(alloc, files)?;
     by_declared(alloc, out, files, declared.as_slice(), fault)
 }
 
 /// What helps by the code of the fault.
-fn by_code(view: &View<'_>, out: &mut Lines) -> Result<(), AllocError> {
+fn by_code(view: &FaultView<'_>, out: &mut Lines) -> Result<(), AllocError> {
     let is_case = matches!(view.fault.file, Text::Case | Text::Trail);
     if let (Some(at), false) = (stray(view), is_case) {
         return out.note(view.file.source, at, &[STRAY]);
@@ -108,7 +108,11 @@ fn by_code(view: &View<'_>, out: &mut Lines) -> Result<(), AllocError> {
 /// The lines that help after a fault of one of these files: what ends the search for it.
 ///
 /// A file may have any bytes. Where nothing helps there are no lines.
-pub fn hint_of(alloc: Global, sources: &[Source<'_>], fault: Fault) -> Result<Vec<u8>, AllocError> {
+pub fn hint_of(
+    alloc: Global,
+    sources: &[NamedFile<'_>],
+    fault: FaultPlace,
+) -> Result<Vec<u8>, AllocError> {
     let mut out = Lines::new(alloc);
     if let Some(source) = source_of(sources, fault.file) {
         match fault.code {

@@ -1,17 +1,17 @@
 //! Inputs where none may be used: E17.
 
-use crate::declared::{Declared, Kind};
+use crate::declared::{Declaration, Declared};
 use crate::file::{atom_of, parts_of};
 use crate::lines::Lines;
 use crate::source::kind_text;
-use crate::view::View;
+use crate::view::FaultView;
 use bd_text::Tree;
 use bd_typer::Text;
 use indexmap::IndexMap;
 use std::alloc::AllocError;
 
 /// The first input, or let that uses one, among the atoms of an expression.
-fn used<'v>(view: &View<'v>, tree: &'v Tree) -> Result<Option<Declared<'v>>, AllocError> {
+fn used<'v>(view: &FaultView<'v>, tree: &'v Tree) -> Result<Option<Declared<'v>>, AllocError> {
     let mut open = Vec::new(view.alloc);
     open.push(tree)?;
     let mut place = 0usize;
@@ -39,13 +39,13 @@ fn input_named<'v>(
 ) -> Option<Declared<'v>> {
     let found = names.get(&atom_of(tree)?).copied()?;
     match found.kind {
-        Kind::Input(_) => Some(found),
+        Declaration::Input(_) => Some(found),
         _ => None,
     }
 }
 
 /// What helps at an input, or a let that uses one, where none may be used.
-pub fn not_allowed(view: &View<'_>, out: &mut Lines) -> Result<(), AllocError> {
+pub fn not_allowed(view: &FaultView<'_>, out: &mut Lines) -> Result<(), AllocError> {
     let Some(name) = view.way.atom() else {
         return Ok(());
     };

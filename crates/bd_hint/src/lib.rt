@@ -29,4 +29,4 @@ mod view;
 mod way;
 
 pub use hint::hint_of;
-pub use source::{Fault, Source};
+pub use source::{FaultPlace, NamedFile};

@@ -1,6 +1,6 @@
 //! The lines that help, as they are put together.
 
-use crate::source::Source;
+use crate::source::NamedFile;
 use bd_text::Line;
 use itoa::Buffer;
 use std::alloc::{AllocError, Global};
@@ -53,7 +53,7 @@ impl Lines {
     /// Adds a line on a byte of a file, with its place, the line of the file, and a caret under the byte.
     pub fn note(
         &mut self,
-        source: Source<'_>,
+        source: NamedFile<'_>,
         offset: usize,
         pieces: &[&[u8]],
     ) -> Result<(), AllocError> {

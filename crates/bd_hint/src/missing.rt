@@ -5,7 +5,7 @@ use crate::file::{File, list_of};
 use crate::lines::Lines;
 use crate::near::nearest;
 use crate::twice::note_first;
-use crate::view::{View, put_described};
+use crate::view::{FaultView, put_described};
 use bd_typer::Text;
 use indexmap::IndexSet;
 use std::alloc::{AllocError, Global};
@@ -33,7 +33,7 @@ fn names_of<'f>(
 }
 
 /// Adds a `next` that may be meant: of a near name that no latch has, or of a let.
-fn note_next(view: &View<'_>, out: &mut Lines, name: &[u8]) -> Result<(), AllocError> {
+fn note_next(view: &FaultView<'_>, out: &mut Lines, name: &[u8]) -> Result<(), AllocError> {
     let nexts = names_of(view.alloc, view.file, b"next")?;
     let declared = view.names_in(view.fault.file)?;
     let mut others = Vec::new(view.alloc);
@@ -61,7 +61,7 @@ fn note_next(view: &View<'_>, out: &mut Lines, name: &[u8]) -> Result<(), AllocE
 
 /// Adds that a `next` is of a let, an input or a function.
 fn note_of_no_latch(
-    view: &View<'_>,
+    view: &FaultView<'_>,
     out: &mut Lines,
     at: usize,
     declared: &Declared<'_>,
@@ -73,7 +73,7 @@ fn note_of_no_latch(
 }
 
 /// What helps at a latch or memory without a `next`, or at a second one.
-fn at_machine(view: &View<'_>, out: &mut Lines) -> Result<(), AllocError> {
+fn at_machine(view: &FaultView<'_>, out: &mut Lines) -> Result<(), AllocError> {
     let Some(name) = view.way.atom() else {
         return Ok(());
     };
@@ -111,7 +111,7 @@ fn say_missing(
 }
 
 /// What helps where a completion function leaves something out, or gives it twice.
-fn at_completion(view: &View<'_>, out: &mut Lines) -> Result<(), AllocError> {
+fn at_completion(view: &FaultView<'_>, out: &mut Lines) -> Result<(), AllocError> {
     if let (Some(name), true) = (view.way.atom(), view.way.is_name_of(b"abstract")) {
         note_first(view, out, b"abstract", Some(name))?;
         return Ok(());
@@ -130,7 +130,7 @@ fn at_completion(view: &View<'_>, out: &mut Lines) -> Result<(), AllocError> {
 }
 
 /// What helps where a case leaves something out.
-fn at_case(view: &View<'_>, out: &mut Lines) -> Result<(), AllocError> {
+fn at_case(view: &FaultView<'_>, out: &mut Lines) -> Result<(), AllocError> {
     let mut wanted = Vec::new(view.alloc);
     for other in view.declared {
         let is_valued = !other.kind.is_let() && other.kind.sort().is_some();
@@ -150,7 +150,7 @@ fn at_case(view: &View<'_>, out: &mut Lines) -> Result<(), AllocError> {
 }
 
 /// What helps where what has to stand once is missing or stands twice.
-pub fn not_once(view: &View<'_>, out: &mut Lines) -> Result<(), AllocError> {
+pub fn not_once(view: &FaultView<'_>, out: &mut Lines) -> Result<(), AllocError> {
     match view.fault.file {
         Text::Case | Text::Trail => at_case(view, out),
         Text::Comp => at_completion(view, out),
@@ -159,7 +159,7 @@ pub fn not_once(view: &View<'_>, out: &mut Lines) -> Result<(), AllocError> {
 }
 
 /// Whether a file has an item of this head.
-fn has(view: &View<'_>, head: &[u8]) -> bool {
+fn has(view: &FaultView<'_>, head: &[u8]) -> bool {
     for tree in view.file.items() {
         if let Some(item) = list_of(tree) {
             if item.head == head {
@@ -171,7 +171,7 @@ fn has(view: &View<'_>, head: &[u8]) -> bool {
 }
 
 /// What helps where flush or steps are missing or stand twice.
-pub fn counts(view: &View<'_>, out: &mut Lines) -> Result<(), AllocError> {
+pub fn counts(view: &FaultView<'_>, out: &mut Lines) -> Result<(), AllocError> {
     if let Some(tree) = view.way.end {
         if let Some(item) = list_of(tree) {
             if note_first(view, out, item.head, None)? {

@@ -5,7 +5,7 @@ use crate::declared::{Declared, sort_named, sort_text};
 use crate::file::{atom_at, list_of};
 use crate::forms::item_form;
 use crate::lines::Lines;
-use crate::view::View;
+use crate::view::FaultView;
 use crate::way::Level;
 use bd_model::Sort;
 use bd_syntax::Operator;
@@ -14,7 +14,7 @@ use std::alloc::AllocError;
 
 /// A sort that is wanted, and by what: the head of a list, and the place of the part, or the name of the item.
 #[derive(Clone, Copy)]
-struct Wanted<'t> {
+struct WantedSort<'t> {
     sort: Sort,
     head: &'t [u8],
     part: Option<usize>,
@@ -22,7 +22,11 @@ struct Wanted<'t> {
 }
 
 /// What an item wants of its expression.
-fn wanted_by_item<'v>(view: &View<'v>, level: Level<'v>, head: &'v [u8]) -> Option<Wanted<'v>> {
+fn wanted_by_item<'v>(
+    view: &FaultView<'v>,
+    level: Level<'v>,
+    head: &'v [u8],
+) -> Option<WantedSort<'v>> {
     let name = atom_at(level.parts, 1)?;
     let sort = match head {
         b"let" | b"input" => sort_named(atom_at(level.parts, 2)?)?,
@@ -31,7 +35,7 @@ fn wanted_by_item<'v>(view: &View<'v>, level: Level<'v>, head: &'v [u8]) -> Opti
         b"exact" => Sort::Bool,
         _ => return None,
     };
-    Some(Wanted {
+    Some(WantedSort {
         sort,
         head,
         part: None,
@@ -43,8 +47,8 @@ fn wanted_by_item<'v>(view: &View<'v>, level: Level<'v>, head: &'v [u8]) -> Opti
 fn wanted_of_part<'v>(
     level: Level<'v>,
     head: &'v [u8],
-    want: Option<Wanted<'v>>,
-) -> Option<Wanted<'v>> {
+    want: Option<WantedSort<'v>>,
+) -> Option<WantedSort<'v>> {
     let sort = match (Operator::from_text(head), level.place) {
         (Some(Operator::Ite), 1) => Sort::Bool,
         (Some(Operator::Ite), _) => return want,
@@ -52,7 +56,7 @@ fn wanted_of_part<'v>(
         (Some(Operator::Read | Operator::Write | Operator::Equal) | None, _) => Sort::Word,
         (Some(_), _) => Sort::Bool,
     };
-    Some(Wanted {
+    Some(WantedSort {
         sort,
         head,
         part: Some(level.place),
@@ -62,18 +66,18 @@ fn wanted_of_part<'v>(
 
 /// What the list of a level wants, where this is wanted of it.
 fn wanted_at<'v>(
-    view: &View<'v>,
+    view: &FaultView<'v>,
     depth: usize,
     level: Level<'v>,
-    want: Option<Wanted<'v>>,
-) -> Option<Wanted<'v>> {
+    want: Option<WantedSort<'v>>,
+) -> Option<WantedSort<'v>> {
     if level.place == 0 {
         return want;
     }
     let head = atom_at(level.parts, 0)?;
     match (depth, view.fault.file) {
         (0, _) => None,
-        (1, Text::Inv | Text::Start) => Some(Wanted {
+        (1, Text::Inv | Text::Start) => Some(WantedSort {
             sort: Sort::Bool,
             head,
             part: None,
@@ -86,7 +90,7 @@ fn wanted_at<'v>(
 }
 
 /// What is wanted at the end of the way.
-fn wanted_of<'v>(view: &View<'v>) -> Option<Wanted<'v>> {
+fn wanted_of<'v>(view: &FaultView<'v>) -> Option<WantedSort<'v>> {
     let mut want = None;
     for (depth, level) in view.way.levels.iter().enumerate() {
         want = wanted_at(view, depth, *level, want);
@@ -95,12 +99,12 @@ fn wanted_of<'v>(view: &View<'v>) -> Option<Wanted<'v>> {
 }
 
 /// The sort that is wanted at the end of the way.
-pub fn wanted_sort(view: &View<'_>) -> Option<Sort> {
+pub fn wanted_sort(view: &FaultView<'_>) -> Option<Sort> {
     Some(wanted_of(view)?.sort)
 }
 
 /// Adds what is wanted.
-fn put_wanted(out: &mut Lines, want: &Wanted<'_>) -> Result<(), AllocError> {
+fn put_wanted(out: &mut Lines, want: &WantedSort<'_>) -> Result<(), AllocError> {
     out.put(&[b"wanted: ", sort_text(want.sort)])?;
     match want.part {
         Some(place) => {
@@ -118,7 +122,7 @@ fn put_wanted(out: &mut Lines, want: &Wanted<'_>) -> Result<(), AllocError> {
 }
 
 /// What makes up for the difference between two sorts.
-fn remedy(want: &Wanted<'_>, found: Sort) -> Option<&'static [u8]> {
+fn remedy(want: &WantedSort<'_>, found: Sort) -> Option<&'static [u8]> {
     match (want.sort, found, Operator::from_text(want.head)) {
         (Sort::Word, Sort::Bool, Some(Operator::Equal)) => {
             Some(b"= compares words; truth values are compared by (iff P Q)")
@@ -142,7 +146,7 @@ fn remedy(want: &Wanted<'_>, found: Sort) -> Option<&'static [u8]> {
 }
 
 /// Adds what is wanted, what is found, and what makes up for the difference.
-fn say_sorts(out: &mut Lines, want: &Wanted<'_>, found: Sort) -> Result<(), AllocError> {
+fn say_sorts(out: &mut Lines, want: &WantedSort<'_>, found: Sort) -> Result<(), AllocError> {
     put_wanted(out, want)?;
     out.say(&[b"; found: ", sort_text(found)])?;
     match remedy(want, found) {
@@ -161,7 +165,7 @@ fn say_application(out: &mut Lines, declared: &Declared<'_>) -> Result<(), Alloc
 }
 
 /// What helps at a name with another sort, or that is no value.
-fn at_name(view: &View<'_>, out: &mut Lines, name: &[u8]) -> Result<(), AllocError> {
+fn at_name(view: &FaultView<'_>, out: &mut Lines, name: &[u8]) -> Result<(), AllocError> {
     let Some(want) = wanted_of(view) else {
         return Ok(());
     };
@@ -184,7 +188,12 @@ fn at_name(view: &View<'_>, out: &mut Lines, name: &[u8]) -> Result<(), AllocErr
 }
 
 /// What helps at the head of an application that is no function.
-fn at_head(view: &View<'_>, out: &mut Lines, name: &[u8], parts: u64) -> Result<(), AllocError> {
+fn at_head(
+    view: &FaultView<'_>,
+    out: &mut Lines,
+    name: &[u8],
+    parts: u64,
+) -> Result<(), AllocError> {
     let Some(declared) = view.usable(name) else {
         return Ok(());
     };
@@ -197,7 +206,7 @@ fn at_head(view: &View<'_>, out: &mut Lines, name: &[u8], parts: u64) -> Result<
 }
 
 /// What helps at an expression of another sort.
-fn at_list(view: &View<'_>, out: &mut Lines) -> Result<(), AllocError> {
+fn at_list(view: &FaultView<'_>, out: &mut Lines) -> Result<(), AllocError> {
     let (Some(want), Some(tree)) = (wanted_of(view), view.way.end) else {
         return Ok(());
     };
@@ -222,7 +231,7 @@ fn at_list(view: &View<'_>, out: &mut Lines) -> Result<(), AllocError> {
 }
 
 /// What helps at a wrong sort.
-pub fn wrong_sort(view: &View<'_>, out: &mut Lines) -> Result<(), AllocError> {
+pub fn wrong_sort(view: &FaultView<'_>, out: &mut Lines) -> Result<(), AllocError> {
     if matches!(view.fault.file, Text::Case | Text::Trail) {
         return wrong_value(view, out);
     }

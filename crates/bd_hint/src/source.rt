@@ -5,7 +5,7 @@ use bd_typer::Text;
 
 /// A file: what it is to be, the name under which its lines are told, and its bytes.
 #[derive(Clone, Copy)]
-pub struct Source<'a> {
+pub struct NamedFile<'a> {
     pub file: Text,
     pub name: &'a str,
     pub text: &'a [u8],
@@ -13,7 +13,7 @@ pub struct Source<'a> {
 
 /// A fault: its file, the offset of its byte, and its code.
 #[derive(Clone, Copy)]
-pub struct Fault {
+pub struct FaultPlace {
     pub file: Text,
     pub offset: usize,
     pub code: Code,

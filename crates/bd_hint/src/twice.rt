@@ -2,13 +2,13 @@
 
 use crate::file::{Headed, atom_of, list_of};
 use crate::lines::Lines;
-use crate::view::View;
+use crate::view::FaultView;
 use bd_syntax::lists::offset_of;
 use std::alloc::AllocError;
 
 /// Adds where an item of this head and name stands first in the file, if it does before an offset.
 pub fn note_first(
-    view: &View<'_>,
+    view: &FaultView<'_>,
     out: &mut Lines,
     head: &[u8],
     name: Option<&[u8]>,
@@ -41,7 +41,7 @@ fn has_name(item: Headed<'_>, name: Option<&[u8]>) -> bool {
 }
 
 /// Whether the fault stands in an item.
-fn is_around(item: Headed<'_>, view: &View<'_>) -> bool {
+fn is_around(item: Headed<'_>, view: &FaultView<'_>) -> bool {
     match view.way.item() {
         Some((other, _)) => other.offset == item.offset,
         None => false,
@@ -49,7 +49,7 @@ fn is_around(item: Headed<'_>, view: &View<'_>) -> bool {
 }
 
 /// Adds where a name stands in a list before.
-fn note_in_list(view: &View<'_>, out: &mut Lines, name: &[u8]) -> Result<(), AllocError> {
+fn note_in_list(view: &FaultView<'_>, out: &mut Lines, name: &[u8]) -> Result<(), AllocError> {
     let Some(level) = view.way.last() else {
         return Ok(());
     };
@@ -62,7 +62,7 @@ fn note_in_list(view: &View<'_>, out: &mut Lines, name: &[u8]) -> Result<(), All
 }
 
 /// What helps at a name that is declared twice, or stands twice in a group.
-pub fn declared_twice(view: &View<'_>, out: &mut Lines) -> Result<(), AllocError> {
+pub fn declared_twice(view: &FaultView<'_>, out: &mut Lines) -> Result<(), AllocError> {
     let Some(name) = view.way.atom() else {
         return Ok(());
     };

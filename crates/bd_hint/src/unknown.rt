@@ -7,7 +7,7 @@ use crate::lines::Lines;
 use crate::near::nearest_word;
 use crate::sorts::wanted_sort;
 use crate::source::kind_text;
-use crate::view::View;
+use crate::view::FaultView;
 use bd_model::Sort;
 use bd_typer::Text;
 use std::alloc::AllocError;
@@ -34,7 +34,7 @@ fn word_for(name: &[u8]) -> Option<&'static [u8]> {
 
 /// What helps at the name of a `next` or an `abstract` that is no latch or memory.
 fn at_entry(
-    view: &View<'_>,
+    view: &FaultView<'_>,
     out: &mut Lines,
     item: Headed<'_>,
     name: &[u8],
@@ -61,7 +61,11 @@ fn at_entry(
 }
 
 /// What helps at a name that is declared, but may not be used there.
-fn at_declared(view: &View<'_>, out: &mut Lines, found: &Declared<'_>) -> Result<(), AllocError> {
+fn at_declared(
+    view: &FaultView<'_>,
+    out: &mut Lines,
+    found: &Declared<'_>,
+) -> Result<(), AllocError> {
     view.note(out, b"", found)?;
     let file = view.fault.file;
     if found.file != file && matches!(file, Text::Pipe | Text::Spec) {
@@ -96,7 +100,7 @@ fn at_declared(view: &View<'_>, out: &mut Lines, found: &Declared<'_>) -> Result
 
 /// What helps at the word that an application begins with.
 fn at_application(
-    view: &View<'_>,
+    view: &FaultView<'_>,
     out: &mut Lines,
     name: &[u8],
     parts: u64,
@@ -116,7 +120,7 @@ fn at_application(
 }
 
 /// Adds how a latch or a memory would be declared, of the sort that is wanted.
-fn say_declaration(view: &View<'_>, out: &mut Lines, name: &[u8]) -> Result<(), AllocError> {
+fn say_declaration(view: &FaultView<'_>, out: &mut Lines, name: &[u8]) -> Result<(), AllocError> {
     out.put(&[b"no declared name is near: "])?;
     match wanted_sort(view) {
         Some(Sort::Memory) => out.say(&[b"a memory is declared by (memory ", name, b")"]),
@@ -126,7 +130,7 @@ fn say_declaration(view: &View<'_>, out: &mut Lines, name: &[u8]) -> Result<(), 
 }
 
 /// What helps at a name that is used as a value.
-fn at_value(view: &View<'_>, out: &mut Lines, name: &[u8]) -> Result<(), AllocError> {
+fn at_value(view: &FaultView<'_>, out: &mut Lines, name: &[u8]) -> Result<(), AllocError> {
     if let Some(found) = view.near_usable(name)? {
         return view.note(out, b"near: ", &found);
     }
@@ -146,7 +150,7 @@ fn at_value(view: &View<'_>, out: &mut Lines, name: &[u8]) -> Result<(), AllocEr
 }
 
 /// What helps at a name that isn't known.
-pub fn unknown(view: &View<'_>, out: &mut Lines) -> Result<(), AllocError> {
+pub fn unknown(view: &FaultView<'_>, out: &mut Lines) -> Result<(), AllocError> {
     let Some(name) = view.way.atom() else {
         return Ok(());
     };

@@ -1,10 +1,10 @@
 //! What there is to look at: the files, their declarations, and the way down to the fault.
 
-use crate::declared::{Declared, Kind, sort_text};
+use crate::declared::{Declaration, Declared, sort_text};
 use crate::file::File;
 use crate::lines::Lines;
 use crate::near::nearest;
-use crate::source::{Fault, Source};
+use crate::source::{FaultPlace, NamedFile};
 use crate::way::Way;
 use bd_typer::Text;
 use indexmap::IndexMap;
@@ -12,9 +12,9 @@ use std::alloc::{AllocError, Global};
 
 /// The file with the fault, all files and declarations, and the way down to the fault.
 #[derive(Drop)]
-pub struct View<'v> {
+pub struct FaultView<'v> {
     pub alloc: Global,
-    pub fault: Fault,
+    pub fault: FaultPlace,
     pub file: &'v File<'v>,
     pub files: &'v [File<'v>],
     pub declared: &'v [Declared<'v>],
@@ -34,9 +34,9 @@ fn may_use(file: Text, declared: &Declared<'_>) -> bool {
     }
 }
 
-impl<'v> View<'v> {
+impl<'v> FaultView<'v> {
     /// The source of a kind.
-    pub fn source(&self, file: Text) -> Option<Source<'v>> {
+    pub fn source(&self, file: Text) -> Option<NamedFile<'v>> {
         for other in self.files {
             if other.source.file == file {
                 return Some(other.source);
@@ -154,12 +154,12 @@ impl<'v> View<'v> {
 pub fn put_described(out: &mut Lines, declared: &Declared<'_>) -> Result<(), AllocError> {
     out.put(&[declared.name, b" is "])?;
     match declared.kind {
-        Kind::Latch(sort) => out.put(&[b"a latch of sort ", sort_text(sort)]),
-        Kind::Memory => out.put(&[b"a memory"]),
-        Kind::Input(sort) => out.put(&[b"an input of sort ", sort_text(sort)]),
-        Kind::Let(sort) => out.put(&[b"a let of sort ", sort_text(sort)]),
-        Kind::Function(arity) => put_arity(out, b"a function of ", arity),
-        Kind::Predicate(arity) => put_arity(out, b"a predicate of ", arity),
+        Declaration::Latch(sort) => out.put(&[b"a latch of sort ", sort_text(sort)]),
+        Declaration::Memory => out.put(&[b"a memory"]),
+        Declaration::Input(sort) => out.put(&[b"an input of sort ", sort_text(sort)]),
+        Declaration::Let(sort) => out.put(&[b"a let of sort ", sort_text(sort)]),
+        Declaration::Function(arity) => put_arity(out, b"a function of ", arity),
+        Declaration::Predicate(arity) => put_arity(out, b"a predicate of ", arity),
     }
 }
 

@@ -30,14 +30,19 @@ pub trait Disk {
         ensures told { IfOk result (made self.now name.now) };
 }
 
+/// The file that a name means: `-` is the standard input.
+fn file_named(name: &str) -> &str {
+    if name == "-" { "/dev/stdin" } else { name }
+}
+
 impl<S: FileSystem> Disk for S {
     type Opened = S::File;
 
     type Created = S::File;
 
-    /// The file of that name, to be read from its beginning.
+    /// The file of that name, to be read from its beginning; the standard input is read on from where it stands.
     fn open(&self, name: &str) -> io::Result<S::File> {
-        fs::open(self, name)
+        fs::open(self, file_named(name))
     }
 
     /// An empty file of that name, to be written.

@@ -1,9 +1,9 @@
 //! The values of the specification in which both sides of the diagram differ.
 
-use crate::picture::View;
+use crate::picture::ShownCase;
 use bd_diagram::{Comparison, Diagram, Difference, MemoryDifference};
 use bd_model::{Design, Memory, Sort, Value};
-use bd_slice::{Column, Spot, Subject};
+use bd_slice::{Column, Location, Subject};
 use std::alloc::{AllocError, Global};
 use std::collections::BTreeSet;
 
@@ -28,10 +28,10 @@ pub fn counts(diagram: &Diagram, comparison: &Comparison) -> bool {
 }
 
 /// The value of an entry of this sort at an address.
-pub fn spot_of(sort: Sort, entry: u32, address: u64) -> Spot {
+pub fn spot_of(sort: Sort, entry: u32, address: u64) -> Location {
     match sort {
-        Sort::Memory => Spot::Cell(entry, address),
-        Sort::Bool | Sort::Word => Spot::Latch(entry),
+        Sort::Memory => Location::Cell(entry, address),
+        Sort::Bool | Sort::Word => Location::Latch(entry),
     }
 }
 
@@ -58,7 +58,7 @@ pub fn free_address(addresses: &BTreeSet<u64>) -> u64 {
 /// The addresses of an entry of the specification that a row has, in any state that is compared.
 pub fn compared_addresses(
     alloc: Global,
-    view: &View<'_>,
+    view: &ShownCase<'_>,
     entry: u32,
 ) -> Result<BTreeSet<u64>, AllocError> {
     let mut addresses = BTreeSet::new(alloc);
@@ -77,7 +77,7 @@ pub fn compared_addresses(
 fn note_memory(
     alloc: Global,
     spots: &mut Spots,
-    view: &View<'_>,
+    view: &ShownCase<'_>,
     entry: u32,
     memory: &MemoryDifference,
 ) -> Result<(), AllocError> {
@@ -94,7 +94,7 @@ fn note_memory(
 /// The values that differ after a number of steps.
 fn differing_after(
     alloc: Global,
-    view: &View<'_>,
+    view: &ShownCase<'_>,
     comparison: &Comparison,
 ) -> Result<Spots, AllocError> {
     let mut spots = BTreeSet::new(alloc);
@@ -116,7 +116,7 @@ fn differing_after(
 }
 
 /// The values that differ.
-pub fn differing_of(alloc: Global, view: &View<'_>) -> Result<Differing, AllocError> {
+pub fn differing_of(alloc: Global, view: &ShownCase<'_>) -> Result<Differing, AllocError> {
     let mut all = BTreeSet::new(alloc);
     let mut after = Vec::new(alloc);
     for comparison in view.diagram.comparisons.as_slice() {
@@ -130,10 +130,10 @@ pub fn differing_of(alloc: Global, view: &View<'_>) -> Result<Differing, AllocEr
 }
 
 /// The value in a column that a spot stands for.
-fn subject(column: Column, spot: Spot) -> Subject {
+fn subject(column: Column, spot: Location) -> Subject {
     match spot {
-        Spot::Latch(entry) => Subject::Latch(column, entry),
-        Spot::Cell(entry, address) => Subject::Cell(column, entry, address),
+        Location::Latch(entry) => Subject::Latch(column, entry),
+        Location::Cell(entry, address) => Subject::Cell(column, entry, address),
     }
 }
 
@@ -147,7 +147,7 @@ fn seen(design: &Design, entry: u32) -> Option<(u32, Sort)> {
 /// The values that differ, on both sides.
 pub fn both_sides(
     alloc: Global,
-    view: &View<'_>,
+    view: &ShownCase<'_>,
     differing: &Differing,
 ) -> Result<Vec<Subject>, AllocError> {
     let mut subjects = Vec::new(alloc);

@@ -4,7 +4,7 @@
 //! specification after each number of steps. On the right stand those after the cycle. The last one is where the
 //! pipeline stands; a line leads to it from each number of steps, with `=` or `#`, or with `not allowed`.
 
-use crate::grid::{Cell, Grid, Head, Look, Row, content_text, is_shown, sign_of};
+use crate::grid::{Cell, Grid, GridRow, Head, Look, content_text, is_shown, sign_of};
 use crate::picture::Tables;
 use crate::words::push_number;
 use std::alloc::{AllocError, Global};
@@ -80,34 +80,34 @@ fn put_line(
 
 /// What is named in a box: of the states what is shown there, and of the compared states what differs there.
 #[derive(Clone, Copy, PartialEq, Eq)]
-enum Named {
+enum BoxContent {
     Shown,
     Stands,
     Reached,
 }
 
-impl Named {
+impl BoxContent {
     /// Whether a cell is named.
-    fn has(self, row: &Row, cell: &Cell) -> bool {
+    fn has(self, row: &GridRow, cell: &Cell) -> bool {
         match self {
-            Named::Shown => is_shown(cell),
-            Named::Stands => row.differs,
-            Named::Reached => cell.look == Look::Different,
+            BoxContent::Shown => is_shown(cell),
+            BoxContent::Stands => row.differs,
+            BoxContent::Reached => cell.look == Look::Different,
         }
     }
 }
 
 /// A box: its place, the column of a grid that it shows, and what is named of it.
 #[derive(Clone, Copy)]
-struct Spot {
+struct DrawnBox {
     x: u64,
     y: u64,
     column: usize,
-    named: Named,
+    named: BoxContent,
 }
 
 /// The text `NAME VALUE` of an entry in a box.
-fn entry_text(alloc: Global, row: &Row, cell: &Cell) -> Result<Vec<u8>, AllocError> {
+fn entry_text(alloc: Global, row: &GridRow, cell: &Cell) -> Result<Vec<u8>, AllocError> {
     let mut text = row.name.clone()?;
     text.push(b' ')?;
     text.extend_from_slice(content_text(alloc, cell.content)?.as_slice())?;
@@ -115,7 +115,7 @@ fn entry_text(alloc: Global, row: &Row, cell: &Cell) -> Result<Vec<u8>, AllocErr
 }
 
 /// The entries that a box names, those that differ first.
-fn entries(alloc: Global, grid: &Grid, spot: Spot) -> Result<Vec<Vec<u8>>, AllocError> {
+fn entries(alloc: Global, grid: &Grid, spot: DrawnBox) -> Result<Vec<Vec<u8>>, AllocError> {
     let mut first = Vec::new(alloc);
     let mut rest = Vec::new(alloc);
     for row in grid.rows.as_slice() {
@@ -139,7 +139,7 @@ fn put_entries(
     alloc: Global,
     out: &mut Vec<u8>,
     grid: &Grid,
-    spot: Spot,
+    spot: DrawnBox,
 ) -> Result<(), AllocError> {
     let entries = entries(alloc, grid, spot)?;
     let x = spot.x.saturating_add(8);
@@ -168,7 +168,7 @@ fn put_entries(
 }
 
 /// Puts the frame of a box, with its heading.
-fn put_frame(out: &mut Vec<u8>, spot: Spot, head: &Head) -> Result<(), AllocError> {
+fn put_frame(out: &mut Vec<u8>, spot: DrawnBox, head: &Head) -> Result<(), AllocError> {
     out.extend_from_slice(b"<rect")?;
     attribute(out, "x", spot.x)?;
     attribute(out, "y", spot.y)?;
@@ -186,7 +186,12 @@ fn put_frame(out: &mut Vec<u8>, spot: Spot, head: &Head) -> Result<(), AllocErro
 }
 
 /// Puts a box with the entries of a column.
-fn put_box(alloc: Global, out: &mut Vec<u8>, grid: &Grid, spot: Spot) -> Result<(), AllocError> {
+fn put_box(
+    alloc: Global,
+    out: &mut Vec<u8>,
+    grid: &Grid,
+    spot: DrawnBox,
+) -> Result<(), AllocError> {
     if let Some(head) = grid.heads.get(spot.column) {
         put_frame(out, spot, head)?;
     }
@@ -213,7 +218,7 @@ fn put_down(out: &mut Vec<u8>, x: u64, y: u64, what: &str) -> Result<(), AllocEr
 
 /// The columns of one way, and where their boxes stand.
 #[derive(Clone, Copy)]
-struct Way {
+struct Arrow {
     from: usize,
     to: usize,
     x: u64,
@@ -221,15 +226,20 @@ struct Way {
 
 /// Puts the boxes of the columns of one way, one under another. Where the pipeline stands in the end what differs is
 /// named.
-fn put_way(alloc: Global, out: &mut Vec<u8>, tables: &Tables, way: Way) -> Result<(), AllocError> {
+fn put_way(
+    alloc: Global,
+    out: &mut Vec<u8>,
+    tables: &Tables,
+    way: Arrow,
+) -> Result<(), AllocError> {
     let states = &tables.states;
     for column in way.from..way.to {
         let y = top(column.saturating_sub(way.from));
-        let spot = Spot {
+        let spot = DrawnBox {
             x: way.x,
             y,
             column,
-            named: Named::Shown,
+            named: BoxContent::Shown,
         };
         if column != way.from {
             put_down(out, way.x, y, "flush")?;
@@ -237,9 +247,9 @@ fn put_way(alloc: Global, out: &mut Vec<u8>, tables: &Tables, way: Way) -> Resul
         match (&tables.steps, states.heads.get(column)) {
             (Some(steps), Some(head)) if is_last(states, column) && differs(steps) => {
                 put_frame(out, spot, head)?;
-                let stands = Spot {
+                let stands = DrawnBox {
                     column: 0,
-                    named: Named::Stands,
+                    named: BoxContent::Stands,
                     ..spot
                 };
                 put_entries(alloc, out, steps, stands)?;
@@ -295,6 +305,15 @@ fn put_relation(
     }
 }
 
+/// What leads from the states on the left to the specification.
+fn first_label(grid: &Grid) -> &'static str {
+    if grid.title == "completed" {
+        "complete"
+    } else {
+        "look"
+    }
+}
+
 /// Puts the specification after each number of steps under the way on the left, and a line from each to the box at
 /// `stands`.
 fn put_steps(
@@ -309,12 +328,21 @@ fn put_steps(
             continue;
         }
         let y = top(from.saturating_add(column).saturating_sub(1));
-        put_down(out, LEFT, y, if column == 1 { "look" } else { "step" })?;
-        let spot = Spot {
+        put_down(
+            out,
+            LEFT,
+            y,
+            if column == 1 {
+                first_label(grid)
+            } else {
+                "step"
+            },
+        )?;
+        let spot = DrawnBox {
             x: LEFT,
             y,
             column,
-            named: Named::Reached,
+            named: BoxContent::Reached,
         };
         put_box(alloc, out, grid, spot)?;
         let middle = y.saturating_add(BOX_HEIGHT / 2);
@@ -351,12 +379,12 @@ fn height(tables: &Tables) -> usize {
 pub fn put_drawing(alloc: Global, out: &mut Vec<u8>, tables: &Tables) -> Result<(), AllocError> {
     let states = &tables.states;
     let all = states.heads.len();
-    let left = Way {
+    let left = Arrow {
         from: 0,
         to: states.bar,
         x: LEFT,
     };
-    let right = Way {
+    let right = Arrow {
         from: states.bar,
         to: all,
         x: RIGHT,

@@ -2,13 +2,13 @@
 
 use crate::words::push_scalar;
 use bd_model::Scalar;
-use bd_slice::{Column, Spot};
+use bd_slice::{Column, Location};
 use std::alloc::{AllocError, Global};
 
 /// What a line is of: a value of a state, or an input of the cycle that led to it.
 #[derive(Clone, Copy, PartialEq, Eq)]
-pub enum Place {
-    Value(Spot),
+pub enum Signal {
+    Value(Location),
     Input(u32),
 }
 
@@ -47,9 +47,9 @@ pub struct Cell {
 
 /// The cells of an entry, of an address of a memory or of an input.
 #[derive(Drop)]
-pub struct Row {
+pub struct GridRow {
     pub name: Vec<u8>,
-    pub place: Place,
+    pub place: Signal,
     /// Whether the specification has it too.
     pub visible: bool,
     /// Whether both sides of the diagram differ in it.
@@ -71,7 +71,7 @@ pub struct Grid {
     pub title: &'static str,
     pub heads: Vec<Head>,
     pub bar: usize,
-    pub rows: Vec<Row>,
+    pub rows: Vec<GridRow>,
 }
 
 /// The sign of a cell.

@@ -19,6 +19,6 @@ mod table;
 mod words;
 
 pub use page::page_of;
-pub use picture::{Picture, View, picture_of};
+pub use picture::{Outcome, Picture, ShownCase, picture_of};
 pub use table::text_of;
 pub use words::sentence;

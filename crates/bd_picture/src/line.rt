@@ -4,20 +4,20 @@
 //! for the addresses that none has. Else it has a line for each address at which some word is shown.
 
 use crate::differing::{Spots, compared_addresses, free_address, note_rows};
-use crate::grid::Place;
-use crate::marks::Marks;
-use crate::picture::View;
+use crate::grid::Signal;
+use crate::marks::ShownValues;
+use crate::picture::ShownCase;
 use crate::words::{addressed, elsewhere};
 use bd_model::{Design, Sort};
-use bd_slice::Spot;
+use bd_slice::Location;
 use std::alloc::{AllocError, Global};
 use std::collections::BTreeSet;
 
 /// A line.
 #[derive(Drop)]
-pub struct Line {
+pub struct RowLabel {
     pub name: Vec<u8>,
-    pub place: Place,
+    pub place: Signal,
     /// Whether the specification has it too.
     pub visible: bool,
     /// Whether both sides of the diagram differ in it.
@@ -26,13 +26,13 @@ pub struct Line {
 
 /// An entry: its name, its number, and its number in the specification if it is visible.
 #[derive(Clone, Copy)]
-struct Named<'a> {
+struct NamedEntry<'a> {
     name: &'a [u8],
     number: u32,
     seen: Option<u32>,
 }
 
-impl Named<'_> {
+impl NamedEntry<'_> {
     /// Whether both sides differ in the entry at an address.
     fn differs(self, spots: &Spots, address: u64) -> bool {
         match self.seen {
@@ -55,10 +55,10 @@ fn number_in_spec(design: &Design, number: u32) -> Option<u32> {
 }
 
 /// The line of a latch.
-fn latch_line(alloc: Global, entry: Named<'_>, spots: &Spots) -> Result<Line, AllocError> {
-    Ok(Line {
+fn latch_line(alloc: Global, entry: NamedEntry<'_>, spots: &Spots) -> Result<RowLabel, AllocError> {
+    Ok(RowLabel {
         name: Vec::from_slice(alloc, entry.name)?,
-        place: Place::Value(Spot::Latch(entry.number)),
+        place: Signal::Value(Location::Latch(entry.number)),
         visible: entry.seen.is_some(),
         differs: entry.differs(spots, 0),
     })
@@ -67,15 +67,15 @@ fn latch_line(alloc: Global, entry: Named<'_>, spots: &Spots) -> Result<Line, Al
 /// Puts the lines of a memory at these addresses after the lines before.
 fn push_cells(
     alloc: Global,
-    lines: &mut Vec<Line>,
-    entry: Named<'_>,
+    lines: &mut Vec<RowLabel>,
+    entry: NamedEntry<'_>,
     spots: &Spots,
     addresses: &BTreeSet<u64>,
 ) -> Result<(), AllocError> {
     for address in addresses.iter() {
-        lines.push(Line {
+        lines.push(RowLabel {
             name: addressed(alloc, entry.name, *address)?,
-            place: Place::Value(Spot::Cell(entry.number, *address)),
+            place: Signal::Value(Location::Cell(entry.number, *address)),
             visible: entry.seen.is_some(),
             differs: entry.differs(spots, *address),
         })?;
@@ -86,14 +86,14 @@ fn push_cells(
 /// Puts the line of a memory at the addresses that no row has after the lines before.
 fn push_elsewhere(
     alloc: Global,
-    lines: &mut Vec<Line>,
-    entry: Named<'_>,
+    lines: &mut Vec<RowLabel>,
+    entry: NamedEntry<'_>,
     spots: &Spots,
     address: u64,
 ) -> Result<(), AllocError> {
-    lines.push(Line {
+    lines.push(RowLabel {
         name: elsewhere(alloc, entry.name)?,
-        place: Place::Value(Spot::Cell(entry.number, address)),
+        place: Signal::Value(Location::Cell(entry.number, address)),
         visible: entry.seen.is_some(),
         differs: entry.differs(spots, address),
     })?;
@@ -103,8 +103,8 @@ fn push_elsewhere(
 /// The addresses of an entry of the pipeline that a row has, in any state.
 fn row_addresses(
     alloc: Global,
-    view: &View<'_>,
-    entry: Named<'_>,
+    view: &ShownCase<'_>,
+    entry: NamedEntry<'_>,
 ) -> Result<BTreeSet<u64>, AllocError> {
     let mut addresses = match entry.seen {
         Some(number) => compared_addresses(alloc, view, number)?,
@@ -123,20 +123,20 @@ fn row_addresses(
 /// Puts the lines of a memory of the pipeline after the lines before.
 fn push_memory(
     alloc: Global,
-    lines: &mut Vec<Line>,
-    view: &View<'_>,
-    marks: &Marks,
-    entry: Named<'_>,
+    lines: &mut Vec<RowLabel>,
+    view: &ShownCase<'_>,
+    marks: &ShownValues,
+    entry: NamedEntry<'_>,
     spots: &Spots,
 ) -> Result<(), AllocError> {
     match marks {
-        Marks::All => {
+        ShownValues::All => {
             let addresses = row_addresses(alloc, view, entry)?;
             push_cells(alloc, lines, entry, spots, &addresses)?;
             let free = free_address(&addresses);
             push_elsewhere(alloc, lines, entry, spots, free)
         }
-        Marks::Of(slice) => match slice.addresses(entry.number) {
+        ShownValues::Of(slice) => match slice.addresses(entry.number) {
             Some(addresses) => push_cells(alloc, lines, entry, spots, addresses),
             None => Ok(()),
         },
@@ -146,14 +146,14 @@ fn push_memory(
 /// The lines of the pipeline's entries.
 pub fn entry_lines(
     alloc: Global,
-    view: &View<'_>,
-    marks: &Marks,
+    view: &ShownCase<'_>,
+    marks: &ShownValues,
     spots: &Spots,
-) -> Result<Vec<Line>, AllocError> {
+) -> Result<Vec<RowLabel>, AllocError> {
     let mut lines = Vec::new(alloc);
     let mut number = 0u32;
     for entry in view.design.pipe.entries.as_slice() {
-        let named = Named {
+        let named = NamedEntry {
             name: entry.name.as_slice(),
             number,
             seen: number_in_spec(view.design, number),
@@ -170,16 +170,16 @@ pub fn entry_lines(
 /// Puts the lines of the inputs after the lines before.
 pub fn push_inputs(
     alloc: Global,
-    lines: &mut Vec<Line>,
+    lines: &mut Vec<RowLabel>,
     design: &Design,
 ) -> Result<(), AllocError> {
     let mut number = 0u32;
     for port in design.pipe.ports.as_slice() {
         let mut name = Vec::from_slice(alloc, b"input ")?;
         name.extend_from_slice(port.name.as_slice())?;
-        lines.push(Line {
+        lines.push(RowLabel {
             name,
-            place: Place::Input(number),
+            place: Signal::Input(number),
             visible: false,
             differs: false,
         })?;
@@ -206,14 +206,14 @@ fn differing_addresses(
 /// The lines of the specification's entries: all, or those in which both sides differ.
 pub fn visible_lines(
     alloc: Global,
-    view: &View<'_>,
+    view: &ShownCase<'_>,
     whole: bool,
     spots: &Spots,
-) -> Result<Vec<Line>, AllocError> {
+) -> Result<Vec<RowLabel>, AllocError> {
     let mut lines = Vec::new(alloc);
     let mut number = 0u32;
     for entry in view.design.spec.entries.as_slice() {
-        let named = Named {
+        let named = NamedEntry {
             name: entry.name.as_slice(),
             number,
             seen: Some(number),

@@ -1,8 +1,8 @@
 //! Lists of `NAME=VALUE`: the lets of the cycle, and the rows of the functions.
 
 use crate::differing::note_rows;
-use crate::marks::{Marks, Slice};
-use crate::picture::View;
+use crate::marks::{ShownValues, Slice};
+use crate::picture::ShownCase;
 use crate::words::{addressed, is_zero, push_number, push_scalar};
 use bd_model::{Memory, Scalar, Symbol, Table, Value};
 use bd_slice::{Cycle, Finding, Subject};
@@ -11,7 +11,7 @@ use std::collections::BTreeSet;
 
 /// A title, and the items of a list.
 #[derive(Drop)]
-pub struct Items {
+pub struct TitledList {
     pub title: &'static str,
     pub items: Vec<Vec<u8>>,
 }
@@ -71,20 +71,20 @@ fn push_let_words(
 fn push_let(
     alloc: Global,
     items: &mut Vec<Vec<u8>>,
-    marks: &Marks,
+    marks: &ShownValues,
     number: u32,
     name: &[u8],
     value: &Value,
 ) -> Result<(), AllocError> {
     match (marks, value) {
-        (Marks::All, _) => {
+        (ShownValues::All, _) => {
             items.push(let_item(alloc, name, value)?)?;
             Ok(())
         }
-        (Marks::Of(slice), Value::Memory(memory)) => {
+        (ShownValues::Of(slice), Value::Memory(memory)) => {
             push_let_words(alloc, items, slice, number, name, memory)
         }
-        (Marks::Of(slice), Value::Scalar(_)) => {
+        (ShownValues::Of(slice), Value::Scalar(_)) => {
             if slice.reasons.has(Subject::Let(Cycle::Case, number)) {
                 items.push(let_item(alloc, name, value)?)?;
             }
@@ -94,14 +94,18 @@ fn push_let(
 }
 
 /// The lets of the case's cycle that are shown.
-pub fn lets(alloc: Global, view: &View<'_>, marks: &Marks) -> Result<Items, AllocError> {
+pub fn lets(
+    alloc: Global,
+    view: &ShownCase<'_>,
+    marks: &ShownValues,
+) -> Result<TitledList, AllocError> {
     let mut items = Vec::new(alloc);
     let mut number = 0u32;
     for (name, value) in view.names.iter().zip(view.diagram.lets.as_slice()) {
         push_let(alloc, &mut items, marks, number, name.as_slice(), value)?;
         number = number.saturating_add(1);
     }
-    Ok(Items {
+    Ok(TitledList {
         title: "lets",
         items,
     })
@@ -161,7 +165,7 @@ fn push_table(
 }
 
 /// The rows of the functions and predicates, and their values elsewhere.
-fn all_rows(alloc: Global, view: &View<'_>) -> Result<Vec<Vec<u8>>, AllocError> {
+fn all_rows(alloc: Global, view: &ShownCase<'_>) -> Result<Vec<Vec<u8>>, AllocError> {
     let mut items = Vec::new(alloc);
     let symbols = view.design.symbols.as_slice();
     for (symbol, table) in symbols.iter().zip(view.case.interp.as_slice()) {
@@ -186,7 +190,11 @@ fn applied(alloc: Global, slice: &Slice) -> Result<BTreeSet<(u32, Vec<u64>)>, Al
 }
 
 /// The rows that are read in a slice.
-fn read_rows(alloc: Global, view: &View<'_>, slice: &Slice) -> Result<Vec<Vec<u8>>, AllocError> {
+fn read_rows(
+    alloc: Global,
+    view: &ShownCase<'_>,
+    slice: &Slice,
+) -> Result<Vec<Vec<u8>>, AllocError> {
     let mut items = Vec::new(alloc);
     for (number, args) in applied(alloc, slice)?.iter() {
         let symbol = view.design.symbols.as_slice().get(*number as usize);
@@ -201,12 +209,16 @@ fn read_rows(alloc: Global, view: &View<'_>, slice: &Slice) -> Result<Vec<Vec<u8
 }
 
 /// The rows of the functions and predicates that are shown.
-pub fn rows(alloc: Global, view: &View<'_>, marks: &Marks) -> Result<Items, AllocError> {
-    Ok(Items {
+pub fn rows(
+    alloc: Global,
+    view: &ShownCase<'_>,
+    marks: &ShownValues,
+) -> Result<TitledList, AllocError> {
+    Ok(TitledList {
         title: "functions",
         items: match marks {
-            Marks::All => all_rows(alloc, view)?,
-            Marks::Of(slice) => read_rows(alloc, view, slice)?,
+            ShownValues::All => all_rows(alloc, view)?,
+            ShownValues::Of(slice) => read_rows(alloc, view, slice)?,
         },
     })
 }

@@ -1,10 +1,10 @@
 //! Which values are shown: those that what differs, or the broken invariant, rests on.
 
 use crate::differing::{Differing, both_sides};
-use crate::grid::Place;
-use crate::picture::View;
-use bd_model::{Condition, Judged};
-use bd_slice::{Column, Cycle, Reasons, Spot, Subject, history_of, reasons_of};
+use crate::grid::Signal;
+use crate::picture::{Outcome, ShownCase};
+use bd_model::{Condition, Design, Judged};
+use bd_slice::{Column, Cycle, Location, Reasons, Subject, history_of, reasons_of};
 use std::alloc::{AllocError, Global};
 use std::collections::BTreeSet;
 
@@ -48,7 +48,7 @@ pub struct Slice {
 
 /// Which values of a run are shown: all, or those of a slice.
 #[derive(Drop)]
-pub enum Marks {
+pub enum ShownValues {
     All,
     Of(Slice),
 }
@@ -63,34 +63,63 @@ impl Slice {
     pub fn let_addresses(&self, number: u32) -> Option<&BTreeSet<u64>> {
         self.lets.get(number)
     }
+}
 
-    /// Notes the address of a value, if it has one.
-    fn note(&mut self, subject: Subject) -> Result<(), AllocError> {
-        match subject {
-            Subject::Cell(Column::Before(_) | Column::After(_), entry, address) => {
-                self.cells.add(entry, address)
-            }
-            Subject::LetCell(Cycle::Case, number, address) => self.lets.add(number, address),
-            _ => Ok(()),
+/// The addresses at which words of the pipeline's entries are among values.
+fn cells_of(alloc: Global, design: &Design, reasons: &Reasons) -> Result<Addresses, AllocError> {
+    let mut cells = Addresses::new(alloc, design.pipe.entries.len())?;
+    for reason in reasons.as_slice() {
+        if let Subject::Cell(
+            Column::Before(_) | Column::After(_),
+            entry,
+            address,
+        ) = reason.subject
+        {
+            cells.add(entry, address)?;
         }
     }
+    Ok(cells)
+}
+
+/// The addresses at which words of its lets are among values, in the case's cycle.
+fn lets_of(alloc: Global, design: &Design, reasons: &Reasons) -> Result<Addresses, AllocError> {
+    let mut lets = Addresses::new(alloc, design.pipe.locals.len())?;
+    for reason in reasons.as_slice() {
+        if let Subject::LetCell(Cycle::Case, number, address) = reason.subject {
+            lets.add(number, address)?;
+        }
+    }
+    Ok(lets)
+}
+
+/// The slice of these values.
+fn sliced(alloc: Global, design: &Design, reasons: Reasons) -> Result<Slice, AllocError> {
+    let cells = cells_of(alloc, design, &reasons)?;
+    let lets = lets_of(alloc, design, &reasons)?;
+    Ok(Slice {
+        reasons,
+        cells,
+        lets,
+    })
 }
 
 /// The value of the run that a line has in a column.
-fn subject_of(place: Place, column: Column) -> Option<Subject> {
+fn subject_of(place: Signal, column: Column) -> Option<Subject> {
     match place {
-        Place::Value(Spot::Latch(entry)) => Some(Subject::Latch(column, entry)),
-        Place::Value(Spot::Cell(entry, address)) => Some(Subject::Cell(column, entry, address)),
-        Place::Input(number) => Some(Subject::Input(column.reached_by()?, number)),
+        Signal::Value(Location::Latch(entry)) => Some(Subject::Latch(column, entry)),
+        Signal::Value(Location::Cell(entry, address)) => {
+            Some(Subject::Cell(column, entry, address))
+        }
+        Signal::Input(number) => Some(Subject::Input(column.reached_by()?, number)),
     }
 }
 
-impl Marks {
+impl ShownValues {
     /// Whether the value that a line has in a column is shown.
-    pub fn has(&self, place: Place, column: Column) -> bool {
+    pub fn has(&self, place: Signal, column: Column) -> bool {
         match self {
-            Marks::All => true,
-            Marks::Of(slice) => match subject_of(place, column) {
+            ShownValues::All => true,
+            ShownValues::Of(slice) => match subject_of(place, column) {
                 Some(subject) => slice.reasons.has(subject),
                 None => false,
             },
@@ -98,38 +127,41 @@ impl Marks {
     }
 }
 
-/// What the values rest on.
-fn slice_of(alloc: Global, view: &View<'_>, subjects: &[Subject]) -> Result<Marks, AllocError> {
+/// What the values rest on, each with its reason.
+fn reasons_behind(
+    alloc: Global,
+    view: &ShownCase<'_>,
+    subjects: &[Subject],
+) -> Result<Reasons, AllocError> {
     let history = history_of(alloc, view.design, view.case)?;
-    let reasons = reasons_of(alloc, view.design, view.case, &history, subjects)?;
-    let mut found = Vec::new(alloc);
-    for reason in reasons.as_slice() {
-        found.push(reason.subject)?;
-    }
-    let mut slice = Slice {
-        reasons,
-        cells: Addresses::new(alloc, view.design.pipe.entries.len())?,
-        lets: Addresses::new(alloc, view.design.pipe.locals.len())?,
-    };
-    for subject in found {
-        slice.note(subject)?;
-    }
-    Ok(Marks::Of(slice))
+    reasons_of(alloc, view.design, view.case, &history, subjects)
+}
+
+/// What the values rest on.
+fn slice_of(
+    alloc: Global,
+    view: &ShownCase<'_>,
+    subjects: &[Subject],
+) -> Result<ShownValues, AllocError> {
+    let reasons = reasons_behind(alloc, view, subjects)?;
+    Ok(ShownValues::Of(sliced(alloc, view.design, reasons)?))
 }
 
 /// What is shown of a case: where it breaks a condition, what the values that differ rest on, on both sides, or what
-/// the invariant rests on. Else all.
+/// the invariant rests on. Else, and by a completion function, all.
 pub fn marks_of(
     alloc: Global,
-    view: &View<'_>,
+    view: &ShownCase<'_>,
     differing: &Differing,
-) -> Result<Marks, AllocError> {
-    match view.judged {
-        Judged::Holds | Judged::Outside => Ok(Marks::All),
-        Judged::Broken(Condition::Invariant) => slice_of(alloc, view, &[Subject::Invariant]),
-        Judged::Broken(Condition::Commute) => {
+) -> Result<ShownValues, AllocError> {
+    match view.outcome {
+        Outcome::Flushed(Judged::Broken(Condition::Invariant)) => {
+            slice_of(alloc, view, &[Subject::Invariant])
+        }
+        Outcome::Flushed(Judged::Broken(Condition::Commute)) => {
             let subjects = both_sides(alloc, view, differing)?;
             slice_of(alloc, view, subjects.as_slice())
         }
+        _ => Ok(ShownValues::All),
     }
 }

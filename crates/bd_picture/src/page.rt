@@ -3,9 +3,10 @@ ghost use Rattle.std.specs.Prelude.{IfOk};
 ghost use Rattle.bd_picture.specs.Page.{IsPage};
 
 use crate::drawing::put_drawing;
-use crate::grid::{Cell, Content, Grid, Head, Look, Row, content_text, sign_of};
-use crate::list::Items;
-use crate::picture::{Picture, Tables};
+use crate::grid::{Cell, Content, Grid, GridRow, Head, Look, content_text, sign_of};
+use crate::list::TitledList;
+use crate::picture::{Outcome, Picture, Tables};
+use bd_model::{Condition, Judged};
 use std::alloc::{AllocError, Global};
 
 /// The class of a cell under a heading. What a cycle may not stand for never looks right.
@@ -48,7 +49,7 @@ fn put_cell(
 }
 
 /// Puts the name of a row, with its marks.
-fn put_name(out: &mut Vec<u8>, row: &Row) -> Result<(), AllocError> {
+fn put_name(out: &mut Vec<u8>, row: &GridRow) -> Result<(), AllocError> {
     out.extend_from_slice(if row.differs {
         b"<tr class=\"differs\"><th scope=\"row\">"
     } else {
@@ -65,7 +66,7 @@ fn put_name(out: &mut Vec<u8>, row: &Row) -> Result<(), AllocError> {
 }
 
 /// Puts a row.
-fn put_row(alloc: Global, out: &mut Vec<u8>, grid: &Grid, row: &Row) -> Result<(), AllocError> {
+fn put_row(alloc: Global, out: &mut Vec<u8>, grid: &Grid, row: &GridRow) -> Result<(), AllocError> {
     put_name(out, row)?;
     for (column, (cell, head)) in row.cells.iter().zip(&grid.heads).enumerate() {
         put_cell(alloc, out, cell, head, has_bar(grid, column))?;
@@ -98,7 +99,7 @@ fn put_grid(alloc: Global, out: &mut Vec<u8>, grid: &Grid, legend: &str) -> Resu
 }
 
 /// Puts a list.
-fn put_list(out: &mut Vec<u8>, list: &Items, legend: &str) -> Result<(), AllocError> {
+fn put_list(out: &mut Vec<u8>, list: &TitledList, legend: &str) -> Result<(), AllocError> {
     if list.items.is_empty() {
         return Ok(());
     }
@@ -112,21 +113,45 @@ fn put_list(out: &mut Vec<u8>, list: &Items, legend: &str) -> Result<(), AllocEr
     out.extend_from_slice(b"</p>\n")
 }
 
+/// What the compared states are.
+fn steps_legend(outcome: Outcome) -> &'static str {
+    match outcome {
+        Outcome::Flushed(_) => STEPS,
+        Outcome::Completed(_) => COMPLETED_STEPS,
+        Outcome::Compared(_) => COMPARED,
+    }
+}
+
+/// What the states are.
+fn states_legend(outcome: Outcome) -> &'static str {
+    match outcome {
+        Outcome::Flushed(Judged::Broken(Condition::Invariant)) | Outcome::Completed(_) => BOTH,
+        Outcome::Flushed(_) => STATES,
+        Outcome::Compared(_) => DOWN,
+    }
+}
+
 /// Puts where both sides end.
-fn put_ends(alloc: Global, out: &mut Vec<u8>, tables: &Tables) -> Result<(), AllocError> {
+fn put_ends(
+    alloc: Global,
+    out: &mut Vec<u8>,
+    tables: &Tables,
+    outcome: Outcome,
+) -> Result<(), AllocError> {
     match &tables.steps {
-        Some(steps) => put_grid(alloc, out, steps, STEPS),
+        Some(steps) => put_grid(alloc, out, steps, steps_legend(outcome)),
         None => Ok(()),
     }
 }
 
 /// Puts the states, and the lists.
-fn put_states(alloc: Global, out: &mut Vec<u8>, tables: &Tables) -> Result<(), AllocError> {
-    let legend = match tables.steps {
-        Some(_) => STATES,
-        None => BOTH,
-    };
-    put_grid(alloc, out, &tables.states, legend)?;
+fn put_states(
+    alloc: Global,
+    out: &mut Vec<u8>,
+    tables: &Tables,
+    outcome: Outcome,
+) -> Result<(), AllocError> {
+    put_grid(alloc, out, &tables.states, states_legend(outcome))?;
     put_list(out, &tables.lets, "Lets in the cycle:")?;
     put_list(out, &tables.rows, "Functions, 0 or false elsewhere:")
 }
@@ -140,27 +165,34 @@ fn put_section(out: &mut Vec<u8>, class: &str, inner: &[u8]) -> Result<(), Alloc
     out.extend_from_slice(b"</section>\n")
 }
 
-/// Where both sides end, the drawing and the states.
-fn plain(alloc: Global, tables: &Tables) -> Result<Vec<u8>, AllocError> {
+/// Where both sides end, the drawing and the states. Without a cycle there is no drawing.
+fn plain(alloc: Global, tables: &Tables, outcome: Outcome) -> Result<Vec<u8>, AllocError> {
     let mut out = Vec::new(alloc);
-    put_ends(alloc, &mut out, tables)?;
-    put_drawing(alloc, &mut out, tables)?;
-    put_states(alloc, &mut out, tables)?;
+    put_ends(alloc, &mut out, tables, outcome)?;
+    if !matches!(outcome, Outcome::Compared(_)) {
+        put_drawing(alloc, &mut out, tables)?;
+    }
+    put_states(alloc, &mut out, tables, outcome)?;
     Ok(out)
 }
 
 /// Where both sides end, the drawing and the states, with a switch between some values and all.
-fn switched(alloc: Global, some: &Tables, all: &Tables) -> Result<Vec<u8>, AllocError> {
+fn switched(
+    alloc: Global,
+    some: &Tables,
+    all: &Tables,
+    outcome: Outcome,
+) -> Result<Vec<u8>, AllocError> {
     let mut out = Vec::from_slice(alloc, SWITCH)?;
     for (class, tables) in [("some", some), ("all", all)] {
         let mut ends = Vec::new(alloc);
-        put_ends(alloc, &mut ends, tables)?;
+        put_ends(alloc, &mut ends, tables, outcome)?;
         put_section(&mut out, class, ends.as_slice())?;
     }
     put_drawing(alloc, &mut out, some)?;
     for (class, tables) in [("some", some), ("all", all)] {
         let mut states = Vec::new(alloc);
-        put_states(alloc, &mut states, tables)?;
+        put_states(alloc, &mut states, tables, outcome)?;
         put_section(&mut out, class, states.as_slice())?;
     }
     Ok(out)
@@ -172,8 +204,8 @@ fn body(alloc: Global, picture: &Picture) -> Result<Vec<u8>, AllocError> {
     out.extend_from_slice(picture.sentence.as_slice())?;
     out.extend_from_slice(b"</h1>\n")?;
     let tables = match &picture.whole {
-        Some(whole) => switched(alloc, &picture.tables, whole)?,
-        None => plain(alloc, &picture.tables)?,
+        Some(whole) => switched(alloc, &picture.tables, whole, picture.outcome)?,
+        None => plain(alloc, &picture.tables, picture.outcome)?,
     };
     out.extend_from_slice(tables.as_slice())?;
     out.extend_from_slice(b"</html>\n")?;
@@ -209,6 +241,19 @@ const BOTH: &str = "The states before the cycle and after it. * is visible to th
 const STEPS: &str =
     "Where the flushed pipeline stands after the cycle, and the specification after j \
 steps from where it stands before: = is the same, # differs.";
+
+const COMPLETED_STEPS: &str =
+    "What the completion function gives after the cycle, and the specification after j steps \
+from what it gives before: = is the same, # differs.";
+
+const COMPARED: &str =
+    "What is visible once the pipeline is flushed, and what the completion function gives: \
+= is the same, # differs.";
+
+const DOWN: &str =
+    "The state, and those after each flush cycle (f1, f2, ..) from there. * is visible to the \
+specification, and # differs; an empty cell is what stands on its left, and an input stands under the state that its \
+cycle led to.";
 
 const HEAD: &[u8] = b"<html lang=\"en\">\n<meta charset=\"utf-8\">\n\
 <meta name=\"viewport\" content=\"width=device-width\">\n<style>\n\

@@ -4,26 +4,37 @@ ghost use Rattle.std.specs.List.{All};
 ghost use Rattle.bd_model.specs.DesignView.{design_view};
 ghost use Rattle.bd_picture.specs.Cells.{ArePrinted, IsStepsRow};
 ghost use Rattle.bd_picture.specs.Seen.{IsSeen};
-ghost use Rattle.bd_picture.specs.Sentence.{sentence};
+ghost use Rattle.bd_picture.specs.Sentence.{outcome_sentence};
 
 use crate::differing::{Differing, differing_of};
 use crate::grid::Grid;
-use crate::list::{Items, lets, rows};
-use crate::marks::{Marks, marks_of};
+use crate::list::{TitledList, lets, rows};
+use crate::marks::{ShownValues, marks_of};
 use crate::states::states_grid;
 use crate::steps::steps_grid;
-use crate::words::sentence;
+use crate::words::outcome_sentence;
 use bd_diagram::Diagram;
 use bd_model::{Case, Condition, Design, Judged};
 use std::alloc::{AllocError, Global};
 
-/// A case of a design, what it shows and its diagram, and the names of the pipeline's lets, in their order; and whether
-/// all values are printed, or only those that what is broken rests on.
+/// What is found of a case.
+#[derive(Clone, Copy, PartialEq, Eq)]
+pub enum Outcome {
+    /// What it shows where the pipeline is flushed.
+    Flushed(Judged),
+    /// What it shows by a completion function, in place of flushing.
+    Completed(Judged),
+    /// Whether the completion function gives in its state what flushing does.
+    Compared(bool),
+}
+
+/// A case of a design, what is found of it and its diagram, and the names of the pipeline's lets, in their order; and
+/// whether all values are printed, or only those that what is broken rests on. By a completion function all are printed.
 #[derive(Drop)]
-pub struct View<'a> {
+pub struct ShownCase<'a> {
     pub design: &'a Design,
     pub case: &'a Case,
-    pub judged: Judged,
+    pub outcome: Outcome,
     pub diagram: &'a Diagram,
     pub names: &'a [Vec<u8>],
     pub whole: bool,
@@ -34,14 +45,15 @@ pub struct View<'a> {
 pub struct Tables {
     pub states: Grid,
     pub steps: Option<Grid>,
-    pub lets: Items,
-    pub rows: Items,
+    pub lets: TitledList,
+    pub rows: TitledList,
 }
 
 /// A sentence, what is printed under it, and all values, where these are only some.
 #[derive(Drop)]
 pub struct Picture {
     pub sentence: Vec<u8>,
+    pub(crate) outcome: Outcome,
     pub(crate) tables: Tables,
     pub(crate) whole: Option<Tables>,
 }
@@ -49,15 +61,16 @@ pub struct Picture {
 /// The compared states, unless the invariant is broken.
 fn steps_of(
     alloc: Global,
-    view: &View<'_>,
+    view: &ShownCase<'_>,
     whole: bool,
     differing: &Differing,
 ) -> Result<Option<Grid>, AllocError>
     ensures { IfOk result (λ steps. IfSome steps (λ g.
         All (IsStepsRow view.now.diagram.now g.heads.items) g.rows.items)) }
 {
-    match view.judged {
-        Judged::Broken(Condition::Invariant) => Ok(None),
+    match view.outcome {
+        Outcome::Flushed(Judged::Broken(Condition::Invariant))
+        | Outcome::Completed(Judged::Broken(Condition::Invariant)) => Ok(None),
         _ => Ok(Some(steps_grid(alloc, view, whole, &differing.all)?)),
     }
 }
@@ -65,13 +78,13 @@ fn steps_of(
 /// The tables and lists of these values.
 fn tables_of(
     alloc: Global,
-    view: &View<'_>,
-    marks: &Marks,
+    view: &ShownCase<'_>,
+    marks: &ShownValues,
     differing: &Differing,
 ) -> Result<Tables, AllocError>
     ensures { IfOk result (ArePrinted view.now.case.now view.now.diagram.now) }
 {
-    let whole = matches!(marks, Marks::All);
+    let whole = matches!(marks, ShownValues::All);
     Ok(Tables {
         states: states_grid(alloc, view, marks, &differing.all)?,
         steps: steps_of(alloc, view, whole, differing)?,
@@ -83,40 +96,42 @@ fn tables_of(
 /// What is shown of a case, where that isn't all.
 fn some_marks(
     alloc: Global,
-    view: &View<'_>,
+    view: &ShownCase<'_>,
     differing: &Differing,
-) -> Result<Option<Marks>, AllocError> {
+) -> Result<Option<ShownValues>, AllocError> {
     if view.whole {
         return Ok(None);
     }
     match marks_of(alloc, view, differing)? {
-        Marks::All => Ok(None),
+        ShownValues::All => Ok(None),
         marks => Ok(Some(marks)),
     }
 }
 
-/// What is printed of a case: the judgement and the diagram have to be its own.
-pub fn picture_of(alloc: Global, view: &View<'_>) -> Result<Picture, AllocError>
-    requires { IsSeen (design_view view.now.design.now) view.now.case.now view.now.judged
+/// What is printed of a case: the outcome and the diagram have to be its own.
+pub fn picture_of(alloc: Global, view: &ShownCase<'_>) -> Result<Picture, AllocError>
+    requires { IsSeen (design_view view.now.design.now) view.now.case.now view.now.outcome
         view.now.diagram.now }
     ensures sentence { IfOk result (λ p.
-        p.sentence.items ≡ sentence (design_view view.now.design.now) view.now.judged) }
+        p.sentence.items ≡ outcome_sentence (design_view view.now.design.now) view.now.outcome) }
     ensures tables { IfOk result (λ p.
         ArePrinted view.now.case.now view.now.diagram.now p.tables) }
     ensures whole { IfOk result (λ p. IfSome p.whole
         (ArePrinted view.now.case.now view.now.diagram.now)) }
 {
     let differing = differing_of(alloc, view)?;
-    let sentence = sentence(alloc, view.design, view.judged)?;
-    let all = tables_of(alloc, view, &Marks::All, &differing)?;
+    let sentence = outcome_sentence(alloc, view.design, view.outcome)?;
+    let all = tables_of(alloc, view, &ShownValues::All, &differing)?;
     match some_marks(alloc, view, &differing)? {
         None => Ok(Picture {
             sentence,
+            outcome: view.outcome,
             tables: all,
             whole: None,
         }),
         Some(marks) => Ok(Picture {
             sentence,
+            outcome: view.outcome,
             tables: tables_of(alloc, view, &marks, &differing)?,
             whole: Some(all),
         }),

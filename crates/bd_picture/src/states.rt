@@ -8,14 +8,14 @@ ghost use Rattle.std.specs.List.{All, AllZip};
 ghost use Rattle.bd_picture.specs.Cells.{IsContent, IsStatesCell, IsStatesRow, Stays, earlier, flush_input, input_in, state_value, value_in};
 
 use crate::differing::Spots;
-use crate::grid::{Cell, Content, Grid, Head, Look, Place, Row, is_shown};
-use crate::line::{Line, entry_lines, push_inputs};
-use crate::marks::Marks;
-use crate::picture::View;
+use crate::grid::{Cell, Content, Grid, GridRow, Head, Look, Signal, is_shown};
+use crate::line::{RowLabel, entry_lines, push_inputs};
+use crate::marks::ShownValues;
+use crate::picture::{Outcome, ShownCase};
 use crate::words::{push_number, value_of};
 use bd_diagram::Flushing;
 use bd_model::{Condition, Judged, Scalar, State};
-use bd_slice::{Column, Spot};
+use bd_slice::{Column, Location};
 use std::alloc::{AllocError, Global};
 
 /// The state before this one on the same way.
@@ -61,7 +61,7 @@ fn flush_input(flushing: &Flushing, state: u32, number: u32) -> Option<Scalar>
 }
 
 /// The value of an input in the cycle that leads to a state.
-fn input_at(view: &View<'_>, number: u32, column: Column) -> Option<Scalar>
+fn input_at(view: &ShownCase<'_>, number: u32, column: Column) -> Option<Scalar>
     ensures { result ≡ input_in view.now.case.now view.now.diagram.now number column }
 {
     match column {
@@ -78,7 +78,7 @@ fn input_at(view: &View<'_>, number: u32, column: Column) -> Option<Scalar>
 }
 
 /// A value of the state of this number.
-fn state_value(states: &[State], number: u32, spot: Spot) -> Option<Scalar>
+fn state_value(states: &[State], number: u32, spot: Location) -> Option<Scalar>
     ensures { result ≡ state_value states.now number spot }
 {
     match states.get(number as usize) {
@@ -88,12 +88,12 @@ fn state_value(states: &[State], number: u32, spot: Spot) -> Option<Scalar>
 }
 
 /// The value that a line has in a column.
-fn value_at(view: &View<'_>, place: Place, column: Column) -> Option<Scalar>
+fn value_at(view: &ShownCase<'_>, place: Signal, column: Column) -> Option<Scalar>
     ensures { result ≡ value_in view.now.case.now view.now.diagram.now place column }
 {
     match place {
-        Place::Input(number) => input_at(view, number, column),
-        Place::Value(spot) => match column {
+        Signal::Input(number) => input_at(view, number, column),
+        Signal::Value(spot) => match column {
             Column::Before(n) => state_value(view.diagram.before.states.as_slice(), n, spot),
             Column::After(n) => state_value(view.diagram.after.states.as_slice(), n, spot),
             Column::Steps(_) => None,
@@ -102,7 +102,7 @@ fn value_at(view: &View<'_>, place: Place, column: Column) -> Option<Scalar>
 }
 
 /// Whether the value of a line in a column is shown, and still the one that is shown in the state before.
-fn stays(view: &View<'_>, marks: &Marks, place: Place, column: Column) -> bool
+fn stays(view: &ShownCase<'_>, marks: &ShownValues, place: Signal, column: Column) -> bool
     ensures { IsTrue result → Stays view.now.case.now view.now.diagram.now place column }
 {
     match earlier(column) {
@@ -115,7 +115,7 @@ fn stays(view: &View<'_>, marks: &Marks, place: Place, column: Column) -> bool
 }
 
 /// What the cell of a line shows in a column.
-fn content_of(view: &View<'_>, marks: &Marks, place: Place, column: Column) -> Content
+fn content_of(view: &ShownCase<'_>, marks: &ShownValues, place: Signal, column: Column) -> Content
     ensures { IsContent view.now.case.now view.now.diagram.now place column result }
 {
     match value_at(view, place, column) {
@@ -133,7 +133,7 @@ fn content_of(view: &View<'_>, marks: &Marks, place: Place, column: Column) -> C
 }
 
 /// The cell of a line in a column.
-fn cell_of(view: &View<'_>, marks: &Marks, place: Place, column: Column) -> Cell
+fn cell_of(view: &ShownCase<'_>, marks: &ShownValues, place: Signal, column: Column) -> Cell
     ensures { IsContent view.now.case.now view.now.diagram.now place column result.content }
 {
     let content = content_of(view, marks, place, column);
@@ -144,26 +144,34 @@ fn cell_of(view: &View<'_>, marks: &Marks, place: Place, column: Column) -> Cell
     Cell { content, look }
 }
 
-/// The states of the diagram, or those before the cycle and after it.
-fn states(alloc: Global, view: &View<'_>) -> Result<Vec<Column>, AllocError> {
-    let flush = match view.judged {
-        Judged::Broken(Condition::Invariant) => 0,
-        _ => view.design.flush,
-    };
+/// The number of the last state that is printed of each way: by a completion function nothing is flushed.
+fn last_state(view: &ShownCase<'_>) -> u32 {
+    match view.outcome {
+        Outcome::Flushed(Judged::Broken(Condition::Invariant)) | Outcome::Completed(_) => 0,
+        Outcome::Flushed(_) | Outcome::Compared(_) => view.design.flush,
+    }
+}
+
+/// The states of the diagram, or those before the cycle and after it. What is compared in one state has none after it.
+fn states(alloc: Global, view: &ShownCase<'_>) -> Result<Vec<Column>, AllocError> {
+    let last = last_state(view);
     let mut columns = Vec::new(alloc);
-    for number in 0..flush {
+    for number in 0..last {
         columns.push(Column::Before(number))?;
     }
-    columns.push(Column::Before(flush))?;
-    for number in 0..flush {
+    columns.push(Column::Before(last))?;
+    if matches!(view.outcome, Outcome::Compared(_)) {
+        return Ok(columns);
+    }
+    for number in 0..last {
         columns.push(Column::After(number))?;
     }
-    columns.push(Column::After(flush))?;
+    columns.push(Column::After(last))?;
     Ok(columns)
 }
 
 /// Whether some line shows a value in a column.
-fn shows(view: &View<'_>, marks: &Marks, lines: &[Line], column: Column) -> bool {
+fn shows(view: &ShownCase<'_>, marks: &ShownValues, lines: &[RowLabel], column: Column) -> bool {
     lines
         .iter()
         .any(|line| is_shown(&cell_of(view, marks, line.place, column)))
@@ -179,9 +187,9 @@ struct Folded {
 /// The columns that are printed: the first of each way, and those in which a value is shown.
 fn columns(
     alloc: Global,
-    view: &View<'_>,
-    marks: &Marks,
-    lines: &[Line],
+    view: &ShownCase<'_>,
+    marks: &ShownValues,
+    lines: &[RowLabel],
 ) -> Result<Vec<Folded>, AllocError> {
     let mut columns: Vec<Folded> = Vec::new(alloc);
     for column in states(alloc, view)? {
@@ -243,9 +251,9 @@ fn headings(alloc: Global, columns: &[Folded]) -> Result<Vec<Head>, AllocError> 
 /// The cells of a line under these headings.
 fn cells_of(
     alloc: Global,
-    view: &View<'_>,
-    marks: &Marks,
-    place: Place,
+    view: &ShownCase<'_>,
+    marks: &ShownValues,
+    place: Signal,
     heads: &[Head],
 ) -> Result<Vec<Cell>, AllocError>
     ensures { IfOk result (λ cells. AllZip
@@ -261,16 +269,16 @@ fn cells_of(
 /// The row of a line.
 fn row(
     alloc: Global,
-    view: &View<'_>,
-    marks: &Marks,
-    line: &Line,
+    view: &ShownCase<'_>,
+    marks: &ShownValues,
+    line: &RowLabel,
     heads: &[Head],
-) -> Result<Row, AllocError>
+) -> Result<GridRow, AllocError>
     ensures { IfOk result
         (IsStatesRow view.now.case.now view.now.diagram.now heads.now) }
 {
     let cells = cells_of(alloc, view, marks, line.place, heads)?;
-    Ok(Row {
+    Ok(GridRow {
         name: line.name.clone()?,
         place: line.place,
         visible: line.visible,
@@ -282,11 +290,11 @@ fn row(
 /// The lines that show a value in some column.
 fn shown_lines(
     alloc: Global,
-    view: &View<'_>,
-    marks: &Marks,
-    lines: Vec<Line>,
+    view: &ShownCase<'_>,
+    marks: &ShownValues,
+    lines: Vec<RowLabel>,
     columns: &[Folded],
-) -> Result<Vec<Line>, AllocError> {
+) -> Result<Vec<RowLabel>, AllocError> {
     let mut shown = Vec::new(alloc);
     for line in lines {
         let place = line.place;
@@ -300,11 +308,11 @@ fn shown_lines(
 /// The rows of these lines.
 fn rows(
     alloc: Global,
-    view: &View<'_>,
-    marks: &Marks,
-    lines: &[Line],
+    view: &ShownCase<'_>,
+    marks: &ShownValues,
+    lines: &[RowLabel],
     heads: &[Head],
-) -> Result<Vec<Row>, AllocError>
+) -> Result<Vec<GridRow>, AllocError>
     ensures { IfOk result (λ rows.
         All (IsStatesRow view.now.case.now view.now.diagram.now heads.now) rows.items) }
 {
@@ -326,8 +334,8 @@ fn bar_of(columns: &[Folded]) -> usize {
 /// The states under their headings, and the inputs. A line that shows no value is left out.
 pub fn states_grid(
     alloc: Global,
-    view: &View<'_>,
-    marks: &Marks,
+    view: &ShownCase<'_>,
+    marks: &ShownValues,
     spots: &Spots,
 ) -> Result<Grid, AllocError>
     ensures { IfOk result (λ g.

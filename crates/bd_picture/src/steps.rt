@@ -5,18 +5,31 @@ ghost use Rattle.bd_picture.specs.Cells.{IsCompared, IsSigned, IsStepsCell, IsSt
 ghost use Rattle.bd_picture.specs.declared.grid.Content.TheVariants as content;
 
 use crate::differing::Spots;
-use crate::grid::{Cell, Content, Grid, Head, Look, Place, Row};
-use crate::line::{Line, visible_lines};
-use crate::picture::View;
+use crate::grid::{Cell, Content, Grid, GridRow, Head, Look, Signal};
+use crate::line::{RowLabel, visible_lines};
+use crate::picture::{Outcome, ShownCase};
 use crate::words::{numbered, value_of};
 use bd_diagram::Comparison;
 use bd_model::Scalar;
-use bd_slice::{Column, Spot};
+use bd_slice::{Column, Location};
 use std::alloc::{AllocError, Global};
 
+/// What a number of steps is called, or what stands beside flushing.
+fn name_of(alloc: Global, outcome: Outcome, count: u32) -> Result<Vec<u8>, AllocError> {
+    match outcome {
+        Outcome::Compared(_) => Vec::from_slice(alloc, b"completed"),
+        _ => numbered(alloc, b"j=", u64::from(count)),
+    }
+}
+
 /// The heading of a number of steps.
-fn heading(alloc: Global, count: u32, comparison: &Comparison) -> Result<Head, AllocError> {
-    let mut text = numbered(alloc, b"j=", u64::from(count))?;
+fn heading(
+    alloc: Global,
+    outcome: Outcome,
+    count: u32,
+    comparison: &Comparison,
+) -> Result<Head, AllocError> {
+    let mut text = name_of(alloc, outcome, count)?;
     if !comparison.allowed {
         text.extend_from_slice(b" (not allowed)")?;
     }
@@ -27,24 +40,32 @@ fn heading(alloc: Global, count: u32, comparison: &Comparison) -> Result<Head, A
     })
 }
 
+/// What stands in the first column, with which the others are compared.
+fn first_name(outcome: Outcome) -> &'static [u8] {
+    match outcome {
+        Outcome::Compared(_) => b"flushed",
+        _ => b"pipeline",
+    }
+}
+
 /// The headings of the compared states.
-fn headings(alloc: Global, view: &View<'_>) -> Result<Vec<Head>, AllocError> {
+fn headings(alloc: Global, view: &ShownCase<'_>) -> Result<Vec<Head>, AllocError> {
     let mut heads = Vec::new(alloc);
     heads.push(Head {
-        text: Vec::from_slice(alloc, b"pipeline")?,
+        text: Vec::from_slice(alloc, first_name(view.outcome))?,
         column: Column::After(view.design.flush),
         allowed: true,
     })?;
     let mut count = 0u32;
     for comparison in view.diagram.comparisons.as_slice() {
-        heads.push(heading(alloc, count, comparison)?)?;
+        heads.push(heading(alloc, view.outcome, count, comparison)?)?;
         count = count.saturating_add(1);
     }
     Ok(heads)
 }
 
 /// The value of an entry of the specification in a state that is compared.
-fn compared_at(view: &View<'_>, spot: Spot, column: Column) -> Option<Scalar>
+fn compared_at(view: &ShownCase<'_>, spot: Location, column: Column) -> Option<Scalar>
     ensures { result ≡ compared_in view.now.diagram.now spot column }
 {
     match column {
@@ -61,7 +82,7 @@ fn compared_at(view: &View<'_>, spot: Spot, column: Column) -> Option<Scalar>
 }
 
 /// How a value looks beside where the pipeline stands.
-fn look_of(view: &View<'_>, spot: Spot, column: Column, value: Scalar) -> Look
+fn look_of(view: &ShownCase<'_>, spot: Location, column: Column, value: Scalar) -> Look
     ensures { IsSigned view.now.diagram.now spot result (content.Value value) }
 {
     match column {
@@ -77,7 +98,7 @@ fn look_of(view: &View<'_>, spot: Spot, column: Column, value: Scalar) -> Look
 }
 
 /// The cell of an entry of the specification in a state that is compared.
-fn compared_cell(view: &View<'_>, spot: Spot, column: Column) -> Cell
+fn compared_cell(view: &ShownCase<'_>, spot: Location, column: Column) -> Cell
     ensures shown { IsCompared view.now.diagram.now spot column result.content }
     ensures signed { IsSigned view.now.diagram.now spot result.look result.content }
 {
@@ -94,12 +115,12 @@ fn compared_cell(view: &View<'_>, spot: Spot, column: Column) -> Cell
 }
 
 /// The cell of a line under a heading.
-fn cell_of(view: &View<'_>, place: Place, head: &Head) -> Cell
+fn cell_of(view: &ShownCase<'_>, place: Signal, head: &Head) -> Cell
     ensures { IsStepsCell view.now.diagram.now place head.now result }
 {
     match place {
-        Place::Value(spot) => compared_cell(view, spot, head.column),
-        Place::Input(_) => Cell {
+        Signal::Value(spot) => compared_cell(view, spot, head.column),
+        Signal::Input(_) => Cell {
             content: Content::Nothing,
             look: Look::Plain,
         },
@@ -109,8 +130,8 @@ fn cell_of(view: &View<'_>, place: Place, head: &Head) -> Cell
 /// The cells of a line under these headings.
 fn cells_of(
     alloc: Global,
-    view: &View<'_>,
-    place: Place,
+    view: &ShownCase<'_>,
+    place: Signal,
     heads: &[Head],
 ) -> Result<Vec<Cell>, AllocError>
     ensures { IfOk result (λ cells.
@@ -124,11 +145,16 @@ fn cells_of(
 }
 
 /// The row of a line.
-fn row(alloc: Global, view: &View<'_>, line: &Line, heads: &[Head]) -> Result<Row, AllocError>
+fn row(
+    alloc: Global,
+    view: &ShownCase<'_>,
+    line: &RowLabel,
+    heads: &[Head],
+) -> Result<GridRow, AllocError>
     ensures { IfOk result (IsStepsRow view.now.diagram.now heads.now) }
 {
     let cells = cells_of(alloc, view, line.place, heads)?;
-    Ok(Row {
+    Ok(GridRow {
         name: line.name.clone()?,
         place: line.place,
         visible: line.visible,
@@ -140,10 +166,10 @@ fn row(alloc: Global, view: &View<'_>, line: &Line, heads: &[Head]) -> Result<Ro
 /// The rows of these lines.
 fn rows(
     alloc: Global,
-    view: &View<'_>,
-    lines: &[Line],
+    view: &ShownCase<'_>,
+    lines: &[RowLabel],
     heads: &[Head],
-) -> Result<Vec<Row>, AllocError>
+) -> Result<Vec<GridRow>, AllocError>
     ensures { IfOk result (λ rows.
         All (IsStepsRow view.now.diagram.now heads.now) rows.items) }
 {
@@ -154,11 +180,20 @@ fn rows(
     Ok(rows)
 }
 
+/// What the compared states are made visible by.
+fn title_of(outcome: Outcome) -> &'static str {
+    match outcome {
+        Outcome::Flushed(_) => "flushed",
+        Outcome::Completed(_) => "completed",
+        Outcome::Compared(_) => "compared",
+    }
+}
+
 /// The visible entries where the pipeline stands after the cycle, and after each number of steps: all, or those that
-/// differ.
+/// differ. Beside flushing stands what a completion function gives.
 pub fn steps_grid(
     alloc: Global,
-    view: &View<'_>,
+    view: &ShownCase<'_>,
     whole: bool,
     spots: &Spots,
 ) -> Result<Grid, AllocError>
@@ -169,7 +204,7 @@ pub fn steps_grid(
     let heads = headings(alloc, view)?;
     let rows = rows(alloc, view, lines.as_slice(), heads.as_slice())?;
     Ok(Grid {
-        title: "flushed",
+        title: title_of(view.outcome),
         heads,
         bar: 1,
         rows,

@@ -1,8 +1,8 @@
 //! A picture as a text.
 ghost use Rattle.std.specs.Prelude.{◌≡◌, ◌++◌, ℕ, List, IfOk};
 
-use crate::grid::{Cell, Grid, Row, content_text, is_shown, sign_of};
-use crate::list::Items;
+use crate::grid::{Cell, Grid, GridRow, content_text, is_shown, sign_of};
+use crate::list::TitledList;
 use crate::picture::Picture;
 use std::alloc::{AllocError, Global};
 
@@ -81,13 +81,13 @@ fn names_width(grid: &Grid) -> usize {
 
 /// A column of a block: its number and where it begins.
 #[derive(Clone, Copy)]
-struct Place {
+struct ColumnStart {
     column: usize,
     start: usize,
 }
 
 /// The columns from this one on that one line has room for, at least one.
-fn block_from(alloc: Global, grid: &Grid, from: usize) -> Result<Vec<Place>, AllocError> {
+fn block_from(alloc: Global, grid: &Grid, from: usize) -> Result<Vec<ColumnStart>, AllocError> {
     let mut places = Vec::new(alloc);
     let mut at = names_width(grid).saturating_add(2);
     for column in from..grid.heads.len() {
@@ -101,14 +101,14 @@ fn block_from(alloc: Global, grid: &Grid, from: usize) -> Result<Vec<Place>, All
         if column != from && end > WIDTH {
             break;
         }
-        places.push(Place { column, start })?;
+        places.push(ColumnStart { column, start })?;
         at = end.saturating_add(2);
     }
     Ok(places)
 }
 
 /// Goes to a column, with the bar before it if it has one.
-fn go_to(pen: &mut Pen, grid: &Grid, place: Place) -> Result<(), AllocError> {
+fn go_to(pen: &mut Pen, grid: &Grid, place: ColumnStart) -> Result<(), AllocError> {
     if place.column != 0 && place.column == grid.bar {
         pen.go_to(place.start.saturating_sub(2));
         pen.put(b"|")?;
@@ -118,7 +118,7 @@ fn go_to(pen: &mut Pen, grid: &Grid, place: Place) -> Result<(), AllocError> {
 }
 
 /// Puts the headings of a block.
-fn put_heads(pen: &mut Pen, grid: &Grid, block: &[Place]) -> Result<(), AllocError> {
+fn put_heads(pen: &mut Pen, grid: &Grid, block: &[ColumnStart]) -> Result<(), AllocError> {
     pen.put(grid.title.as_bytes())?;
     for place in block {
         go_to(pen, grid, *place)?;
@@ -134,8 +134,8 @@ fn put_row(
     alloc: Global,
     pen: &mut Pen,
     grid: &Grid,
-    row: &Row,
-    block: &[Place],
+    row: &GridRow,
+    block: &[ColumnStart],
 ) -> Result<(), AllocError> {
     pen.put(row.name.as_slice())?;
     if row.visible {
@@ -154,7 +154,7 @@ fn put_row(
 }
 
 /// Whether a row shows no value in a block.
-fn is_blank(row: &Row, block: &[Place]) -> bool {
+fn is_blank(row: &GridRow, block: &[ColumnStart]) -> bool {
     block.iter().all(|place| match row.cells.get(place.column) {
         Some(cell) => !is_shown(cell),
         None => true,
@@ -186,7 +186,7 @@ fn put_grid(alloc: Global, pen: &mut Pen, grid: &Grid) -> Result<(), AllocError>
 const INDENT: usize = 11;
 
 /// Puts lists, and an empty line before them unless both are empty.
-fn put_lists(pen: &mut Pen, lets: &Items, rows: &Items) -> Result<(), AllocError> {
+fn put_lists(pen: &mut Pen, lets: &TitledList, rows: &TitledList) -> Result<(), AllocError> {
     if !lets.items.is_empty() || !rows.items.is_empty() {
         pen.end()?;
     }
@@ -195,7 +195,7 @@ fn put_lists(pen: &mut Pen, lets: &Items, rows: &Items) -> Result<(), AllocError
 }
 
 /// Puts a list, as many items a line as it has room for.
-fn put_list(pen: &mut Pen, list: &Items) -> Result<(), AllocError> {
+fn put_list(pen: &mut Pen, list: &TitledList) -> Result<(), AllocError> {
     if list.items.is_empty() {
         return Ok(());
     }

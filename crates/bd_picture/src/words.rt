@@ -2,11 +2,12 @@
 ghost use Rattle.std.specs.Prelude.{◌≡◌, ◌++◌, decimal, IfOk, OnOk};
 ghost use Rattle.bd_model.specs.DesignView.{design_view};
 ghost use Rattle.bd_slice.specs.Columns.{spot_value};
-ghost use Rattle.bd_slice.specs.declared.place.Spot.TheVariants as spot;
-ghost use Rattle.bd_picture.specs.Sentence.{sentence};
+ghost use Rattle.bd_slice.specs.declared.place.Location.TheVariants as spot;
+ghost use Rattle.bd_picture.specs.Sentence.{compared_sentence, completed_sentence, outcome_sentence, sentence};
 
+use crate::picture::Outcome;
 use bd_model::{Condition, Design, Judged, Scalar, Value};
-use bd_slice::Spot;
+use bd_slice::Location;
 use itoa::Buffer;
 use std::alloc::{AllocError, Global};
 
@@ -80,12 +81,12 @@ fn word_at(state: &[Value], entry: u32, address: u64) -> Scalar
 }
 
 /// A value of a state: false where a latch isn't there or is a memory, and 0 where a memory isn't one.
-pub fn value_of(state: &[Value], spot: Spot) -> Scalar
+pub fn value_of(state: &[Value], spot: Location) -> Scalar
     ensures { result ≡ spot_value state.now spot }
 {
     match spot {
-        Spot::Latch(entry) => scalar_at(state, entry),
-        Spot::Cell(entry, address) => word_at(state, entry, address),
+        Location::Latch(entry) => scalar_at(state, entry),
+        Location::Cell(entry, address) => word_at(state, entry, address),
     }
 }
 
@@ -107,5 +108,56 @@ pub fn sentence(alloc: Global, design: &Design, judged: Judged) -> Result<Vec<u8
             text.extend_from_slice(b" fits")?;
             Ok(text)
         }
+    }
+}
+
+/// What a judgement by a completion function says, in a sentence.
+fn completed_sentence(alloc: Global, design: &Design, judged: Judged) -> Result<Vec<u8>, AllocError>
+    ensures { IfOk result (λ text. text.items
+        ≡ completed_sentence (design_view design.now) judged) }
+{
+    match judged {
+        Judged::Holds => {
+            Vec::from_slice(
+                alloc,
+                b"holds by the completion function: nothing is broken",
+            )
+        }
+        Judged::Broken(Condition::Commute) => {
+            let steps = u64::from(design.steps);
+            let mut text = numbered(alloc, COMPLETED, steps)?;
+            text.extend_from_slice(b" fits")?;
+            Ok(text)
+        }
+        Judged::Outside | Judged::Broken(Condition::Invariant) => sentence(alloc, design, judged),
+    }
+}
+
+const COMPLETED: &[u8] = b"broken commute by the completion function: no j of 0..";
+
+/// Whether a completion function gives what flushing does, in a sentence.
+fn compared_sentence(same: bool) -> &'static [u8]
+    ensures { result.now ≡ compared_sentence same }
+{
+    if same {
+        b"agree: the completion function gives what flushing does"
+    } else {
+        b"differ: the completion function gives something else than flushing"
+    }
+}
+
+/// What is found of a case, in a sentence.
+pub fn outcome_sentence(
+    alloc: Global,
+    design: &Design,
+    outcome: Outcome,
+) -> Result<Vec<u8>, AllocError>
+    ensures { IfOk result (λ text. text.items
+        ≡ outcome_sentence (design_view design.now) outcome) }
+{
+    match outcome {
+        Outcome::Flushed(judged) => sentence(alloc, design, judged),
+        Outcome::Completed(judged) => completed_sentence(alloc, design, judged),
+        Outcome::Compared(same) => Vec::from_slice(alloc, compared_sentence(same)),
     }
 }

@@ -1,8 +1,8 @@
 //! How a run ended, beside what its row wants.
 
 use crate::devices::Watched;
-use crate::entry::{Entry, Key, Row};
-use crate::report::{Place, Report};
+use crate::entry::{Key, RowLine, TestRow};
+use crate::report::{Report, RowPlace};
 use crate::twist::Twist;
 use bd_files::{Files, Shelf};
 use std::alloc::AllocError;
@@ -23,7 +23,7 @@ pub struct Came<'a> {
 
 /// How a run has to end.
 #[derive(Clone, Copy)]
-struct Wanted<'a> {
+struct Expected<'a> {
     status: u64,
     out: &'a [u8],
     /// Whether more may be printed after that.
@@ -32,10 +32,10 @@ struct Wanted<'a> {
     err: &'a [u8],
 }
 
-impl<'a> Wanted<'a> {
+impl<'a> Expected<'a> {
     /// What the lines of a run say, with nothing changed.
-    fn of_entries(entries: &'a [Entry<'_>], step: usize) -> Wanted<'a> {
-        let mut wanted = Wanted {
+    fn of_entries(entries: &'a [RowLine<'_>], step: usize) -> Expected<'a> {
+        let mut wanted = Expected {
             status: 0,
             out: &[],
             goes_on: false,
@@ -51,24 +51,24 @@ impl<'a> Wanted<'a> {
     }
 
     /// With what one more line says.
-    fn with(self, entry: &'a Entry<'_>) -> Wanted<'a> {
+    fn with(self, entry: &'a RowLine<'_>) -> Expected<'a> {
         match entry.key {
-            Key::Status => Wanted {
+            Key::Status => Expected {
                 status: entry.number,
                 ..self
             },
-            Key::Out => Wanted {
+            Key::Out => Expected {
                 out: entry.text.as_slice(),
                 out_puts: 1,
                 ..self
             },
-            Key::Starts => Wanted {
+            Key::Starts => Expected {
                 out: entry.text.as_slice(),
                 goes_on: true,
                 out_puts: 1,
                 ..self
             },
-            Key::Err => Wanted {
+            Key::Err => Expected {
                 err: entry.text.as_slice(),
                 ..self
             },
@@ -77,7 +77,7 @@ impl<'a> Wanted<'a> {
     }
 
     /// With what the change makes of it.
-    fn changed(self, twist: Twist<'a>) -> Wanted<'a> {
+    fn changed(self, twist: Twist<'a>) -> Expected<'a> {
         let Some(refusal) = twist.refusal else {
             return self;
         };
@@ -85,7 +85,7 @@ impl<'a> Wanted<'a> {
             Some(kept) => (self.out.get(..kept).unwrap_or(self.out), 1),
             None => (b"".as_slice(), 0),
         };
-        Wanted {
+        Expected {
             status: u64::from(refusal.status),
             out,
             goes_on: false,
@@ -95,9 +95,9 @@ impl<'a> Wanted<'a> {
     }
 
     /// Where the error output takes nothing.
-    fn silenced(self, twist: Twist<'a>) -> Wanted<'a> {
+    fn silenced(self, twist: Twist<'a>) -> Expected<'a> {
         if twist.is_silent {
-            Wanted {
+            Expected {
                 err: b"".as_slice(),
                 ..self
             }
@@ -109,25 +109,25 @@ impl<'a> Wanted<'a> {
 
 /// Compares how a run ended with what the row wants of it.
 pub fn compare(
-    row: &Row<'_>,
+    row: &TestRow<'_>,
     step: usize,
     twist: Twist<'_>,
     came: Came<'_>,
     files: &mut Watched<Shelf>,
     report: &mut Report<'_>,
 ) -> Result<(), AllocError> {
-    let place = Place {
+    let place = RowPlace {
         line: row.line,
         row: row.name,
         twist,
     };
-    let wanted = Wanted::of_entries(row.own.as_slice(), step);
+    let wanted = Expected::of_entries(row.own.as_slice(), step);
     let wanted = wanted.changed(twist).silenced(twist);
     compare_ends(place, wanted, came, report)?;
     compare_calls(row, step, place, files, report)?;
     for entry in &row.own {
         if entry.step == step {
-            let place = Place {
+            let place = RowPlace {
                 line: entry.line,
                 ..place
             };
@@ -139,8 +139,8 @@ pub fn compare(
 
 /// Compares the status and the two outputs.
 fn compare_ends(
-    place: Place<'_>,
-    wanted: Wanted<'_>,
+    place: RowPlace<'_>,
+    wanted: Expected<'_>,
     came: Came<'_>,
     report: &mut Report<'_>,
 ) -> Result<(), AllocError> {
@@ -167,9 +167,9 @@ fn has(text: &[u8], part: &[u8]) -> bool {
 
 /// Compares what one line says of the output or of a file.
 fn compare_entry(
-    row: &Row<'_>,
-    entry: &Entry<'_>,
-    place: Place<'_>,
+    row: &TestRow<'_>,
+    entry: &RowLine<'_>,
+    place: RowPlace<'_>,
     came: Came<'_>,
     files: &mut Watched<Shelf>,
     report: &mut Report<'_>,
@@ -209,8 +209,8 @@ fn is_saved(calls: &[u8], name: &str, failing: u64) -> bool {
 
 /// Compares what is held under a name with a text.
 fn compare_saved(
-    entry: &Entry<'_>,
-    place: Place<'_>,
+    entry: &RowLine<'_>,
+    place: RowPlace<'_>,
     files: &mut Watched<Shelf>,
     report: &mut Report<'_>,
 ) -> Result<(), AllocError> {
@@ -222,8 +222,8 @@ fn compare_saved(
 
 /// Compares what is held under a name with nothing.
 fn compare_absent(
-    entry: &Entry<'_>,
-    place: Place<'_>,
+    entry: &RowLine<'_>,
+    place: RowPlace<'_>,
     files: &mut Watched<Shelf>,
     report: &mut Report<'_>,
 ) -> Result<(), AllocError> {
@@ -235,8 +235,8 @@ fn compare_absent(
 
 /// Compares what is held under two names.
 fn compare_both(
-    entry: &Entry<'_>,
-    place: Place<'_>,
+    entry: &RowLine<'_>,
+    place: RowPlace<'_>,
     files: &mut Watched<Shelf>,
     report: &mut Report<'_>,
 ) -> Result<(), AllocError> {
@@ -251,7 +251,7 @@ fn compare_both(
 }
 
 /// The lines that say which calls the run makes, if the row says it.
-fn calls_of<'b>(row: &'b Row<'_>, step: usize) -> Option<&'b [u8]> {
+fn calls_of<'b>(row: &'b TestRow<'_>, step: usize) -> Option<&'b [u8]> {
     for entry in &row.own {
         if entry.step == step && entry.key == Key::Calls {
             return Some(entry.text.as_slice());
@@ -263,9 +263,9 @@ fn calls_of<'b>(row: &'b Row<'_>, step: usize) -> Option<&'b [u8]> {
 /// Compares the calls on the files, up to the one that fails. Where the row says nothing of them, each save has to be
 /// one that it names.
 fn compare_calls(
-    row: &Row<'_>,
+    row: &TestRow<'_>,
     step: usize,
-    place: Place<'_>,
+    place: RowPlace<'_>,
     files: &Watched<Shelf>,
     report: &mut Report<'_>,
 ) -> Result<(), AllocError> {
@@ -284,7 +284,7 @@ fn compare_calls(
 }
 
 /// Whether a run of the row names the file as one that is saved.
-fn names_save(row: &Row<'_>, step: usize, name: &str) -> bool {
+fn names_save(row: &TestRow<'_>, step: usize, name: &str) -> bool {
     for entry in &row.own {
         if entry.step == step
             && matches!(entry.key, Key::Saved | Key::Saves)
@@ -298,9 +298,9 @@ fn names_save(row: &Row<'_>, step: usize, name: &str) -> bool {
 
 /// Says each save that the row doesn't name.
 fn compare_saves(
-    row: &Row<'_>,
+    row: &TestRow<'_>,
     step: usize,
-    place: Place<'_>,
+    place: RowPlace<'_>,
     calls: &str,
     report: &mut Report<'_>,
 ) -> Result<(), AllocError> {
@@ -316,13 +316,13 @@ fn compare_saves(
 
 /// Puts the output into the file that the row names for it, without what it begins with where the row says only that.
 fn keep(
-    row: &Row<'_>,
+    row: &TestRow<'_>,
     step: usize,
-    wanted: Wanted<'_>,
+    wanted: Expected<'_>,
     came: Came<'_>,
     files: &mut Watched<Shelf>,
     report: &mut Report<'_>,
-    place: Place<'_>,
+    place: RowPlace<'_>,
 ) -> Result<(), AllocError> {
     let kept = if wanted.goes_on {
         came.out.strip_prefix(wanted.out).unwrap_or(came.out)

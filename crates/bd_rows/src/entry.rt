@@ -117,7 +117,7 @@ impl Key {
 
 /// A line of a row, with the lines of text below it.
 #[derive(Drop)]
-pub struct Entry<'a> {
+pub struct RowLine<'a> {
     /// The number of the line in its file, from 1.
     pub line: usize,
     pub key: Key,
@@ -134,20 +134,20 @@ pub struct Entry<'a> {
 
 /// A row, and what it and others are given.
 #[derive(Drop)]
-pub struct Row<'a> {
+pub struct TestRow<'a> {
     pub name: &'a str,
     /// The number of its first line.
     pub line: usize,
     /// How many further runs it has.
     pub steps: usize,
-    pub own: Vec<Entry<'a>>,
-    pub given: Vec<Entry<'a>>,
+    pub own: Vec<RowLine<'a>>,
+    pub given: Vec<RowLine<'a>>,
 }
 
-impl<'a> Row<'a> {
+impl<'a> TestRow<'a> {
     /// No row yet.
-    pub fn new(alloc: Global) -> Row<'a> {
-        Row {
+    pub fn new(alloc: Global) -> TestRow<'a> {
+        TestRow {
             name: "",
             line: 0,
             steps: 0,
@@ -176,7 +176,7 @@ impl<'a> Row<'a> {
     }
 
     /// The entry of the row, or of what it is given, whose text goes on.
-    pub fn last(&mut self) -> Option<&mut Entry<'a>> {
+    pub fn last(&mut self) -> Option<&mut RowLine<'a>> {
         if self.line == 0 {
             self.given.last_mut()
         } else {
@@ -228,7 +228,7 @@ impl<'a> Row<'a> {
 }
 
 /// How many bytes the first file of that name among these has.
-fn first_len(entries: &[Entry<'_>], name: &str) -> Option<usize> {
+fn first_len(entries: &[RowLine<'_>], name: &str) -> Option<usize> {
     for entry in entries {
         if matches!(entry.key, Key::File | Key::Copy) && entry.name == name {
             return Some(entry.text.len());
@@ -238,7 +238,7 @@ fn first_len(entries: &[Entry<'_>], name: &str) -> Option<usize> {
 }
 
 /// The words of the first run.
-fn first_words<'a>(entries: &[Entry<'a>]) -> Option<&'a str> {
+fn first_words<'a>(entries: &[RowLine<'a>]) -> Option<&'a str> {
     for entry in entries {
         if entry.key == Key::Run {
             return Some(entry.rest);

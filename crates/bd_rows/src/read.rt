@@ -1,6 +1,6 @@
 //! Reads the lines of a file of rows.
 
-use crate::entry::{Entry, Key, Row};
+use crate::entry::{Key, RowLine, TestRow};
 use crate::fault::RowFault;
 use crate::text::{push_numbered, push_unescaped};
 use bd_files::{Files, LoadError};
@@ -13,7 +13,7 @@ pub const MOST_DATA: usize = 16_777_216;
 pub fn read_line<'a, F: Files>(
     alloc: Global,
     data: &mut F,
-    row: &mut Row<'a>,
+    row: &mut TestRow<'a>,
     line: usize,
     text: &'a str,
 ) -> Result<(), RowFault> {
@@ -47,7 +47,7 @@ fn first_word(text: &str) -> (&str, &str) {
 }
 
 /// Adds a line of text as it stands to the text of the line above.
-fn add_whole_line(row: &mut Row<'_>, rest: &str) -> Result<(), RowFault> {
+fn add_whole_line(row: &mut TestRow<'_>, rest: &str) -> Result<(), RowFault> {
     let entry = row.last().ok_or(RowFault::NoText)?;
     entry.text.extend_from_slice(rest.as_bytes())?;
     entry.text.push(b'\n')?;
@@ -55,7 +55,7 @@ fn add_whole_line(row: &mut Row<'_>, rest: &str) -> Result<(), RowFault> {
 }
 
 /// Adds a text once for each number: `FROM TO TEXT`.
-fn add_repeated(alloc: Global, row: &mut Row<'_>, rest: &str) -> Result<(), RowFault> {
+fn add_repeated(alloc: Global, row: &mut TestRow<'_>, rest: &str) -> Result<(), RowFault> {
     let (from, rest) = first_word(rest);
     let (to, text) = first_word(rest);
     let from = number_of(from)?;
@@ -68,7 +68,7 @@ fn add_repeated(alloc: Global, row: &mut Row<'_>, rest: &str) -> Result<(), RowF
 }
 
 /// Fills a text up to so many bytes with a byte, a space if none is named: `LENGTH BYTE`.
-fn fill(row: &mut Row<'_>, rest: &str) -> Result<(), RowFault> {
+fn fill(row: &mut TestRow<'_>, rest: &str) -> Result<(), RowFault> {
     let (length, with) = first_word(rest);
     let length = number_of(length)? as usize;
     let byte = with.as_bytes().first().copied().unwrap_or(b' ');
@@ -78,7 +78,7 @@ fn fill(row: &mut Row<'_>, rest: &str) -> Result<(), RowFault> {
 }
 
 /// Adds the bytes of a file of the folder of data.
-fn add_file<F: Files>(data: &mut F, row: &mut Row<'_>, name: &str) -> Result<(), RowFault> {
+fn add_file<F: Files>(data: &mut F, row: &mut TestRow<'_>, name: &str) -> Result<(), RowFault> {
     let bytes = load(data, name)?;
     let entry = row.last().ok_or(RowFault::NoText)?;
     entry.text.extend_from_slice(bytes.as_slice())?;
@@ -103,7 +103,7 @@ fn number_of(text: &str) -> Result<u64, RowFault> {
 fn add_entry<'a, F: Files>(
     alloc: Global,
     data: &mut F,
-    row: &mut Row<'a>,
+    row: &mut TestRow<'a>,
     line: usize,
     key: Key,
     rest: &'a str,
@@ -122,7 +122,7 @@ fn add_entry<'a, F: Files>(
         row.steps = row.steps.saturating_add(1);
     }
     let text = text_of(alloc, data, key, rest)?;
-    let entry = Entry {
+    let entry = RowLine {
         line,
         key,
         step: row.steps,

@@ -34,7 +34,7 @@ impl Counts {
 
 /// Where a row differs.
 #[derive(Clone, Copy)]
-pub struct Place<'a> {
+pub struct RowPlace<'a> {
     pub line: usize,
     pub row: &'a str,
     pub twist: Twist<'a>,
@@ -92,7 +92,7 @@ impl<'a> Report<'a> {
     }
 
     /// Says that a row differs, and in what.
-    pub fn add_difference(&mut self, place: Place<'_>, what: &str) -> Result<(), AllocError> {
+    pub fn add_difference(&mut self, place: RowPlace<'_>, what: &str) -> Result<(), AllocError> {
         self.differs = true;
         let (file, line, row) = (self.file, place.line, place.row);
         write!(self.text, "{file}:{line}: {row}")?;
@@ -103,7 +103,7 @@ impl<'a> Report<'a> {
     /// Compares two texts.
     pub fn compare(
         &mut self,
-        place: Place<'_>,
+        place: RowPlace<'_>,
         what: &str,
         wanted: &[u8],
         came: &[u8],
@@ -118,7 +118,7 @@ impl<'a> Report<'a> {
     /// Compares two numbers.
     pub fn compare_numbers(
         &mut self,
-        place: Place<'_>,
+        place: RowPlace<'_>,
         what: &str,
         wanted: u64,
         came: u64,

@@ -2,7 +2,7 @@
 
 use crate::compare::{Came, compare};
 use crate::devices::{Counted, Watched};
-use crate::entry::{Entry, Key, Row};
+use crate::entry::{Key, RowLine, TestRow};
 use crate::fault::RowFault;
 use crate::report::Report;
 use crate::text::push_numbered;
@@ -15,7 +15,7 @@ use std::str;
 const ROOM: usize = 100_000;
 
 /// Runs a row as it stands, and once more for each change that it asks for.
-pub fn run_row(alloc: Global, row: &Row<'_>, report: &mut Report<'_>) -> Result<(), RowFault> {
+pub fn run_row(alloc: Global, row: &TestRow<'_>, report: &mut Report<'_>) -> Result<(), RowFault> {
     let Some(words) = row.words() else {
         return Err(RowFault::NoWords);
     };
@@ -35,13 +35,13 @@ pub fn run_row(alloc: Global, row: &Row<'_>, report: &mut Report<'_>) -> Result<
 #[derive(Clone, Copy)]
 struct Runs<'b, 'a> {
     alloc: Global,
-    row: &'b Row<'a>,
+    row: &'b TestRow<'a>,
     words: &'b str,
 }
 
 impl Runs<'_, '_> {
     /// The runs that one line of the row asks for.
-    fn once_more(self, entry: &Entry<'_>, report: &mut Report<'_>) -> Result<(), AllocError> {
+    fn once_more(self, entry: &RowLine<'_>, report: &mut Report<'_>) -> Result<(), AllocError> {
         match entry.key {
             Key::Again => self.once(Twist::again(entry.rest), report),
             Key::Failing => {
@@ -86,7 +86,7 @@ impl Runs<'_, '_> {
     }
 
     /// The row where the file ends after each of its bytes but the last.
-    fn cut(self, entry: &Entry<'_>, report: &mut Report<'_>) -> Result<(), AllocError> {
+    fn cut(self, entry: &RowLine<'_>, report: &mut Report<'_>) -> Result<(), AllocError> {
         for length in 1..self.row.file_len(entry.name) {
             self.refuse(entry, Change::Cut(length), length as u64, report)?;
         }
@@ -94,7 +94,7 @@ impl Runs<'_, '_> {
     }
 
     /// The row where each byte of the file isn't allowed.
-    fn spoil(self, entry: &Entry<'_>, report: &mut Report<'_>) -> Result<(), AllocError> {
+    fn spoil(self, entry: &RowLine<'_>, report: &mut Report<'_>) -> Result<(), AllocError> {
         for place in 0..self.row.file_len(entry.name) {
             let number = (place as u64).saturating_add(1);
             self.refuse(entry, Change::Spoilt(place), number, report)?;
@@ -105,7 +105,7 @@ impl Runs<'_, '_> {
     /// The row with a changed file, which is refused by the line that the entry has, filled with the number.
     fn refuse(
         self,
-        entry: &Entry<'_>,
+        entry: &RowLine<'_>,
         change: Change,
         number: u64,
         report: &mut Report<'_>,
@@ -204,7 +204,7 @@ impl Runs<'_, '_> {
 fn push_files(
     alloc: Global,
     held: &mut Vec<(String, Vec<u8>)>,
-    entries: &[Entry<'_>],
+    entries: &[RowLine<'_>],
     twist: Twist<'_>,
 ) -> Result<(), AllocError> {
     for entry in entries {

@@ -1,6 +1,6 @@
 //! Reads a file of rows, and runs each.
 
-use crate::entry::Row;
+use crate::entry::TestRow;
 use crate::fault::RowFault;
 use crate::read::{MOST_DATA, read_line};
 use crate::report::Report;
@@ -45,7 +45,7 @@ fn run_text<F: Files>(
     data: &mut F,
     report: &mut Report<'_>,
 ) -> Result<(), AllocError> {
-    let mut row = Row::new(alloc);
+    let mut row = TestRow::new(alloc);
     for (index, line) in text.lines().enumerate() {
         let line = line.trim_start();
         take_line(alloc, data, &mut row, index.saturating_add(1), line, report)?;
@@ -57,7 +57,7 @@ fn run_text<F: Files>(
 fn take_line<'a, F: Files>(
     alloc: Global,
     data: &mut F,
-    row: &mut Row<'a>,
+    row: &mut TestRow<'a>,
     line: usize,
     text: &'a str,
     report: &mut Report<'_>,
@@ -83,7 +83,7 @@ fn take_line<'a, F: Files>(
 }
 
 /// Runs the row that was read, if one was.
-fn end_row(alloc: Global, row: &Row<'_>, report: &mut Report<'_>) -> Result<(), AllocError> {
+fn end_row(alloc: Global, row: &TestRow<'_>, report: &mut Report<'_>) -> Result<(), AllocError> {
     if !row.is_begun() {
         return Ok(());
     }

@@ -7,7 +7,7 @@ use bd_examples::designs::{STALE_OPERAND, TWO_STAGE};
 use bd_examples::draft::{CaseDraft, DesignDraft, Held, NO_CASE, TableDraft};
 use bd_model::{Scalar, State, Value};
 use bd_sim::{flush, step};
-use bd_slice::{Column, Place, Spot, slice_of};
+use bd_slice::{CasePlace, Column, Location, slice_of};
 use std::alloc::{AllocError, Global};
 use std::test::Fail;
 
@@ -22,14 +22,14 @@ enum Where {
 
 impl Where {
     /// Whether this place, written by hand, is one that was found.
-    fn is(self, place: &Place) -> bool {
+    fn is(self, place: &CasePlace) -> bool {
         match (self, place) {
-            (Where::Latch(entry), Place::Latch(other)) => entry == *other,
-            (Where::Cell(entry, at), Place::Cell(other, address)) => {
+            (Where::Latch(entry), CasePlace::Latch(other)) => entry == *other,
+            (Where::Cell(entry, at), CasePlace::Cell(other, address)) => {
                 entry == *other && at == *address
             }
-            (Where::Input(input), Place::Input(other)) => input == *other,
-            (Where::Row(symbol, args), Place::Row(other, words)) => {
+            (Where::Input(input), CasePlace::Input(other)) => input == *other,
+            (Where::Row(symbol, args), CasePlace::Row(other, words)) => {
                 symbol == *other && words.as_slice() == args
             }
             _ => false,
@@ -37,7 +37,7 @@ impl Where {
     }
 
     /// Whether this place, written by hand, is among those that were found.
-    fn is_in(self, places: &[Place]) -> bool {
+    fn is_in(self, places: &[CasePlace]) -> bool {
         for place in places {
             if self.is(place) {
                 return true;
@@ -48,7 +48,7 @@ impl Where {
 }
 
 /// Whether a place that was found is among those written by hand.
-fn is_one_of(place: &Place, wanted: &[Where]) -> bool {
+fn is_one_of(place: &CasePlace, wanted: &[Where]) -> bool {
     for other in wanted {
         if other.is(place) {
             return true;
@@ -58,7 +58,7 @@ fn is_one_of(place: &Place, wanted: &[Where]) -> bool {
 }
 
 /// Whether these are the places, in any order.
-fn are(places: &[Place], wanted: &[Where]) -> bool {
+fn are(places: &[CasePlace], wanted: &[Where]) -> bool {
     for place in places {
         if !is_one_of(place, wanted) {
             return false;
@@ -120,7 +120,7 @@ fn decides(
     alloc: Global,
     of: &DesignDraft,
     column: Column,
-    spot: Spot,
+    spot: Location,
     wanted: &[Where],
 ) -> Result<bool, AllocError> {
     let design = design(alloc, of)?;
@@ -135,13 +135,21 @@ fn decides(
 /// What decides a counter and a register is found before the cycle, after it and after the steps.
 #[test]
 fn slices_have_what_decides(rt: HostRuntime) -> Result<(), Fail> {
-    let register = Spot::Cell(1, 8);
+    let register = Location::Cell(1, 8);
     let before = Column::Before(1);
     let after = Column::After(1);
     let steps = Column::Steps(1);
     let a = rt.alloc();
-    assert!(rt; decides(a, &TWO_STAGE, before, Spot::Latch(0), &COUNTED[2..])?);
-    assert!(rt; decides(a, &TWO_STAGE, Column::After(0), Spot::Latch(0), &COUNTED)?);
+    assert!(rt; decides(a, &TWO_STAGE, before, Location::Latch(0), &COUNTED[2..])?);
+    assert!(rt;
+        decides(
+            a,
+            &TWO_STAGE,
+            Column::After(0),
+            Location::Latch(0),
+            &COUNTED
+        )?
+    );
     assert!(rt; decides(a, &TWO_STAGE, after, register, &WRITTEN)?);
     assert!(rt; decides(a, &TWO_STAGE, steps, register, &WRITTEN[1..])?);
     assert!(rt; decides(a, &STALE_OPERAND, after, register, &STALE)?);

@@ -12,15 +12,14 @@ use Rattle.bd_app.specs.declared.loading.LoadFault.{LoadFault}
 use Rattle.bd_app.specs.declared.loading.LoadFault.TheVariants.{Failed, TooLong, Memory}
 use Rattle.bd_model.specs.DesignView.{DesignView}
 use Rattle.bd_model.specs.declared.case.Condition.TheVariants.{Commute}
-use Rattle.bd_model.specs.declared.case.Judged.{Judged}
 use Rattle.bd_model.specs.declared.case.Judged.TheVariants.{Broken}
 use Rattle.bd_model.specs.declared.case.TrailJudged.TheVariants as trail
 use Rattle.bd_picture.specs.Page.{IsPage}
-use Rattle.bd_picture.specs.Sentence.{sentence}
+use Rattle.bd_picture.specs.Sentence.{compared_sentence, completed_sentence, sentence}
 use Rattle.bd_app.proofs.Results.{IfSome-weaker, rose_after}
 use Rattle.bd_app.proofs.Saves.{keeps_same}
 use Rattle.bd_show.specs.Files.{AreDesign, AreStarted, HoldTexts, Names, Texts}
-use Rattle.bd_show.specs.Meaning.{Blames, HoldsPage, MayHaveSaved, Means, Question, Saves, Says, SaysHeld, Show, asked_names, asked_page, show}
+use Rattle.bd_show.specs.Meaning.{AreJoinedDesign, Blames, HoldsPage, MayHaveSaved, Means, Question, Saves, Says, SaysHeld, Show, asked_names, asked_page, show}
 use Rattle.bd_show.specs.declared.answer.Answer.{Answer}
 use Rattle.bd_show.specs.declared.answer.Ended.{Ended}
 use Rattle.bd_show.specs.declared.answer.Ended.TheVariants as ended
@@ -54,6 +53,8 @@ pub said_means : (q : Question) (held : Option Held) (t : Texts) (e : Ended) (te
 said_means q held t (ended.Refused file offset code) text texts says = held_says q held t (ended.Refused file offset code) text texts says
 said_means q held t (ended.Checked found) text texts says = held_says q held t (ended.Checked found) text texts says
 said_means q held t (ended.Shown j) text texts says = held_says q held t (ended.Shown j) text texts says
+said_means q held t (ended.Completed j) text texts says = held_says q held t (ended.Completed j) text texts says
+said_means q held t (ended.Compared same) text texts says = held_says q held t (ended.Compared same) text texts says
 said_means q held t (ended.Traced j) text texts says = held_says q held t (ended.Traced j) text texts says
 said_means q held t (ended.Shrunk k) text texts says = held_says q held t (ended.Shrunk k) text texts says
 said_means q held t (ended.Explained j) text texts says = held_says q held t (ended.Explained j) text texts says
@@ -74,6 +75,8 @@ pub said_blames : (q : Question) (a b : FilesSeen) (t : Texts) (e : Ended) (text
 said_blames q a b t (ended.Refused file offset code) text blame says = blame
 said_blames q a b t (ended.Checked found) text blame says = blame
 said_blames q a b t (ended.Shown j) text blame says = blame
+said_blames q a b t (ended.Completed j) text blame says = blame
+said_blames q a b t (ended.Compared same) text blame says = blame
 said_blames q a b t (ended.Traced j) text blame says = blame
 said_blames q a b t (ended.Shrunk k) text blame says = blame
 said_blames q a b t (ended.Explained j) text blame says = blame
@@ -95,6 +98,8 @@ stands_saves : (q : Question) (a b : FilesSeen) (e : Ended) → asked_page q ≡
 stands_saves q a b (ended.Refused file offset code) none held = held
 stands_saves q a b (ended.Checked found) none held = held
 stands_saves q a b (ended.Shown j) none held = λ name is. absurd (cc (none, is))
+stands_saves q a b (ended.Completed j) none held = λ name is. absurd (cc (none, is))
+stands_saves q a b (ended.Compared same) none held = λ name is. absurd (cc (none, is))
 stands_saves q a b (ended.Traced (trail.Broken cycle)) none held = λ name is. absurd (cc (none, is))
 stands_saves q a b (ended.Traced trail.Holds) none held = held
 stands_saves q a b (ended.Traced trail.Outside) none held = held
@@ -149,6 +154,8 @@ may_have_saved : (q : Show) (a c : FilesSeen) (t : Texts) (e : Ended) (text : Li
 may_have_saved q a c t (ended.Refused file offset code) text page texts says drawn stands = inl (stands drawn)
 may_have_saved q a c t (ended.Checked found) text page texts says drawn stands = inl (stands drawn)
 may_have_saved q a c t (ended.Shown j) text page texts says drawn stands = inr (ended.Shown j, text, tt, said_means (show q) a.held t (ended.Shown j) text texts says)
+may_have_saved q a c t (ended.Completed j) text page texts says drawn stands = inr (ended.Completed j, text, tt, said_means (show q) a.held t (ended.Completed j) text texts says)
+may_have_saved q a c t (ended.Compared same) text page texts says drawn stands = inr (ended.Compared same, text, tt, said_means (show q) a.held t (ended.Compared same) text texts says)
 may_have_saved q a c t (ended.Traced (trail.Broken cycle)) text page texts says drawn stands = inr (ended.Traced (trail.Broken cycle), text, tt, said_means (show q) a.held t (ended.Traced (trail.Broken cycle)) text texts says)
 may_have_saved q a c t (ended.Traced trail.Holds) text page texts says (d, is, none) stands = inl (stands none)
 may_have_saved q a c t (ended.Traced trail.Outside) text page texts says (d, is, none) stands = inl (stands none)
@@ -168,10 +175,10 @@ may_have_saved q a c t ended.Unwritten text page texts says drawn stands = inl (
 may_have_saved q a c t ended.Memory text page texts says drawn stands = inl (stands drawn)
 
 -- a page that was drawn and saved is that of the design
-page_held : (AreRead : Texts → DesignView → Type 0) (names : Names) (a c : Option Held) (t : Texts) (d : DesignView) (j : Judged) (name : Name) (page : Option (List ℕ)) → IfSome a (λ h. HoldTexts h names t) → AreRead t d
-    → MatchOption page ⊥ (IsPage (sentence d j)) → HoldsDrawn c (Some name) page → HoldsPage AreRead names a c j name
-page_held AreRead names a c t d j name None texts is drawn held = absurd drawn
-page_held AreRead names a c t d j name (Some bytes) texts is drawn held = record {
+page_held : (AreRead : Texts → DesignView → Type 0) (names : Names) (a c : Option Held) (t : Texts) (d : DesignView) (title : DesignView → List ℕ) (name : Name) (page : Option (List ℕ)) → IfSome a (λ h. HoldTexts h names t) → AreRead t d
+    → MatchOption page ⊥ (IsPage (title d)) → HoldsDrawn c (Some name) page → HoldsPage AreRead names a c title name
+page_held AreRead names a c t d title name None texts is drawn held = absurd drawn
+page_held AreRead names a c t d title name (Some bytes) texts is drawn held = record {
   design = d;
   is_design = IfSome-weaker _ _ a (λ h holds. (t, holds, is)) texts;
   bytes = bytes;
@@ -185,9 +192,13 @@ kept_saves : (q : Show) (a c : FilesSeen) (t : Texts) (e : Ended) (page : Option
 kept_saves q a c t (ended.Refused file offset code) page texts drawn stands held = stands drawn
 kept_saves q a c t (ended.Checked found) page texts drawn stands held = stands drawn
 kept_saves q a c t (ended.Shown j) page texts (d, read, drawn) stands held = λ name is.
-    page_held (λ t d. AreDesign t (Ok d)) q.names a.held c.held t d j name page texts read drawn (subst (λ n. HoldsDrawn c.held n page) is held)
+    page_held (λ t d. AreDesign t (Ok d)) q.names a.held c.held t d (λ d. sentence d j) name page texts read drawn (subst (λ n. HoldsDrawn c.held n page) is held)
+kept_saves q a c t (ended.Completed j) page texts (d, read, drawn) stands held = λ name is.
+    page_held AreJoinedDesign q.names a.held c.held t d (λ d. completed_sentence d j) name page texts read drawn (subst (λ n. HoldsDrawn c.held n page) is held)
+kept_saves q a c t (ended.Compared same) page texts (d, read, drawn) stands held = λ name is.
+    page_held AreJoinedDesign q.names a.held c.held t d (λ d. compared_sentence same) name page texts read drawn (subst (λ n. HoldsDrawn c.held n page) is held)
 kept_saves q a c t (ended.Traced (trail.Broken cycle)) page texts (d, read, drawn) stands held = λ name is.
-    page_held (λ t d. AreStarted t (Ok d)) q.names a.held c.held t d (Broken Commute) name page texts read drawn (subst (λ n. HoldsDrawn c.held n page) is held)
+    page_held (λ t d. AreStarted t (Ok d)) q.names a.held c.held t d (λ d. sentence d (Broken Commute)) name page texts read drawn (subst (λ n. HoldsDrawn c.held n page) is held)
 kept_saves q a c t (ended.Traced trail.Holds) page texts (d, read, none) stands held = stands none
 kept_saves q a c t (ended.Traced trail.Outside) page texts (d, read, none) stands held = stands none
 kept_saves q a c t (ended.Shrunk k) page texts drawn stands held = stands drawn

@@ -5,3 +5,4 @@ pub mod Refusals
 pub mod Answers
 pub mod Trails
 pub mod Asked
+pub mod Joins

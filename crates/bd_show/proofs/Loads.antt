@@ -38,19 +38,19 @@ module _ (names : Names) (a b : FilesSeen) where
 
   pipe_fault : (e : LoadFault) → IsOneFault (text.Pipe, names.pipe) a b e → IsFault names a b e
   pipe_fault e one = placed text.Pipe names.pipe e refl (λ long.
-      IfSome-weaker _ _ a.held (λ h l. record { before = []; name = names.pipe; after = (text.Spec, names.spec) ∷ (one_if text.Case names.case ++ (one_if text.Proof names.proof ++ one_if text.Inv names.inv)); order = refl; short = tt; long = l }) long) one
+      IfSome-weaker _ _ a.held (λ h l. record { before = []; name = names.pipe; after = (text.Spec, names.spec) ∷ (one_if text.Case names.case ++ (one_if text.Proof names.proof ++ (one_if text.Inv names.inv ++ one_if text.Comp names.comp))); order = refl; short = tt; long = l }) long) one
 
   spec_fault : (e : LoadFault) → IfSome a.held (λ h. IsShort h (text.Pipe, names.pipe)) → IsOneFault (text.Spec, names.spec) a b e → IsFault names a b e
   spec_fault e short one = placed text.Spec names.spec e refl (λ long.
-      IfSome-both _ _ _ a.held (λ h s l. record { before = (text.Pipe, names.pipe) ∷ []; name = names.spec; after = one_if text.Case names.case ++ (one_if text.Proof names.proof ++ one_if text.Inv names.inv); order = refl; short = (s, tt); long = l }) short long) one
+      IfSome-both _ _ _ a.held (λ h s l. record { before = (text.Pipe, names.pipe) ∷ []; name = names.spec; after = one_if text.Case names.case ++ (one_if text.Proof names.proof ++ (one_if text.Inv names.inv ++ one_if text.Comp names.comp)); order = refl; short = (s, tt); long = l }) short long) one
 
   case_fault : (e : LoadFault) (n : Name) → names.case ≡ Some n → IfSome a.held (Machines names) → IsOneFault (text.Case, n) a b e → IsFault names a b e
   case_fault e n is short one = placed text.Case n e (sym (ap or_none is)) (λ long.
       IfSome-both (Machines names) (λ h. IsLong h (text.Case, n)) _ a.held (λ h s l. record {
         before = (text.Pipe, names.pipe) ∷ (text.Spec, names.spec) ∷ [];
         name = n;
-        after = one_if text.Proof names.proof ++ one_if text.Inv names.inv;
-        order = ap (λ c. (text.Pipe, names.pipe) ∷ (text.Spec, names.spec) ∷ (one_if text.Case c ++ (one_if text.Proof names.proof ++ one_if text.Inv names.inv))) is;
+        after = one_if text.Proof names.proof ++ (one_if text.Inv names.inv ++ one_if text.Comp names.comp);
+        order = ap (λ c. (text.Pipe, names.pipe) ∷ (text.Spec, names.spec) ∷ (one_if text.Case c ++ (one_if text.Proof names.proof ++ (one_if text.Inv names.inv ++ one_if text.Comp names.comp)))) is;
         short = (s.0, (s.1, tt));
         long = l;
       }) short long) one
@@ -61,8 +61,8 @@ module _ (names : Names) (a b : FilesSeen) where
       IfSome-both (λ h. Machines names h × HoldsShortIf h text.Case names.case bytes) (λ h. IsLong h (text.Proof, n)) _ a.held (λ h both l. record {
         before = (text.Pipe, names.pipe) ∷ (text.Spec, names.spec) ∷ one_if text.Case names.case;
         name = n;
-        after = one_if text.Inv names.inv;
-        order = ap (λ p. (text.Pipe, names.pipe) ∷ (text.Spec, names.spec) ∷ (one_if text.Case names.case ++ (one_if text.Proof p ++ one_if text.Inv names.inv))) is;
+        after = one_if text.Inv names.inv ++ one_if text.Comp names.comp;
+        order = ap (λ p. (text.Pipe, names.pipe) ∷ (text.Spec, names.spec) ∷ (one_if text.Case names.case ++ (one_if text.Proof p ++ (one_if text.Inv names.inv ++ one_if text.Comp names.comp)))) is;
         short = (both.0.0, (both.0.1, short_if h text.Case names.case bytes both.1));
         long = l;
       }) (IfSome-both (Machines names) (λ h. HoldsShortIf h text.Case names.case bytes) (λ h. Machines names h × HoldsShortIf h text.Case names.case bytes) a.held (λ h s c. (s, c)) short case) long) one
@@ -72,12 +72,26 @@ module _ (names : Names) (a b : FilesSeen) where
       IfSome-both (λ h. Machines names h × AreShort h (texts_on names)) (λ h. IsLong h (text.Inv, n)) _ a.held (λ h both l. record {
         before = (text.Pipe, names.pipe) ∷ (text.Spec, names.spec) ∷ texts_on names;
         name = n;
-        after = [];
-        order = ap (λ files. (text.Pipe, names.pipe) ∷ (text.Spec, names.spec) ∷ files) (sym (append_assoc (one_if text.Case names.case) (one_if text.Proof names.proof) (one_if text.Inv names.inv))
-            ∙ ap (λ i. texts_on names ++ one_if text.Inv i) is);
+        after = one_if text.Comp names.comp;
+        order = ap (λ files. (text.Pipe, names.pipe) ∷ (text.Spec, names.spec) ∷ files) (sym (append_assoc (one_if text.Case names.case) (one_if text.Proof names.proof) (one_if text.Inv names.inv ++ one_if text.Comp names.comp))
+            ∙ ap (λ i. texts_on names ++ (one_if text.Inv i ++ one_if text.Comp names.comp)) is);
         short = (both.0.0, (both.0.1, both.1));
         long = l;
       }) (IfSome-both (Machines names) (λ h. AreShort h (texts_on names)) (λ h. Machines names h × AreShort h (texts_on names)) a.held (λ h s c. (s, c)) short on) long) one
+
+  comp_fault : (e : LoadFault) (n : Name) → names.comp ≡ Some n → IfSome a.held (Machines names) → IfSome a.held (λ h. AreShort h (texts_on names ++ one_if text.Inv names.inv)) → IsOneFault (text.Comp, n) a b e
+      → IsFault names a b e
+  comp_fault e n is short on one = placed text.Comp n e (sym (ap or_none is)) (λ long.
+      IfSome-both (λ h. Machines names h × AreShort h (texts_on names ++ one_if text.Inv names.inv)) (λ h. IsLong h (text.Comp, n)) _ a.held (λ h both l. record {
+        before = (text.Pipe, names.pipe) ∷ (text.Spec, names.spec) ∷ (texts_on names ++ one_if text.Inv names.inv);
+        name = n;
+        after = [];
+        order = ap (λ files. (text.Pipe, names.pipe) ∷ (text.Spec, names.spec) ∷ files) (sym (append_assoc (one_if text.Case names.case) (one_if text.Proof names.proof) (one_if text.Inv names.inv ++ one_if text.Comp names.comp))
+            ∙ sym (append_assoc (texts_on names) (one_if text.Inv names.inv) (one_if text.Comp names.comp))
+            ∙ ap (λ k. (texts_on names ++ one_if text.Inv names.inv) ++ one_if text.Comp k) is);
+        short = (both.0.0, (both.0.1, both.1));
+        long = l;
+      }) (IfSome-both (Machines names) (λ h. AreShort h (texts_on names ++ one_if text.Inv names.inv)) (λ h. Machines names h × AreShort h (texts_on names ++ one_if text.Inv names.inv)) a.held (λ h s c. (s, c)) short on) long) one
 
 pub pipe_fails : {T : Type 0} {a b : FilesSeen} {e : LoadFault} (names : Names) → IsOneLoad {T = T} (text.Pipe, names.pipe) a b (Err e) → IsFault names a b e
 pipe_fails {T} {a} {b} {e} names one = pipe_fault names a b e one.fault
@@ -95,6 +109,10 @@ proof_fails {T} {a} {b} {e} names bytes short case one = proof_fault names a b e
 pub inv_fails : {T : Type 0} {a b : FilesSeen} {e : LoadFault} (names : Names) → IfSome a.held (Machines names) → IfSome a.held (λ h. AreShort h (texts_on names))
     → IsOneLoadIf {T = T} text.Inv names.inv a b (Err e) → IsFault names a b e
 inv_fails {T} {a} {b} {e} names short on one = inv_fault names a b e one.fault.0 one.fault.1 short on one.fault.2
+
+pub comp_fails : {T : Type 0} {a b : FilesSeen} {e : LoadFault} (names : Names) → IfSome a.held (Machines names) → IfSome a.held (λ h. AreShort h (texts_on names ++ one_if text.Inv names.inv))
+    → IsOneLoadIf {T = T} text.Comp names.comp a b (Err e) → IsFault names a b e
+comp_fails {T} {a} {b} {e} names short on one = comp_fault names a b e one.fault.0 one.fault.1 short on one.fault.2
 
 -- ---- one load after another
 
@@ -130,12 +148,19 @@ texts_short names held case proof c p =
     IfSome-both (λ h. HoldsShortIf h text.Case names.case case) (λ h. HoldsShortIf h text.Proof names.proof proof) (λ h. AreShort h (texts_on names)) held
     (λ h x y. short_both h (one_if text.Case names.case) (one_if text.Proof names.proof) (short_if h text.Case names.case case x) (short_if h text.Proof names.proof proof y)) c p
 
+pub all_short : (names : Names) (held : Option Held) (inv : Option (List ℕ)) → IfSome held (λ h. AreShort h (texts_on names)) → IfSome held (λ h. HoldsShortIf h text.Inv names.inv inv)
+    → IfSome held (λ h. AreShort h (texts_on names ++ one_if text.Inv names.inv))
+all_short names held inv on i =
+    IfSome-both (λ h. AreShort h (texts_on names)) (λ h. HoldsShortIf h text.Inv names.inv inv) (λ h. AreShort h (texts_on names ++ one_if text.Inv names.inv)) held
+    (λ h x y. short_both h (texts_on names) (one_if text.Inv names.inv) x (short_if h text.Inv names.inv inv y)) on i
+
 -- ---- all of them
 
 pub all_held : (held : Option Held) (names : Names) (t : Texts) → IfSome held (λ h. HoldsShort h (text.Pipe, names.pipe) t.pipe) → IfSome held (λ h. HoldsShort h (text.Spec, names.spec) t.spec)
-    → IfSome held (λ h. HoldsShortIf h text.Case names.case t.case) → IfSome held (λ h. HoldsShortIf h text.Proof names.proof t.proof) → IfSome held (λ h. HoldsShortIf h text.Inv names.inv t.inv) → IfSome held (λ h. HoldTexts h names t)
-all_held None names t p s c q i = tt
-all_held (Some h) names t p s c q i = record { pipe = p; spec = s; case = c; proof = q; inv = i }
+    → IfSome held (λ h. HoldsShortIf h text.Case names.case t.case) → IfSome held (λ h. HoldsShortIf h text.Proof names.proof t.proof) → IfSome held (λ h. HoldsShortIf h text.Inv names.inv t.inv)
+    → IfSome held (λ h. HoldsShortIf h text.Comp names.comp t.comp) → IfSome held (λ h. HoldTexts h names t)
+all_held None names t p s c q i k = tt
+all_held (Some h) names t p s c q i k = record { pipe = p; spec = s; case = c; proof = q; inv = i; comp = k }
 
 -- what holds of what is held holds after a load too, and the other way round
 pub moved : {T : Type 0} (P : Held → Type 0) {a b : FilesSeen} {x : T} → Leaves a b (Ok x) → IfSome a.held P → IfSome b.held P

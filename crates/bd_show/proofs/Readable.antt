@@ -10,10 +10,12 @@ use Rattle.bd_syntax.specs.declared.ast.Kind.TheVariants.{Pipeline, Specificatio
 use Rattle.bd_text.specs.Faults.{HasNoFault}
 use Rattle.bd_text.specs.Grammar.{Spells}
 use Rattle.bd_text.specs.Nodes.{Nodes}
-use Rattle.bd_typer.specs.Denotes.{DenotesWith, OnDesign, Reads, design_of_machines, design_of_trees, premise_file, premise_form, premise_head}
+use Rattle.bd_typer.specs.Denotes.{CompletesTrees, DenotesCompleted, DenotesWith, OnDesign, OnJoined, Reads, completed_of_trees, design_of_machines, design_of_trees, premise_file, premise_form, premise_head}
 use Rattle.bd_typer.specs.Faults.{◌>>=◌, FileFault, in_file}
 use Rattle.bd_typer.specs.declared.fault.Text.{Text}
-use Rattle.bd_typer.specs.declared.fault.Text.TheVariants.{Pipe, Spec}
+use Rattle.bd_typer.specs.Joined.{JoinedView, joined_view}
+use Rattle.bd_typer.specs.declared.joining.Joined.{Joined}
+use Rattle.bd_typer.specs.declared.fault.Text.TheVariants.{Comp, Inv, Pipe, Spec}
 use Rattle.bd_typer.specs.declared.fault.TypeFault.{TypeFault}
 use Rattle.bd_typer.specs.declared.premise.Premise.{Premise}
 use Rattle.bd_typer.specs.declared.premise.Premise.TheVariants.{Invariant, Start}
@@ -92,3 +94,26 @@ readable_result t p s i (Err e) on pipe spec inv = tt
 pub started_result : (t : Texts) (p s : List ℕ) (i : Option (List ℕ)) (r : Result Design TypeFault) → OnDesign r (DenotesWith Start p s i) → p ≡ t.pipe → IfOk r (λ x. IsMachineText Pipeline t.pipe)
 started_result t p s i (Ok d) on pipe = subst (λ b. IsMachineText Pipeline b) pipe (pipe_readable Start p s i (design_view d) on)
 started_result t p s i (Err e) on pipe = tt
+
+-- ---- with a completion function
+
+first_part : {A : Type 0} (a : Result AstView Fault) (F : AstView → Result A FileFault) (x : A) → Ok x ≡ (in_file Pipe a >>= F) → IsOk a
+first_part (Ok p) F x is = (p, refl)
+first_part (Err e) F x is = absurd (cc is)
+
+completed_pipe : (p s c : Nodes) (i : Option Nodes) (j : JoinedView) → Ok j ≡ completed_of_trees p s c i → IsOk (machine_form Pipeline p)
+unfolding completed_of_trees
+completed_pipe p s c i j is = first_part (machine_form Pipeline p) _ j is
+
+inv_pipe : (p s c : Nodes) (i : Option (List ℕ)) (j : JoinedView) → CompletesTrees p s c i (Ok j) → IsOk (machine_form Pipeline p)
+inv_pipe p s c None j h = completed_pipe p s c None j h
+inv_pipe p s c (Some i) j h = reads_ok Inv i j _ (λ is clean spells e. completed_pipe p s c (Some is) j e) h
+
+joined_readable : (p s c : List ℕ) (i : Option (List ℕ)) (j : JoinedView) → DenotesCompleted p s c i (Ok j) → IsMachineText Pipeline p
+joined_readable p s c i j h =
+    reads_ok Pipe p j _ (λ ps none spells g. reads_ok Spec s j _ (λ ss fine spells' f. reads_ok Comp c j _
+    (λ cs clean spells'' e. machine Pipeline p ps none spells (inv_pipe ps ss cs i j e)) f) g) h
+
+pub joined_result : (t : Texts) (p s c : List ℕ) (i : Option (List ℕ)) (r : Result Joined TypeFault) → OnJoined r (DenotesCompleted p s c i) → p ≡ t.pipe → IfOk r (λ x. IsMachineText Pipeline t.pipe)
+joined_result t p s c i (Ok j) on pipe = subst (λ b. IsMachineText Pipeline b) pipe (joined_readable p s c i (joined_view j) on)
+joined_result t p s c i (Err e) on pipe = tt

@@ -1,25 +1,30 @@
 -- Why the texts of a design are refused; what holds of a result.
 use Rattle.std.proofs.Common.{◌≡◌, ℕ, List, true, refl, sym, subst, inl, inr}
-use Rattle.std.specs.Prelude.{Option, Some, Result, Ok, Err, IfOk, IfErr, MatchResult}
+use Rattle.std.specs.Prelude.{Option, Some, None, is_some, Result, Ok, Err, IfOk, IfErr, MatchResult}
 use Rattle.std.specs.declared.alloc.AllocError.{AllocError}
 use Rattle.bd_case.specs.Reads.{IsTrailReading}
 use Rattle.bd_model.specs.DesignView.{DesignView}
+use Rattle.bd_model.specs.Fits.{Fits}
+use Rattle.bd_model.specs.declared.case.Case.{Case}
 use Rattle.bd_model.specs.declared.design.Design.{Design}
 use Rattle.bd_text.specs.declared.code.Code.{Code}
-use Rattle.bd_typer.specs.Denotes.{Denotes, DenotesWith, OnDesign}
+use Rattle.bd_typer.specs.Denotes.{Denotes, DenotesCompleted, DenotesWith, OnDesign, OnJoined}
+use Rattle.bd_typer.specs.Joined.{JoinedView, joined_view}
+use Rattle.bd_typer.specs.declared.joining.Joined.{Joined}
 use Rattle.bd_typer.specs.declared.fault.Text.{Text}
 use Rattle.bd_typer.specs.declared.fault.Text.TheVariants.{Trail}
 use Rattle.bd_typer.specs.declared.premise.Premise.TheVariants.{Invariant, Start}
 use Rattle.bd_typer.specs.declared.fault.TypeFault.{TypeFault}
 use Rattle.bd_typer.specs.declared.fault.TypeFault.TheVariants.{Bad, Memory}
+use Rattle.bd_app.proofs.Completions.{completed_same}
 use Rattle.bd_app.proofs.Sources.{denotes_same}
-use Rattle.bd_show.specs.Files.{AreStarted, IsStartedFault, IsTextFault, IsTrailOf, Names, Texts, commented, has_trail}
-use Rattle.bd_show.specs.Meaning.{IsAskedFault, IsRefusedText, Question, Says, Show, about, asked_names, check, explain, recheck, show, shrink}
+use Rattle.bd_show.specs.Files.{AreCase, AreDesign, AreJoined, AreJoinedBy, AreJoinedCase, IsCaseOf, AreStarted, IsJoinedFault, IsStartedFault, IsTextFault, IsTrailOf, Names, Texts, commented, has_trail}
+use Rattle.bd_show.specs.Meaning.{IsAskedFault, IsRefusedText, IsShownFault, Question, Says, Show, about, asked_names, check, explain, recheck, show, shrink}
 use Rattle.bd_show.specs.declared.answer.Answer.{Answer}
 use Rattle.bd_show.specs.declared.answer.Ended.{Ended}
 use Rattle.bd_show.specs.declared.answer.Ended.TheVariants.{Refused}
 use Rattle.bd_show.specs.inner.Answered.{TakesCase}
-use Rattle.bd_show.specs.inner.Read.{AreRefused, IsRefusedBy}
+use Rattle.bd_show.specs.inner.Read.{AreRefused, IsCaseFault, IsRefusedBy}
 
 pub refused_by : (t : Texts) (p s : List ℕ) (i : Option (List ℕ)) (r : Result Design TypeFault) → OnDesign r (Denotes p s i) → p ≡ t.pipe → s ≡ t.spec → i ≡ t.inv → IfErr r (AreRefused t)
 refused_by t p s i (Ok d) on pipe spec inv = tt
@@ -46,10 +51,53 @@ trail_fault t d bytes source offset code design is text read =
           (subst (λ s. IsTrailReading d s (Err (record { offset = offset; code = code }))) text read),
     )
 
--- a fault of texts is one of those that are asked about, unless a trail is taken
+-- a fault of texts with a completion function
+pub refused_joined : (t : Texts) (p s c : List ℕ) (i : Option (List ℕ)) (r : Result Joined TypeFault) → OnJoined r (DenotesCompleted p s c i) → p ≡ t.pipe → s ≡ t.spec → t.comp ≡ Some c → i ≡ t.inv
+    → IfErr r (IsRefusedBy (IsJoinedFault t))
+refused_joined t p s c i (Ok j) on pipe spec comp inv = tt
+refused_joined t p s c i (Err (Bad file offset code)) on pipe spec comp inv =
+    inl (subst (λ (x : Option (List ℕ)). AreJoinedBy t x (Err (record { file = file; offset = offset; code = code }))) (sym comp)
+    (completed_same p t.pipe s t.spec c c i t.inv (Err (Bad file offset code)) pipe spec refl inv on))
+refused_joined t p s c i (Err Memory) on pipe spec comp inv = tt
+
+-- and what they are
+pub joined_are : (t : Texts) (p s c : List ℕ) (i : Option (List ℕ)) (r : Result Joined TypeFault) → OnJoined r (DenotesCompleted p s c i) → p ≡ t.pipe → s ≡ t.spec → t.comp ≡ Some c → i ≡ t.inv
+    → IfOk r (λ j. AreJoined t (Ok (joined_view j)))
+joined_are t p s c i (Ok j) on pipe spec comp inv =
+    subst (λ (x : Option (List ℕ)). AreJoinedBy t x (Ok (joined_view j))) (sym comp) (completed_same p t.pipe s t.spec c c i t.inv (Ok j) pipe spec refl inv on)
+joined_are t p s c i (Err e) on pipe spec comp inv = tt
+
+-- a fault of a case is one of the texts
+pub case_fault : (t : Texts) (j : JoinedView) (e : TypeFault) → AreJoined t (Ok j) → IsRefusedBy (IsCaseFault j.design t.case) e → IsRefusedBy (IsJoinedFault t) e
+case_fault t j (Bad file offset code) joined fault = inr (fault.0, j, joined, fault.1)
+case_fault t j Memory joined fault = tt
+
+pub joined_case_refused : (t : Texts) (j : JoinedView) (r : Result Case TypeFault) → AreJoined t (Ok j) → IfErr r (IsRefusedBy (IsCaseFault j.design t.case)) → IfErr r (IsRefusedBy (IsJoinedFault t))
+joined_case_refused t j (Ok x) joined h = tt
+joined_case_refused t j (Err e) joined h = case_fault t j e joined h
+
+pub joined_case_read : (t : Texts) (j : JoinedView) (r : Result Case TypeFault) → AreJoined t (Ok j) → IfOk r (λ c. IsCaseOf j.design t.case (Ok c)) → IfOk r (Fits j.design) → IfOk r (AreJoinedCase t j)
+joined_case_read t j (Ok x) joined is fits = record { joined = joined; case = is; fits = fits }
+joined_case_read t j (Err e) joined is fits = tt
+
+-- and so without one
+alone_fault : (t : Texts) (d : DesignView) (e : TypeFault) → AreDesign t (Ok d) → IsRefusedBy (IsCaseFault d t.case) e → AreRefused t e
+alone_fault t d (Bad file offset code) design fault = inr (fault.0, d, design, fault.1)
+alone_fault t d Memory design fault = tt
+
+pub case_refused : (t : Texts) (d : DesignView) (r : Result Case TypeFault) → AreDesign t (Ok d) → IfErr r (IsRefusedBy (IsCaseFault d t.case)) → IfErr r (AreRefused t)
+case_refused t d (Ok x) design h = tt
+case_refused t d (Err e) design h = alone_fault t d e design h
+
+pub case_read : (t : Texts) (d : DesignView) (r : Result Case TypeFault) → AreDesign t (Ok d) → IfOk r (λ c. IsCaseOf d t.case (Ok c)) → IfOk r (Fits d) → IfOk r (AreCase t d)
+case_read t d (Ok x) design is fits = record { design = design; case = is; fits = fits }
+case_read t d (Err e) design is fits = tt
+
+-- a fault of texts is one of those that are asked about, unless a trail or a completion function is taken
 pub asked_fault : (q : Question) (t : Texts) (file : Text) (offset : ℕ) (code : Code) → TakesCase q t → IsTextFault t file offset code → IsAskedFault q t file offset code
 asked_fault (check q) t file offset code takes fault = fault
-asked_fault (show q) t file offset code takes fault = inr (takes, fault)
+asked_fault (show q) t file offset code (none, case) fault =
+    subst (λ comp. IsShownFault comp t file offset code) (sym none) (inr (case, fault))
 asked_fault (shrink names) t file offset code takes fault = fault
 asked_fault (explain q) t file offset code takes fault = fault
 asked_fault (about names) t file offset code takes fault = fault
@@ -66,10 +114,22 @@ pub text_told : (t : Texts) (names : Names) (file : Text) (offset : ℕ) (code :
 text_told t names file offset code (Ok a) fault is line = λ q same takes. told q t names a.ended a.text.items file offset code same is (asked_fault q t file offset code takes fault) line
 text_told t names file offset code (Err e) fault is line = tt
 
-pub trail_told : (t : Texts) (names : Names) (file : Text) (offset : ℕ) (code : Code) (r : Result Answer AllocError) → has_trail t ≡ true → IsStartedFault t file offset code → IfOk r (λ a. a.ended ≡ Refused file offset code)
+pub trail_told : (t : Texts) (names : Names) (file : Text) (offset : ℕ) (code : Code) (r : Result Answer AllocError) → t.comp ≡ None → has_trail t ≡ true → IsStartedFault t file offset code → IfOk r (λ a. a.ended ≡ Refused file offset code)
     → IfOk r (λ a. IsRefusedText names t file offset code a.text.items) → IfOk r (λ a. (q : Show) → q.names ≡ names → Says (show q) t a.ended a.text.items)
-trail_told t names file offset code (Ok a) trail fault is line = λ q same. told (show q) t names a.ended a.text.items file offset code same is (inl (trail, fault)) line
-trail_told t names file offset code (Err e) trail fault is line = tt
+trail_told t names file offset code (Ok a) none trail fault is line = λ q same.
+    let asked = subst (λ comp. IsShownFault comp t file offset code) (sym none) (inl (trail, fault)) in
+    told (show q) t names a.ended a.text.items file offset code same is asked line
+trail_told t names file offset code (Err e) none trail fault is line = tt
+
+shown_joined : (t : Texts) (x : Option (List ℕ)) (file : Text) (offset : ℕ) (code : Code) → is_some x ≡ true → IsJoinedFault t file offset code → IsShownFault x t file offset code
+shown_joined t None file offset code is fault = absurd (cc is)
+shown_joined t (Some comp) file offset code is fault = fault
+
+pub joined_told : (t : Texts) (names : Names) (file : Text) (offset : ℕ) (code : Code) (r : Result Answer AllocError) → is_some t.comp ≡ true → IsJoinedFault t file offset code → IfOk r (λ a. a.ended ≡ Refused file offset code)
+    → IfOk r (λ a. IsRefusedText names t file offset code a.text.items) → IfOk r (λ a. (q : Show) → q.names ≡ names → Says (show q) t a.ended a.text.items)
+joined_told t names file offset code (Ok a) joined fault is line = λ q same.
+    told (show q) t names a.ended a.text.items file offset code same is (shown_joined t t.comp file offset code joined fault) line
+joined_told t names file offset code (Err e) joined fault is line = tt
 
 pub match_ok : {T E : Type 0} (r : Result T E) (P Q : T → Type 0) (R : E → Type 0) → ((x : T) → P x → Q x) → MatchResult r P R → IfOk r Q
 match_ok (Ok x) P Q R weaker h = weaker x h

@@ -25,7 +25,7 @@ use Rattle.bd_show.specs.Meaning.{IsShown, IsTrailShown, Says, Show, show}
 use Rattle.bd_show.specs.Trails.{cycle_case, cycles_text, unstarted}
 use Rattle.bd_show.specs.declared.answer.Ended.{Ended}
 use Rattle.bd_show.specs.declared.answer.Ended.TheVariants.{Traced}
-use Rattle.bd_show.specs.declared.show.Seen.{Seen}
+use Rattle.bd_show.specs.declared.show.Showing.{Showing}
 use Rattle.bd_show.specs.inner.Answered.{IsBreaking, IsBreakingIf, IsDrawn, IsTrailPage, IsTrailSeen}
 use Rattle.bd_app.specs.Loading.{bytes_of}
 
@@ -119,22 +119,22 @@ page_same d (Broken cycle) page is = is
 page_same d Holds page is = is
 page_same d Outside page is = is
 
-says : (q : Show) (texts : Texts) (d e : DesignView) (t : Trail) (j : TrailJudged) (x : Ended) (text : List ℕ) (page : Option (List ℕ)) → e ≡ unstarted d → AreTrail texts d t → IsTrailJudged d t j
+says : (q : Show) (texts : Texts) (d e : DesignView) (t : Trail) (j : TrailJudged) (x : Ended) (text : List ℕ) (page : Option (List ℕ)) → texts.comp ≡ None → e ≡ unstarted d → AreTrail texts d t → IsTrailJudged d t j
     → IsTrailSeen e t j x text page → Says (show q) texts x text
-says q texts d e t j x text page is trail judged seen =
-    subst (λ y. Says (show q) texts y text) (sym seen.ended) (d, t, trail, record { is_judged = judged; shown = subst (λ y. IsTrailShown y t j text) is seen.shown })
+says q texts d e t j x text page alone is trail judged seen =
+    subst (λ y. Says (show q) texts y text) (sym seen.ended) (alone, (d, t, trail, record { is_judged = judged; shown = subst (λ y. IsTrailShown y t j text) is seen.shown }))
 
 draws : (texts : Texts) (d e : DesignView) (t : Trail) (j : TrailJudged) (x : Ended) (text : List ℕ) (page : Option (List ℕ)) → e ≡ unstarted d → AreTrail texts d t
     → IsTrailSeen e t j x text page → IsDrawn texts x page
 draws texts d e t j x text page is trail seen =
     subst (λ y. IsDrawn texts y page) (sym seen.ended) (d, trail.design, page_same d j page (subst (λ y. IsTrailPage y j page) is seen.drawn))
 
-pub seen_says : (q : Show) (texts : Texts) (d e : DesignView) (t : Trail) (j : TrailJudged) (r : Result Seen AllocError) → e ≡ unstarted d → AreTrail texts d t → IsTrailJudged d t j
+pub seen_says : (q : Show) (texts : Texts) (d e : DesignView) (t : Trail) (j : TrailJudged) (r : Result Showing AllocError) → texts.comp ≡ None → e ≡ unstarted d → AreTrail texts d t → IsTrailJudged d t j
     → IfOk r (λ s. IsTrailSeen e t j s.answer.ended s.answer.text.items (bytes_of s.page)) → IfOk r (λ s. Says (show q) texts s.answer.ended s.answer.text.items)
-seen_says q texts d e t j r is trail judged seen =
-    IfOk-weaker r _ _ (λ s h. says q texts d e t j s.answer.ended s.answer.text.items (bytes_of s.page) is trail judged h) seen
+seen_says q texts d e t j r alone is trail judged seen =
+    IfOk-weaker r _ _ (λ s h. says q texts d e t j s.answer.ended s.answer.text.items (bytes_of s.page) alone is trail judged h) seen
 
-pub seen_drawn : (texts : Texts) (d e : DesignView) (t : Trail) (j : TrailJudged) (r : Result Seen AllocError) → e ≡ unstarted d → AreTrail texts d t
+pub seen_drawn : (texts : Texts) (d e : DesignView) (t : Trail) (j : TrailJudged) (r : Result Showing AllocError) → e ≡ unstarted d → AreTrail texts d t
     → IfOk r (λ s. IsTrailSeen e t j s.answer.ended s.answer.text.items (bytes_of s.page)) → IfOk r (λ s. IsDrawn texts s.answer.ended (bytes_of s.page))
 seen_drawn texts d e t j r is trail seen =
     IfOk-weaker r _ _ (λ s h. draws texts d e t j s.answer.ended s.answer.text.items (bytes_of s.page) is trail h) seen

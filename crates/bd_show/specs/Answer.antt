@@ -1,10 +1,10 @@
 -- How a run ends: the status, and whether its text goes to the output.
-use Rattle.std.specs.Prelude.{ℕ}
+use Rattle.std.specs.Prelude.{ℕ, true, false}
 use Rattle.bd_model.specs.declared.case.Judged.TheVariants as judged
 use Rattle.bd_model.specs.declared.case.TrailJudged.TheVariants as trail
 use Rattle.bd_about.specs.declared.asking.Finding.TheVariants as finding
 use Rattle.bd_show.specs.declared.answer.Ended.{Ended}
-use Rattle.bd_show.specs.declared.answer.Ended.TheVariants.{Checked, Shown, Traced, Explained, Unknown, Shrunk, Unbroken, Described, Proved, BadProof, Told, Usage, Refused, TooLong, Unread, Unsaved, Unwritten, Memory}
+use Rattle.bd_show.specs.declared.answer.Ended.TheVariants.{Checked, Shown, Completed, Compared, Traced, Explained, Unknown, Shrunk, Unbroken, Described, Proved, BadProof, Told, Usage, Refused, TooLong, Unread, Unsaved, Unwritten, Memory}
 
 abbrev pub status_of : Ended → ℕ
 status_of (Checked finding.Right) = 0
@@ -14,6 +14,11 @@ status_of (Checked finding.Undecided) = 4
 status_of (Shown judged.Holds) = 0
 status_of (Shown judged.Outside) = 8
 status_of (Shown (judged.Broken k)) = 1
+status_of (Completed judged.Holds) = 0
+status_of (Completed judged.Outside) = 8
+status_of (Completed (judged.Broken k)) = 1
+status_of (Compared true) = 0
+status_of (Compared false) = 1
 status_of (Traced trail.Holds) = 0
 status_of (Traced trail.Outside) = 8
 status_of (Traced (trail.Broken cycle)) = 1
@@ -39,6 +44,8 @@ status_of Memory = 6
 abbrev pub HasReport : Ended → Type 0
 HasReport (Checked found) = Unit {0}
 HasReport (Shown j) = Unit {0}
+HasReport (Completed j) = Unit {0}
+HasReport (Compared same) = Unit {0}
 HasReport (Traced j) = Unit {0}
 HasReport (Explained j) = Unit {0}
 HasReport (Shrunk k) = Unit {0}

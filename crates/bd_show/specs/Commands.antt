@@ -19,10 +19,11 @@ check_command =
     machines_command (codes "check") (new_rule (codes "INV") ∷ flag (codes "diverse")
     ∷ budget_option ∷ [])
 
--- show PIPE SPEC CASE [INV] [--whole] [--html FILE]
+-- show PIPE SPEC CASE [INV] [--whole] [--comp COMP] [--html FILE]
 abbrev pub show_command : Shape
 show_command =
-    text_command (codes "show") (codes "CASE") (flag (codes "whole") ∷ option (codes "html") ∷ [])
+    text_command (codes "show") (codes "CASE") (flag (codes "whole") ∷ option (codes "comp")
+    ∷ option (codes "html") ∷ [])
 
 -- shrink PIPE SPEC CASE [INV]
 abbrev pub shrink_command : Shape
@@ -53,6 +54,7 @@ design_names rows = do
     case = None;
     proof = None;
     inv = first_of (codes "INV") rows;
+    comp = None;
   })
 
 -- the files of a case
@@ -82,7 +84,7 @@ unfoldable pub show_question : List Row → Option Question
 show_question rows = do
   names ← case_names rows
   Some (show (record {
-    names = names;
+    names = record names { comp = first_of (codes "comp") rows };
     whole = flag_at (codes "whole") rows;
     page = first_of (codes "html") rows;
   }))

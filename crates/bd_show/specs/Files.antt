@@ -10,8 +10,9 @@ use Rattle.bd_model.specs.declared.case.Case.{Case}
 use Rattle.bd_model.specs.declared.case.Trail.{Trail}
 use Rattle.bd_case.specs.Reads.{IsReading, IsTrailReading}
 use Rattle.bd_syntax.specs.Reading.{Fault}
-use Rattle.bd_typer.specs.Denotes.{Denotes, DenotesWith}
+use Rattle.bd_typer.specs.Denotes.{Denotes, DenotesCompleted, DenotesWith}
 use Rattle.bd_typer.specs.Faults.{FileFault}
+use Rattle.bd_typer.specs.Joined.{JoinedView}
 use Rattle.bd_typer.specs.declared.premise.Premise.TheVariants.{Start}
 use Rattle.bd_typer.specs.declared.fault.Text.{Text}
 use Rattle.bd_typer.specs.declared.fault.Text.TheVariants as text
@@ -20,13 +21,15 @@ use Rattle.bd_app.specs.Files.{File, HoldsShort, one_if}
 use Rattle.bd_app.specs.Sources.{HoldsShortIf}
 use Rattle.bd_show.specs.declared.load.FileNames.{FileNames}
 
--- the names of the files of a design, of a case of it, of a proof that it is right, and of an invariant
+-- the names of the files of a design, of a case of it, of a proof that it is right, of an invariant, and of a completion
+-- function
 pub record Names : Type 0 where
   pub pipe : Name
   pub spec : Name
   pub case : Option Name
   pub proof : Option Name
   pub inv : Option Name
+  pub comp : Option Name
 
 abbrev pub names_of : FileNames → Names
 names_of files = record {
@@ -35,6 +38,7 @@ names_of files = record {
   case = given files.case;
   proof = given files.proof;
   inv = given files.inv;
+  comp = given files.comp;
 }
 
 -- these files, in the order in which they are read
@@ -42,7 +46,8 @@ abbrev pub files_of : Names → List File
 files_of names =
     (text.Pipe, names.pipe) ∷ (text.Spec, names.spec)
     ∷ (one_if text.Case names.case
-    ++ (one_if text.Proof names.proof ++ one_if text.Inv names.inv))
+    ++ (one_if text.Proof names.proof
+    ++ (one_if text.Inv names.inv ++ one_if text.Comp names.comp)))
 
 -- their bytes
 pub record Texts : Type 0 where
@@ -51,6 +56,7 @@ pub record Texts : Type 0 where
   pub case : Option (List ℕ)
   pub proof : Option (List ℕ)
   pub inv : Option (List ℕ)
+  pub comp : Option (List ℕ)
 
 -- they are held under the names, not too many
 pub record HoldTexts (held : Held) (names : Names) (texts : Texts) : Type 0 where
@@ -59,6 +65,7 @@ pub record HoldTexts (held : Held) (names : Names) (texts : Texts) : Type 0 wher
   pub case : HoldsShortIf held text.Case names.case texts.case
   pub proof : HoldsShortIf held text.Proof names.proof texts.proof
   pub inv : HoldsShortIf held text.Inv names.inv texts.inv
+  pub comp : HoldsShortIf held text.Comp names.comp texts.comp
 
 -- the last call that failed was the save of the page
 abbrev pub BlamesSave : Option Blame → Option Name → Type 0
@@ -70,10 +77,11 @@ BlamesSave blame page = (name : Name) × (page ≡ Some name) × (blame ≡ Some
 abbrev pub AreDesign : Texts → Result DesignView FileFault → Type 0
 AreDesign texts reading = Denotes texts.pipe texts.spec texts.inv reading
 
--- a case as it is read: the line of a verdict before it, which begins with `wrong` or `correct`, is a comment
+-- a case as it is read: the line before it, which begins with `wrong`, `correct` or `differ`, is a comment
 abbrev pub commented : List ℕ → List ℕ
 commented [] = []
-commented (b ∷ bytes) = (if (b == 119) || (b == 99) then 59 else b) ∷ bytes
+commented (b ∷ bytes) =
+    (if ((b == 119) || (b == 99)) || (b == 100) then 59 else b) ∷ bytes
 
 -- the text of a case, where there is one, is this case of the design, or has this first fault
 abbrev pub IsCaseOf : DesignView → Option (List ℕ) → Result Case Fault → Type 0
@@ -118,6 +126,23 @@ pub record AreTrail (texts : Texts) (d : DesignView) (t : Trail) : Type 0 where
   pub trail : IsTrailOf d texts.case (Ok t)
   pub fits : TrailFits d t
 
+-- ---- what texts with a completion function are
+
+-- the files are this design and this completion function, or have this first fault
+abbrev pub AreJoinedBy :
+    Texts → Option (List ℕ) → Result JoinedView FileFault → Type 0
+AreJoinedBy texts None reading = ⊥
+AreJoinedBy texts (Some comp) reading = DenotesCompleted texts.pipe texts.spec comp texts.inv reading
+
+abbrev pub AreJoined : Texts → Result JoinedView FileFault → Type 0
+AreJoined texts reading = AreJoinedBy texts texts.comp reading
+
+-- the texts are a design and a completion function, and this case of it
+pub record AreJoinedCase (texts : Texts) (j : JoinedView) (c : Case) : Type 0 where
+  pub joined : AreJoined texts (Ok j)
+  pub case : IsCaseOf j.design texts.case (Ok c)
+  pub fits : Fits j.design c
+
 -- ---- names, and faults
 
 abbrev pub or_none : Option (List ℕ) → List ℕ
@@ -131,6 +156,7 @@ name_in names text.Spec = names.spec
 name_in names text.Inv = or_none names.inv
 name_in names text.Start = or_none names.inv
 name_in names text.Proof = or_none names.proof
+name_in names text.Comp = or_none names.comp
 name_in names _ = or_none names.case
 
 abbrev pub bytes_in : Texts → Text → List ℕ
@@ -139,6 +165,7 @@ bytes_in texts text.Spec = texts.spec
 bytes_in texts text.Inv = or_none texts.inv
 bytes_in texts text.Start = or_none texts.inv
 bytes_in texts text.Proof = or_none texts.proof
+bytes_in texts text.Comp = or_none texts.comp
 bytes_in texts _ = or_none texts.case
 
 -- the last call that failed was the load of this file
@@ -158,3 +185,11 @@ IsStartedFault texts file offset code =
     AreStarted texts (Err (record { file = file; offset = offset; code = code }))
     ⊎ ((file ≡ text.Trail) × (d : DesignView) × AreStarted texts (Ok d)
     × IsTrailOf d texts.case (Err (record { offset = offset; code = code })))
+
+-- this is the first fault of texts with a completion function: of the design's and of that function's, or of the case
+-- where these have none
+abbrev pub IsJoinedFault : Texts → Text → ℕ → Code → Type 0
+IsJoinedFault texts file offset code =
+    AreJoined texts (Err (record { file = file; offset = offset; code = code }))
+    ⊎ ((file ≡ text.Case) × (j : JoinedView) × AreJoined texts (Ok j)
+    × IsCaseOf j.design texts.case (Err (record { offset = offset; code = code })))

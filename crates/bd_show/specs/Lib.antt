@@ -3,6 +3,7 @@ pub mod Place
 pub mod Files
 pub mod LetNames
 pub mod Trails
+pub mod Claims
 pub mod Answer
 pub mod Commands
 pub mod Meaning

@@ -1,10 +1,12 @@
 -- What the answers to a question say of its texts, and what is left of the files.
-use Rattle.std.specs.Prelude.{◌≡◌, ◌⊎◌, ◌≤◌, ◌+◌, ◌++◌, ℕ, Bool, true, false, List, [], ◌∷◌, codes, Option, None, Some, IfSome, is_some, Ok}
+use Rattle.std.specs.Prelude.{◌≡◌, ◌↔◌, ◌⊎◌, ◌≤◌, ◌+◌, ◌++◌, ℕ, Bool, true, false, IsTrue, List, [], ◌∷◌, codes, Option, None, Some, IfSome, is_some, Ok}
 use Rattle.bd_model.specs.DesignView.{DesignView}
 use Rattle.bd_cnf.specs.Problem.{Problem}
 use Rattle.bd_lrat.specs.Log.{IsRefutation}
-use Rattle.bd_model.specs.Conditions.{IsJudged}
+use Rattle.bd_model.specs.Conditions.{Abstraction, IsJudged, JudgedBy, MeetsInvariant}
+use Rattle.bd_model.specs.Cycle.{flushed}
 use Rattle.bd_model.specs.Right.{IsRight}
+use Rattle.bd_model.specs.Same.{Same}
 use Rattle.bd_model.specs.declared.case.Case.{Case}
 use Rattle.bd_model.specs.declared.case.Condition.{Condition}
 use Rattle.bd_model.specs.declared.case.Condition.TheVariants.{Commute}
@@ -25,7 +27,8 @@ use Rattle.bd_foreign.specs.Rechecked.{HasFaultIn, IsReadIn}
 use Rattle.bd_shrink.specs.Shrunk.{IsShrunk}
 use Rattle.bd_about.specs.Applications.{AreApplications}
 use Rattle.bd_about.specs.Findings.{AreFindings, finding_of}
-use Rattle.bd_about.specs.Lines.{about_lines}
+use Rattle.bd_about.specs.AllLines.{about_lines}
+use Rattle.bd_about.specs.Conjuncts.{AreConjuncts}
 use Rattle.bd_about.specs.Unread.{IsUnread}
 use Rattle.bd_about.specs.declared.asking.Finding.{Finding}
 use Rattle.bd_about.specs.declared.asking.Findings.{Findings}
@@ -35,7 +38,8 @@ use Rattle.bd_about.specs.declared.unread_lines.LetNames.{LetNames}
 use Rattle.bd_case.specs.Text as case
 use Rattle.bd_files.specs.Devices.{Held, Holds as IsHeld, Rose}
 use Rattle.bd_picture.specs.Page.{IsPage}
-use Rattle.bd_picture.specs.Sentence.{sentence}
+use Rattle.bd_picture.specs.Sentence.{compared_sentence, completed_sentence, sentence}
+use Rattle.bd_app.specs.Completions.{abstraction_by}
 use Rattle.bd_app.specs.Files.{IsFirstLong, KeepsAllBut}
 use Rattle.bd_app.specs.Meaning.{FilesSeen}
 use Rattle.bd_app.specs.ProofFaults.{cause_text}
@@ -45,12 +49,15 @@ use Rattle.bd_app.specs.Words.{Name}
 use Rattle.bd_app.specs.declared.verdict.Asked.{Asked}
 use Rattle.bd_show.specs.Place.{fault_text, placed}
 use Rattle.bd_text.specs.declared.code.Code.{Code}
+use Rattle.bd_typer.specs.Joined.{JoinedView}
 use Rattle.bd_typer.specs.declared.fault.Text.{Text}
-use Rattle.bd_show.specs.Files.{AreCase, AreDesign, AreStarted, AreTrail, BlamesLoad, BlamesSave, HoldTexts, IsStartedFault, IsTextFault, Names, Texts, bytes_in, files_of, has_trail, name_in, or_none}
+use Rattle.bd_show.specs.Files.{AreCase, AreDesign, AreJoined, AreJoinedCase, AreStarted, AreTrail, BlamesLoad, BlamesSave, HoldTexts, IsJoinedFault, IsStartedFault, IsTextFault, Names, Texts, bytes_in, files_of, has_trail, name_in, or_none}
 use Rattle.bd_show.specs.Trails.{cycle_case, cycles_text, unstarted}
+use Rattle.bd_show.specs.Claims.{claim_in, claim_note, compared_note, completed_note}
+use Rattle.bd_show.specs.declared.claim.Claim.TheVariants.{Differ}
 use Rattle.bd_show.specs.LetNames.{AreLetNames}
 use Rattle.bd_show.specs.declared.answer.Ended.{Ended}
-use Rattle.bd_show.specs.declared.answer.Ended.TheVariants.{Checked, Shown, Traced, Shrunk, Explained, Unknown, Unbroken, Described, Proved, BadProof, Refused, TooLong, Unread, Unsaved, Memory}
+use Rattle.bd_show.specs.declared.answer.Ended.TheVariants.{Checked, Shown, Completed, Compared, Traced, Shrunk, Explained, Unknown, Unbroken, Described, Proved, BadProof, Refused, TooLong, Unread, Unsaved, Memory}
 
 -- what is asked: whether a design is right, in a mode and with a budget; what a case shows, all of it or what is left
 -- of it, maybe with a page; what is left of a case; why a value of a case, all of it or what is left of it, is what it
@@ -117,6 +124,33 @@ pub record IsShown (whole : Bool) (d : DesignView) (c : Case) (judged : Judged) 
   pub shown_judged : IsJudged d shown judged
   pub rest : List ℕ
   pub begins : text ≡ sentence d judged ++ rest
+
+-- and ends with a note where the line of a verdict before the case says otherwise
+pub record IsShownOfText (case : Option (List ℕ)) (whole : Bool) (d : DesignView) (c : Case)
+    (judged : Judged) (text : List ℕ) : Type 0 where
+  pub shown : List ℕ
+  pub is_shown : IsShown whole d c judged shown
+  pub noted : text ≡ shown ++ claim_note (claim_in case) judged
+
+-- by a completion function, in place of flushing: the text begins with the case's own judgement, and ends with a note where
+-- the line before the case says otherwise. Where that is `differ`, the case is outside the invariant
+pub record IsCompleted (case : Option (List ℕ)) (d : DesignView) (abs : Abstraction) (c : Case)
+    (judged : Judged) (text : List ℕ) : Type 0 where
+  pub is_judged : JudgedBy d abs c judged
+  pub asked : claim_in case ≡ Some Differ → judged ≡ Outside
+  pub rest : List ℕ
+  pub whole : text
+      ≡ (completed_sentence d judged ++ rest) ++ completed_note (claim_in case) judged
+
+-- beside flushing, where the line before the case says `differ`: whether both give the same in its state, in which the
+-- invariant is true
+pub record IsCompared (case : Option (List ℕ)) (d : DesignView) (abs : Abstraction) (c : Case)
+    (same : Bool) (text : List ℕ) : Type 0 where
+  pub asked : claim_in case ≡ Some Differ
+  pub inside : MeetsInvariant d c.interp c.state
+  pub is_same : IsTrue same ↔ Same (flushed d c.interp c.state) (abs c.interp c.state)
+  pub rest : List ℕ
+  pub whole : text ≡ (compared_sentence same ++ rest) ++ compared_note same
 
 -- after an empty line the cycle of this number, drawn as it is
 pub record IsCycleShown (d : DesignView) (t : Trail) (cycle : ℕ) (text : List ℕ) : Type 0 where
@@ -190,17 +224,20 @@ pub record IsUnbroken (line_of : Judged → List ℕ) (d : DesignView) (c : Case
 
 -- what was found of the design, with an invariant exactly where a text is one, is true, and the text is the lines of
 -- what is compared, of sizes, of what is counted of functions and predicates and with what each is compared, of what
--- nothing reads, where lets have the names that the texts give them, and of what was found
+-- nothing reads, where lets have the names that the texts give them, and of what was found, also without each conjunct of
+-- an invariant with which the pipeline is right
 pub record IsDescribed (texts : Texts) (d : DesignView) (found : Findings) (text : List ℕ) :
     Type 0 where
   pub findings : AreFindings d (is_some texts.inv) found
+  pub without : List Finding
+  pub are_without : AreConjuncts d (is_some texts.inv) found.own without
   pub applied : Applications
   pub are_applied : AreApplications d applied
   pub unread : AllUnread
   pub is_unread : IsUnread d unread
   pub names : LetNames
   pub named : AreLetNames texts names
-  pub lines : text ≡ about_lines d names applied unread found
+  pub lines : text ≡ about_lines d names applied unread found without
 
 -- the text is that the bytes prove the design right: their lines, up to the one that adds the empty clause, are
 -- accepted over the formula that is kept, in the mode, of the question whether a case breaks a condition
@@ -227,11 +264,21 @@ OfCase texts P = (d : DesignView) × (c : Case) × AreCase texts d c × P d c
 abbrev pub OfTrail : Texts → (DesignView → Trail → Type 0) → Type 0
 OfTrail texts P = (d : DesignView) × (t : Trail) × AreTrail texts d t × P d t
 
--- this is the first fault of the texts that are asked about: `show` takes a trail in the place of a case
-abbrev pub IsAskedFault : Question → Texts → Text → ℕ → Code → Type 0
-IsAskedFault (show q) texts file offset code =
+abbrev pub OfJoined : Texts → (DesignView → Abstraction → Case → Type 0) → Type 0
+OfJoined texts P = (j : JoinedView) × (c : Case) × AreJoinedCase texts j c
+    × P j.design (abstraction_by j.design j.abs) c
+
+-- this is the first fault of what is shown: `show` takes a trail in the place of a case, unless there is a completion
+-- function
+abbrev pub IsShownFault : Option (List ℕ) → Texts → Text → ℕ → Code → Type 0
+IsShownFault None texts file offset code =
     ((has_trail texts ≡ true) × IsStartedFault texts file offset code)
     ⊎ ((has_trail texts ≡ false) × IsTextFault texts file offset code)
+IsShownFault (Some comp) texts file offset code = IsJoinedFault texts file offset code
+
+-- this is the first fault of the texts that are asked about
+abbrev pub IsAskedFault : Question → Texts → Text → ℕ → Code → Type 0
+IsAskedFault (show q) texts file offset code = IsShownFault texts.comp texts file offset code
 IsAskedFault (check q) texts file offset code = IsTextFault texts file offset code
 IsAskedFault (shrink names) texts file offset code = IsTextFault texts file offset code
 IsAskedFault (explain q) texts file offset code = IsTextFault texts file offset code
@@ -251,8 +298,14 @@ Says q texts (Refused file offset code) text =
     × IsRefusedText (asked_names q) texts file offset code text
 Says (check q) texts (Checked found) text =
     OfDesign texts (λ d. IsChecked (asked_of q) d found text)
-Says (show q) texts (Shown j) text = OfCase texts (λ d c. IsShown q.whole d c j text)
-Says (show q) texts (Traced j) text = OfTrail texts (λ d t. IsTraced d t j text)
+Says (show q) texts (Shown j) text =
+    (texts.comp ≡ None) × OfCase texts (λ d c. IsShownOfText texts.case q.whole d c j text)
+Says (show q) texts (Completed j) text =
+    OfJoined texts (λ d abs c. IsCompleted texts.case d abs c j text)
+Says (show q) texts (Compared same) text =
+    OfJoined texts (λ d abs c. IsCompared texts.case d abs c same text)
+Says (show q) texts (Traced j) text =
+    (texts.comp ≡ None) × OfTrail texts (λ d t. IsTraced d t j text)
 Says (shrink names) texts (Shrunk k) text = OfCase texts (λ d c. IsSmaller d c k text)
 Says (shrink names) texts (Unbroken j) text =
     OfCase texts (λ d c. IsUnbroken nothing_to_shrink d c j text)
@@ -297,20 +350,26 @@ Blames q before after Unsaved =
 Blames q before after Memory = Unit {0}
 Blames q before after e = after.blame ≡ before.blame
 
--- the page of what is shown is held under this name: its title is the sentence of a case's judgement, on a design as
+-- the texts are this design, with a completion function
+abbrev pub AreJoinedDesign : Texts → DesignView → Type 0
+AreJoinedDesign texts d = (j : JoinedView) × AreJoined texts (Ok j) × (d ≡ j.design)
+
+-- the page of what is shown is held under this name: its title is the sentence of what is found of a case, on a design as
 -- which the texts are read
 pub record HoldsPage (AreRead : Texts → DesignView → Type 0) (names : Names)
-    (before after : Option Held) (j : Judged) (name : Name) : Type 0 where
+    (before after : Option Held) (title : DesignView → List ℕ) (name : Name) : Type 0 where
   pub design : DesignView
   pub is_design : IfSome before (λ h. (texts : Texts) × HoldTexts h names texts
       × AreRead texts design)
   pub bytes : List ℕ
-  pub page : IsPage (sentence design j) bytes
+  pub page : IsPage (title design) bytes
   pub held : IsHeld after name bytes
 
--- an answer with a page: a case is shown, or a trail with the cycle that breaks
+-- an answer with a page: a case is shown, by flushing or by a completion function, or a trail with the cycle that breaks
 abbrev pub HasPage : Ended → Type 0
 HasPage (Shown j) = Unit {0}
+HasPage (Completed j) = Unit {0}
+HasPage (Compared same) = Unit {0}
 HasPage (Traced (trail.Broken cycle)) = Unit {0}
 HasPage e = ⊥
 
@@ -325,11 +384,20 @@ MayHaveSaved q before after =
 abbrev pub Saves : Question → FilesSeen → FilesSeen → Ended → Type 0
 Saves q before after (Shown j) =
     (name : Name) → asked_page q ≡ Some name →
-    HoldsPage (λ t d. AreDesign t (Ok d)) (asked_names q) before.held after.held j name
+    HoldsPage (λ t d. AreDesign t (Ok d)) (asked_names q) before.held after.held
+    (λ d. sentence d j) name
+Saves q before after (Completed j) =
+    (name : Name) → asked_page q ≡ Some name →
+    HoldsPage AreJoinedDesign (asked_names q) before.held after.held
+    (λ d. completed_sentence d j) name
+Saves q before after (Compared same) =
+    (name : Name) → asked_page q ≡ Some name →
+    HoldsPage AreJoinedDesign (asked_names q) before.held after.held
+    (λ d. compared_sentence same) name
 Saves q before after (Traced (trail.Broken cycle)) =
     (name : Name) → asked_page q ≡ Some name →
     HoldsPage (λ t d. AreStarted t (Ok d)) (asked_names q) before.held after.held
-    (Broken Commute) name
+    (λ d. sentence d (Broken Commute)) name
 Saves q before after Unsaved = MayHaveSaved q before after
 Saves q before after Memory = MayHaveSaved q before after
 Saves q before after e = after.held ≡ before.held

@@ -49,7 +49,7 @@ fn described(alloc: Global, texts: &Texts, design: Design) -> Result<Answer, All
     };
     let about = about_design(alloc, design, names, texts.inv.is_some())?;
     Ok(Answer {
-        ended: Ended::Described(about.findings),
+        ended: Ended::Described(about.found.findings),
         text: about.text,
     })
 }

@@ -15,6 +15,10 @@ pub enum Ended {
     Checked(Finding),
     /// What the case shows was shown.
     Shown(Judged),
+    /// What the case shows by the completion function was shown.
+    Completed(Judged),
+    /// Whether the completion function gives in the case's state what flushing does was shown.
+    Compared(bool),
     /// What the trail shows was shown.
     Traced(TrailJudged),
     /// A small case that breaks the same condition was printed.
@@ -72,6 +76,8 @@ impl Ended {
         match self {
             Ended::Checked(Finding::Right)
             | Ended::Shown(Judged::Holds)
+            | Ended::Completed(Judged::Holds)
+            | Ended::Compared(true)
             | Ended::Traced(TrailJudged::Holds)
             | Ended::Explained(Judged::Holds)
             | Ended::Shrunk(_)
@@ -80,6 +86,8 @@ impl Ended {
             | Ended::Told => 0,
             Ended::Checked(Finding::Wrong(_))
             | Ended::Shown(Judged::Broken(_))
+            | Ended::Completed(Judged::Broken(_))
+            | Ended::Compared(false)
             | Ended::Traced(TrailJudged::Broken(_))
             | Ended::Explained(Judged::Broken(_)) => 1,
             Ended::Usage | Ended::Unknown => 2,
@@ -89,6 +97,7 @@ impl Ended {
             Ended::Memory => 6,
             Ended::Checked(Finding::Void) => 7,
             Ended::Shown(Judged::Outside)
+            | Ended::Completed(Judged::Outside)
             | Ended::Traced(TrailJudged::Outside)
             | Ended::Explained(Judged::Outside) => 8,
             Ended::Unbroken(_) => 9,
@@ -103,6 +112,8 @@ impl Ended {
             self,
             Ended::Checked(_)
                 | Ended::Shown(_)
+                | Ended::Completed(_)
+                | Ended::Compared(_)
                 | Ended::Traced(_)
                 | Ended::Explained(_)
                 | Ended::Shrunk(_)

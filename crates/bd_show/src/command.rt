@@ -2,7 +2,7 @@
 ghost use Rattle.std.specs.Prelude.{◌≡◌, [], false, None, Some, IfOk, IfErr};
 ghost use Rattle.std.specs.Option.{option_map};
 ghost use Rattle.clap.specs.Values.{kind_of};
-ghost use Rattle.clap.specs.Words.{app_of, found_of, rows_of, shape_of, with_subcommand};
+ghost use Rattle.clap.specs.Words.{app_of, found_of, rows_of, rule_of, shape_of, with_subcommand};
 ghost use Rattle.clap.specs.declared.builder.command.Command.TheViews.{out-Command as fields_of};
 ghost use Rattle.bd_app.specs.Words.{texts_of};
 ghost use Rattle.bd_show.specs.Files.{names_of};
@@ -61,6 +61,22 @@ impl From<AllocError> for WordsFault {
     }
 }
 
+/// The argument, of which help says this.
+fn described<'a>(arg: Arg<'a>, text: &'a str) -> Arg<'a>
+    ensures rule { rule_of result ≡ rule_of arg.entry }
+    ensures local { result.global ≡ arg.entry.global }
+{
+    arg.help(text)
+}
+
+/// The command, at the end of whose help this stands.
+fn explained<'a>(command: clap::Command<'a>, text: &'a str) -> clap::Command<'a>
+    ensures shape { shape_of result ≡ shape_of command.entry }
+    ensures local { (fields_of result).has_globals ≡ (fields_of command.entry).has_globals }
+{
+    command.after_help(text)
+}
+
 /// The words of `check`.
 fn check_command<'a>(alloc: Global) -> Result<clap::Command<'a>, AllocError>
     ensures shape { IfOk result (λ c. shape_of c ≡ check_command) }
@@ -68,8 +84,9 @@ fn check_command<'a>(alloc: Global) -> Result<clap::Command<'a>, AllocError>
 {
     let command = machines_command(alloc, "check")?;
     let command = with(command, Arg::new(alloc, "INV"))?;
-    let command = with(command, flag(alloc, "diverse"))?;
-    with(command, budget(alloc))
+    let command = with(command, described(flag(alloc, "diverse"), DIVERSE))?;
+    let command = with(command, described(budget(alloc), BUDGET))?;
+    Ok(explained(command, LEGEND))
 }
 
 /// The words of `show`.
@@ -78,8 +95,10 @@ fn show_command<'a>(alloc: Global) -> Result<clap::Command<'a>, AllocError>
     ensures local { IfOk result (λ c. (fields_of c).has_globals ≡ false) }
 {
     let command = text_command(alloc, "show", "CASE")?;
-    let command = with(command, flag(alloc, "whole"))?;
-    with(command, option(alloc, "html"))
+    let command = with(command, described(flag(alloc, "whole"), WHOLE))?;
+    let command = with(command, described(option(alloc, "comp"), COMP))?;
+    let command = with(command, described(option(alloc, "html"), HTML))?;
+    Ok(explained(command, LEGEND))
 }
 
 /// The words of `shrink`.
@@ -96,8 +115,8 @@ fn why_command<'a>(alloc: Global) -> Result<clap::Command<'a>, AllocError>
     ensures local { IfOk result (λ c. (fields_of c).has_globals ≡ false) }
 {
     let command = text_command(alloc, "why", "CASE")?;
-    let command = with(command, option(alloc, "of"))?;
-    with(command, flag(alloc, "whole"))
+    let command = with(command, described(option(alloc, "of"), VALUE))?;
+    with(command, described(flag(alloc, "whole"), WHOLE))
 }
 
 /// The words of `about`.
@@ -115,7 +134,7 @@ fn recheck_command<'a>(alloc: Global) -> Result<clap::Command<'a>, AllocError>
     ensures local { IfOk result (λ c. (fields_of c).has_globals ≡ false) }
 {
     let command = text_command(alloc, "recheck", "PROOF")?;
-    with(command, flag(alloc, "diverse"))
+    with(command, described(flag(alloc, "diverse"), DIVERSE))
 }
 
 /// The command line with one more command, of which this is said.
@@ -164,6 +183,33 @@ const ABOUT: &str = "Says what nothing reads and what the verdict rests on";
 const RECHECK: &str =
     "Checks a proof in LRAT that a pipeline is right, with --diverse by positive equality";
 
+const DIVERSE: &str = "By positive equality: mostly a smaller formula, of the same meaning";
+
+const BUDGET: &str = "At most so many learned clauses";
+
+const WHOLE: &str = "The case as it is, with all of its values";
+
+const COMP: &str = "By this completion function, in place of flushing; after `differ`, beside it";
+
+const HTML: &str = "Saves the same as a page with a drawing";
+
+const VALUE: &str = "A latch or MEMORY[ADDRESS], then @before, @after or @step, then .N";
+
+/// What the signs of the tables mean.
+const LEGEND: &str = "The tables:
+  states      before the cycle and after it, and after N flush cycles from there, fN
+  flushed     where the pipeline is then, and the specification after j steps
+  completed   the same by a completion function
+  compared    what flushing and that function make of one state
+  NAME*       an entry that the specification has too
+  .           a value on which nothing rests that differs; --whole prints it
+  (empty)     the value on its left
+  input       what the cycle was given that led to the state above
+  = and #     the same as the pipeline, and another
+  (not allowed)  an exact item rules out so many steps
+  lets        of the pipeline, in the cycle
+  functions   values of functions and predicates, as far as something rests on them";
+
 /// The names of the files of a design.
 #[tactic(auto, unfolding(crate::specs::Commands::design_names))]
 fn design_names<'a>(matches: &ArgMatches<'a>) -> Option<FileNames<'a>>
@@ -175,6 +221,7 @@ fn design_names<'a>(matches: &ArgMatches<'a>) -> Option<FileNames<'a>>
         case: None,
         proof: None,
         inv: word_at(matches, "INV"),
+        comp: None,
     })
 }
 
@@ -215,7 +262,10 @@ fn question<'a>(name: &str, matches: &ArgMatches<'a>) -> Option<Command<'a>>
         }))
     } else if name == "show" {
         Some(Command::Show(ShowOptions {
-            names: case_names(matches)?,
+            names: FileNames {
+                comp: word_at(matches, "comp"),
+                ..case_names(matches)?
+            },
             whole: flag_at(matches, "whole"),
             page: word_at(matches, "html"),
         }))

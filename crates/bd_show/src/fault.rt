@@ -1,7 +1,7 @@
 //! Answers that refuse files.
-ghost use Rattle.std.specs.Prelude.{◌≡◌, ◌++◌, codes, true, IfOk};
+ghost use Rattle.std.specs.Prelude.{◌≡◌, ◌++◌, None, codes, is_some, true, IfOk};
 ghost use Rattle.bd_app.specs.Loading.{bytes_of};
-ghost use Rattle.bd_show.specs.Files.{IsStartedFault, bytes_in, has_trail, name_in, names_of, or_none};
+ghost use Rattle.bd_show.specs.Files.{IsJoinedFault, IsStartedFault, bytes_in, has_trail, name_in, names_of, or_none};
 ghost use Rattle.bd_show.specs.Meaning.{IsRefusedText, Question, Says, Show, asked_names};
 ghost use Rattle.bd_show.specs.inner.Loaded.{texts_view};
 ghost use Rattle.bd_show.specs.inner.Read.{AreRefused, IsRefusedBy};
@@ -11,7 +11,7 @@ use crate::answer::{Answer, Ended};
 use crate::load::{FileNames, Texts};
 use crate::place::fault_text;
 use bd_app::loading::LoadFault;
-use bd_hint::{Fault, Source, hint_of};
+use bd_hint::{FaultPlace, NamedFile, hint_of};
 use bd_typer::{DesignFault, Text};
 use std::alloc::{AllocError, Global};
 
@@ -24,6 +24,7 @@ fn name_in<'a>(names: FileNames<'a>, file: Text) -> &'a str
         Text::Spec => names.spec,
         Text::Inv | Text::Start => names.inv.unwrap_or(""),
         Text::Proof => names.proof.unwrap_or(""),
+        Text::Comp => names.comp.unwrap_or(""),
         _ => names.case.unwrap_or(""),
     }
 }
@@ -47,19 +48,20 @@ fn bytes_in(texts: &Texts, file: Text) -> &[u8]
         Text::Spec => texts.spec.as_slice(),
         Text::Inv | Text::Start => or_none(&texts.inv),
         Text::Proof => or_none(&texts.proof),
+        Text::Comp => or_none(&texts.comp),
         _ => or_none(&texts.case),
     }
 }
 
 /// Puts a file that may be there among sources.
 fn push_source<'a>(
-    sources: &mut Vec<Source<'a>>,
+    sources: &mut Vec<NamedFile<'a>>,
     file: Text,
     name: Option<&'a str>,
     text: &'a Option<Vec<u8>>,
 ) -> Result<(), AllocError> {
     if let (Some(name), Some(text)) = (name, text) {
-        sources.push(Source {
+        sources.push(NamedFile {
             file,
             name,
             text: text.as_slice(),
@@ -74,24 +76,25 @@ fn sources_of<'a>(
     names: FileNames<'a>,
     texts: &'a Texts,
     file: Text,
-) -> Result<Vec<Source<'a>>, AllocError> {
+) -> Result<Vec<NamedFile<'a>>, AllocError> {
     let (case, inv) = match file {
         Text::Trail | Text::Start => (Text::Trail, Text::Start),
         _ => (Text::Case, Text::Inv),
     };
     let mut sources = Vec::new(alloc);
-    sources.push(Source {
+    sources.push(NamedFile {
         file: Text::Pipe,
         name: names.pipe,
         text: texts.pipe.as_slice(),
     })?;
-    sources.push(Source {
+    sources.push(NamedFile {
         file: Text::Spec,
         name: names.spec,
         text: texts.spec.as_slice(),
     })?;
     push_source(&mut sources, case, names.case, &texts.case)?;
     push_source(&mut sources, inv, names.inv, &texts.inv)?;
+    push_source(&mut sources, Text::Comp, names.comp, &texts.comp)?;
     Ok(sources)
 }
 
@@ -100,7 +103,7 @@ fn hint(
     alloc: Global,
     names: FileNames<'_>,
     texts: &Texts,
-    fault: Fault,
+    fault: FaultPlace,
 ) -> Result<Vec<u8>, AllocError> {
     let sources = sources_of(alloc, names, texts, fault.file)?;
     hint_of(alloc, sources.as_slice(), fault)
@@ -111,13 +114,13 @@ fn refusal(
     alloc: Global,
     names: FileNames<'_>,
     texts: &Texts,
-    fault: Fault,
+    fault: FaultPlace,
 ) -> Result<Answer, AllocError>
     ensures ended { IfOk result (λ a. a.ended ≡ Ended.Refused fault.file fault.offset fault.code) }
     ensures text { IfOk result (λ a. IsRefusedText (names_of names.entry) (texts_view texts.now)
         fault.file fault.offset fault.code a.text.items) }
 {
-    let Fault { file, offset, code } = fault;
+    let FaultPlace { file, offset, code } = fault;
     let name = name_in(names, file).as_bytes();
     let mut text = fault_text(alloc, name, bytes_in(texts, file), offset, code)?;
     let hint = hint(alloc, names, texts, fault)?;
@@ -140,7 +143,7 @@ pub fn refused(
 {
     match fault {
         DesignFault::Bad { file, offset, code } => {
-            refusal(alloc, names, texts, Fault { file, offset, code })
+            refusal(alloc, names, texts, FaultPlace { file, offset, code })
         }
         DesignFault::Memory => Err(AllocError),
     }
@@ -154,6 +157,7 @@ pub fn refused_trail(
     fault: DesignFault,
 ) -> Result<Answer, AllocError>
     requires fault { IsRefusedBy (IsStartedFault (texts_view texts.now)) fault }
+    requires alone { (texts_view texts.now).comp ≡ None }
     requires trail { has_trail (texts_view texts.now) ≡ true }
     ensures ended { IfOk result (λ a. IsRefusal a.ended) }
     ensures says { IfOk result (λ a. (q : Show) → q.names ≡ names_of names.entry →
@@ -161,7 +165,28 @@ pub fn refused_trail(
 {
     match fault {
         DesignFault::Bad { file, offset, code } => {
-            refusal(alloc, names, texts, Fault { file, offset, code })
+            refusal(alloc, names, texts, FaultPlace { file, offset, code })
+        }
+        DesignFault::Memory => Err(AllocError),
+    }
+}
+
+/// The answer that texts with a completion function are refused.
+pub fn refused_joined(
+    alloc: Global,
+    names: FileNames<'_>,
+    texts: &Texts,
+    fault: DesignFault,
+) -> Result<Answer, AllocError>
+    requires fault { IsRefusedBy (IsJoinedFault (texts_view texts.now)) fault }
+    requires joined { is_some (texts_view texts.now).comp ≡ true }
+    ensures ended { IfOk result (λ a. IsRefusal a.ended) }
+    ensures says { IfOk result (λ a. (q : Show) → q.names ≡ names_of names.entry →
+        Says (Question.show q) (texts_view texts.now) a.ended a.text.items) }
+{
+    match fault {
+        DesignFault::Bad { file, offset, code } => {
+            refusal(alloc, names, texts, FaultPlace { file, offset, code })
         }
         DesignFault::Memory => Err(AllocError),
     }

@@ -4,7 +4,9 @@
 mod about;
 mod answer;
 mod checking;
+mod claim;
 mod command;
+mod completed;
 mod fault;
 mod load;
 mod names;

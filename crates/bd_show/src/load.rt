@@ -8,7 +8,8 @@ use bd_app::loading::{LoadFault, load, load_if};
 use bd_files::Files;
 use bd_typer::Text;
 
-/// The names of the files of a design, of a case of it, of a proof that it is right, and of an invariant.
+/// The names of the files of a design, of a case of it, of a proof that it is right, of an invariant, and of a completion
+/// function.
 #[derive(Clone, Copy)]
 pub struct FileNames<'a> {
     pub pipe: &'a str,
@@ -16,6 +17,7 @@ pub struct FileNames<'a> {
     pub case: Option<&'a str>,
     pub proof: Option<&'a str>,
     pub inv: Option<&'a str>,
+    pub comp: Option<&'a str>,
 }
 
 /// Their bytes.
@@ -26,6 +28,7 @@ pub struct Texts {
     pub case: Option<Vec<u8>>,
     pub proof: Option<Vec<u8>>,
     pub inv: Option<Vec<u8>>,
+    pub comp: Option<Vec<u8>>,
 }
 
 /// The bytes of the files, loaded in the order of the words.
@@ -41,11 +44,13 @@ pub fn load_texts<F: Files>(files: &mut F, names: FileNames<'_>) -> Result<Texts
     let case = load_if(files, Text::Case, names.case)?;
     let proof = load_if(files, Text::Proof, names.proof)?;
     let inv = load_if(files, Text::Inv, names.inv)?;
+    let comp = load_if(files, Text::Comp, names.comp)?;
     Ok(Texts {
         pipe,
         spec,
         case,
         proof,
         inv,
+        comp,
     })
 }

@@ -5,7 +5,7 @@ ghost use Rattle.bd_show.specs.Open.{after, begun, is_further_out, line_after, o
 /// A line as far as it is read: how many blanks it begins with, and whether anything else, and whether a comment,
 /// stands in it.
 #[derive(Clone, Copy)]
-pub struct Line {
+pub struct LineStart {
     pub blanks: usize,
     pub is_blank: bool,
     pub is_comment: bool,
@@ -21,26 +21,26 @@ pub struct Lists {
     pub blanks: usize,
 }
 
-impl Line {
+impl LineStart {
     /// The line with one more byte, or the next one after a line feed.
-    fn after(self, byte: u8) -> Line
+    fn after(self, byte: u8) -> LineStart
         requires { self.blanks + 1 < 2 ^ 64 }
         ensures line { result ≡ line_after self byte }
         ensures few { result.blanks ≤ self.blanks + 1 }
     {
         if byte == b'\n' {
-            Line {
+            LineStart {
                 blanks: 0,
                 is_blank: true,
                 is_comment: false,
             }
         } else if self.is_blank && (byte == b' ' || byte == b'\t' || byte == b'\r') {
-            Line {
+            LineStart {
                 blanks: self.blanks + 1,
                 ..self
             }
         } else {
-            Line {
+            LineStart {
                 is_blank: false,
                 is_comment: self.is_comment || byte == b';',
                 ..self
@@ -51,7 +51,7 @@ impl Line {
 
 impl Lists {
     /// The lists once another one begins.
-    fn begun(self, line: Line, at: usize) -> Lists
+    fn begun(self, line: LineStart, at: usize) -> Lists
         requires { self.depth + 1 < 2 ^ 64 }
         ensures lists { result ≡ begun self line at }
         ensures few { result.depth ≤ self.depth + 1 }
@@ -78,7 +78,7 @@ impl Lists {
     }
 
     /// The lists with one more byte.
-    fn after(self, line: Line, at: usize, byte: u8) -> Lists
+    fn after(self, line: LineStart, at: usize, byte: u8) -> Lists
         requires { self.depth + 1 < 2 ^ 64 }
         ensures lists { result ≡ after self line at byte }
         ensures few { result.depth ≤ self.depth + 1 }
@@ -99,7 +99,7 @@ impl Lists {
 
     /// Whether this byte begins a list inside an item, as the first of a line that begins no further to the right than
     /// the item's line.
-    fn is_further_out(self, line: Line, byte: u8) -> bool
+    fn is_further_out(self, line: LineStart, byte: u8) -> bool
         ensures { result ≡ is_further_out self line byte }
     {
         line.is_blank && byte == b'(' && 2 <= self.depth && line.blanks <= self.blanks
@@ -127,7 +127,7 @@ pub fn open_list(text: &[u8]) -> usize
         item: 0,
         blanks: 0,
     };
-    let mut line = Line {
+    let mut line = LineStart {
         blanks: 0,
         is_blank: true,
         is_comment: false,

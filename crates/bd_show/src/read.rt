@@ -1,21 +1,24 @@
 //! Reading the texts of files.
 //!
 //! All files are loaded before the first is read, and a design is read before its case or its trail.
-ghost use Rattle.std.specs.Prelude.{◌≡◌, ◌≤◌, ◌==◌, ◌||◌, if◌then◌else◌, false, length, true, Ok, IfOk, IfErr};
+ghost use Rattle.std.specs.Prelude.{◌≡◌, ◌≤◌, ◌==◌, ◌||◌, if◌then◌else◌, false, length, true, Some, Ok, IfOk, IfErr};
 ghost use Rattle.bd_model.specs.DesignView.{design_view};
+ghost use Rattle.bd_app.specs.Loading.{bytes_of};
+ghost use Rattle.bd_model.specs.Fits.{Fits};
 ghost use Rattle.bd_model.specs.Lawful.{IsLawful};
 ghost use Rattle.bd_model.specs.Limits.{most_cycles};
 ghost use Rattle.bd_syntax.specs.declared.ast.Kind.TheVariants.{Pipeline};
-ghost use Rattle.bd_show.specs.Files.{AreCase, AreDesign, AreStarted, AreTrail, IsStartedFault, begins_trail, commented, has_trail};
+ghost use Rattle.bd_typer.specs.Joined.{joined_view};
+ghost use Rattle.bd_show.specs.Files.{AreCase, AreDesign, AreJoined, AreJoinedCase, AreStarted, AreTrail, IsCaseOf, IsJoinedFault, IsStartedFault, begins_trail, commented, has_trail};
 ghost use Rattle.bd_show.specs.LetNames.{AreReadable, IsMachineText};
 ghost use Rattle.bd_show.specs.inner.Loaded.{AreFew, texts_view};
-ghost use Rattle.bd_show.specs.inner.Read.{AreRefused, IsRefusedBy};
+ghost use Rattle.bd_show.specs.inner.Read.{AreRefused, IsCaseFault, IsRefusedBy};
 
 use crate::load::Texts;
 use bd_app::loading::loaded_slice;
 use bd_case::{CaseFault, TrailFault, read_case, read_trail};
 use bd_model::{Case, Design, Trail};
-use bd_typer::{DesignFault, Premise, Text, design_of, design_with};
+use bd_typer::{DesignFault, Joined, Premise, Text, completed_design, design_of, design_with};
 use std::alloc::{AllocError, Global};
 
 /// The design of texts.
@@ -51,11 +54,11 @@ pub fn started(alloc: Global, texts: &Texts) -> Result<Design, DesignFault>
     design_with(alloc, pipe, spec, Premise::Start, start)
 }
 
-/// The first byte of a case's text, where `wrong` and `correct` begin a comment.
+/// The first byte of a case's text, where `wrong`, `correct` and `differ` begin a comment.
 fn first_byte(byte: u8) -> u8
-    ensures { result ≡ (if (byte == 119) || (byte == 99) then 59 else byte) }
+    ensures { result ≡ (if ((byte == 119) || (byte == 99)) || (byte == 100) then 59 else byte) }
 {
-    if byte == b'w' || byte == b'c' {
+    if byte == b'w' || byte == b'c' || byte == b'd' {
         b';'
     } else {
         byte
@@ -74,14 +77,16 @@ fn commented(alloc: Global, bytes: &[u8]) -> Result<Vec<u8>, AllocError>
     Ok(text)
 }
 
-/// The case of texts, of which this is the design. Without a case there is want of memory.
-pub fn case(alloc: Global, design: &Design, texts: &Texts) -> Result<Case, DesignFault>
-    requires design { AreDesign (texts_view texts.now) (Ok (design_view design.now)) }
-    requires lawful { IsLawful (design_view design.now) }
-    ensures read { IfOk result (AreCase (texts_view texts.now) (design_view design.now)) }
-    ensures refused { IfErr result (AreRefused (texts_view texts.now)) }
+/// The case of a text, of which this is the design. Without a text there is want of memory.
+fn case_of(alloc: Global, design: &Design, text: &Option<Vec<u8>>) -> Result<Case, DesignFault>
+    requires { IsLawful (design_view design.now) }
+    ensures read { IfOk result (λ c.
+        IsCaseOf (design_view design.now) (bytes_of text.now) (Ok c)) }
+    ensures fits { IfOk result (Fits (design_view design.now)) }
+    ensures refused { IfErr result (IsRefusedBy (IsCaseFault (design_view design.now)
+        (bytes_of text.now))) }
 {
-    let Some(bytes) = &texts.case else {
+    let Some(bytes) = text else {
         return Err(DesignFault::Memory);
     };
     let text = commented(alloc, bytes.as_slice())?;
@@ -94,6 +99,44 @@ pub fn case(alloc: Global, design: &Design, texts: &Texts) -> Result<Case, Desig
         }),
         Err(CaseFault::Memory) => Err(DesignFault::Memory),
     }
+}
+
+/// The case of texts, of which this is the design.
+pub fn case(alloc: Global, design: &Design, texts: &Texts) -> Result<Case, DesignFault>
+    requires design { AreDesign (texts_view texts.now) (Ok (design_view design.now)) }
+    requires lawful { IsLawful (design_view design.now) }
+    ensures read { IfOk result (AreCase (texts_view texts.now) (design_view design.now)) }
+    ensures refused { IfErr result (AreRefused (texts_view texts.now)) }
+{
+    case_of(alloc, design, &texts.case)
+}
+
+/// The design of texts, and their completion function, whose bytes these are.
+pub fn joined(alloc: Global, texts: &Texts, comp: &[u8]) -> Result<Joined, DesignFault>
+    requires few { AreFew (texts_view texts.now) }
+    requires comp { (texts_view texts.now).comp ≡ Some comp.now }
+    ensures read { IfOk result (λ j. AreJoined (texts_view texts.now) (Ok (joined_view j))) }
+    ensures lawful { IfOk result (λ j. IsLawful (design_view j.design)) }
+    ensures readable { IfOk result (λ _. IsMachineText Pipeline (texts_view texts.now).pipe) }
+    ensures refused { IfErr result (IsRefusedBy (IsJoinedFault (texts_view texts.now))) }
+{
+    completed_design(
+        alloc,
+        texts.pipe.as_slice(),
+        texts.spec.as_slice(),
+        comp,
+        loaded_slice(&texts.inv),
+    )
+}
+
+/// The case of texts, of which these are the design and the completion function.
+pub fn joined_case(alloc: Global, joined: &Joined, texts: &Texts) -> Result<Case, DesignFault>
+    requires joined { AreJoined (texts_view texts.now) (Ok (joined_view joined.now)) }
+    requires lawful { IsLawful (design_view joined.now.design) }
+    ensures read { IfOk result (AreJoinedCase (texts_view texts.now) (joined_view joined.now)) }
+    ensures refused { IfErr result (IsRefusedBy (IsJoinedFault (texts_view texts.now))) }
+{
+    case_of(alloc, &joined.design, &texts.case)
 }
 
 /// Whether `trail` begins the first list of a text.

@@ -1,5 +1,5 @@
 //! `show`: what a case or a trail shows, as tables, and as a page.
-ghost use Rattle.std.specs.Prelude.{◌≡◌, false, Ok, IfOk, MatchOption, None};
+ghost use Rattle.std.specs.Prelude.{◌≡◌, ◌++◌, false, Ok, IfOk, MatchOption, None};
 ghost use Rattle.bd_model.specs.Conditions.{IsJudged};
 ghost use Rattle.bd_model.specs.DesignView.{design_view};
 ghost use Rattle.bd_model.specs.Fits.{Fits};
@@ -11,11 +11,14 @@ ghost use Rattle.bd_picture.specs.Page.{IsPage};
 ghost use Rattle.bd_picture.specs.Sentence.{sentence};
 ghost use Rattle.bd_show.specs.Files.{AreDesign, has_trail, names_of};
 ghost use Rattle.bd_show.specs.LetNames.{AreReadable};
-ghost use Rattle.bd_show.specs.Meaning.{IsLeft, IsShown, Question, Says};
+ghost use Rattle.bd_show.specs.Claims.{claim_in, claim_note};
+ghost use Rattle.bd_show.specs.Meaning.{IsLeft, IsShown, IsShownOfText, Question, Says};
 ghost use Rattle.bd_show.specs.inner.Answered.{IsDoneOn, IsDrawn, IsSaved, show_of};
 ghost use Rattle.bd_show.specs.inner.Loaded.{AreFew, texts_view};
 
 use crate::answer::{Answer, Ended};
+use crate::claim::push_note;
+use crate::completed::on_joined;
 use crate::fault::{joined, refused, unloaded};
 use crate::load::{FileNames, Texts, load_texts};
 use crate::names::machine_lets;
@@ -24,7 +27,7 @@ use crate::trail::on_trail;
 use bd_diagram::diagram_of;
 use bd_files::{Files, SaveError};
 use bd_model::{Case, Design, Judged};
-use bd_picture::{Picture, View, page_of, picture_of, text_of};
+use bd_picture::{Outcome, Picture, ShownCase, page_of, picture_of, text_of};
 use bd_shrink::shrink;
 use bd_sim::judge;
 use bd_syntax::Kind;
@@ -40,7 +43,7 @@ pub struct ShowOptions<'a> {
 
 /// An answer, and its page where one is shown.
 #[derive(Drop)]
-pub struct Seen {
+pub struct Showing {
     pub answer: Answer,
     pub page: Option<Vec<u8>>,
 }
@@ -77,10 +80,10 @@ pub fn drawn(
     ensures { IfOk result (λ p. p.sentence.items ≡ sentence (design_view design.now) judged) }
 {
     let diagram = diagram_of(alloc, design, case)?;
-    let view = View {
+    let view = ShownCase {
         design,
         case,
-        judged,
+        outcome: Outcome::Flushed(judged),
         diagram: &diagram,
         names,
         whole,
@@ -108,37 +111,72 @@ pub fn pictured(
     drawn(alloc, design, &left, judged, whole, names)
 }
 
-/// The answer on a case.
-fn on_case(
+/// The answer on a case that is judged so.
+fn on_judged(
     alloc: Global,
     design: &Design,
     case: &Case,
+    judged: Judged,
     whole: bool,
     names: &[Vec<u8>],
-) -> Result<Seen, AllocError>
-    requires { Fits (design_view design.now) case.now }
-    ensures { IfOk result (λ r. (judged : Judged) × (r.answer.ended ≡ Ended.Shown judged)
-        × IsShown whole (design_view design.now) case.now judged r.answer.text.items
-        × MatchOption (bytes_of r.page) ⊥ (IsPage (sentence (design_view design.now) judged))) }
+) -> Result<Showing, AllocError>
+    requires fits { Fits (design_view design.now) case.now }
+    requires judged { IsJudged (design_view design.now) case.now judged }
+    ensures ended { IfOk result (λ r. r.answer.ended ≡ Ended.Shown judged) }
+    ensures shown { IfOk result (λ r.
+        IsShown whole (design_view design.now) case.now judged r.answer.text.items) }
+    ensures drawn { IfOk result (λ r.
+        MatchOption (bytes_of r.page) ⊥ (IsPage (sentence (design_view design.now) judged))) }
 {
-    let judged = judge(alloc, design, case)?;
     let picture = pictured(alloc, design, case, judged, whole, names)?;
     let answer = Answer {
         ended: Ended::Shown(judged),
         text: text_of(alloc, &picture)?,
     };
-    Ok(Seen {
+    Ok(Showing {
         answer,
         page: Some(page_of(alloc, &picture)?),
     })
 }
 
+/// The answer with a note, where the line of a verdict before the case says otherwise.
+fn noted(showing: Showing, text: &Option<Vec<u8>>, judged: Judged) -> Result<Showing, AllocError>
+    ensures ended { IfOk result (λ r. r.answer.ended ≡ showing.answer.ended) }
+    ensures text { IfOk result (λ r. r.answer.text.items
+        ≡ showing.answer.text.items ++ claim_note (claim_in (bytes_of text.now)) judged) }
+    ensures page { IfOk result (λ r. r.page ≡ showing.page) }
+{
+    let mut showing = showing;
+    push_note(&mut showing.answer.text, text, judged)?;
+    Ok(showing)
+}
+
+/// The answer on a case, of which this is the text.
+fn on_case(
+    alloc: Global,
+    design: &Design,
+    case: &Case,
+    text: &Option<Vec<u8>>,
+    whole: bool,
+    names: &[Vec<u8>],
+) -> Result<Showing, AllocError>
+    requires { Fits (design_view design.now) case.now }
+    ensures { IfOk result (λ r. (judged : Judged) × (r.answer.ended ≡ Ended.Shown judged)
+        × IsShownOfText (bytes_of text.now) whole (design_view design.now) case.now judged
+        r.answer.text.items
+        × MatchOption (bytes_of r.page) ⊥ (IsPage (sentence (design_view design.now) judged))) }
+{
+    let judged = judge(alloc, design, case)?;
+    let showing = on_judged(alloc, design, case, judged, whole, names)?;
+    noted(showing, text, judged)
+}
+
 /// The answer that texts are refused, without a page.
-pub fn unseen(answer: Result<Answer, AllocError>) -> Result<Seen, AllocError>
+pub fn unseen(answer: Result<Answer, AllocError>) -> Result<Showing, AllocError>
     ensures answer { IfOk result (λ r. answer ≡ Ok r.answer) }
     ensures page { IfOk result (λ r. r.page ≡ None) }
 {
-    Ok(Seen {
+    Ok(Showing {
         answer: answer?,
         page: None,
     })
@@ -150,9 +188,10 @@ fn on_design(
     options: ShowOptions<'_>,
     texts: &Texts,
     design: &Design,
-) -> Result<Seen, AllocError>
+) -> Result<Showing, AllocError>
     requires design { AreDesign (texts_view texts.now) (Ok (design_view design.now)) }
     requires lawful { IsLawful (design_view design.now) }
+    requires alone { (texts_view texts.now).comp ≡ None }
     requires case { has_trail (texts_view texts.now) ≡ false }
     requires readable { AreReadable (texts_view texts.now) }
     ensures says { IfOk result (λ r. Says (Question.show (show_of options.entry))
@@ -162,14 +201,22 @@ fn on_design(
 {
     let names = machine_lets(alloc, texts.pipe.as_slice(), Kind::Pipeline)?;
     match case(alloc, design, texts) {
-        Ok(case) => on_case(alloc, design, &case, options.whole, names.as_slice()),
+        Ok(case) => {
+            let names = names.as_slice();
+            on_case(alloc, design, &case, &texts.case, options.whole, names)
+        }
         Err(fault) => unseen(refused(alloc, options.names, texts, fault)),
     }
 }
 
 /// The answer on texts without a trail.
-fn on_no_trail(alloc: Global, options: ShowOptions<'_>, texts: &Texts) -> Result<Seen, AllocError>
+fn on_no_trail(
+    alloc: Global,
+    options: ShowOptions<'_>,
+    texts: &Texts,
+) -> Result<Showing, AllocError>
     requires few { AreFew (texts_view texts.now) }
+    requires alone { (texts_view texts.now).comp ≡ None }
     requires case { has_trail (texts_view texts.now) ≡ false }
     ensures says { IfOk result (λ r. Says (Question.show (show_of options.entry))
         (texts_view texts.now) r.answer.ended r.answer.text.items) }
@@ -182,9 +229,10 @@ fn on_no_trail(alloc: Global, options: ShowOptions<'_>, texts: &Texts) -> Result
     }
 }
 
-/// The answer on texts.
-fn on_texts(alloc: Global, options: ShowOptions<'_>, texts: &Texts) -> Result<Seen, AllocError>
-    requires { AreFew (texts_view texts.now) }
+/// The answer on texts without a completion function.
+fn on_alone(alloc: Global, options: ShowOptions<'_>, texts: &Texts) -> Result<Showing, AllocError>
+    requires few { AreFew (texts_view texts.now) }
+    requires alone { (texts_view texts.now).comp ≡ None }
     ensures says { IfOk result (λ r. Says (Question.show (show_of options.entry))
         (texts_view texts.now) r.answer.ended r.answer.text.items) }
     ensures drawn { IfOk result (λ r.
@@ -197,19 +245,33 @@ fn on_texts(alloc: Global, options: ShowOptions<'_>, texts: &Texts) -> Result<Se
     }
 }
 
+/// The answer on texts.
+fn on_texts(alloc: Global, options: ShowOptions<'_>, texts: &Texts) -> Result<Showing, AllocError>
+    requires { AreFew (texts_view texts.now) }
+    ensures says { IfOk result (λ r. Says (Question.show (show_of options.entry))
+        (texts_view texts.now) r.answer.ended r.answer.text.items) }
+    ensures drawn { IfOk result (λ r.
+        IsDrawn (texts_view texts.now) r.answer.ended (bytes_of r.page)) }
+{
+    match &texts.comp {
+        Some(comp) => on_joined(alloc, options, texts, comp.as_slice()),
+        None => on_alone(alloc, options, texts),
+    }
+}
+
 /// Saves the page of an answer, where one is asked for.
 fn saved<F: Files>(
     alloc: Global,
     files: &mut F,
     page: Option<&str>,
-    drawn: Seen,
+    drawn: Showing,
 ) -> Result<Answer, AllocError>
     ensures { IsSaved (given page.entry) (bytes_of drawn.page)
         drawn.answer.ended drawn.answer.text.items
         (files_seen F.held F.faults F.blame F.calls files.old)
         (files_seen F.held F.faults F.blame F.calls files.new) result }
 {
-    let Seen {
+    let Showing {
         answer,
         page: bytes,
     } = drawn;

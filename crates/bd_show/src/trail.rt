@@ -1,5 +1,5 @@
 //! `show` of a trail: each cycle with its inputs, and the first that breaks with its diagram.
-ghost use Rattle.std.specs.Prelude.{◌≡◌, ◌≢◌, ◌≤◌, ◌<◌, ◌++◌, ◌∷◌, ℕ, length, map, true, Ok, OnOk, IfOk, IfErr};
+ghost use Rattle.std.specs.Prelude.{◌≡◌, ◌≢◌, ◌≤◌, ◌<◌, ◌++◌, ◌∷◌, ℕ, length, map, true, None, Ok, OnOk, IfOk, IfErr};
 ghost use Rattle.bd_app.specs.Retrace.{retraced_words};
 ghost use Rattle.bd_model.specs.Cycle.{state_after};
 ghost use Rattle.bd_model.specs.DesignView.{design_view, port_view};
@@ -22,7 +22,7 @@ use crate::fault::refused_trail;
 use crate::load::Texts;
 use crate::names::machine_lets;
 use crate::read::{started, trail};
-use crate::show::{Seen, ShowOptions, drawn, unseen};
+use crate::show::{ShowOptions, Showing, drawn, unseen};
 use bd_model::{
     Case, Condition, Design, Expr, Inputs, Judged, Locals, Port, Scalar, State, Trail, TrailJudged,
 };
@@ -182,7 +182,7 @@ fn on_break(
     design: &Design,
     judging: &Judging,
     cycle: u32,
-) -> Result<Seen, AllocError>
+) -> Result<Showing, AllocError>
     requires few { length judging.now.trail.inputs ≤ most_cycles }
     requires readable { IsMachineText Pipeline (texts_view texts.now).pipe }
     requires broken { judging.now.judged ≡ TrailJudged.Broken cycle }
@@ -199,7 +199,7 @@ fn on_break(
     text.push(b'\n')?;
     text.extend_from_slice(shown.as_slice())?;
     let ended = Ended::Traced(judging.judged);
-    Ok(Seen {
+    Ok(Showing {
         answer: Answer { ended, text },
         page: Some(page),
     })
@@ -207,7 +207,7 @@ fn on_break(
 
 /// The answer on a trail in which no cycle breaks.
 #[tactic(auto, using(crate::proofs::Trails::lines_seen))]
-fn on_whole(alloc: Global, design: &Design, judging: &Judging) -> Result<Seen, AllocError>
+fn on_whole(alloc: Global, design: &Design, judging: &Judging) -> Result<Showing, AllocError>
     requires few { length judging.now.trail.inputs ≤ most_cycles }
     requires whole { (cycle : ℕ) → judging.now.judged ≢ TrailJudged.Broken cycle }
     ensures { IfOk result (λ r. IsTrailSeen (design_view design.now) judging.now.trail
@@ -215,7 +215,7 @@ fn on_whole(alloc: Global, design: &Design, judging: &Judging) -> Result<Seen, A
 {
     let text = lines(alloc, design, judging)?;
     let ended = Ended::Traced(judging.judged);
-    Ok(Seen {
+    Ok(Showing {
         answer: Answer { ended, text },
         page: None,
     })
@@ -228,7 +228,7 @@ fn on_judged(
     texts: &Texts,
     design: &Design,
     judging: &Judging,
-) -> Result<Seen, AllocError>
+) -> Result<Showing, AllocError>
     requires few { length judging.now.trail.inputs ≤ most_cycles }
     requires readable { IsMachineText Pipeline (texts_view texts.now).pipe }
     requires breaking { IsBreakingIf (design_view design.now) judging.now.trail
@@ -278,9 +278,10 @@ fn on_design(
     options: ShowOptions<'_>,
     texts: &Texts,
     design: Design,
-) -> Result<Seen, AllocError>
+) -> Result<Showing, AllocError>
     requires design { AreStarted (texts_view texts.now) (Ok (design_view design)) }
     requires lawful { IsLawful (design_view design) }
+    requires alone { (texts_view texts.now).comp ≡ None }
     requires trail { has_trail (texts_view texts.now) ≡ true }
     requires readable { IsMachineText Pipeline (texts_view texts.now).pipe }
     ensures says { IfOk result (λ r. Says (Question.show (show_of options.entry))
@@ -298,8 +299,13 @@ fn on_design(
 }
 
 /// The answer on texts with a trail.
-pub fn on_trail(alloc: Global, options: ShowOptions<'_>, texts: &Texts) -> Result<Seen, AllocError>
+pub fn on_trail(
+    alloc: Global,
+    options: ShowOptions<'_>,
+    texts: &Texts,
+) -> Result<Showing, AllocError>
     requires few { AreFew (texts_view texts.now) }
+    requires alone { (texts_view texts.now).comp ≡ None }
     requires trail { has_trail (texts_view texts.now) ≡ true }
     ensures says { IfOk result (λ r. Says (Question.show (show_of options.entry))
         (texts_view texts.now) r.answer.ended r.answer.text.items) }

@@ -21,7 +21,7 @@ use bd_files::Files;
 use bd_model::{Case, Design, Judged};
 use bd_picture::sentence;
 use bd_sim::judge;
-use bd_why::{Source, Sources, Why, why_of};
+use bd_why::{Explanation, Source, Sources, why_of};
 use std::alloc::{AllocError, Global};
 
 /// Its options: the files, whether all of the case is explained, and the value that is asked for.
@@ -92,8 +92,8 @@ fn on_value(
     let left = left(alloc, design, case, judged, options.whole)?;
     let sources = sources_of(options.names, texts);
     let lines = match why_of(alloc, design, &left, judged, sources, options.value)? {
-        Why::Explained(lines) => lines,
-        Why::Unknown(text) => match options.value {
+        Explanation::Explained(lines) => lines,
+        Explanation::Unknown(text) => match options.value {
             Some(_) => {
                 return Ok(Answer {
                     ended: Ended::Unknown,

@@ -6,11 +6,11 @@ ghost use Rattle.std.specs.Prelude.{IfOk};
 ghost use Rattle.bd_shrink.specs.inner.Asked.{IsKnown, ShowsBy};
 
 use crate::fate::Fate;
-use crate::search::{Question, lowered_at};
+use crate::search::{ShrinkGoal, lowered_at};
 use std::alloc::AllocError;
 
 /// Fates with less at one place after another, wherever what is left shows what the case does.
-pub fn lowered_once(question: &Question, fates: Vec<Fate>) -> Result<Vec<Fate>, AllocError>
+pub fn lowered_once(question: &ShrinkGoal, fates: Vec<Fate>) -> Result<Vec<Fate>, AllocError>
     requires known { IsKnown question.now }
     requires shown { ShowsBy question.now fates.items }
     ensures { IfOk result (λ left. ShowsBy question.now left.items) }
@@ -24,7 +24,7 @@ pub fn lowered_once(question: &Question, fates: Vec<Fate>) -> Result<Vec<Fate>, 
 }
 
 /// The fates with less at one place, or unchanged where nothing less is shown.
-fn less_at(question: &Question, fates: Vec<Fate>, place: usize) -> Result<Vec<Fate>, AllocError>
+fn less_at(question: &ShrinkGoal, fates: Vec<Fate>, place: usize) -> Result<Vec<Fate>, AllocError>
     requires known { IsKnown question.now }
     requires shown { ShowsBy question.now fates.items }
     ensures { IfOk result (λ left. ShowsBy question.now left.items) }

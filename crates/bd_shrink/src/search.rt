@@ -16,7 +16,7 @@ use std::alloc::{AllocError, Global};
 /// What is asked of less and less of a case: whether it breaks this condition of the design, with what is known to
 /// differ in the case.
 #[derive(Drop)]
-pub struct Question<'a> {
+pub struct ShrinkGoal<'a> {
     pub alloc: Global,
     pub design: &'a Design,
     pub case: &'a Case,
@@ -25,7 +25,7 @@ pub struct Question<'a> {
 }
 
 /// Whether a case fits, is judged to break the condition, and differs as the whole case does.
-fn shows(question: &Question, case: &Case) -> Result<bool, AllocError>
+fn shows(question: &ShrinkGoal, case: &Case) -> Result<bool, AllocError>
     requires { IsKnown question.now }
     ensures { IfOk result (λ b. IsTrue b ↔ Shows (design_view question.now.design.now)
         question.now.case.now case.now question.now.which) }
@@ -42,7 +42,7 @@ fn shows(question: &Question, case: &Case) -> Result<bool, AllocError>
 }
 
 /// Whether a case differs as the whole one does, where the diagram is what they break.
-fn keeps(question: &Question, case: &Case) -> Result<bool, AllocError>
+fn keeps(question: &ShrinkGoal, case: &Case) -> Result<bool, AllocError>
     requires { IsKnown question.now }
     ensures { IfOk result (λ b. IsTrue b ↔ Keeps (design_view question.now.design.now)
         question.now.case.now case.now question.now.which) }
@@ -54,7 +54,7 @@ fn keeps(question: &Question, case: &Case) -> Result<bool, AllocError>
 }
 
 /// Whether the two sides of a case's diagram part where those of the whole case do, with the same values.
-fn keeps_differences(question: &Question, case: &Case) -> Result<bool, AllocError>
+fn keeps_differences(question: &ShrinkGoal, case: &Case) -> Result<bool, AllocError>
     requires { IsKnown question.now }
     ensures { IfOk result (λ b. IsTrue b ↔ KeepsDifferences (design_view question.now.design.now)
         question.now.case.now case.now) }
@@ -76,7 +76,7 @@ fn is_broken(judged: Judged, which: Condition) -> bool
 }
 
 /// Whether what these fates leave of the case shows what the whole case does.
-pub fn shows_by(question: &Question, fates: &[Fate]) -> Result<bool, AllocError>
+pub fn shows_by(question: &ShrinkGoal, fates: &[Fate]) -> Result<bool, AllocError>
     requires { IsKnown question.now }
     ensures { IfOk result (λ b. IsTrue b ↔ ShowsBy question.now fates.now) }
 {
@@ -85,7 +85,7 @@ pub fn shows_by(question: &Question, fates: &[Fate]) -> Result<bool, AllocError>
 }
 
 /// Fates that leave less at one place, if what they leave still shows what the whole case does.
-pub fn lowered(question: &Question, fates: &Vec<Fate>) -> Result<Option<Vec<Fate>>, AllocError>
+pub fn lowered(question: &ShrinkGoal, fates: &Vec<Fate>) -> Result<Option<Vec<Fate>>, AllocError>
     requires { IsKnown question.now }
     ensures { IfOk result (λ found. MatchOption found
         (IsSmall (design_view question.now.design.now) question.now.case.now question.now.which
@@ -103,7 +103,7 @@ pub fn lowered(question: &Question, fates: &Vec<Fate>) -> Result<Option<Vec<Fate
 
 /// Fates that leave less at this place, if what they leave still shows what the whole case does.
 pub fn lowered_at(
-    question: &Question,
+    question: &ShrinkGoal,
     fates: &Vec<Fate>,
     place: usize,
 ) -> Result<Option<Vec<Fate>>, AllocError>
@@ -125,7 +125,7 @@ pub fn lowered_at(
 
 /// The fates with this one at a place, if what they leave still shows it.
 fn tried(
-    question: &Question,
+    question: &ShrinkGoal,
     fates: &Vec<Fate>,
     place: usize,
     fate: Fate,

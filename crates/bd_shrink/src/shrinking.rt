@@ -18,7 +18,7 @@ use crate::apart::apart_of;
 use crate::fate::Fate;
 use crate::pass::lowered_once;
 use crate::remnant::remnant_of;
-use crate::search::{Question, lowered};
+use crate::search::{ShrinkGoal, lowered};
 use crate::whole::whole;
 use bd_model::{Case, Condition, Design};
 use std::alloc::{AllocError, Global};
@@ -38,7 +38,7 @@ pub fn shrink(
     ensures { IfOk result (λ s. IsShrunk (design_view design.now) case.now which s) }
 {
     let apart = apart_of(alloc, design, case)?;
-    let question = Question {
+    let question = ShrinkGoal {
         alloc,
         design,
         case,
@@ -51,7 +51,7 @@ pub fn shrink(
 }
 
 /// Fates with less at one place after another, until nothing less is shown.
-fn settled(question: &Question, fates: Vec<Fate>) -> Result<Vec<Fate>, AllocError>
+fn settled(question: &ShrinkGoal, fates: Vec<Fate>) -> Result<Vec<Fate>, AllocError>
     requires known { IsKnown question.now }
     requires shown { ShowsBy question.now fates.items }
     ensures shown { IfOk result (λ left. ShowsBy question.now left.items) }

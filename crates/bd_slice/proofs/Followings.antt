@@ -13,10 +13,10 @@ use Rattle.bd_slice.specs.inner.Followed.{Other, Holds, Grows, FollowsState}
 use Rattle.bd_slice.specs.inner.Lines.{FollowsEach}
 use Rattle.bd_slice.specs.Columns.{Decides}
 use Rattle.bd_slice.specs.inner.Runs.{Pins, Pinned, StandsMarked, HasPlaces}
-use Rattle.bd_slice.specs.declared.graph.Node.{Node}
+use Rattle.bd_slice.specs.declared.graph.SupportNode.{SupportNode}
 use Rattle.bd_slice.specs.declared.kept.Kept.{Kept}
 use Rattle.bd_slice.specs.declared.kept.Traced.{Traced}
-use Rattle.bd_slice.specs.declared.place.Place.{Place}
+use Rattle.bd_slice.specs.declared.place.CasePlace.{CasePlace}
 use Rattle.bd_slice.specs.declared.place.Want.{Want}
 use Rattle.bd_slice.proofs.Marked.{decides}
 
@@ -38,7 +38,7 @@ each_at o states (s ∷ ss) zero ks h at = subst (λ (x : List Kept). FollowsSta
 each_at o states (s ∷ ss) (suc n) ks h at = each_at o (λ k. states (suc k)) ss n ks h.1 at
 
 -- one value more that a node pins, with those that an earlier one does
-pub pinned_more : (d : DesignView) (c : Case) (old mid new : List Node) (n m : ℕ) (t : Traced) (ws : List Want) (i : ℕ) (v : Want) → i < length ws → Grows old mid → Grows mid new
+pub pinned_more : (d : DesignView) (c : Case) (old mid new : List SupportNode) (n m : ℕ) (t : Traced) (ws : List Want) (i : ℕ) (v : Want) → i < length ws → Grows old mid → Grows mid new
     → ((o : Other) → Holds c new o → IsTrue (o.has m) → IsTrue (o.has n)) → ((o : Other) → Holds c new o → IsTrue (o.has m) → IsTrue (o.has t.node))
     → All (Pinned d c old n) (take i ws) → Pins d c mid (get_or ws i v) t → All (Pinned d c new m) (take (i + 1) ws)
 pinned_more d c old mid new n m t ws i v within first second front back before pins =
@@ -47,7 +47,7 @@ pinned_more d c old mid new n m t ws i v within first second front back before p
     All-more (Pinned d c new m) ws i v within (All-weaker (Pinned d c old n) (Pinned d c new m) later (take i ws) before) here
 
 -- the places of the marked nodes decide all that a marked node pins
-pub decides_all : (d : DesignView) (c : Case) (nodes : List Node) (marks : List Bool) (places : List Place) (n : ℕ) (ws : List Want) → Fits d c → All (Pinned d c nodes n) ws
+pub decides_all : (d : DesignView) (c : Case) (nodes : List SupportNode) (marks : List Bool) (places : List CasePlace) (n : ℕ) (ws : List Want) → Fits d c → All (Pinned d c nodes n) ws
     → IsTrue (slice_index_or marks 0 true) → IsTrue (slice_index_or marks n true) → StandsMarked nodes marks → HasPlaces nodes marks places → All (λ w. Decides d c w.column w.spot places) ws
 decides_all d c nodes marks places n ws fits pinned first here stands has =
     let each : (w : Want) → Pinned d c nodes n w → Decides d c w.column w.spot places =

@@ -6,16 +6,16 @@ ghost use Rattle.bd_slice.specs.inner.Followed.{Other, Holds, Grows, FollowsKept
 ghost use Rattle.bd_slice.specs.inner.Runs.{IsRun, FollowsEntry};
 
 use crate::cycle::{cycle, flush, look, spec_steps};
-use crate::graph::Graph;
+use crate::graph::SupportGraph;
 use crate::kept::{Base, Kept, Traced, TracedMemory};
-use crate::place::{Column, Place};
+use crate::place::{CasePlace, Column};
 use bd_model::{Case, Design, Sequence, Value};
 use std::alloc::{AllocError, Global};
 
 /// The state of a case's diagram, with what its values rest on.
 pub fn run_of(
     alloc: Global,
-    graph: &mut Graph,
+    graph: &mut SupportGraph,
     design: &Design,
     case: &Case,
     column: Column,
@@ -34,7 +34,7 @@ pub fn run_of(
 /// The values of all entries before the cycle, once the pipeline is flushed for so many cycles.
 fn run_before(
     alloc: Global,
-    graph: &mut Graph,
+    graph: &mut SupportGraph,
     design: &Design,
     case: &Case,
     cycles: u32,
@@ -51,7 +51,7 @@ fn run_before(
 /// The values of all entries after the cycle, once the pipeline is flushed for so many cycles more.
 fn run_after(
     alloc: Global,
-    graph: &mut Graph,
+    graph: &mut SupportGraph,
     design: &Design,
     case: &Case,
     cycles: u32,
@@ -68,7 +68,7 @@ fn run_after(
 /// The visible values after so many steps of the specification from where the flushed pipeline stands.
 fn run_steps(
     alloc: Global,
-    graph: &mut Graph,
+    graph: &mut SupportGraph,
     design: &Design,
     case: &Case,
     steps: u32,
@@ -84,7 +84,7 @@ fn run_steps(
     Ok(line.end)
 }
 
-impl Graph {
+impl SupportGraph {
     /// The state after the case's cycle.
     pub fn after_cycle(
         &mut self,
@@ -132,7 +132,7 @@ impl Graph {
         match value {
             Value::Scalar(scalar) => Ok(Kept::Scalar(Traced {
                 value: *scalar,
-                node: self.place(Place::Latch(entry))?,
+                node: self.place(CasePlace::Latch(entry))?,
             })),
             Value::Memory(_) => Ok(Kept::Memory(TracedMemory {
                 base: Base::Entry(entry),
@@ -151,7 +151,7 @@ impl Graph {
     {
         let mut inputs = Vec::new(alloc);
         for (i, input) in case.inputs.as_slice().iter().enumerate() {
-            let node = self.place(Place::Input(i))?;
+            let node = self.place(CasePlace::Input(i))?;
             inputs.push(Traced {
                 value: *input,
                 node,

@@ -11,9 +11,9 @@ ghost use Rattle.bd_slice.specs.inner.Lines.{FollowsLine};
 ghost use Rattle.bd_slice.specs.inner.Env.{FollowsNames, InOthers};
 
 use crate::expression::{Names, trace, trace_scalar};
-use crate::graph::Graph;
+use crate::graph::SupportGraph;
 use crate::kept::{Kept, Traced, kept_at};
-use crate::line::Line;
+use crate::line::StatePath;
 use bd_model::{Case, Design, Exprs, Local, Machine, Places, Sequence};
 use std::alloc::{AllocError, Global};
 
@@ -21,7 +21,7 @@ impl<'a> Names<'a> {
     /// What names stand for after these lets, each of which is valued once.
     fn after(
         alloc: Global,
-        graph: &mut Graph,
+        graph: &mut SupportGraph,
         case: &'a Case,
         locals: &[Local],
         state: &'a [Kept],
@@ -50,7 +50,11 @@ impl<'a> Names<'a> {
 }
 
 /// The values of expressions, in order.
-fn trace_each(graph: &mut Graph, names: &Names, exprs: &Exprs) -> Result<Vec<Kept>, AllocError>
+fn trace_each(
+    graph: &mut SupportGraph,
+    names: &Names,
+    exprs: &Exprs,
+) -> Result<Vec<Kept>, AllocError>
     ensures grows { IfOk result (λ ks. Grows graph.old.nodes graph.new.nodes) }
     ensures follows { IfOk result (λ ks. InOthers graph.new.nodes names.now (λ o env.
         FollowsState o ks.items (map (value_of env) (list_of_views (expr_views exprs.now))))) }
@@ -65,7 +69,7 @@ fn trace_each(graph: &mut Graph, names: &Names, exprs: &Exprs) -> Result<Vec<Kep
 /// The state after one cycle of a machine.
 pub fn cycle(
     alloc: Global,
-    graph: &mut Graph,
+    graph: &mut SupportGraph,
     case: &Case,
     machine: &Machine,
     state: &[Kept],
@@ -85,7 +89,7 @@ pub fn cycle(
 /// The inputs of a flush cycle.
 fn idle(
     alloc: Global,
-    graph: &mut Graph,
+    graph: &mut SupportGraph,
     case: &Case,
     machine: &Machine,
     state: &[Kept],
@@ -106,12 +110,12 @@ fn idle(
 /// The states from this one through so many flush cycles.
 pub fn flush(
     alloc: Global,
-    graph: &mut Graph,
+    graph: &mut SupportGraph,
     case: &Case,
     machine: &Machine,
     state: Vec<Kept>,
     cycles: u32,
-) -> Result<Line, AllocError>
+) -> Result<StatePath, AllocError>
     ensures grows { IfOk result (λ l. Grows graph.old.nodes graph.new.nodes) }
     ensures follows { IfOk result (λ l. (o : Other) (values : List Value) →
         Holds case.now graph.new.nodes o → FollowsState o state.items values →
@@ -132,7 +136,7 @@ pub fn flush(
         passed.push(Sequence::from_vec(reached))?;
         reached = next;
     }
-    Ok(Line {
+    Ok(StatePath {
         passed,
         end: reached,
     })
@@ -153,12 +157,12 @@ pub fn look(alloc: Global, visible: &Places, state: &[Kept]) -> Result<Vec<Kept>
 /// What is visible from here through so many steps of the specification.
 pub fn spec_steps(
     alloc: Global,
-    graph: &mut Graph,
+    graph: &mut SupportGraph,
     case: &Case,
     design: &Design,
     visible: Vec<Kept>,
     steps: u32,
-) -> Result<Line, AllocError>
+) -> Result<StatePath, AllocError>
     ensures grows { IfOk result (λ l. Grows graph.old.nodes graph.new.nodes) }
     ensures follows { IfOk result (λ l. (o : Other) (values : List Value) →
         Holds case.now graph.new.nodes o → FollowsState o visible.items values →
@@ -171,7 +175,7 @@ pub fn spec_steps(
         passed.push(Sequence::from_vec(reached))?;
         reached = next;
     }
-    Ok(Line {
+    Ok(StatePath {
         passed,
         end: reached,
     })

@@ -11,9 +11,9 @@ ghost use Rattle.bd_model.specs.Value.{is_true, scalar_truth, scalar_word, table
 ghost use Rattle.bd_slice.specs.inner.Followed.{Other, Holds, Grows, Follows, Combines};
 ghost use Rattle.bd_slice.specs.inner.Env.{InOthers, Traces, TracesScalar};
 
-use crate::graph::Graph;
+use crate::graph::SupportGraph;
 use crate::kept::{Kept, Traced, kept_at, traced_at};
-use crate::place::Place;
+use crate::place::CasePlace;
 use bd_model::{Case, Expr, Exprs, Local, Scalar, Sequence, Table, Words};
 use std::alloc::{AllocError, Global};
 
@@ -34,7 +34,7 @@ struct Arguments {
     node: usize,
 }
 
-impl Graph {
+impl SupportGraph {
     /// Whether the first scalar implies the second: what decides is the first where it is false, else the second where
     /// it is true, else both.
     fn implied(&mut self, p: Traced, q: Traced) -> Result<Traced, AllocError>
@@ -92,7 +92,7 @@ impl Graph {
             Follows o t (at (table_of o.case.interp f) ns)) }
     {
         let value = table_at(case.interp.as_slice(), f, args.words.as_slice());
-        let row = self.place(Place::Row(f, args.words))?;
+        let row = self.place(CasePlace::Row(f, args.words))?;
         Ok(Traced {
             value,
             node: self.both(args.node, row)?,
@@ -112,7 +112,7 @@ fn table_at(interp: &[Table], f: u32, args: &[u64]) -> Scalar
 
 /// The value of an expression, with what it rests on.
 #[cycle(trace)]
-pub fn trace(graph: &mut Graph, names: &Names, expr: &Expr) -> Result<Kept, AllocError>
+pub fn trace(graph: &mut SupportGraph, names: &Names, expr: &Expr) -> Result<Kept, AllocError>
     ensures grows { IfOk result (λ k. Grows graph.old.nodes graph.new.nodes) }
     ensures follows { IfOk result (λ k. Traces graph.new.nodes names.now (expr_view expr.now) k) }
 {
@@ -136,7 +136,7 @@ pub fn trace(graph: &mut Graph, names: &Names, expr: &Expr) -> Result<Kept, Allo
 
 /// The value of a `not`, which rests on what its part rests on.
 #[cycle(trace)]
-fn trace_not(graph: &mut Graph, names: &Names, a: &Expr) -> Result<Kept, AllocError>
+fn trace_not(graph: &mut SupportGraph, names: &Names, a: &Expr) -> Result<Kept, AllocError>
     ensures grows { IfOk result (λ k. Grows graph.old.nodes graph.new.nodes) }
     ensures follows { IfOk result (λ k. Traces graph.new.nodes names.now
         (Not (expr_view a.now)) k) }
@@ -150,7 +150,12 @@ fn trace_not(graph: &mut Graph, names: &Names, a: &Expr) -> Result<Kept, AllocEr
 
 /// The value of an `implies`, with what decides it.
 #[cycle(trace)]
-fn trace_implies(graph: &mut Graph, names: &Names, a: &Expr, b: &Expr) -> Result<Kept, AllocError>
+fn trace_implies(
+    graph: &mut SupportGraph,
+    names: &Names,
+    a: &Expr,
+    b: &Expr,
+) -> Result<Kept, AllocError>
     ensures grows { IfOk result (λ k. Grows graph.old.nodes graph.new.nodes) }
     ensures follows { IfOk result (λ k. Traces graph.new.nodes names.now
         (Implies (expr_view a.now) (expr_view b.now)) k) }
@@ -162,7 +167,12 @@ fn trace_implies(graph: &mut Graph, names: &Names, a: &Expr, b: &Expr) -> Result
 
 /// The value of an `iff`, which rests on both of its parts.
 #[cycle(trace)]
-fn trace_iff(graph: &mut Graph, names: &Names, a: &Expr, b: &Expr) -> Result<Kept, AllocError>
+fn trace_iff(
+    graph: &mut SupportGraph,
+    names: &Names,
+    a: &Expr,
+    b: &Expr,
+) -> Result<Kept, AllocError>
     ensures grows { IfOk result (λ k. Grows graph.old.nodes graph.new.nodes) }
     ensures follows { IfOk result (λ k. Traces graph.new.nodes names.now
         (Iff (expr_view a.now) (expr_view b.now)) k) }
@@ -174,7 +184,12 @@ fn trace_iff(graph: &mut Graph, names: &Names, a: &Expr, b: &Expr) -> Result<Kep
 
 /// The value of an `=`, which rests on both of its parts.
 #[cycle(trace)]
-fn trace_equal(graph: &mut Graph, names: &Names, a: &Expr, b: &Expr) -> Result<Kept, AllocError>
+fn trace_equal(
+    graph: &mut SupportGraph,
+    names: &Names,
+    a: &Expr,
+    b: &Expr,
+) -> Result<Kept, AllocError>
     ensures grows { IfOk result (λ k. Grows graph.old.nodes graph.new.nodes) }
     ensures follows { IfOk result (λ k. Traces graph.new.nodes names.now
         (Equal (expr_view a.now) (expr_view b.now)) k) }
@@ -187,7 +202,7 @@ fn trace_equal(graph: &mut Graph, names: &Names, a: &Expr, b: &Expr) -> Result<K
 /// The value of an `ite`: that of the branch taken, which rests on the condition too.
 #[cycle(trace)]
 fn trace_choice(
-    graph: &mut Graph,
+    graph: &mut SupportGraph,
     names: &Names,
     p: &Expr,
     a: &Expr,
@@ -211,7 +226,12 @@ fn trace_choice(
 
 /// The value of a `read`: the word of its memory at its address.
 #[cycle(trace)]
-fn trace_read(graph: &mut Graph, names: &Names, m: &Expr, a: &Expr) -> Result<Kept, AllocError>
+fn trace_read(
+    graph: &mut SupportGraph,
+    names: &Names,
+    m: &Expr,
+    a: &Expr,
+) -> Result<Kept, AllocError>
     ensures grows { IfOk result (λ k. Grows graph.old.nodes graph.new.nodes) }
     ensures follows { IfOk result (λ k. Traces graph.new.nodes names.now
         (Read (expr_view m.now) (expr_view a.now)) k) }
@@ -225,7 +245,7 @@ fn trace_read(graph: &mut Graph, names: &Names, m: &Expr, a: &Expr) -> Result<Ke
 /// The value of a `write`: its memory with the word at the address.
 #[cycle(trace)]
 fn trace_written(
-    graph: &mut Graph,
+    graph: &mut SupportGraph,
     names: &Names,
     m: &Expr,
     a: &Expr,
@@ -243,7 +263,12 @@ fn trace_written(
 
 /// The value of an application: what its table has at its arguments.
 #[cycle(trace)]
-fn trace_applied(graph: &mut Graph, names: &Names, f: u32, args: &Exprs) -> Result<Kept, AllocError>
+fn trace_applied(
+    graph: &mut SupportGraph,
+    names: &Names,
+    f: u32,
+    args: &Exprs,
+) -> Result<Kept, AllocError>
     ensures grows { IfOk result (λ k. Grows graph.old.nodes graph.new.nodes) }
     ensures follows { IfOk result (λ k. Traces graph.new.nodes names.now
         (Apply f (expr_views args.now)) k) }
@@ -254,7 +279,11 @@ fn trace_applied(graph: &mut Graph, names: &Names, f: u32, args: &Exprs) -> Resu
 
 /// The value of an expression as a scalar.
 #[cycle(trace)]
-pub fn trace_scalar(graph: &mut Graph, names: &Names, expr: &Expr) -> Result<Traced, AllocError>
+pub fn trace_scalar(
+    graph: &mut SupportGraph,
+    names: &Names,
+    expr: &Expr,
+) -> Result<Traced, AllocError>
     ensures grows { IfOk result (λ t. Grows graph.old.nodes graph.new.nodes) }
     ensures follows { IfOk result (λ t.
         TracesScalar graph.new.nodes names.now (expr_view expr.now) t) }
@@ -264,7 +293,7 @@ pub fn trace_scalar(graph: &mut Graph, names: &Names, expr: &Expr) -> Result<Tra
 
 /// Whether all expressions of a list are true: the first that is false decides, else all.
 #[cycle(trace)]
-fn trace_all(graph: &mut Graph, names: &Names, parts: &Exprs) -> Result<Traced, AllocError>
+fn trace_all(graph: &mut SupportGraph, names: &Names, parts: &Exprs) -> Result<Traced, AllocError>
     ensures grows { IfOk result (λ t. Grows graph.old.nodes graph.new.nodes) }
     ensures follows { IfOk result (λ t. InOthers graph.new.nodes names.now (λ o env.
         Follows o t (Scalar.Bool (list_all is_true (values_of env (expr_views parts.now)))))) }
@@ -288,7 +317,7 @@ fn trace_all(graph: &mut Graph, names: &Names, parts: &Exprs) -> Result<Traced, 
 
 /// Whether some expression of a list is true: the first that is true decides, else all.
 #[cycle(trace)]
-fn trace_any(graph: &mut Graph, names: &Names, parts: &Exprs) -> Result<Traced, AllocError>
+fn trace_any(graph: &mut SupportGraph, names: &Names, parts: &Exprs) -> Result<Traced, AllocError>
     ensures grows { IfOk result (λ t. Grows graph.old.nodes graph.new.nodes) }
     ensures follows { IfOk result (λ t. InOthers graph.new.nodes names.now (λ o env.
         Follows o t (Scalar.Bool (list_any is_true (values_of env (expr_views parts.now)))))) }
@@ -312,7 +341,11 @@ fn trace_any(graph: &mut Graph, names: &Names, parts: &Exprs) -> Result<Traced, 
 
 /// The words of expressions, and the node of what they rest on.
 #[cycle(trace)]
-fn trace_words(graph: &mut Graph, names: &Names, parts: &Exprs) -> Result<Arguments, AllocError>
+fn trace_words(
+    graph: &mut SupportGraph,
+    names: &Names,
+    parts: &Exprs,
+) -> Result<Arguments, AllocError>
     ensures grows { IfOk result (λ a. Grows graph.old.nodes graph.new.nodes) }
     ensures follows { IfOk result (λ a. InOthers graph.new.nodes names.now (λ o env.
         IsTrue (o.has a.node) → map word_of (values_of env (expr_views parts.now)) ≡ a.words)) }

@@ -7,37 +7,37 @@ ghost use Rattle.bd_model.specs.declared.case.Case.{Case};
 ghost use Rattle.bd_slice.specs.Places.{AgreesAt};
 ghost use Rattle.bd_slice.specs.inner.Followed.{Other, Holds, Grows};
 
-use crate::place::Place;
+use crate::place::CasePlace;
 use bd_model::Sequence;
 use std::alloc::{AllocError, Global};
 
 /// What a value rests on: nothing, a place of the case, or all that two nodes rest on.
 #[derive(Drop)]
-pub enum Node {
+pub enum SupportNode {
     Nothing,
-    Place(Place),
+    Place(CasePlace),
     Both(usize, usize),
 }
 
 /// A list of nodes.
-pub type Nodes = Sequence<Node>;
+pub type SupportNodes = Sequence<SupportNode>;
 
 /// The nodes made so far.
 #[derive(Drop)]
-pub struct Graph {
-    pub nodes: Nodes,
+pub struct SupportGraph {
+    pub nodes: SupportNodes,
 }
 
-impl Graph {
+impl SupportGraph {
     /// The graph of the node that stands for nothing.
-    pub fn new(alloc: Global) -> Result<Graph, AllocError> {
+    pub fn new(alloc: Global) -> Result<SupportGraph, AllocError> {
         let mut nodes = Sequence::new(alloc);
-        nodes.push(Node::Nothing)?;
-        Ok(Graph { nodes })
+        nodes.push(SupportNode::Nothing)?;
+        Ok(SupportGraph { nodes })
     }
 
     /// Adds a node, and gives its number.
-    fn push(&mut self, node: Node) -> Result<usize, AllocError>
+    fn push(&mut self, node: SupportNode) -> Result<usize, AllocError>
         ensures grows { IfOk result (λ n. Grows self.old.nodes self.new.nodes) }
         ensures at { IfOk result (λ n. slice_get self.new.nodes n ≡ Some node) }
     {
@@ -47,12 +47,12 @@ impl Graph {
     }
 
     /// The node of a place.
-    pub fn place(&mut self, place: Place) -> Result<usize, AllocError>
+    pub fn place(&mut self, place: CasePlace) -> Result<usize, AllocError>
         ensures grows { IfOk result (λ n. Grows self.old.nodes self.new.nodes) }
         ensures agrees { IfOk result (λ n. (c : Case) (o : Other) →
             Holds c self.new.nodes o → IsTrue (o.has n) → AgreesAt c o.case place) }
     {
-        let node = self.push(Node::Place(place))?;
+        let node = self.push(SupportNode::Place(place))?;
         Ok(node)
     }
 
@@ -70,7 +70,7 @@ impl Graph {
         if b == 0 {
             return Ok(a);
         }
-        let node = self.push(Node::Both(a, b))?;
+        let node = self.push(SupportNode::Both(a, b))?;
         Ok(node)
     }
 }

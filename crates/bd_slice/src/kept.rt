@@ -11,8 +11,8 @@ ghost use Rattle.bd_model.specs.declared.table.Scalar.{Scalar};
 ghost use Rattle.bd_model.specs.declared.table.Value.{Value};
 ghost use Rattle.bd_slice.specs.inner.Followed.{Other, Holds, Grows, Follows, FollowsWord, FollowsMemory, FollowsKept, scalar_kept, memory_kept, nothing_kept, no_scalar, base_memory};
 
-use crate::graph::Graph;
-use crate::place::Place;
+use crate::graph::SupportGraph;
+use crate::place::CasePlace;
 use bd_model::{Case, Scalar, Sequence, Value};
 use std::alloc::{AllocError, Global};
 
@@ -185,7 +185,7 @@ impl TracedMemory {
     }
 }
 
-impl Graph {
+impl SupportGraph {
     /// The value, where what this node stands for is needed to know it.
     pub fn under(&mut self, alloc: Global, node: usize, kept: Kept) -> Result<Kept, AllocError>
         ensures grows { IfOk result (λ k. Grows self.old.nodes self.new.nodes) }
@@ -254,7 +254,7 @@ impl Graph {
         match base {
             Base::Zeros => Ok(TracedWord { word: 0, node }),
             Base::Entry(entry) => {
-                let cell = self.place(Place::Cell(entry, address))?;
+                let cell = self.place(CasePlace::Cell(entry, address))?;
                 Ok(TracedWord {
                     word: word_at(case.state.as_slice(), entry, address),
                     node: self.both(node, cell)?,

@@ -17,7 +17,7 @@ mod subject;
 mod whole;
 
 pub use moment::{History, Moment, Moments, history_of};
-pub use place::{Column, Place, Places, Spot, Want};
+pub use place::{CasePlace, CasePlaces, Column, Location, Want};
 pub use reason::{Reason, Reasons, reasons_of};
 pub use slice::slice_of;
 pub use slices::{Slices, slices_of};

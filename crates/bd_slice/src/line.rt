@@ -15,12 +15,12 @@ pub type KeptStates = Sequence<KeptState>;
 
 /// States one after another: those passed, and the last.
 #[derive(Drop)]
-pub struct Line {
+pub struct StatePath {
     pub passed: KeptStates,
     pub end: Vec<Kept>,
 }
 
-impl Line {
+impl StatePath {
     /// The state at a place, where the last state has the place `last`.
     pub fn at(&self, place: u32, last: u32) -> Option<&[Kept]>
         ensures { IfSome result (λ state. (o : Other) (states : ℕ → List Value) →

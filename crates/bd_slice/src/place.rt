@@ -5,31 +5,31 @@ use std::alloc::AllocError;
 /// A place of a case: a latch, by its entry; the word of a memory at an address, by its entry and the address; an
 /// input; or what a symbol stands for at arguments.
 #[derive(PartialEq, Drop)]
-pub enum Place {
+pub enum CasePlace {
     Latch(usize),
     Cell(usize, u64),
     Input(usize),
     Row(u32, Words),
 }
 
-impl Clone for Place {
+impl Clone for CasePlace {
     ghost use Rattle.std.specs.Prelude.{◌≡◌};
 
     ghost is_clone = { λ old new. new ≡ old };
 
     /// A copy of the place.
-    fn clone(&self) -> Result<Place, AllocError> {
+    fn clone(&self) -> Result<CasePlace, AllocError> {
         match self {
-            Place::Latch(entry) => Ok(Place::Latch(*entry)),
-            Place::Cell(entry, address) => Ok(Place::Cell(*entry, *address)),
-            Place::Input(input) => Ok(Place::Input(*input)),
-            Place::Row(symbol, args) => Ok(Place::Row(*symbol, args.clone()?)),
+            CasePlace::Latch(entry) => Ok(CasePlace::Latch(*entry)),
+            CasePlace::Cell(entry, address) => Ok(CasePlace::Cell(*entry, *address)),
+            CasePlace::Input(input) => Ok(CasePlace::Input(*input)),
+            CasePlace::Row(symbol, args) => Ok(CasePlace::Row(*symbol, args.clone()?)),
         }
     }
 }
 
 /// A list of places of a case.
-pub type Places = Sequence<Place>;
+pub type CasePlaces = Sequence<CasePlace>;
 
 /// A state of the diagram: the pipeline after so many flush cycles from the case's state, the pipeline after so many
 /// flush cycles from the state after the case's cycle, or what is visible after so many steps of the specification from
@@ -43,7 +43,7 @@ pub enum Column {
 
 /// A value of a state: a latch, by its entry, or the word of a memory at an address.
 #[derive(Clone, Copy, PartialEq, Eq)]
-pub enum Spot {
+pub enum Location {
     Latch(u32),
     Cell(u32, u64),
 }
@@ -52,5 +52,5 @@ pub enum Spot {
 #[derive(Clone, Copy, PartialEq, Eq)]
 pub struct Want {
     pub column: Column,
-    pub spot: Spot,
+    pub spot: Location,
 }

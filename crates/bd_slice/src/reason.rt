@@ -5,7 +5,7 @@
 //! they are safe.
 use crate::finding::{Found, Here, Path, find, find_word};
 use crate::moment::History;
-use crate::place::{Column, Spot, Want};
+use crate::place::{Column, Location, Want};
 use crate::subject::{Cycle, Fact, Finding, Subject};
 use bd_model::{Case, Design, Expr, Machine, Scalar, Value};
 use indexmap::IndexSet;
@@ -48,8 +48,8 @@ impl Want {
     /// The value that is asked for, as one of the run.
     pub fn subject(self) -> Subject {
         match self.spot {
-            Spot::Latch(entry) => Subject::Latch(self.column, entry),
-            Spot::Cell(entry, address) => Subject::Cell(self.column, entry, address),
+            Location::Latch(entry) => Subject::Latch(self.column, entry),
+            Location::Cell(entry, address) => Subject::Cell(self.column, entry, address),
         }
     }
 }

@@ -14,9 +14,9 @@ ghost use Rattle.bd_model.specs.declared.case.Case.{Case};
 ghost use Rattle.bd_slice.specs.inner.Runs.{StandsAt, StandsMarked, HasPlaceAt, HasPlaces};
 
 use crate::column::run_of;
-use crate::graph::{Graph, Node};
+use crate::graph::{SupportGraph, SupportNode};
 use crate::kept::{Kept, Traced, TracedWord, kept_at};
-use crate::place::{Column, Place, Places, Spot};
+use crate::place::{CasePlace, CasePlaces, Column, Location};
 use bd_model::{Case, Design, Sequence};
 use std::alloc::{AllocError, Global};
 
@@ -26,13 +26,13 @@ pub fn slice_of(
     design: &Design,
     case: &Case,
     column: Column,
-    spot: Spot,
-) -> Result<Places, AllocError>
+    spot: Location,
+) -> Result<CasePlaces, AllocError>
     requires { Fits (design_view design.now) case.now }
     ensures { IfOk result (λ places.
         Decides (design_view design.now) case.now column spot places) }
 {
-    let mut graph = Graph::new(alloc)?;
+    let mut graph = SupportGraph::new(alloc)?;
     let state = run_of(alloc, &mut graph, design, case, column)?;
     let traced = spot_of(alloc, &mut graph, case, state.as_slice(), spot)?;
     let nodes = graph.nodes.as_slice();
@@ -44,10 +44,10 @@ pub fn slice_of(
 /// A value of a state, with what it rests on.
 pub fn spot_of(
     alloc: Global,
-    graph: &mut Graph,
+    graph: &mut SupportGraph,
     case: &Case,
     state: &[Kept],
-    spot: Spot,
+    spot: Location,
 ) -> Result<Traced, AllocError>
     ensures grows { IfOk result (λ t. Grows graph.old.nodes graph.new.nodes) }
     ensures follows { IfOk result (λ t. (o : Other) (values : List Value) →
@@ -55,8 +55,8 @@ pub fn spot_of(
         Follows o t (spot_value values spot)) }
 {
     match spot {
-        Spot::Latch(i) => Ok(kept_at(state, i)?.scalar()),
-        Spot::Cell(i, address) => {
+        Location::Latch(i) => Ok(kept_at(state, i)?.scalar()),
+        Location::Cell(i, address) => {
             let memory = kept_at(state, i)?.memory(alloc)?;
             let at = TracedWord {
                 word: address,
@@ -69,7 +69,7 @@ pub fn spot_of(
 }
 
 /// Marks of the nodes that this node stands on, where a node past the last counts as marked.
-pub fn marks_of(alloc: Global, nodes: &[Node], node: usize) -> Result<Vec<bool>, AllocError>
+pub fn marks_of(alloc: Global, nodes: &[SupportNode], node: usize) -> Result<Vec<bool>, AllocError>
     ensures first { IfOk result (λ ms. IsTrue (slice_index_or ms.items 0 true)) }
     ensures node { IfOk result (λ ms. IsTrue (slice_index_or ms.items node true)) }
     ensures stands { IfOk result (λ ms. StandsMarked nodes.now ms.items) }
@@ -82,7 +82,7 @@ pub fn marks_of(alloc: Global, nodes: &[Node], node: usize) -> Result<Vec<bool>,
 }
 
 /// Marks of the first node, of this node and of the nodes that it stands on.
-fn marks_below(alloc: Global, nodes: &[Node], node: usize) -> Result<Vec<bool>, AllocError> {
+fn marks_below(alloc: Global, nodes: &[SupportNode], node: usize) -> Result<Vec<bool>, AllocError> {
     let mut marks = Vec::new(alloc);
     for _node in nodes {
         marks.push(false)?;
@@ -92,7 +92,7 @@ fn marks_below(alloc: Global, nodes: &[Node], node: usize) -> Result<Vec<bool>, 
     let mut left = nodes.len();
     while left > 0 {
         left -= 1;
-        if let Some(Node::Both(a, b)) = nodes.get(left) {
+        if let Some(SupportNode::Both(a, b)) = nodes.get(left) {
             if has(marks.as_slice(), left) {
                 mark(&mut marks, *a);
                 mark(&mut marks, *b);
@@ -120,7 +120,7 @@ fn has(marks: &[bool], i: usize) -> bool
 }
 
 /// Whether with each marked node the nodes that it stands on are marked.
-fn stands(nodes: &[Node], marks: &[bool]) -> bool
+fn stands(nodes: &[SupportNode], marks: &[bool]) -> bool
     ensures { IsTrue result → StandsMarked nodes.now marks.now }
 {
     for (i, node) in nodes.iter().enumerate() {
@@ -132,17 +132,21 @@ fn stands(nodes: &[Node], marks: &[bool]) -> bool
 }
 
 /// Whether the nodes that a node stands on are marked, where it is marked itself.
-fn node_stands(node: &Node, marks: &[bool], i: usize) -> bool
+fn node_stands(node: &SupportNode, marks: &[bool], i: usize) -> bool
     ensures { IsTrue result → StandsAt marks.now i node.now }
 {
     match node {
-        Node::Both(a, b) => !has(marks, i) || (has(marks, *a) && has(marks, *b)),
+        SupportNode::Both(a, b) => !has(marks, i) || (has(marks, *a) && has(marks, *b)),
         _ => true,
     }
 }
 
 /// The places of the marked nodes.
-pub fn places_of(alloc: Global, nodes: &[Node], marks: &[bool]) -> Result<Places, AllocError>
+pub fn places_of(
+    alloc: Global,
+    nodes: &[SupportNode],
+    marks: &[bool],
+) -> Result<CasePlaces, AllocError>
     ensures { IfOk result (λ ps. HasPlaces nodes.now marks.now ps) }
 {
     let mut places = Vec::new(alloc);
@@ -154,8 +158,8 @@ pub fn places_of(alloc: Global, nodes: &[Node], marks: &[bool]) -> Result<Places
 
 /// Notes the place of a node, where it is marked.
 fn note_place(
-    places: &mut Vec<Place>,
-    node: &Node,
+    places: &mut Vec<CasePlace>,
+    node: &SupportNode,
     marks: &[bool],
     i: usize,
 ) -> Result<(), AllocError>
@@ -163,7 +167,7 @@ fn note_place(
         AgreesOn c places.old.items other × HasPlaceAt c other marks.now i node.now) }
 {
     match node {
-        Node::Place(place) => {
+        SupportNode::Place(place) => {
             if !has(marks, i) {
                 return Ok(());
             }

@@ -7,9 +7,9 @@ ghost use Rattle.bd_slice.specs.Columns.{Decides};
 ghost use Rattle.bd_slice.specs.inner.Followed.{Grows};
 ghost use Rattle.bd_slice.specs.inner.Runs.{IsWhole, Pinned};
 
-use crate::graph::Graph;
+use crate::graph::SupportGraph;
 use crate::moment::history_of;
-use crate::place::{Places, Want};
+use crate::place::{CasePlaces, Want};
 use crate::reason::{Reasons, reasons_of};
 use crate::slice::{marks_of, places_of};
 use crate::whole::{Whole, whole_of};
@@ -19,7 +19,7 @@ use std::alloc::{AllocError, Global};
 /// Places of a case that decide each of several values, and why these are what they are.
 #[derive(Drop)]
 pub struct Slices {
-    pub places: Places,
+    pub places: CasePlaces,
     pub reasons: Reasons,
 }
 
@@ -61,12 +61,12 @@ fn places_of_all(
     design: &Design,
     case: &Case,
     wants: &[Want],
-) -> Result<Places, AllocError>
+) -> Result<CasePlaces, AllocError>
     requires { Fits (design_view design.now) case.now }
     ensures { IfOk result (λ ps. All (λ w.
         Decides (design_view design.now) case.now w.column w.spot ps) wants.now) }
 {
-    let mut graph = Graph::new(alloc)?;
+    let mut graph = SupportGraph::new(alloc)?;
     let whole = whole_of(alloc, &mut graph, design, case)?;
     let node = joined(alloc, &mut graph, design, case, &whole, wants)?;
     let nodes = graph.nodes.as_slice();
@@ -78,7 +78,7 @@ fn places_of_all(
 /// The node of all that these values rest on.
 fn joined(
     alloc: Global,
-    graph: &mut Graph,
+    graph: &mut SupportGraph,
     design: &Design,
     case: &Case,
     whole: &Whole,

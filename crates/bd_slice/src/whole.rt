@@ -8,9 +8,9 @@ ghost use Rattle.bd_slice.specs.inner.Runs.{FollowsWhole, IsBefore, IsAfter, IsS
 
 use crate::column::run_of;
 use crate::cycle::{flush, look, spec_steps};
-use crate::graph::Graph;
+use crate::graph::SupportGraph;
 use crate::kept::{Kept, Traced};
-use crate::line::Line;
+use crate::line::StatePath;
 use crate::place::{Column, Want};
 use crate::slice::spot_of;
 use bd_model::{Case, Design};
@@ -19,18 +19,18 @@ use std::alloc::{AllocError, Global};
 /// The states of the diagram: both flushings of the pipeline, and the steps of the specification.
 #[derive(Drop)]
 pub struct Whole {
-    pub before: Line,
-    pub after: Line,
-    pub steps: Line,
+    pub before: StatePath,
+    pub after: StatePath,
+    pub steps: StatePath,
 }
 
 /// The flushing from the case's state.
 fn before_of(
     alloc: Global,
-    graph: &mut Graph,
+    graph: &mut SupportGraph,
     design: &Design,
     case: &Case,
-) -> Result<Line, AllocError>
+) -> Result<StatePath, AllocError>
     ensures grows { IfOk result (λ l. Grows graph.old.nodes graph.new.nodes) }
     ensures line { IfOk result (IsBefore (design_view design.now) case.now graph.new.nodes) }
 {
@@ -42,11 +42,11 @@ fn before_of(
 /// The steps from what is visible once the case's state is flushed.
 fn steps_of(
     alloc: Global,
-    graph: &mut Graph,
+    graph: &mut SupportGraph,
     design: &Design,
     case: &Case,
-    before: &Line,
-) -> Result<Line, AllocError>
+    before: &StatePath,
+) -> Result<StatePath, AllocError>
     requires { IsBefore (design_view design.now) case.now graph.old.nodes before.now }
     ensures grows { IfOk result (λ l. Grows graph.old.nodes graph.new.nodes) }
     ensures line { IfOk result (IsSteps (design_view design.now) case.now graph.new.nodes) }
@@ -59,10 +59,10 @@ fn steps_of(
 /// The flushing from the state after the case's cycle.
 fn after_of(
     alloc: Global,
-    graph: &mut Graph,
+    graph: &mut SupportGraph,
     design: &Design,
     case: &Case,
-) -> Result<Line, AllocError>
+) -> Result<StatePath, AllocError>
     ensures grows { IfOk result (λ l. Grows graph.old.nodes graph.new.nodes) }
     ensures line { IfOk result (IsAfter (design_view design.now) case.now graph.new.nodes) }
 {
@@ -74,7 +74,7 @@ fn after_of(
 /// All states of the diagram of a case.
 pub fn whole_of(
     alloc: Global,
-    graph: &mut Graph,
+    graph: &mut SupportGraph,
     design: &Design,
     case: &Case,
 ) -> Result<Whole, AllocError>
@@ -108,7 +108,7 @@ impl Whole {
     pub fn wanted(
         &self,
         alloc: Global,
-        graph: &mut Graph,
+        graph: &mut SupportGraph,
         design: &Design,
         case: &Case,
         want: &Want,

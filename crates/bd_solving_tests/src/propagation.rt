@@ -23,7 +23,7 @@ const CHAIN: &str = "-1 2\n-2 3\n-3 4\n";
 
 /// The number of variables, the clauses, what is decided in turn, the id of a clause that is false then, how many
 /// literals are true, and how many of them before the last decision.
-type Row = (
+type PropagationRow = (
     u64,
     &'static str,
     &'static str,
@@ -32,7 +32,7 @@ type Row = (
     Option<usize>,
 );
 
-static ROWS: [Row; 7] = [
+static ROWS: [PropagationRow; 7] = [
     (3, UNITS, "", None, 3, None),
     (4, CHAIN, "1", None, 4, Some(0)),
     (4, CHAIN, "-4", None, 4, Some(0)),
@@ -80,7 +80,7 @@ fn outcome(
 }
 
 /// Checks a row's false clause, and how many literals are true then and once the last decision is taken back.
-fn row_is_as_told(rt: &(impl Abort + AllocGlobal), row: Row) -> Result<(), AllocError> {
+fn row_is_as_told(rt: &(impl Abort + AllocGlobal), row: PropagationRow) -> Result<(), AllocError> {
     let (vars, clauses, decisions, conflict, count, before) = row;
     let mut watch = Watch::load(rt.alloc(), &formula(rt, vars, clauses)?)?;
     if watch.assign_units().is_some() {

@@ -12,7 +12,7 @@ use std::test::Fail;
 
 /// The number of variables, the clauses, the budget, and what is said, with which log of decision clauses and which of
 /// clauses of first unique implication points.
-type Row = (
+type SolverRow = (
     u64,
     &'static str,
     u32,
@@ -40,7 +40,7 @@ const CUBE_TURNED_START: &str = "9 2 3 0 1 5 0\n10 3 0 9 3 7 0\n";
 /// The cube's log where the greatest variable is decided first; the second was true last, so it is decided to be true.
 const CUBE_TURNED: &str = "9 2 3 0 1 5 0\n10 3 0 9 3 7 0\n11 -2 0 10 4 8 0\n12 0 10 11 2 6 0\n";
 
-static ROWS: [Row; 14] = [
+static ROWS: [SolverRow; 14] = [
     (2, SQUARE, 0, "spent", "", ""),
     (2, SQUARE, 1, "refuted", SQUARE_LOG, SQUARE_TURNED),
     (2, SQUARE, 2, "refuted", SQUARE_LOG, SQUARE_TURNED),
@@ -105,7 +105,7 @@ fn says<S: HonestSolver>(
     alloc: Global,
     solver: &mut S,
     cnf: &Cnf,
-    row: Row,
+    row: SolverRow,
     lines: &str,
 ) -> Result<bool, AllocError> {
     let (_, _, budget, said, _, _) = row;
@@ -121,7 +121,7 @@ fn says<S: HonestSolver>(
 fn says_twice<S: HonestSolver>(
     rt: &(impl Abort + AllocGlobal),
     solver: &mut S,
-    row: Row,
+    row: SolverRow,
     lines: &str,
 ) -> Result<bool, AllocError> {
     let (vars, clauses, _, _, _, _) = row;

@@ -21,5 +21,5 @@ mod view;
 mod why;
 mod words;
 
-pub use source::{Source, Sources, Why};
+pub use source::{Explanation, Source, Sources};
 pub use why::why_of;

@@ -6,7 +6,7 @@ use std::alloc::{AllocError, Global};
 
 /// An item: where its list begins, its name, and its expression.
 #[derive(Clone, Copy)]
-pub struct Item<'a> {
+pub struct ListedItem<'a> {
     pub offset: usize,
     pub name: &'a [u8],
     pub expression: &'a Tree,
@@ -68,10 +68,10 @@ fn is_headed(tree: &Tree, head: &[u8]) -> bool {
 }
 
 /// The item that a list is, where its name comes second and its expression last.
-fn item_of(tree: &Tree) -> Option<Item<'_>> {
+fn item_of(tree: &Tree) -> Option<ListedItem<'_>> {
     let name = atom_at(tree, 1)?;
     let expression = parts_of(tree)?.last()?;
-    Some(Item {
+    Some(ListedItem {
         offset: offset_of(tree),
         name,
         expression,
@@ -115,22 +115,22 @@ impl<'a> Listing<'a> {
     }
 
     /// The item that stands at a place of the text's list, if there is such a place.
-    fn item(&self, place: Option<&usize>) -> Option<Item<'_>> {
+    fn item(&self, place: Option<&usize>) -> Option<ListedItem<'_>> {
         item_of(list_of(&self.trees).get(*place?)?)
     }
 
     /// The let of this number, from 0.
-    pub fn local(&self, number: u32) -> Option<Item<'_>> {
+    pub fn local(&self, number: u32) -> Option<ListedItem<'_>> {
         self.item(self.lets.get(number as usize))
     }
 
     /// The input of this number, from 0.
-    pub fn input(&self, number: u32) -> Option<Item<'_>> {
+    pub fn input(&self, number: u32) -> Option<ListedItem<'_>> {
         self.item(self.inputs.get(number as usize))
     }
 
     /// The next value of the entry of this name.
-    pub fn next_of(&self, name: &[u8]) -> Option<Item<'_>> {
+    pub fn next_of(&self, name: &[u8]) -> Option<ListedItem<'_>> {
         for place in &self.nexts {
             if let Some(item) = self.item(Some(place)) {
                 if item.name == name {
@@ -142,7 +142,7 @@ impl<'a> Listing<'a> {
     }
 
     /// The number of flush cycles.
-    pub fn flush(&self) -> Option<Item<'_>> {
+    pub fn flush(&self) -> Option<ListedItem<'_>> {
         for part in list_of(&self.trees) {
             if is_headed(part, b"flush") {
                 return item_of(part);
@@ -152,9 +152,9 @@ impl<'a> Listing<'a> {
     }
 
     /// The last part of the text's list, which is the expression of an invariant.
-    pub fn last(&self) -> Option<Item<'_>> {
+    pub fn last(&self) -> Option<ListedItem<'_>> {
         let expression = list_of(&self.trees).last()?;
-        Some(Item {
+        Some(ListedItem {
             offset: offset_of(expression),
             name: b"invariant",
             expression,

@@ -7,7 +7,7 @@
 
 use crate::decided::{is_held, rests_of, taken_over};
 use crate::suspect::suspects_of;
-use crate::view::{Spot, View};
+use crate::view::{ItemPlace, ListedDesign};
 use bd_model::Scalar;
 use bd_slice::{Finding, Reason, Reasons, Subject};
 use indexmap::IndexSet;
@@ -38,9 +38,9 @@ fn add_word(words: &mut IndexSet<u64>, value: Scalar) -> Result<(), AllocError> 
 /// The items of which some value doesn't only stay what it was.
 fn changing(
     alloc: Global,
-    view: &View<'_, '_>,
+    view: &ListedDesign<'_, '_>,
     reasons: &Reasons,
-) -> Result<IndexSet<Spot>, AllocError> {
+) -> Result<IndexSet<ItemPlace>, AllocError> {
     let mut spots = IndexSet::new(alloc);
     for reason in reasons.as_slice() {
         if let Some(spot) = view.spot(reason.subject) {
@@ -70,17 +70,17 @@ struct Met {
 /// A search from a value down to what it rests on: the values met at each distance from it and not left yet, and how
 /// far the search is.
 #[derive(Drop)]
-struct Search {
+struct ReasonSearch {
     alloc: Global,
     levels: Vec<Vec<Met>>,
     distance: usize,
     seen: IndexSet<Subject>,
 }
 
-impl Search {
+impl ReasonSearch {
     /// The search that begins at a value, which may be wrong itself.
-    fn new(alloc: Global, root: Subject) -> Result<Search, AllocError> {
-        let mut search = Search {
+    fn new(alloc: Global, root: Subject) -> Result<ReasonSearch, AllocError> {
+        let mut search = ReasonSearch {
             alloc,
             levels: Vec::new(alloc),
             distance: 0,
@@ -184,16 +184,36 @@ fn is_shared(value: Scalar, shared: &IndexSet<u64>) -> bool {
 
 /// The values to tell so far, the items that they are of, and the search for more.
 #[derive(Drop)]
-struct Order {
-    search: Search,
-    changing: IndexSet<Spot>,
-    spots: IndexSet<Spot>,
+struct TellingOrder {
+    search: ReasonSearch,
+    changing: IndexSet<ItemPlace>,
+    spots: IndexSet<ItemPlace>,
     subjects: Vec<Subject>,
 }
 
-impl Order {
+impl TellingOrder {
+    /// The order in which nothing is told yet, from a value on.
+    fn new(
+        alloc: Global,
+        root: Subject,
+        changing: IndexSet<ItemPlace>,
+    ) -> Result<TellingOrder, AllocError> {
+        Ok(TellingOrder {
+            search: ReasonSearch::new(alloc, root)?,
+            changing,
+            spots: IndexSet::new(alloc),
+            subjects: Vec::new(alloc),
+        })
+    }
+
+    /// The values that are told.
+    fn into_subjects(self) -> Vec<Subject> {
+        let TellingOrder { subjects, .. } = self;
+        subjects
+    }
+
     /// Adds a value, if its item has none yet.
-    fn tell(&mut self, spot: Spot, subject: Subject) -> Result<(), AllocError> {
+    fn tell(&mut self, spot: ItemPlace, subject: Subject) -> Result<(), AllocError> {
         if self.spots.insert(spot)? {
             self.subjects.push(subject)?;
         }
@@ -204,7 +224,7 @@ impl Order {
     fn visit(
         &mut self,
         alloc: Global,
-        view: &View<'_, '_>,
+        view: &ListedDesign<'_, '_>,
         reason: &Reason,
         is_suspect: bool,
         other: &Other<'_>,
@@ -227,7 +247,7 @@ impl Order {
     fn visit_all(
         &mut self,
         alloc: Global,
-        view: &View<'_, '_>,
+        view: &ListedDesign<'_, '_>,
         reasons: &Reasons,
         other: &Other<'_>,
     ) -> Result<(), AllocError> {
@@ -250,28 +270,49 @@ struct Other<'a> {
     words: IndexSet<u64>,
 }
 
+impl<'a> Other<'a> {
+    /// These reasons, with the words that they have.
+    fn new(alloc: Global, reasons: &'a Reasons) -> Result<Other<'a>, AllocError> {
+        Ok(Other {
+            reasons,
+            words: words_of(alloc, reasons)?,
+        })
+    }
+}
+
+/// The values to tell from this one on, of which none is told yet.
+fn begun(
+    alloc: Global,
+    view: &ListedDesign<'_, '_>,
+    reasons: &Reasons,
+    root: Subject,
+) -> Result<TellingOrder, AllocError> {
+    let changing = changing(alloc, view, reasons)?;
+    TellingOrder::new(alloc, root, changing)
+}
+
+/// The values that are told beside these of the other side, in order.
+fn ordered(
+    alloc: Global,
+    view: &ListedDesign<'_, '_>,
+    reasons: &Reasons,
+    root: Subject,
+    other: &Other<'_>,
+) -> Result<Vec<Subject>, AllocError> {
+    let mut order = begun(alloc, view, reasons, root)?;
+    order.visit_all(alloc, view, reasons, other)?;
+    Ok(order.into_subjects())
+}
+
 /// The values that are told of what this one rests on, in order, each of an item of its own. `other` are the reasons of
 /// the other side.
 pub fn order_of(
     alloc: Global,
-    view: &View<'_, '_>,
+    view: &ListedDesign<'_, '_>,
     reasons: &Reasons,
     root: Subject,
     other: &Reasons,
 ) -> Result<Vec<Subject>, AllocError> {
-    let changing = changing(alloc, view, reasons)?;
-    let search = Search::new(alloc, root)?;
-    let mut order = Order {
-        search,
-        changing,
-        spots: IndexSet::new(alloc),
-        subjects: Vec::new(alloc),
-    };
-    let other = Other {
-        reasons: other,
-        words: words_of(alloc, other)?,
-    };
-    order.visit_all(alloc, view, reasons, &other)?;
-    let Order { subjects, .. } = order;
-    Ok(subjects)
+    let other = Other::new(alloc, other)?;
+    ordered(alloc, view, reasons, root, &other)
 }

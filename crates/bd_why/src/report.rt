@@ -2,7 +2,7 @@
 
 use crate::listing::parts_of;
 use crate::telling::{shown, told, told_short};
-use crate::view::{Spot, View};
+use crate::view::{ItemPlace, ListedDesign};
 use crate::words::{push_column, push_name, push_number, push_scalar};
 use bd_slice::{Column, Reasons, Subject};
 use indexmap::IndexSet;
@@ -10,10 +10,10 @@ use std::alloc::{AllocError, Global};
 
 /// The lines so far, and the items that they tell.
 #[derive(Drop)]
-pub struct Report {
+pub struct ToldLines {
     text: Vec<u8>,
     lines: usize,
-    spots: IndexSet<Spot>,
+    spots: IndexSet<ItemPlace>,
 }
 
 /// How much is told of a side: so many lines in all, those of sides before it too, and the lines of the text of so many
@@ -29,10 +29,10 @@ fn line_count(text: &[u8]) -> usize {
     text.iter().filter(|byte| **byte == b'\n').count()
 }
 
-impl Report {
+impl ToldLines {
     /// The report of no line.
-    pub fn new(alloc: Global) -> Report {
-        Report {
+    pub fn new(alloc: Global) -> ToldLines {
+        ToldLines {
             text: Vec::new(alloc),
             lines: 0,
             spots: IndexSet::new(alloc),
@@ -41,7 +41,7 @@ impl Report {
 
     /// The text of the lines.
     pub fn into_text(self) -> Vec<u8> {
-        let Report { text, .. } = self;
+        let ToldLines { text, .. } = self;
         text
     }
 
@@ -53,7 +53,11 @@ impl Report {
     }
 
     /// Says that the pipeline isn't empty where its flushing ends.
-    pub fn short_flush(&mut self, alloc: Global, view: &View<'_, '_>) -> Result<(), AllocError> {
+    pub fn short_flush(
+        &mut self,
+        alloc: Global,
+        view: &ListedDesign<'_, '_>,
+    ) -> Result<(), AllocError> {
         match view.pipe.flush() {
             Some(item) => {
                 let text = told_short(alloc, view.pipe.source, &item)?;
@@ -67,7 +71,7 @@ impl Report {
     pub fn side(
         &mut self,
         alloc: Global,
-        view: &View<'_, '_>,
+        view: &ListedDesign<'_, '_>,
         reasons: &Reasons,
         root: Subject,
         order: &[Subject],
@@ -90,7 +94,7 @@ impl Report {
     fn heading(
         &mut self,
         alloc: Global,
-        view: &View<'_, '_>,
+        view: &ListedDesign<'_, '_>,
         reasons: &Reasons,
         root: Subject,
     ) -> Result<(), AllocError> {
@@ -114,7 +118,7 @@ impl Report {
     fn item(
         &mut self,
         alloc: Global,
-        view: &View<'_, '_>,
+        view: &ListedDesign<'_, '_>,
         reasons: &Reasons,
         subject: Subject,
         most: usize,
@@ -148,7 +152,7 @@ enum Told {
 /// The lines of an item, and whether that of its text is one of them: if that is wanted and says more than a name.
 fn item_text(
     alloc: Global,
-    view: &View<'_, '_>,
+    view: &ListedDesign<'_, '_>,
     reasons: &Reasons,
     subject: Subject,
     shows: bool,
@@ -172,7 +176,7 @@ fn item_text(
 /// The line that begins a side: `pipeline: rf[8]@after.1=12`.
 fn heading(
     alloc: Global,
-    view: &View<'_, '_>,
+    view: &ListedDesign<'_, '_>,
     reasons: &Reasons,
     root: Subject,
 ) -> Result<Vec<u8>, AllocError> {

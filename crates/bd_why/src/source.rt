@@ -17,7 +17,7 @@ pub struct Sources<'a> {
 
 /// What is found for what is asked.
 #[derive(Drop)]
-pub enum Why {
+pub enum Explanation {
     /// The lines that explain the value.
     Explained(Vec<u8>),
     /// No entry, address or column of this name is there; the text says which there are.

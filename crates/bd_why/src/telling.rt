@@ -2,10 +2,10 @@
 //! underlined.
 
 use crate::decided::decided_path;
-use crate::listing::{Item, offset_of};
+use crate::listing::{ListedItem, offset_of};
 use crate::part::{end_of, part_at};
 use crate::source::Source;
-use crate::view::View;
+use crate::view::ListedDesign;
 use crate::words::{push_application, push_cycle, push_name, push_number, push_scalar};
 use bd_slice::{Fact, Finding, Reason};
 use bd_text::{Line, Tree};
@@ -17,7 +17,7 @@ const WIDTH: usize = 60;
 /// A line for an item: its place, the cycle, and its value with what that rests on.
 pub fn told(
     alloc: Global,
-    view: &View<'_, '_>,
+    view: &ListedDesign<'_, '_>,
     reason: &Reason,
     source: Source<'_>,
     offset: usize,
@@ -41,7 +41,7 @@ pub fn shown(
     alloc: Global,
     reason: &Reason,
     text: &[u8],
-    item: &Item<'_>,
+    item: &ListedItem<'_>,
 ) -> Result<Vec<u8>, AllocError> {
     let mut out = Vec::new(alloc);
     let path = decided_path(alloc, reason)?;
@@ -54,7 +54,7 @@ pub fn shown(
 pub fn told_short(
     alloc: Global,
     source: Source<'_>,
-    item: &Item<'_>,
+    item: &ListedItem<'_>,
 ) -> Result<Vec<u8>, AllocError> {
     let mut out = Vec::new(alloc);
     push_place(&mut out, source, item.offset)?;
@@ -79,7 +79,7 @@ fn push_place(out: &mut Vec<u8>, source: Source<'_>, offset: usize) -> Result<()
 fn push_facts(
     alloc: Global,
     out: &mut Vec<u8>,
-    view: &View<'_, '_>,
+    view: &ListedDesign<'_, '_>,
     reason: &Reason,
 ) -> Result<(), AllocError> {
     let facts = fact_texts(alloc, view, reason)?;
@@ -98,7 +98,7 @@ fn push_facts(
 /// The texts of the facts that have one, each once.
 fn fact_texts(
     alloc: Global,
-    view: &View<'_, '_>,
+    view: &ListedDesign<'_, '_>,
     reason: &Reason,
 ) -> Result<Vec<Vec<u8>>, AllocError> {
     let mut texts: Vec<Vec<u8>> = Vec::new(alloc);
@@ -115,7 +115,11 @@ fn fact_texts(
 }
 
 /// `NAME=VALUE` of a name or an application, and nothing of other facts.
-fn fact_text(alloc: Global, view: &View<'_, '_>, fact: &Fact) -> Result<Vec<u8>, AllocError> {
+fn fact_text(
+    alloc: Global,
+    view: &ListedDesign<'_, '_>,
+    fact: &Fact,
+) -> Result<Vec<u8>, AllocError> {
     let mut text = Vec::new(alloc);
     match &fact.finding {
         Finding::Rests(subject, value) => {

@@ -1,6 +1,6 @@
 //! A design with its texts, and which item of them a value comes from.
 
-use crate::listing::{Item, Listing};
+use crate::listing::{ListedItem, Listing};
 use crate::source::Source;
 use crate::words::entry_name;
 use bd_model::{Design, Machine};
@@ -8,7 +8,7 @@ use bd_slice::{Column, Cycle, Subject};
 
 /// A design, and the items of its texts.
 #[derive(Drop)]
-pub struct View<'a, 'b> {
+pub struct ListedDesign<'a, 'b> {
     pub design: &'a Design,
     pub pipe: Listing<'b>,
     pub spec: Listing<'b>,
@@ -17,7 +17,7 @@ pub struct View<'a, 'b> {
 
 /// Which text an item stands in.
 #[derive(Clone, Copy, PartialEq, Eq, Hash)]
-pub enum Which {
+pub enum ItemText {
     Pipe,
     Spec,
     Inv,
@@ -25,21 +25,21 @@ pub enum Which {
 
 /// An item of the texts: which text, and where it begins.
 #[derive(Clone, Copy, PartialEq, Eq, Hash)]
-pub struct Spot {
-    pub text: Which,
+pub struct ItemPlace {
+    pub text: ItemText,
     pub offset: usize,
 }
 
 /// The text of the items of a cycle.
-pub fn text_of(cycle: Cycle) -> Which {
+pub fn text_of(cycle: Cycle) -> ItemText {
     match cycle {
-        Cycle::Step(_) => Which::Spec,
-        Cycle::Invariant => Which::Inv,
-        _ => Which::Pipe,
+        Cycle::Step(_) => ItemText::Spec,
+        Cycle::Invariant => ItemText::Inv,
+        _ => ItemText::Pipe,
     }
 }
 
-impl<'a, 'b> View<'a, 'b> {
+impl<'a, 'b> ListedDesign<'a, 'b> {
     /// The machine whose states a column has.
     pub fn machine(&self, column: Column) -> &'a Machine {
         match column {
@@ -49,11 +49,11 @@ impl<'a, 'b> View<'a, 'b> {
     }
 
     /// The items of a text.
-    fn listing(&self, text: Which) -> Option<&Listing<'b>> {
+    fn listing(&self, text: ItemText) -> Option<&Listing<'b>> {
         match text {
-            Which::Pipe => Some(&self.pipe),
-            Which::Spec => Some(&self.spec),
-            Which::Inv => self.inv.as_ref(),
+            ItemText::Pipe => Some(&self.pipe),
+            ItemText::Spec => Some(&self.spec),
+            ItemText::Inv => self.inv.as_ref(),
         }
     }
 
@@ -64,7 +64,7 @@ impl<'a, 'b> View<'a, 'b> {
     }
 
     /// The item that a value comes from: none where it is the case's, or is taken over.
-    pub fn item(&self, subject: Subject) -> Option<Item<'_>> {
+    pub fn item(&self, subject: Subject) -> Option<ListedItem<'_>> {
         match subject {
             Subject::Input(Cycle::Case, _) => None,
             _ => self.named(subject),
@@ -72,16 +72,16 @@ impl<'a, 'b> View<'a, 'b> {
     }
 
     /// What tells the item of a value from others.
-    pub fn spot(&self, subject: Subject) -> Option<Spot> {
+    pub fn spot(&self, subject: Subject) -> Option<ItemPlace> {
         let item = self.item(subject)?;
-        Some(Spot {
+        Some(ItemPlace {
             text: text_of(subject.cycle()?),
             offset: item.offset,
         })
     }
 
     /// The item that names a value.
-    fn named(&self, subject: Subject) -> Option<Item<'_>> {
+    fn named(&self, subject: Subject) -> Option<ListedItem<'_>> {
         let listing = self.listing(text_of(subject.cycle()?))?;
         match subject {
             Subject::Latch(column, entry) | Subject::Cell(column, entry, _) => {

@@ -6,9 +6,9 @@ use crate::listing::Listing;
 use crate::missing::missing_text;
 use crate::order::order_of;
 use crate::parting::{Parting, both_sides, nearest, parting_of};
-use crate::report::{Report, Room};
-use crate::source::{Sources, Why};
-use crate::view::View;
+use crate::report::{Room, ToldLines};
+use crate::source::{Explanation, Sources};
+use crate::view::ListedDesign;
 use bd_diagram::{Diagram, diagram_of};
 use bd_model::{Case, Condition, Design, Judged};
 use bd_slice::{Column, History, Reasons, Subject, history_of, reasons_of};
@@ -34,7 +34,7 @@ const SECOND: Room = Room {
 
 /// What is explained: a value, or both sides of one.
 #[derive(Clone, Copy)]
-enum Goal {
+enum Target {
     One(Subject),
     Both(Parting),
     Nothing,
@@ -42,8 +42,8 @@ enum Goal {
 
 /// What is explained, and whether it is said that the pipeline isn't empty where its flushing ends.
 #[derive(Clone, Copy)]
-struct Question {
-    goal: Goal,
+struct Topic {
+    goal: Target,
     is_short: bool,
 }
 
@@ -61,58 +61,82 @@ pub fn why_of(
     judged: Judged,
     sources: Sources<'_>,
     asked: Option<&str>,
-) -> Result<Why, AllocError> {
+) -> Result<Explanation, AllocError> {
     let diagram = diagram_of(alloc, design, case)?;
-    let goal = match asked {
-        None => first_goal(design, judged, &diagram),
-        Some(text) => match asked_goal(design, &diagram, text.as_bytes()) {
-            Ok(goal) => goal,
-            Err(missing) => return Ok(Why::Unknown(missing_text(alloc, design, missing)?)),
-        },
+    let goal = match goal_of(design, judged, &diagram, asked) {
+        Ok(goal) => goal,
+        Err(missing) => return unknown(alloc, design, missing),
     };
     let is_short = asked.is_none() && is_short(alloc, design, case, &diagram)?;
-    let question = Question { goal, is_short };
+    explained(alloc, design, case, sources, Topic { goal, is_short })
+}
+
+/// What is explained: what a text asks for, or where there is none what a case shows.
+fn goal_of(
+    design: &Design,
+    judged: Judged,
+    diagram: &Diagram,
+    asked: Option<&str>,
+) -> Result<Target, Missing> {
+    match asked {
+        None => Ok(first_goal(design, judged, diagram)),
+        Some(text) => asked_goal(design, diagram, text.as_bytes()),
+    }
+}
+
+/// The answer that what is asked for isn't there.
+fn unknown(alloc: Global, design: &Design, missing: Missing) -> Result<Explanation, AllocError> {
+    Ok(Explanation::Unknown(missing_text(alloc, design, missing)?))
+}
+
+/// The explanation of a topic.
+fn explained(
+    alloc: Global,
+    design: &Design,
+    case: &Case,
+    sources: Sources<'_>,
+    topic: Topic,
+) -> Result<Explanation, AllocError> {
     let view = view_of(alloc, design, sources)?;
-    let text = lines(alloc, &view, case, question)?;
-    Ok(Why::Explained(text))
+    Ok(Explanation::Explained(lines(alloc, &view, case, topic)?))
 }
 
 /// What is explained where nothing is asked for.
-fn first_goal(design: &Design, judged: Judged, diagram: &Diagram) -> Goal {
+fn first_goal(design: &Design, judged: Judged, diagram: &Diagram) -> Target {
     match judged {
-        Judged::Broken(Condition::Invariant) => Goal::One(Subject::Invariant),
+        Judged::Broken(Condition::Invariant) => Target::One(Subject::Invariant),
         _ => match parting_of(design, diagram) {
-            Some(parting) => Goal::Both(parting),
-            None => Goal::Nothing,
+            Some(parting) => Target::Both(parting),
+            None => Target::Nothing,
         },
     }
 }
 
 /// What is explained where a text asks for it.
-fn asked_goal(design: &Design, diagram: &Diagram, text: &[u8]) -> Result<Goal, Missing> {
+fn asked_goal(design: &Design, diagram: &Diagram, text: &[u8]) -> Result<Target, Missing> {
     let asked = asked_of(design, text)?;
     match asked.column {
         Some(Column::Steps(steps)) => {
             let entry = asked.entry(design.spec.entries.as_slice())?;
-            Ok(Goal::One(subject(asked, Column::Steps(steps), entry)))
+            Ok(Target::One(subject(asked, Column::Steps(steps), entry)))
         }
         Some(column) => {
             let entry = asked.entry(design.pipe.entries.as_slice())?;
-            Ok(Goal::One(subject(asked, column, entry)))
+            Ok(Target::One(subject(asked, column, entry)))
         }
         None => without_column(design, diagram, asked),
     }
 }
 
 /// What is explained of an entry without a column: both sides of a visible one, any other after the cycle.
-fn without_column(design: &Design, diagram: &Diagram, asked: Asked<'_>) -> Result<Goal, Missing> {
+fn without_column(design: &Design, diagram: &Diagram, asked: Asked<'_>) -> Result<Target, Missing> {
     if let Ok(entry) = asked.entry(design.spec.entries.as_slice()) {
         if let Some(sides) = both_sides(design, nearest(diagram), entry, asked.address) {
-            return Ok(Goal::Both(sides));
+            return Ok(Target::Both(sides));
         }
     }
     let entry = asked.entry(design.pipe.entries.as_slice())?;
-    Ok(Goal::One(subject(asked, Column::After(0), entry)))
+    Ok(Target::One(subject(asked, Column::After(0), entry)))
 }
 
 /// The value that is asked for in a column: a latch's, or a memory's word if an address is named.
@@ -128,14 +152,14 @@ fn view_of<'a, 'b>(
     alloc: Global,
     design: &'a Design,
     sources: Sources<'b>,
-) -> Result<View<'a, 'b>, AllocError> {
+) -> Result<ListedDesign<'a, 'b>, AllocError> {
     let pipe = Listing::new(alloc, sources.pipe)?;
     let spec = Listing::new(alloc, sources.spec)?;
     let inv = match sources.inv {
         Some(source) => Some(Listing::new(alloc, source)?),
         None => None,
     };
-    Ok(View {
+    Ok(ListedDesign {
         design,
         pipe,
         spec,
@@ -146,24 +170,22 @@ fn view_of<'a, 'b>(
 /// The lines that explain a value.
 fn lines(
     alloc: Global,
-    view: &View<'_, '_>,
+    view: &ListedDesign<'_, '_>,
     case: &Case,
-    question: Question,
+    topic: Topic,
 ) -> Result<Vec<u8>, AllocError> {
     let history = history_of(alloc, view.design, case)?;
-    match question.goal {
-        Goal::Nothing => Vec::from_slice(alloc, b"nothing differs\n"),
-        Goal::One(subject) => one_side(alloc, view, case, &history, subject),
-        Goal::Both(parting) => {
-            two_sides(alloc, view, case, &history, parting, question.is_short)
-        }
+    match topic.goal {
+        Target::Nothing => Vec::from_slice(alloc, b"nothing differs\n"),
+        Target::One(subject) => one_side(alloc, view, case, &history, subject),
+        Target::Both(parting) => two_sides(alloc, view, case, &history, parting, topic.is_short),
     }
 }
 
 /// The lines that explain a value by itself.
 fn one_side(
     alloc: Global,
-    view: &View<'_, '_>,
+    view: &ListedDesign<'_, '_>,
     case: &Case,
     history: &History,
     subject: Subject,
@@ -171,7 +193,7 @@ fn one_side(
     let reasons = reasons_of(alloc, view.design, case, history, &[subject])?;
     let nothing = reasons_of(alloc, view.design, case, history, &[])?;
     let order = order_of(alloc, view, &reasons, subject, &nothing)?;
-    let mut report = Report::new(alloc);
+    let mut report = ToldLines::new(alloc);
     report.side(alloc, view, &reasons, subject, order.as_slice(), ALONE)?;
     Ok(report.into_text())
 }
@@ -179,7 +201,7 @@ fn one_side(
 /// The lines that explain a value of the pipeline and that of the specification.
 fn two_sides(
     alloc: Global,
-    view: &View<'_, '_>,
+    view: &ListedDesign<'_, '_>,
     case: &Case,
     history: &History,
     parting: Parting,
@@ -187,20 +209,32 @@ fn two_sides(
 ) -> Result<Vec<u8>, AllocError> {
     let pipe = reasons_of(alloc, view.design, case, history, &[parting.pipe])?;
     let spec = reasons_of(alloc, view.design, case, history, &[parting.spec])?;
-    let mut report = Report::new(alloc);
+    told_sides(alloc, view, parting, &pipe, &spec, is_short)
+}
+
+/// The lines of both sides, by what each rests on.
+fn told_sides(
+    alloc: Global,
+    view: &ListedDesign<'_, '_>,
+    parting: Parting,
+    pipe: &Reasons,
+    spec: &Reasons,
+    is_short: bool,
+) -> Result<Vec<u8>, AllocError> {
+    let mut report = ToldLines::new(alloc);
     if is_short {
         report.short_flush(alloc, view)?;
     }
-    add_side(alloc, &mut report, view, &pipe, parting.pipe, &spec, FIRST)?;
-    add_side(alloc, &mut report, view, &spec, parting.spec, &pipe, SECOND)?;
+    add_side(alloc, &mut report, view, pipe, parting.pipe, spec, FIRST)?;
+    add_side(alloc, &mut report, view, spec, parting.spec, pipe, SECOND)?;
     Ok(report.into_text())
 }
 
 /// Adds the lines of one of two sides to a report.
 fn add_side(
     alloc: Global,
-    report: &mut Report,
-    view: &View<'_, '_>,
+    report: &mut ToldLines,
+    view: &ListedDesign<'_, '_>,
     reasons: &Reasons,
     root: Subject,
     other: &Reasons,

@@ -1,6 +1,6 @@
 //! Names and values as they are printed.
 
-use crate::view::View;
+use crate::view::ListedDesign;
 use bd_model::{Machine, Scalar};
 use bd_slice::{Column, Cycle, Subject};
 use itoa::Buffer;
@@ -95,7 +95,7 @@ pub fn entry_name(machine: &Machine, entry: u32) -> &[u8] {
 /// Puts the name of a value.
 pub fn push_name(
     out: &mut Vec<u8>,
-    view: &View<'_, '_>,
+    view: &ListedDesign<'_, '_>,
     subject: Subject,
 ) -> Result<(), AllocError> {
     match subject {
@@ -116,7 +116,7 @@ pub fn push_name(
 /// Puts `NAME(WORD,WORD)=VALUE` of an application, without parentheses where there is no argument.
 pub fn push_application(
     out: &mut Vec<u8>,
-    view: &View<'_, '_>,
+    view: &ListedDesign<'_, '_>,
     symbol: u32,
     arguments: &[u64],
     value: Scalar,

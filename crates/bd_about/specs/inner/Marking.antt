@@ -7,18 +7,18 @@ use Rattle.bd_about.specs.Marked.{is_marked}
 use Rattle.bd_about.specs.Reached.{IsReached}
 use Rattle.bd_about.specs.declared.named.Named.{Named}
 use Rattle.bd_about.specs.declared.named.Named.TheVariants as named
-use Rattle.bd_about.specs.declared.marks.Marks.{Marks}
+use Rattle.bd_about.specs.declared.marks.NameMarks.{NameMarks}
 
 -- what the expressions name is marked
-pub record AreMarked (roots : List ExprView) (m : Marks) : Type 0 where
+pub record AreMarked (roots : List ExprView) (m : NameMarks) : Type 0 where
   pub each : (x : Named) → is_marked m x ≡ any_of x roots
 
 -- what they reach is marked
-pub record AreReached (roots : List ExprView) (lets : List LocalView) (m : Marks) : Type 0 where
+pub record AreReached (roots : List ExprView) (lets : List LocalView) (m : NameMarks) : Type 0 where
   pub each : (x : Named) → (is_marked m x ≡ true) ↔ IsReached roots lets x
 
 -- where what expressions name was marked, what they reach is
-pub record LeadsOn (lets : List LocalView) (old new : Marks) : Type 0 where
+pub record LeadsOn (lets : List LocalView) (old new : NameMarks) : Type 0 where
   pub each : (roots : List ExprView) → AreMarked roots old → AreReached roots lets new
 
 -- each let names earlier lets alone

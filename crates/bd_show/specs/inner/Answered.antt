@@ -3,7 +3,7 @@ use Rattle.std.specs.Prelude.{◌≡◌, ◌⊎◌, ◌≤◌, ◌<◌, ◌+◌,
 use Rattle.std.specs.declared.alloc.AllocError.{AllocError}
 use Rattle.bd_text.specs.declared.code.Code.{Code}
 use Rattle.bd_typer.specs.declared.fault.Text.{Text}
-use Rattle.bd_model.specs.Conditions.{IsJudged}
+use Rattle.bd_model.specs.Conditions.{Abstraction, IsJudged}
 use Rattle.bd_model.specs.DesignView.{DesignView}
 use Rattle.bd_model.specs.declared.case.Case.{Case}
 use Rattle.bd_model.specs.declared.case.Condition.TheVariants.{Commute}
@@ -18,9 +18,9 @@ use Rattle.bd_app.specs.Words.{Name, given}
 use Rattle.bd_app.specs.declared.loading.LoadFault.{LoadFault}
 use Rattle.bd_app.specs.declared.loading.LoadFault.TheVariants.{Failed, TooLong, Memory}
 use Rattle.bd_picture.specs.Page.{IsPage}
-use Rattle.bd_picture.specs.Sentence.{sentence}
+use Rattle.bd_picture.specs.Sentence.{compared_sentence, completed_sentence, sentence}
 use Rattle.bd_show.specs.Files.{AreStarted, BlamesSave, Names, Texts, has_trail, name_in, names_of, or_none}
-use Rattle.bd_show.specs.Meaning.{Check, Explain, IsAnswered, IsChecked, IsBadProof, IsDescribed, IsProved, IsShown, IsSmaller, IsTrailShown, IsUnbroken, OfDesign, Question, Recheck, Show, asked_of, nothing_to_explain, nothing_to_shrink, show}
+use Rattle.bd_show.specs.Meaning.{AreJoinedDesign, Check, Explain, IsAnswered, IsChecked, IsCompared, IsCompleted, IsBadProof, IsDescribed, IsProved, IsShown, IsSmaller, IsTrailShown, IsUnbroken, OfDesign, Question, Recheck, Show, asked_of, nothing_to_explain, nothing_to_shrink, show}
 use Rattle.bd_show.specs.Trails.{cycle_case}
 use Rattle.bd_show.specs.declared.answer.Answer.{Answer}
 use Rattle.bd_show.specs.declared.answer.Ended.{Ended}
@@ -69,9 +69,9 @@ IsDoneOn q before after r = IsAnswered q before after (ended_of r) (text_of r)
 abbrev pub IsRefusal : Ended → Type 0
 IsRefusal e = (file : Text) × (offset : ℕ) × (code : Code) × (e ≡ ended.Refused file offset code)
 
--- a question that takes no trail, or is given none
+-- a question that takes neither a trail nor a completion function, or is given none
 abbrev pub TakesCase : Question → Texts → Type 0
-TakesCase (show q) texts = has_trail texts ≡ false
+TakesCase (show q) texts = (texts.comp ≡ None) × (has_trail texts ≡ false)
 TakesCase _ texts = Unit {0}
 
 -- the answer that a file gave no bytes
@@ -141,10 +141,26 @@ pub record IsTrailSeen (d : DesignView) (t : Trail) (judged : TrailJudged) (e : 
   pub shown : IsTrailShown d t judged text
   pub drawn : IsTrailPage d judged page
 
+abbrev pub OfJoinedDesign : Texts → (DesignView → Type 0) → Type 0
+OfJoinedDesign texts P = (d : DesignView) × AreJoinedDesign texts d × P d
+
+-- what `show` says by a completion function of a case of a design, of which this is the text, and its page
+abbrev pub IsOfJoined : Option (List ℕ) → DesignView → Abstraction → Case → Ended → List ℕ
+    → Option (List ℕ) → Type 0
+IsOfJoined case d abs c (ended.Completed j) text page =
+    IsCompleted case d abs c j text × MatchOption page ⊥ (IsPage (completed_sentence d j))
+IsOfJoined case d abs c (ended.Compared same) text page =
+    IsCompared case d abs c same text × MatchOption page ⊥ (IsPage (compared_sentence same))
+IsOfJoined case d abs c e text page = ⊥
+
 -- a page is drawn of what is shown of a case, with the sentence of its judgement as its title, and of nothing else
 abbrev pub IsDrawn : Texts → Ended → Option (List ℕ) → Type 0
 IsDrawn texts (ended.Shown j) page =
     OfDesign texts (λ d. MatchOption page ⊥ (IsPage (sentence d j)))
+IsDrawn texts (ended.Completed j) page =
+    OfJoinedDesign texts (λ d. MatchOption page ⊥ (IsPage (completed_sentence d j)))
+IsDrawn texts (ended.Compared same) page =
+    OfJoinedDesign texts (λ d. MatchOption page ⊥ (IsPage (compared_sentence same)))
 IsDrawn texts (ended.Traced j) page =
     OfStarted texts (λ d. IsTrailPage d j page)
 IsDrawn texts e page = page ≡ None

@@ -2,7 +2,7 @@
 use Rattle.std.specs.Prelude.{◌≡◌, ◌≤◌, ℕ, List, length, Option, IfSome, IfErr, Result}
 use Rattle.bd_files.specs.Devices.{Rose}
 use Rattle.bd_typer.specs.declared.fault.Text.{Text}
-use Rattle.bd_typer.specs.declared.fault.Text.TheVariants.{Inv}
+use Rattle.bd_typer.specs.declared.fault.Text.TheVariants.{Comp, Inv}
 use Rattle.bd_app.specs.Files.{IsFirstLong, most_bytes}
 use Rattle.bd_app.specs.Loading.{Leaves, bytes_of}
 use Rattle.bd_app.specs.Meaning.{FilesSeen}
@@ -19,6 +19,7 @@ texts_view t = record {
   case = bytes_of t.case;
   proof = bytes_of t.proof;
   inv = bytes_of t.inv;
+  comp = bytes_of t.comp;
 }
 
 -- few enough bytes for their readers
@@ -29,6 +30,7 @@ pub record AreFew (t : Texts) : Type 0 where
   pub pipe : length t.pipe ≤ longest_text
   pub spec : length t.spec ≤ longest_text
   pub inv : IsFewIf Inv t.inv
+  pub comp : IsFewIf Comp t.comp
 
 -- why one of several files gave no bytes
 abbrev pub IsFault : Names → FilesSeen → FilesSeen → LoadFault → Type 0

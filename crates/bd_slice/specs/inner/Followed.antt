@@ -11,8 +11,8 @@ use Rattle.bd_model.specs.declared.table.Value.{Value}
 use Rattle.bd_model.specs.declared.table.Value.TheVariants as value
 use Rattle.bd_model.specs.declared.case.Case.{Case}
 use Rattle.bd_slice.specs.Places.{AgreesAt}
-use Rattle.bd_slice.specs.declared.graph.Node.{Node}
-use Rattle.bd_slice.specs.declared.graph.Node.TheVariants as node
+use Rattle.bd_slice.specs.declared.graph.SupportNode.{SupportNode}
+use Rattle.bd_slice.specs.declared.graph.SupportNode.TheVariants as node
 use Rattle.bd_slice.specs.declared.kept.Traced.{Traced}
 use Rattle.bd_slice.specs.declared.kept.TracedWord.{TracedWord}
 use Rattle.bd_slice.specs.declared.kept.Link.{Link}
@@ -29,18 +29,19 @@ pub record Other : Type 0 where
   pub has : ℕ → Bool
 
 -- what a node that the slice has brings with it
-abbrev pub Brings : Case → Other → Node → Type 0
+abbrev pub Brings : Case → Other → SupportNode → Type 0
 Brings c o node.Nothing = ⊤
 Brings c o (node.Place p) = AgreesAt c o.case p
 Brings c o (node.Both a b) = IsTrue (o.has a) × IsTrue (o.has b)
 
 -- the slice has the first node, and with each node what that stands on; the other case agrees on its places
-pub record Holds (c : Case) (nodes : List Node) (o : Other) : Type 0 where
+pub record Holds (c : Case) (nodes : List SupportNode) (o : Other) : Type 0 where
   pub first : IsTrue (o.has 0)
-  pub each : (i : ℕ) (n : Node) → slice_get nodes i ≡ Some n → IsTrue (o.has i) → Brings c o n
+  pub each : (i : ℕ) (n : SupportNode) → slice_get nodes i ≡ Some n → IsTrue (o.has i) →
+      Brings c o n
 
 -- what holds of the new nodes holds of the old ones
-abbrev pub Grows : List Node → List Node → Type 0
+abbrev pub Grows : List SupportNode → List SupportNode → Type 0
 Grows old new = (c : Case) (o : Other) → Holds c new o → Holds c old o
 
 -- the value is the same in the other case if the slice has what it rests on
@@ -52,7 +53,7 @@ FollowsWord o t n = IsTrue (o.has t.node) → n ≡ t.word
 
 -- a traced value that is a function of two others
 abbrev pub Combines :
-    List Node → Traced → Traced → Traced → (Scalar → Scalar → Scalar) → Type 0
+    List SupportNode → Traced → Traced → Traced → (Scalar → Scalar → Scalar) → Type 0
 Combines nodes p q t f =
     (c : Case) (o : Other) (x y : Scalar) → Holds c nodes o → Follows o p x → Follows o q y →
     Follows o t (f x y)

@@ -3,11 +3,11 @@ use Rattle.bd_model.specs.DesignView.{design_view}
 use Rattle.bd_about.specs.inner.Asked.{IsMoreFlushed, IsMoreSteps, IsReset, IsWithoutInvariant, IsWithoutSteps}
 use Rattle.bd_about.proofs.asking.findings_of.Goals as goal
 
-pub returns : goal.returns
-returns c =
+pub returns-clause-findings : goal.returns-clause-findings
+returns-clause-findings c =
     let d = design_view c.args.design in
     let given = c.args.given in
-    let own = c.in_ok-own.own in
+    let own = c.args.own in
     let once : design_view c.in_ok-less_flushed.design ≡ d = c.in_ok-less_flushed.ensures.again in
     let twice : design_view c.in_ok-more_flushed.design ≡ d = c.in_ok-more_flushed.ensures.again ∙ once in
     let thrice : design_view c.in_ok-more_steps.design ≡ d = c.in_ok-more_steps.ensures.again ∙ twice in
@@ -23,7 +23,7 @@ returns c =
     let no_steps : IsWithoutSteps d given c.in_ok-without_steps.without_steps =
     subst (λ e. IsWithoutSteps e given c.in_ok-without_steps.without_steps) last c.in_ok-without_steps.ensures in
     record {
-      own = c.in_ok-own.ensures;
+      own = c.requires.own;
       less_flushed = c.in_ok-less_flushed.ensures.found.finding;
       more_flushed = more_flushed.finding;
       more_steps = more_steps.finding;

@@ -1,5 +1,6 @@
 use Rattle.std.proofs.Common.{◌∙◌, sym, subst}
 use Rattle.bd_model.specs.DesignView.{design_view}
+use Rattle.bd_about.specs.Conjuncts.{AreConjuncts}
 use Rattle.bd_about.specs.Findings.{AreFindings}
 use Rattle.bd_syntax.specs.declared.ast.Kind.TheVariants.{Pipeline, Specification}
 use Rattle.bd_show.specs.LetNames.{AreGivenLets, AreMachineLets}
@@ -9,8 +10,12 @@ use Rattle.bd_show.proofs.about.described.Goals as goal
 
 pub returns : goal.returns
 returns c = record {
-  findings = subst (λ given. AreFindings (design_view c.args.design) given c.in_ok-about.about.findings)
+  findings = subst (λ given. AreFindings (design_view c.args.design) given c.in_ok-about.about.found.findings)
       (c.is_some.ensures ∙ sym (bytes_given c.args.texts.now.inv)) c.in_ok-about.ensures.findings;
+  without = c.in_ok-about.about.found.without.items;
+  are_without =
+      subst (λ given. AreConjuncts (design_view c.args.design) given c.in_ok-about.about.found.findings.own c.in_ok-about.about.found.without.items)
+      (c.is_some.ensures ∙ sym (bytes_given c.args.texts.now.inv)) c.in_ok-about.ensures.without;
   applied = c.in_ok-about.about.applications;
   are_applied = c.in_ok-about.ensures.applications;
   unread = c.in_ok-about.about.unread;

@@ -7,4 +7,4 @@ use Rattle.bd_show.proofs.fault.refused_trail.Goals as goal
 
 pub returns-in-Bad-clause-says : goal.returns-in-Bad-clause-says
 returns-in-Bad-clause-says c =
-    trail_told (texts_view c.args.texts.now) (names_of c.args.names) c.in-Bad.file c.in-Bad.offset c.in-Bad.code c.refusal.result c.requires.trail (subst (IsRefusedBy (IsStartedFault (texts_view c.args.texts.now))) c.in-Bad.is c.requires.fault) c.refusal.ensures.ended c.refusal.ensures.text
+    trail_told (texts_view c.args.texts.now) (names_of c.args.names) c.in-Bad.file c.in-Bad.offset c.in-Bad.code c.refusal.result c.requires.alone c.requires.trail (subst (IsRefusedBy (IsStartedFault (texts_view c.args.texts.now))) c.in-Bad.is c.requires.fault) c.refusal.ensures.ended c.refusal.ensures.text

@@ -1,0 +1,9 @@
+use Rattle.std.proofs.Common.{ap}
+use Rattle.clap.specs.Words.{rule_of}
+use Rattle.bd_show.proofs.command.described.Goals as goal
+
+pub returns-clause-rule : goal.returns-clause-rule
+returns-clause-rule c = ap rule_of c.help.ensures
+
+pub returns-clause-local : goal.returns-clause-local
+returns-clause-local c = ap (λ a. a.global) c.help.ensures

@@ -1,8 +1,0 @@
-use Rattle.bd_slice.specs.declared.graph.Node.TheVariants as node
-use Rattle.bd_slice.proofs.graph.Graph.both.Goals as goal
-
-pub returns-clause-first : goal.returns-clause-first
-returns-clause-first c = λ d o h has. (h.each _ (node.Both c.args.a c.args.b) c.in_ok-node.ensures.at has).0
-
-pub returns-clause-second : goal.returns-clause-second
-returns-clause-second c = λ d o h has. (h.each _ (node.Both c.args.a c.args.b) c.in_ok-node.ensures.at has).1
