@@ -46,5 +46,23 @@ class Edits(unittest.TestCase):
                     self.assertEqual(edits.main([str(log)]), status)
 
 
+class Applies(unittest.TestCase):
+    """What wrong bodies edit is there: those that the gate tries, and those that it leaves out."""
+
+    def test_each_line_stands_once(self):
+        """Each text that is replaced stands once in its file."""
+        top = Path(__file__).resolve().parent.parent
+        every = [*top.glob("crates/*/must-fail/*.edit"), *top.glob("bench/wrong/*/*.edit")]
+        self.assertGreater(len(every), 100)
+        for edit in every:
+            crate = edit.parts[-3] if edit.parent.name == "must-fail" else edit.parent.name
+            words = [line.partition(": ")[::2] for line in edit.read_text(encoding="utf-8").splitlines()]
+            file = next(value for key, value in words if key == "file")
+            text = (top / "crates" / crate / file).read_text(encoding="utf-8")
+            for old in [value for key, value in words if key == "old"]:
+                with self.subTest(edit=edit.name, old=old):
+                    self.assertEqual(text.count(old), 1)
+
+
 if __name__ == "__main__":
     unittest.main()

@@ -1,0 +1,40 @@
+#!/usr/bin/env python3
+"""Tries the wrong bodies that the gate leaves out: each of their crates would cost it a second proof.
+
+usage: bench/wrong.py [NAME ..]
+
+`bench/wrong/NAME/` has those of the crate NAME. In a copy of the repository they are put into `crates/NAME/must-fail/`,
+and `rt must-fail` tries them there: those of the crates that are named, or all. The status is that of `rt must-fail`.
+"""
+import shutil
+import subprocess
+import sys
+import tempfile
+from pathlib import Path
+
+TOP = Path(__file__).resolve().parent.parent
+LEFT_OUT = TOP / "bench" / "wrong"
+
+
+def tried(names):
+    """The status of `rt must-fail` on a copy of the repository in which these crates have their wrong bodies."""
+    with tempfile.TemporaryDirectory(prefix="wrong-") as room:
+        copy = Path(room, "repo")
+        shutil.copytree(TOP, copy, ignore=shutil.ignore_patterns(".git"))
+        for name in names:
+            shutil.copytree(LEFT_OUT / name, copy / "crates" / name / "must-fail", dirs_exist_ok=True)
+        return subprocess.run(["rt", "must-fail", *names], cwd=copy, check=False).returncode
+
+
+def main(names):
+    """Tries the wrong bodies of the crates that are named, or of all that have some."""
+    some = sorted(folder.name for folder in LEFT_OUT.iterdir())
+    unknown = [name for name in names if name not in some]
+    if unknown:
+        print(f"no wrong bodies are left out of {unknown[0]}: there are some of {', '.join(some)}", file=sys.stderr)
+        return 2
+    return tried(names or some)
+
+
+if __name__ == "__main__":
+    sys.exit(main(sys.argv[1:]))
