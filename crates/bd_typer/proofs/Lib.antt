@@ -1,4 +1,6 @@
 pub mod Abstractions
+pub mod Accepted
+pub mod Complete
 pub mod DeclaredNames
 pub mod DenotedLawful
 pub mod DenotesOnce
@@ -17,6 +19,7 @@ pub mod Operations
 pub mod Parts
 pub mod ReadFiles
 pub mod RepeatedNames
+pub mod SmallDesign
 pub mod SomeResult
 pub mod Sound
 pub mod Steps

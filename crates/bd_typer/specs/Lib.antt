@@ -1,4 +1,5 @@
 pub mod Across
+pub mod Complete
 pub mod Completions
 pub mod Declarations
 pub mod Denotes
