@@ -1,6 +1,6 @@
 -- Two visible states are equal entry by entry, each memory at an address of its own.
 use Rattle.std.proofs.Common.{◌≡◌, ℕ, zero, suc, ◌+◌, ◌*◌, ◌<◌, ◌≤◌, inl, inr, Bool, true, false, ◌&&◌, ◌==◌, if◌then◌else◌, List, [], ◌∷◌, drop, length, Ok, refl, ap, sym, ◌∙◌, subst, arith, eqb-true, eq-eqb}
-use Rattle.std.specs.Prelude.{◌↔◌, IsTrue, IfOk, Result, Some, Contains, not, slice_get}
+use Rattle.std.specs.Prelude.{◌↔◌, IsTrue, IfOk, Result, Some, Contains, not, slice_get, slice_index_or}
 use Rattle.std.specs.declared.alloc.AllocError.{AllocError}
 use Rattle.std.proofs.lemmas.Result.{IfOk-weaker}
 use Rattle.std.specs.Cmp.{booleans_Decides}
@@ -23,16 +23,21 @@ use Rattle.bd_model.specs.declared.table.Value.{Value}
 use Rattle.bd_model.specs.declared.table.Value.TheVariants as value
 use Rattle.bd_terms.specs.declared.node.Sym.TheVariants as symbol
 use Rattle.bd_terms.specs.declared.node.Node.{Node}
+use Rattle.bd_terms.specs.declared.node.Node.TheVariants as node
 use Rattle.bd_terms.specs.Graph.{AddsUses, Extends, IsGraph, Use, sort_at, uses}
 use Rattle.bd_terms.specs.Graph.{HasSort as TermHasSort}
 use Rattle.bd_terms.specs.Denotation.{World, Denotes, Truth, Word, applied, contents, contents_of, denoted, denoted_sort, truth, truth_of, word, word_of}
-use Rattle.bd_terms.proofs.Growth.{AddsUses-more, AddsUses-trans, Extends-trans, HasSort-Extends, denoted-Extends}
+use Rattle.bd_terms.proofs.Growth.{AddsUses-more, AddsUses-trans, Extends-self, Extends-trans, HasSort-Extends, denoted-Extends}
 use Rattle.bd_symbolic.proofs.Arms.{IfOk-sort, iff_ites}
 use Rattle.bd_terms.proofs.Simplifying.{denoted-sort}
 use Rattle.bd_symbolic.specs.World.{denotes_value}
 use Rattle.bd_symbolic.specs.Symbolic.{DenoteValues, HaveSorts}
 use Rattle.bd_goal.specs.Symbols.{GrowsKnown, IsKnown, KeepsAddresses, address_use}
 use Rattle.bd_goal.specs.Formula.{EqualFrom, is_memory, memory_count}
+use Rattle.bd_symbolic.specs.Made.{Called, IsEquivalence}
+use Rattle.bd_symbolic.proofs.Making.{called-Extends}
+use Rattle.bd_goal.specs.Made.{AreEqual, AreEqualFrom, IsEquation}
+use Rattle.bd_goal.proofs.Making.{equation-Extends, item-is}
 use Rattle.bd_goal.specs.inner.Shown.{EqualIn, EqualTerms, Says, address_uses, are_equal}
 use Rattle.bd_goal.proofs.Counting.{memories_in}
 use Rattle.bd_goal.proofs.Lists.{drop-there, zip-length, zip-there}
@@ -97,10 +102,11 @@ pub record Equalled (d : DesignView) (old cur : List Node) (ours theirs : List �
   pub number : address ≡ count * stride + first
   pub says : (w : World) (a b : List Value) → DenoteValues w old ours a → DenoteValues w old theirs b
       → (IsTrue (truth w cur all) × EqualFrom (word_at w first stride) count (drop i a) (drop i b)) ↔ EqualFrom (word_at w first stride) 0 a b
+  pub made : (later : List Node) (id : ℕ) → Extends cur later → AreEqualFrom later ours theirs stride i address all (drop i d.spec.entries) id → AreEqual later d ours theirs first stride id
 
-pub equalled-none : (d : DesignView) (old cur : List Node) (ours theirs : List ℕ) (first stride all : ℕ) → IsGraph cur → Extends old cur → AddsUses old cur [] → TermHasSort cur all sort.Bool → Denotes cur all (λ w. Truth true)
+pub equalled-none : (d : DesignView) (old cur : List Node) (ours theirs : List ℕ) (first stride all : ℕ) → IsGraph cur → Extends old cur → AddsUses old cur [] → TermHasSort cur all sort.Bool → Denotes cur all (λ w. Truth true) → Called cur node.True all
     → Equalled d old cur ours theirs first stride 0 all first
-equalled-none d old cur ours theirs first stride all g e u s is = record {
+equalled-none d old cur ours theirs first stride all g e u s is c = record {
   graph = g;
   grows = λ n below. Known-none d n old cur e u;
   extends = e;
@@ -110,6 +116,7 @@ equalled-none d old cur ours theirs first stride all g e u s is = record {
   counted = none (memory_count d);
   number = number_none first stride;
   says = λ w a b ha hb. (λ h. h.1, λ h. (ap truth_of (is.is w), h));
+  made = λ later id more j. (all, called-Extends cur later more node.True all c, j);
 } where
   none : (n : ℕ) → 0 + n ≡ n
   none n = omega arith
@@ -177,9 +184,9 @@ equalled-refused d old cur mid ours theirs first stride i all address our their 
 pub equalled-next : (d : DesignView) (old cur mid new : List Node) (ours theirs : List ℕ) (first stride i all address our their one id : ℕ) (x : entry.Entry)
     → HaveSorts old ours (entry_sorts d.spec) → HaveSorts old theirs (entry_sorts d.spec) → IsAt old ours theirs i our their x.sort → slice_get d.spec.entries i ≡ Some x
     → IsGraph new → Equalled d old cur ours theirs first stride i all address → EqualTerms cur mid x.sort our their address (Ok one)
-    → Extends mid new → AddsUses mid new [] → TermHasSort new id sort.Bool → Denotes new id (λ w. Truth (truth w mid all && truth w mid one))
+    → Extends mid new → AddsUses mid new [] → TermHasSort new id sort.Bool → Denotes new id (λ w. Truth (truth w mid all && truth w mid one)) → Called new (node.And all one) id
     → Equalled d old new ours theirs first stride (i + 1) id (address + (if is_memory x.sort then stride else 0))
-equalled-next d old cur mid new ours theirs first stride i all address our their one id x so st at there g h t e u s is =
+equalled-next d old cur mid new ours theirs first stride i all address our their one id x so st at there g h t e u s is c =
     let counted = counted-there d old cur ours theirs first stride i all address x there h in
     record {
       graph = g;
@@ -215,10 +222,22 @@ equalled-next d old cur mid new ours theirs first stride i all address our their
           (sym (drop-there b i vb.0 vb.1))
           (equal-entry f h.count x.sort va.0 vb.0 (drop (i + 1) a) (drop (i + 1) b) sa sb)))
           (h.says w a b ha hb);
+      made = λ later k more j.
+          let from : Extends mid later = Extends-trans mid new later e more in
+          let front : IsEquation later x.sort our their address one = equation-Extends mid later from x.sort our their address one t.made in
+          let placed : IsEquation later x.sort (slice_index_or ours i 0) (slice_index_or theirs i 0) address one =
+          subst (λ a. IsEquation later x.sort a (slice_index_or theirs i 0) address one) (item-is ours i our at.at_ours) (subst (λ b. IsEquation later x.sort our b address one) (item-is theirs i their at.at_theirs) front) in
+          h.made later k (Extends-trans cur mid later t.extends from)
+          (subst (λ l. AreEqualFrom later ours theirs stride i address all l k) (sym (drop-there d.spec.entries i x there)) (one, id, placed, called-Extends new later more (node.And all one) id c, j));
     } where
       equal-joined : (p q r : Bool) (Rest Front Whole : Type 0) → r ≡ (p && q) → (IsTrue q × Rest) ↔ Front → (IsTrue p × Front) ↔ Whole → (IsTrue r × Rest) ↔ Whole
       equal-joined true q r Rest Front Whole e one two = (λ h. two.0 (refl, one.0 (sym e ∙ h.0, h.1)), λ h. let k = one.1 (two.1 h).1 in (e ∙ k.0, k.1))
       equal-joined false q r Rest Front Whole e one two = (λ h. absurd (cc (e, h.0)), λ h. absurd (cc (two.1 h).0))
+
+-- after the last entry the calls are those for two equal states
+pub equalled-made : (d : DesignView) (old cur : List Node) (ours theirs : List ℕ) (first stride i all address : ℕ) → length d.spec.entries ≤ i → Equalled d old cur ours theirs first stride i all address → AreEqual cur d ours theirs first stride all
+equalled-made d old cur ours theirs first stride i all address past h =
+    h.made cur all (Extends-self cur) (subst (λ l. AreEqualFrom cur ours theirs stride i address all l all) (sym (drop_all i d.spec.entries past)) refl)
 
 pub equalled-all : (d : DesignView) (old cur : List Node) (ours theirs : List ℕ) (first stride i all address : ℕ) → HaveSorts old ours (entry_sorts d.spec) → HaveSorts old theirs (entry_sorts d.spec) → length d.spec.entries ≤ i
     → Equalled d old cur ours theirs first stride i all address → (w : World) (a b : List Value) → DenoteValues w old ours a → DenoteValues w old theirs b
@@ -234,13 +253,19 @@ equalled-all d old cur ours theirs first stride i all address so st past h w a b
 -- that two truth values are equal
 pub equal_bits : (old mid new : List Node) (a b n address : ℕ) (r : Result ℕ AllocError) → IsGraph mid → TermHasSort old a sort.Bool → TermHasSort old b sort.Bool → Extends old mid → AddsUses old mid []
     → Denotes mid n (λ v. Truth (not (truth v old b))) → IfOk r (λ id. Denotes new id (λ w. if truth w mid a then denoted w mid b else denoted w mid n)) → IfOk r (λ id. TermHasSort new id (sort_at mid b))
-    → Extends mid new → AddsUses mid new [] → EqualTerms old new sort.Bool a b address r
-equal_bits old mid new a b n address r g ha hb e u d t s e' u' = record {
+    → Extends mid new → AddsUses mid new [] → IfOk r (IsEquivalence new a b) → EqualTerms old new sort.Bool a b address r
+equal_bits old mid new a b n address r g ha hb e u d t s e' u' m = record {
   sorted = IfOk-sort r new (sort_at mid b) sort.Bool (HasSort-Extends old mid e b sort.Bool hb).sorted s;
   denotes = IfOk-weaker r _ _ (λ id k w. ap truth_of (k.is w)) (iff_ites old mid new a b n r g e ha hb d t);
   extends = Extends-trans old mid new e e';
   uses = AddsUses-trans old mid new [] u u';
+  made = m;
 }
+
+-- that two words are equal
+pub equal_words : (old new : List Node) (a b address : ℕ) (r : Result ℕ AllocError) → IfOk r (λ id. Denotes new id (λ w. Truth (word w old a == word w old b))) → IfOk r (λ id. TermHasSort new id sort.Bool) → Extends old new → AddsUses old new []
+    → IfOk r (Called new (node.Eq a b)) → EqualTerms old new sort.Word a b address r
+equal_words old new a b address r t s e u m = record { sorted = s; denotes = IfOk-weaker r _ _ (λ id k w. ap truth_of (k.is w)) t; extends = e; uses = u; made = m }
 
 word-later : (w : World) (old new : List Node) → Extends old new → (id : ℕ) → TermHasSort old id sort.Word → word w new id ≡ word w old id
 word-later w old new e id h = ap word_of (denoted-Extends w old new e id h.inside)
@@ -254,8 +279,9 @@ pub equal_reads : (old g1 g2 g3 new : List Node) (a b p x y address : ℕ) (r : 
     → Extends g1 g2 → AddsUses g1 g2 [] → TermHasSort g2 x sort.Word → Denotes g2 x (λ w. Word (contents w g1 a (word w g1 p)))
     → Extends g2 g3 → AddsUses g2 g3 [] → Denotes g3 y (λ w. Word (contents w g2 b (word w g2 p)))
     → IfOk r (λ id. Denotes new id (λ w. Truth (word w g3 x == word w g3 y))) → IfOk r (λ id. TermHasSort new id sort.Bool) → Extends g3 new → AddsUses g3 new []
+    → Called g1 (node.App (symbol.Address address) []) p → Called g2 (node.Read a p) x → Called g3 (node.Read b p) y → IfOk r (Called new (node.Eq x y))
     → EqualTerms old new sort.Memory a b address r
-equal_reads old g1 g2 g3 new a b p x y address r ha hb e1 u1 sp dp e2 u2 sx dx e3 u3 dy t s e4 u4 = record {
+equal_reads old g1 g2 g3 new a b p x y address r ha hb e1 u1 sp dp e2 u2 sx dx e3 u3 dy t s e4 u4 c1 c2 c3 c4 = record {
   sorted = s;
   denotes = IfOk-weaker r _ _ (λ id k w. ap truth_of (k.is w) ∙ ap (λ m. m == word w g3 y) (ours w) ∙ ap (λ m. contents_of (denoted w old a) (applied w (symbol.Address address) []) == m) (theirs w)) t;
   extends = Extends-trans old g3 new (Extends-trans old g2 g3 (Extends-trans old g1 g2 e1 e2) e3) e4;
@@ -263,6 +289,15 @@ equal_reads old g1 g2 g3 new a b p x y address r ha hb e1 u1 sp dp e2 u2 sx dx e
       AddsUses-trans old g3 new (address_use address ∷ [])
       (AddsUses-trans old g2 g3 (address_use address ∷ []) (AddsUses-trans old g1 g2 (address_use address ∷ []) u1 (no_more g1 g2 (address_use address ∷ []) u2)) (no_more g2 g3 (address_use address ∷ []) u3))
       (no_more g3 new (address_use address ∷ []) u4);
+  made = IfOk-weaker r (Called new (node.Eq x y)) _ (λ id k. (
+    p,
+    x,
+    y,
+    called-Extends g1 new (Extends-trans g1 g2 new e2 (Extends-trans g2 g3 new e3 e4)) (node.App (symbol.Address address) []) p c1,
+    called-Extends g2 new (Extends-trans g2 g3 new e3 e4) (node.Read a p) x c2,
+    called-Extends g3 new e4 (node.Read b p) y c3,
+    k,
+  )) c4;
 } where
   place : (w : World) → word w g1 p ≡ applied w (symbol.Address address) []
   place w = ap word_of (dp.is w)

@@ -1,10 +1,11 @@
 -- For which numbers of steps the cycle stands.
-use Rattle.std.proofs.Common.{◌≡◌, ◌≢◌, ℕ, suc, ◌+◌, ◌≤◌, ◌<◌, ◌⊎◌, inl, inr, Bool, true, false, ◌&&◌, ◌||◌, ◌==◌, not, List, [], ◌∷◌, drop, length, refl, ap, sym, ◌∙◌, subst, arith, eqb-true, eq-eqb, true≢false}
+use Rattle.std.proofs.Common.{◌≡◌, ◌≢◌, ℕ, suc, ◌+◌, ◌≤◌, ◌<◌, ◌⊎◌, inl, inr, Bool, true, false, ◌&&◌, ◌||◌, ◌==◌, not, List, [], ◌∷◌, drop, length, map, refl, ap, sym, ◌∙◌, subst, arith, eqb-true, eq-eqb, true≢false}
 use Rattle.std.specs.Prelude.{◌↔◌, ◌*◌, IsTrue, IfOk, Result, Ok, Err, Some, slice_get, slice_index_or}
 use Rattle.std.specs.declared.alloc.AllocError.{AllocError}
 use Rattle.std.specs.List.{AllByRecursion, AllZip}
 use Rattle.std.proofs.Math.Path.{fun_ext}
 use Rattle.std.proofs.lemmas.List.{drop_all}
+use Rattle.std.proofs.lemmas.Result.{IfOk-weaker}
 use Rattle.std.proofs.lemmas.Nat.{mul-add-lt}
 use Rattle.bd_model.specs.DesignView.{DesignView, ExactView}
 use Rattle.bd_model.specs.Value.{Env, value_of, env_of, is_true}
@@ -16,11 +17,12 @@ use Rattle.bd_model.specs.declared.table.Scalar.{Scalar}
 use Rattle.bd_model.specs.declared.table.Table.{Table}
 use Rattle.bd_model.specs.declared.table.Value.{Value}
 use Rattle.bd_terms.specs.declared.node.Node.{Node}
+use Rattle.bd_terms.specs.declared.node.Node.TheVariants as node
 use Rattle.bd_terms.specs.declared.node.Sym.TheVariants as symbol
 use Rattle.bd_terms.specs.Graph.{AddsUses, Extends}
 use Rattle.bd_terms.specs.Graph.{HasSort as TermHasSort}
 use Rattle.bd_terms.specs.Denotation.{World, Denotes, Truth, applied, truth, truth_of}
-use Rattle.bd_terms.proofs.Growth.{AddsUses-trans, Extends-trans, HasSort-Extends}
+use Rattle.bd_terms.proofs.Growth.{AddsUses-trans, Extends-self, Extends-trans, HasSort-Extends}
 use Rattle.bd_symbolic.specs.DesignSymbols.{GrowsWithin}
 use Rattle.bd_symbolic.specs.States.{DenotesSpecStep, DenotesState, DenotesStep, StateHasSorts}
 use Rattle.bd_symbolic.specs.Symbolic.{DenoteScalars, DenoteValues, HaveSorts}
@@ -28,6 +30,10 @@ use Rattle.bd_symbolic.specs.declared.state.SymState.{SymState}
 use Rattle.bd_symbolic.proofs.Growing.{Denote-Extends}
 use Rattle.bd_goal.specs.Symbols.{GrowsKnown}
 use Rattle.bd_goal.specs.Formula.{EqualAt, EqualFrom, address_count, address_number, memory_count}
+use Rattle.bd_symbolic.specs.Made.{AreMadeOver, Called}
+use Rattle.bd_symbolic.proofs.Making.{called-Extends, over-Extends}
+use Rattle.bd_goal.specs.Made.{AllowFrom, AreEqual, IsAllowance, IsCommuting, IsStanding, IsUnless, StandsFrom}
+use Rattle.bd_goal.proofs.Making.{allowance-Extends, equal-Extends, item-is, standing-Extends, unless-Extends}
 use Rattle.bd_goal.specs.inner.Shown.{AreConditions, DenoteConditions, EqualIn, IsVisible, Says, StandsIn, StandsUpTo}
 use Rattle.bd_goal.proofs.Equalling.{AreBelow}
 use Rattle.bd_goal.proofs.Known.{Known-none, Known-trans, Known-within}
@@ -46,6 +52,16 @@ pub record Allows (d : DesignView) (old cur : List Node) (whens : List ℕ) (j i
   pub sorted : TermHasSort cur all sort.Bool
   pub says : (w : World) (interp : List Table) (values : List Value) (inputs : List Scalar) → DenoteConditions d w old whens interp values inputs
       → (IsTrue (truth w cur all) × AllByRecursion (AllowsCount (env_before d interp values inputs) j) (drop i d.exact)) ↔ AllByRecursion (AllowsCount (env_before d interp values inputs) j) d.exact
+  pub made : (later : List Node) (id : ℕ) → Extends cur later → AllowFrom later j whens i all (drop i d.exact) id → IsAllowance later d whens j id
+
+pub allows-none : (d : DesignView) (old cur : List Node) (whens : List ℕ) (j all : ℕ) → Extends old cur → AddsUses old cur [] → TermHasSort cur all sort.Bool → Denotes cur all (λ w. Truth true) → Called cur node.True all → Allows d old cur whens j 0 all
+allows-none d old cur whens j all e u s is c = record {
+  extends = e;
+  uses = u;
+  sorted = s;
+  says = λ w interp values inputs denote. (λ h. h.1, λ h. (ap truth_of (is.is w), h));
+  made = λ later id more k. (all, called-Extends cur later more node.True all c, k);
+}
 
 -- an item of this count, or one whose condition is false
 one-allows : (count j : ℕ) (is_free when : Bool) → IsTrue is_free ↔ (count ≡ j) → IsTrue (is_free || not when) ↔ (IsTrue when → count ≡ j)
@@ -72,8 +88,9 @@ pub allows-next : (d : DesignView) (old cur mid new : List Node) (whens : List �
     → IsTrue is_free ↔ (x.count ≡ j) → Allows d old cur whens j i all
     → Extends cur mid → AddsUses cur mid [] → Denotes mid one (λ w. Truth (is_free || not (truth w cur when)))
     → Extends mid new → AddsUses mid new [] → TermHasSort new id sort.Bool → Denotes new id (λ w. Truth (truth w mid all && truth w mid one))
+    → is_free ≡ (x.count == j) → IsUnless mid is_free when one → Called new (node.And all one) id
     → Allows d old new whens j (i + 1) id
-allows-next d old cur mid new whens j i all when one id is_free x known there at free h e u denied e' u' s is = record {
+allows-next d old cur mid new whens j i all when one id is_free x known there at free h e u denied e' u' s is same c1 c2 = record {
   extends = Extends-trans old mid new (Extends-trans old cur mid h.extends e) e';
   uses = AddsUses-trans old mid new [] (AddsUses-trans old cur mid [] h.uses u) u';
   sorted = s;
@@ -90,6 +107,12 @@ allows-next d old cur mid new whens j i all when one id is_free x known there at
       allows-joined (truth w cur all) (is_free || not (is_true (value_of env x.when))) (truth w new id)
       (AllowsCount env j x) (AllByRecursion (AllowsCount env j) (drop (i + 1) d.exact)) (AllByRecursion (AllowsCount env j) (drop i d.exact)) (AllByRecursion (AllowsCount env j) d.exact)
       both (one-allows x.count j is_free (is_true (value_of env x.when)) free) (ap (λ l. AllByRecursion (AllowsCount env j) l) (drop-there d.exact i x there)) (h.says w interp values inputs denote);
+  made = λ later k more r.
+      let from : Extends mid later = Extends-trans mid new later e' more in
+      let placed : IsUnless later (x.count == j) (slice_index_or whens i 0) one =
+      subst (λ b. IsUnless later b (slice_index_or whens i 0) one) same (subst (λ a. IsUnless later is_free a one) (item-is whens i when at) (unless-Extends mid later from is_free when one c1)) in
+      h.made later k (Extends-trans cur mid later e from)
+      (subst (λ l. AllowFrom later j whens i all l k) (sym (drop-there d.exact i x there)) (one, id, placed, called-Extends new later more (node.And all one) id c2, r));
 }
 
 pub allows-all : (d : DesignView) (old cur : List Node) (whens : List ℕ) (j i all : ℕ) → length d.exact ≤ i → Allows d old cur whens j i all
@@ -97,6 +120,10 @@ pub allows-all : (d : DesignView) (old cur : List Node) (whens : List ℕ) (j i 
 allows-all d old cur whens j i all past h w interp values inputs denote =
     let both = h.says w interp values inputs denote in
     (λ t. both.0 (t, subst (λ l. AllByRecursion (AllowsCount (env_before d interp values inputs) j) l) (sym (drop_all i d.exact past)) tt), λ k. (both.1 k).0)
+
+-- after the last item the calls are those for what is allowed
+pub allows-made : (d : DesignView) (old cur : List Node) (whens : List ℕ) (j i all : ℕ) → length d.exact ≤ i → Allows d old cur whens j i all → IsAllowance cur d whens j all
+allows-made d old cur whens j i all past h = h.made cur all (Extends-self cur) (subst (λ l. AllowFrom cur j whens i all l all) (sym (drop_all i d.exact past)) refl)
 
 conditions-later_all : (old new : List Node) → Extends old new → (whens : List ℕ) → AllByRecursion (λ id. TermHasSort old id sort.Bool) whens → AllByRecursion (λ id. TermHasSort new id sort.Bool) whens
 conditions-later_all old new e [] h = tt
@@ -135,6 +162,7 @@ pub record Commuting (d : DesignView) (old cur : List Node) (state : SymState) (
   pub so_far : (w : World) (interp : List Table) (values : List Value) (inputs : List Scalar) (a b : List Value)
       → DenotesState d w old state interp values inputs → DenoteValues w old before.entries a → DenoteValues w old after.entries b
       → CommutesSoFar d w cur whens after joined first i any interp values inputs a b
+  pub made : (later : List Node) (left id : ℕ) → Extends cur later → i + left ≡ d.steps → StandsFrom later d whens after.entries first i joined any left id → IsCommuting later d state before after.entries first id
 
 -- what the term of one number of steps says
 abbrev pub SaysStands : DesignView → List Node → List Node → List ℕ → List ℕ → List ℕ → ℕ → ℕ → ℕ → Type 0
@@ -147,8 +175,9 @@ SaysStands d old new whens after joined first j id =
 pub commuting-none : (d : DesignView) (g0 g1 g2 : List Node) (state : SymState) (whens : List ℕ) (before after : SymState) (first any : ℕ) → GrowsWithin d g0 g1 → AreConditions d g1 whens
     → ((w : World) (interp : List Table) (values : List Value) (inputs : List Scalar) → DenotesState d w g0 state interp values inputs → DenoteConditions d w g1 whens interp values inputs)
     → IsVisible d g0 after → IsVisible d g0 before → GrowsKnown d (first + address_count d) g1 g2
-    → TermHasSort g2 any sort.Bool → SaysStands d g1 g2 whens after.entries before.entries first 0 any → Commuting d g0 g2 state whens before after before first 0 any
-commuting-none d g0 g1 g2 state whens before after first any f conditions denote vb vj g s says =
+    → TermHasSort g2 any sort.Bool → SaysStands d g1 g2 whens after.entries before.entries first 0 any
+    → AreMadeOver g1 d state d.pipe.locals (map (λ (x : ExactView). x.when) d.exact) whens → IsStanding g2 d whens after.entries before.entries first 0 any → Commuting d g0 g2 state whens before after before first 0 any
+commuting-none d g0 g1 g2 state whens before after first any f conditions denote vb vj g s says over stands =
     let whole = Known-trans d (first + address_count d) g0 g1 g2 (Known-within d (first + address_count d) g0 g1 f) g in
     record {
       grows = whole;
@@ -166,7 +195,17 @@ commuting-none d g0 g1 g2 state whens before after first any f conditions denote
                 (λ h. (0, omega arith, h), λ h. subst (StandsIn d w interp values inputs first a b) (nothing h.0 h.1) h.2)
                 (says w interp values inputs b a hc (values-later w g0 g1 f.extends after.entries (entry_sorts d.spec) b vb.sorted hb) (values-later w g0 g1 f.extends before.entries (entry_sorts d.spec) a vj.sorted ha));
           };
+      made = λ later left id more all h. record {
+        whens = whens;
+        none = any;
+        conditions = over-Extends g1 later (Extends-trans g1 g2 later g.extends more) d state d.pipe.locals (map (λ (x : ExactView). x.when) d.exact) whens over;
+        no_steps = standing-Extends g2 later more d whens after.entries before.entries first 0 any stands;
+        steps = subst (λ n. StandsFrom later d whens after.entries first 0 before any n id) (whole_left left d.steps all) h;
+      };
     } where
+      whole_left : (n m : ℕ) → 0 + n ≡ m → n ≡ m
+      whole_left n m h = omega (arith, h)
+
       nothing : (j : ℕ) → j ≤ 0 → j ≡ 0
       nothing j h = omega (arith, h)
 
@@ -187,8 +226,9 @@ commuting-next : (d : DesignView) (old cur mid next new : List Node) (state : Sy
     → GrowsWithin d cur mid → IsVisible d mid stepped → DenotesSpecStep d cur mid joined stepped → GrowsKnown d (first + address_count d) mid next
     → TermHasSort next one sort.Bool → SaysStands d mid next whens after.entries stepped.entries first (suc i) one
     → Extends next new → AddsUses next new [] → TermHasSort new id sort.Bool → Denotes new id (λ w. Truth (truth w next any || truth w next one))
+    → AreMadeOver mid d joined d.spec.locals d.spec.nexts stepped.entries → IsStanding next d whens after.entries stepped.entries first (i + 1) one → Called new (node.Or any one) id
     → Commuting d old new state whens before after stepped first (suc i) id
-commuting-next d old cur mid next new state whens before after joined stepped first i any one id h g va sa f so says e u s is =
+commuting-next d old cur mid next new state whens before after joined stepped first i any one id h g va sa f so says e u s is over stands c =
     let n : ℕ = first + address_count d in
     let rest : GrowsKnown d n mid new = Known-trans d n mid next new f (Known-none d n next new e u) in
     let whole : GrowsKnown d n cur new = Known-trans d n cur mid new (Known-within d n cur mid g) rest in
@@ -215,18 +255,36 @@ commuting-next d old cur mid next new state whens before after joined stepped fi
                 (Says-or w next new any one id (StandsUpTo d w interp values inputs first a b i) (StandsIn d w interp values inputs first a b (suc i))
                 (Says-later w cur next any sort.Bool (StandsUpTo d w interp values inputs first a b i) front.extends h.sorted now.says) said is);
           };
-    }
+      made = λ later left k more all r.
+          let from : Extends next later = Extends-trans next new later e more in
+          h.made later (suc left) k (Extends-trans cur new later whole.extends more) (one_more i left d.steps all) (
+            stepped,
+            one,
+            id,
+            va.inputs,
+            over-Extends mid later (Extends-trans mid new later rest.extends more) d joined d.spec.locals d.spec.nexts stepped.entries over,
+            standing-Extends next later from d whens after.entries stepped.entries first (i + 1) one stands,
+            called-Extends new later more (node.Or any one) id c,
+            subst (λ n. StandsFrom later d whens after.entries first n stepped id left k) (plain i) r,
+          );
+    } where
+      one_more : (i left n : ℕ) → suc i + left ≡ n → i + suc left ≡ n
+      one_more i left n h = omega (arith, h)
+
+      plain : (i : ℕ) → suc i ≡ i + 1
+      plain i = omega arith
 
 pub commuting-more : (d : DesignView) (old cur mid next new : List Node) (state : SymState) (whens : List ℕ) (before after joined stepped : SymState) (first i any one id : ℕ) → Commuting d old cur state whens before after joined first i any
     → GrowsWithin d cur mid → IsVisible d mid stepped → DenotesSpecStep d cur mid joined stepped → GrowsKnown d (first + address_count d) mid next
     → TermHasSort next one sort.Bool → SaysStands d mid next whens after.entries stepped.entries first (i + 1) one
     → Extends next new → AddsUses next new [] → TermHasSort new id sort.Bool → Denotes new id (λ w. Truth (truth w next any || truth w next one))
+    → AreMadeOver mid d joined d.spec.locals d.spec.nexts stepped.entries → IsStanding next d whens after.entries stepped.entries first (i + 1) one → Called new (node.Or any one) id
     → Commuting d old new state whens before after stepped first (i + 1) id
-commuting-more d old cur mid next new state whens before after joined stepped first i any one id h g va sa f so says e u s is =
+commuting-more d old cur mid next new state whens before after joined stepped first i any one id h g va sa f so says e u s is over stands c =
     let more : i + 1 ≡ suc i = omega arith in
     subst (λ k. Commuting d old new state whens before after stepped first k id) (sym more)
     (commuting-next d old cur mid next new state whens before after joined stepped first i any one id h g va sa f so
-    (subst (λ k. SaysStands d mid next whens after.entries stepped.entries first k one) more says) e u s is)
+    (subst (λ k. SaysStands d mid next whens after.entries stepped.entries first k one) more says) e u s is over stands c)
 
 -- the loop done, the term says whether the cycle stands for some number of steps
 pub commutes-said : (d : DesignView) (old cur : List Node) (state : SymState) (whens : List ℕ) (before after joined : SymState) (first i any : ℕ) → i ≡ d.steps → Commuting d old cur state whens before after joined first i any
@@ -234,6 +292,18 @@ pub commutes-said : (d : DesignView) (old cur : List Node) (state : SymState) (w
     → Says w cur any (StandsUpTo d w interp values inputs first a b d.steps)
 commutes-said d old cur state whens before after joined first i any last h w interp values inputs a b hs ha hb =
     subst (λ k. Says w cur any (StandsUpTo d w interp values inputs first a b k)) last (h.so_far w interp values inputs a b hs ha hb).says
+
+-- and the calls are those for it
+pub commutes-made : (d : DesignView) (old cur : List Node) (state : SymState) (whens : List ℕ) (before after joined : SymState) (first i any : ℕ) → i ≡ d.steps → Commuting d old cur state whens before after joined first i any
+    → IsCommuting cur d state before after.entries first any
+commutes-made d old cur state whens before after joined first i any last h = h.made cur 0 any (Extends-self cur) (omega (arith, last)) refl
+
+-- the calls for a number of steps
+pub stands-made : (d : DesignView) (g1 g2 g3 : List Node) (whens after joined : List ℕ) (first j x y : ℕ) (r : Result ℕ AllocError) → Extends g1 g2 → Extends g2 g3 → IsAllowance g1 d whens j x → AreEqual g2 d after joined (first + j) (d.steps + 1) y
+    → IfOk r (Called g3 (node.And x y)) → IfOk r (IsStanding g3 d whens after joined first j)
+stands-made d g1 g2 g3 whens after joined first j x y r e f h k c =
+    IfOk-weaker r (Called g3 (node.And x y)) (IsStanding g3 d whens after joined first j)
+    (λ id n. (x, y, allowance-Extends g1 g3 (Extends-trans g1 g2 g3 e f) d whens j x h, equal-Extends g2 g3 f d after joined (first + j) (d.steps + 1) y k, n)) c
 
 -- memories that are read at the addresses of a number of steps
 placed : (d : DesignView) (w : World) (first j : ℕ) (a b : List Value) → EqualIn w (λ m. m * (d.steps + 1) + (first + j)) a b ↔ EqualIn w (λ m. first + address_number d m j) a b

@@ -11,8 +11,9 @@ use Rattle.bd_model.specs.declared.design.Sort.TheVariants as sort
 use Rattle.bd_terms.specs.Graph.{AddsUses, Extends, Use, uses}
 use Rattle.bd_terms.proofs.Growth.{Extends-trans, KeepsSymbol-empty}
 use Rattle.bd_terms.proofs.Symbols.{uses-get}
+use Rattle.bd_symbolic.proofs.Growing.{KeepsDesign-none}
 use Rattle.bd_symbolic.specs.DesignSymbols.{GrowsWithin, IsDeclared, KeepsDesign, declared_use}
-use Rattle.bd_goal.specs.Symbols.{AppliesKnown, GrowsKnown, IsKnown, KeepsAddresses, ReachesKnown}
+use Rattle.bd_goal.specs.Symbols.{GrowsKnown, IsKnown, KeepsAddresses, ReachesKnown}
 
 pub Known-trans : (d : DesignView) (n : ℕ) (a b c : List Node) → GrowsKnown d n a b → GrowsKnown d n b c → GrowsKnown d n a c
 Known-trans d n a b c p q = record {
@@ -76,20 +77,20 @@ KeepsAddresses-Known d n old new g k = record {
   };
 }
 
--- a root reaches no other symbol where the graph before applied none
-pub Reaches-Known : (d : DesignView) (n : ℕ) (old new : List Node) (root : ℕ) → GrowsKnown d n old new → AppliesKnown d n old → ReachesKnown d n new root
-Reaches-Known d n old new root g known = record {
-  known = λ u r. elim (g.within u (uses-get new r.id r.node r.there u r.applies)) [ inl p ↦ known.known u p | inr p ↦ p ];
-}
+-- where there is no term, no symbol is applied
+pub KeepsDesign-empty : (d : DesignView) (nodes : List Node) → nodes ≡ [] → KeepsDesign d nodes
+KeepsDesign-empty d nodes empty = subst (KeepsDesign d) (sym empty) (KeepsDesign-none d)
+
+pub KeepsAddresses-empty : (nodes : List Node) → nodes ≡ [] → KeepsAddresses nodes
+KeepsAddresses-empty nodes empty = subst KeepsAddresses (sym empty) (record { keeps = λ i. KeepsSymbol-empty (symbol.Address i) 0 sort.Word })
+
+-- so a root reaches no other symbol where the graph before was empty
+pub Reaches-Known : (d : DesignView) (n : ℕ) (old new : List Node) (root : ℕ) → old ≡ [] → GrowsKnown d n old new → ReachesKnown d n new root
+Reaches-Known d n old new root empty g =
+    let from : GrowsKnown d n [] new = subst (λ nodes. GrowsKnown d n nodes new) empty g in
+    record { known = λ u r. elim (from.within u (uses-get new r.id r.node r.there u r.applies)) [ inl p ↦ absurd (omega (arith, p.1)) | inr p ↦ p ] }
 
 -- also where it grew by the design's symbols alone
-pub Reaches-within : (d : DesignView) (old new : List Node) (r : Result ℕ AllocError) → GrowsWithin d old new → IfOk r (λ id. (n : ℕ) → AppliesKnown d n old → ReachesKnown d n new id)
-Reaches-within d old new (Ok id) g = λ n known. Reaches-Known d n old new id (Known-within d n old new g) known
-Reaches-within d old new (Err e) g = tt
-
--- no address is applied where there is no term
-pub KeepsAddresses-empty : KeepsAddresses []
-KeepsAddresses-empty = record { keeps = λ i. KeepsSymbol-empty (symbol.Address i) 0 sort.Word }
-
-pub AppliesKnown-empty : (d : DesignView) (n : ℕ) → AppliesKnown d n []
-AppliesKnown-empty d n = record { known = λ u p. absurd (omega (arith, p.1)) }
+pub Reaches-within : (d : DesignView) (old new : List Node) (r : Result ℕ AllocError) → old ≡ [] → GrowsWithin d old new → IfOk r (ReachesKnown d 0 new)
+Reaches-within d old new (Ok id) empty g = Reaches-Known d 0 old new id empty (Known-within d 0 old new g)
+Reaches-within d old new (Err e) empty g = tt

@@ -5,6 +5,7 @@ pub mod Realized
 pub mod Deciding
 pub mod Known
 pub mod Showing
+pub mod Making
 pub mod Named
 pub mod Counting
 pub mod Equalling

@@ -20,6 +20,8 @@ use Rattle.bd_terms.specs.Denotation.{World, denoted}
 use Rattle.bd_symbolic.specs.World.{denotes_value}
 use Rattle.bd_symbolic.specs.declared.state.SymState.{SymState}
 use Rattle.bd_symbolic.specs.DesignSymbols.{GrowsWithin, KeepsDesign}
+use Rattle.bd_symbolic.specs.Made.{AreMadeOver, IsMade}
+use Rattle.bd_symbolic.proofs.Making.{each-Extends, lets-Extends}
 use Rattle.bd_symbolic.specs.Symbolic.{AreTerms, DenotesExpr, DenoteValues, HaveSorts, context_in, terms_of}
 use Rattle.bd_symbolic.specs.States.{DenoteLets, DenotesState, StateHasSorts, local_sorts, port_sorts}
 use Rattle.bd_symbolic.proofs.Growing.{Denote-Extends, Grows-trans, KeepsDesign-Grows}
@@ -104,6 +106,7 @@ named-later d ports old mid new state locals lets g h = record {
   let_terms = record {
     sorted = HaveSorts-later mid new g.extends lets (local_sorts locals) h.let_terms.sorted;
     denotes = λ w interp values inputs k. Denote-Extends _ w mid new g.extends lets _ (inside_sorts mid lets (local_sorts locals) h.let_terms.sorted) (h.let_terms.denotes w interp values inputs k);
+    made = lets-Extends mid new g.extends d state [] locals lets h.let_terms.made;
   };
 }
 
@@ -130,10 +133,11 @@ pub record Gathers (d : DesignView) (ports : List Sort) (old cur : List Node) (s
   pub sorted : HaveSorts cur ids (take i sorts)
   pub denotes : (w : World) (interp : List Table) (values : List Value) (inputs : List Scalar) → DenotesState d w old state interp values inputs
       → DenoteValues w cur ids (map (value_of (env_of locals interp values inputs)) (take i es))
+  pub made : AllZip (IsMade cur (terms_of d state lets)) (take i es) ids
 
 pub gathers-none : (d : DesignView) (ports : List Sort) (old cur : List Node) (state : SymState) (locals : List LocalView) (lets : List ℕ) (sorts : List Sort) (es : List ExprView) → IsNamed d ports old cur state locals lets
     → Gathers d ports old cur state locals lets sorts es 0 []
-gathers-none d ports old cur state locals lets sorts es h = record { named = h; sorted = tt; denotes = λ w interp values inputs k. tt }
+gathers-none d ports old cur state locals lets sorts es h = record { named = h; sorted = tt; denotes = λ w interp values inputs k. tt; made = tt }
 
 -- the expression of a place has the sort of its place
 pub sort-there : (c : Context) (sorts : List Sort) (es : List ExprView) (i : ℕ) (e : ExprView) → AllZip (λ s t. HasSort c t s) sorts es → slice_get es i ≡ Some e → (s : Sort) × (slice_get sorts i ≡ Some s) × HasSort c e s
@@ -161,6 +165,9 @@ gathers-next d ports old cur new state locals lets sorts es i ids e id have ther
           (AllZip-append (λ id v. denoted w new id ≡ denotes_value v) ids (map f (take i es)) id (f e)
           (Denote-Extends _ w cur new g.extends ids (map f (take i es)) (inside_sorts cur ids (take i sorts) h.sorted) (h.denotes w interp values inputs k))
           (term-value d ports old cur new state locals lets e id h.named t w interp values inputs k));
+      made =
+          rw (take-next es i e there)
+          (AllZip-append (IsMade new (terms_of d state lets)) (take i es) ids e id (each-Extends cur new g.extends (terms_of d state lets) (take i es) ids h.made) t.made);
     }
 
 pub gathers-ready : (d : DesignView) (ports : List Sort) (old cur : List Node) (state : SymState) (locals : List LocalView) (lets : List ℕ) (sorts : List Sort) (es : List ExprView) (i : ℕ) (ids : List ℕ) (e : ExprView)
@@ -175,6 +182,7 @@ pub record Gathered (d : DesignView) (old new : List Node) (state : SymState) (l
   pub sorted : HaveSorts new ids sorts
   pub denotes : (w : World) (interp : List Table) (values : List Value) (inputs : List Scalar) → DenotesState d w old state interp values inputs
       → DenoteValues w new ids (map (value_of (env_of locals interp values inputs)) es)
+  pub made : AreMadeOver new d state locals es ids
 
 pub gathers-all : (d : DesignView) (ports : List Sort) (old cur : List Node) (state : SymState) (locals : List LocalView) (lets : List ℕ) (sorts : List Sort) (es : List ExprView) (i : ℕ) (ids : List ℕ)
     → AllZip (λ s t. HasSort (named_context d ports locals) t s) sorts es → length es ≤ i → Gathers d ports old cur state locals lets sorts es i ids → Gathered d old cur state locals sorts es ids
@@ -183,6 +191,11 @@ gathers-all d ports old cur state locals lets sorts es i ids have past h =
     record {
       sorted = subst (HaveSorts cur ids) (take_all i sorts (omega arith)) h.sorted;
       denotes = λ w interp values inputs k. subst (λ l. DenoteValues w cur ids (map (value_of (env_of locals interp values inputs)) l)) (take_all i es past) (h.denotes w interp values inputs k);
+      made = record {
+        lets = lets;
+        first = h.named.let_terms.made;
+        made = subst (λ l. AllZip (IsMade cur (terms_of d state lets)) l ids) (take_all i es past) h.made;
+      };
     }
 
 -- a state without its inputs

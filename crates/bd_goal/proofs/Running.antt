@@ -1,5 +1,5 @@
 -- The terms of a run, one cycle after another.
-use Rattle.std.proofs.Common.{◌≡◌, ℕ, ◌+◌, ◌*◌, ◌<◌, ◌≤◌, inl, inr, true, ◌&&◌, ◌||◌, not, List, length, refl, ap, sym, subst, arith}
+use Rattle.std.proofs.Common.{◌≡◌, ℕ, suc, ◌+◌, ◌*◌, ◌<◌, ◌≤◌, inl, inr, true, ◌&&◌, ◌||◌, not, List, length, refl, ap, sym, subst, arith}
 use Rattle.std.specs.Prelude.{◌↔◌, ◌⊎◌, IfOk, Result, Ok, Err}
 use Rattle.std.specs.declared.alloc.AllocError.{AllocError}
 use Rattle.std.proofs.Math.Nat.{eq-or-lt_of_le, mul-le-mul}
@@ -26,6 +26,10 @@ use Rattle.bd_symbolic.proofs.Worlds.{IsWorldOf-world_of}
 use Rattle.bd_goal.specs.Bounded.{ClaimsRuns, CycleCommutesAt, RunCommutes, trail_world}
 use Rattle.bd_goal.specs.declared.bounded.Run.{Run}
 use Rattle.bd_goal.specs.Formula.{CommutesAt, address_count, memory_count}
+use Rattle.std.proofs.lemmas.Result.{IfOk-weaker}
+use Rattle.bd_symbolic.specs.Made.{IsImplication}
+use Rattle.bd_goal.specs.Made.{CyclesFrom, IsBoundedRoot, IsCycleOfRun, IsRunOf}
+use Rattle.bd_goal.proofs.Making.{bounded-root, cycle-Extends}
 use Rattle.bd_goal.specs.Symbols.{GrowsKnown}
 use Rattle.bd_goal.specs.inner.Run.{FollowsTrail, IsRun, StartsRun}
 use Rattle.bd_goal.specs.inner.Shown.{Says, StandsFor, StandsUpTo}
@@ -152,14 +156,19 @@ pub record Running (d : DesignView) (cycles : ℕ) (old cur : List Node) (inside
   pub inside_truth : HasSort cur inside sort.Bool
   pub inside_says : (t : Trail) (q : List ℕ) → TrailFits d t → 1 ≤ length t.inputs → Says (trail_world t q) cur inside (MeetsInvariant d t.interp t.state)
   pub run_is : IsRun d cur n run
+  pub made : (later : List Node) (left id : ℕ) → Extends cur later → n + left ≡ cycles → CyclesFrom later d n run.state.entries run.flushed run.commutes left id → IsRunOf later d cycles inside id
 
 pub running-more : (d : DesignView) (cycles : ℕ) (old cur new : List Node) (inside : ℕ) (run next : Run) (n : ℕ) → n + 1 ≤ cycles → Running d cycles old cur inside run n → IsRun d new (n + 1) next
-    → GrowsKnown (widened d (n + 1)) ((n + 1) * address_count d) cur new → GrowsKnown (widened d cycles) (cycles * address_count d) old new → Running d cycles old new inside next (n + 1)
-running-more d cycles old cur new inside run next n few h is g whole = record {
+    → GrowsKnown (widened d (n + 1)) ((n + 1) * address_count d) cur new → GrowsKnown (widened d cycles) (cycles * address_count d) old new
+    → IsCycleOfRun new d n run.state.entries run.flushed run.commutes next.state next.flushed next.commutes → Running d cycles old new inside next (n + 1)
+running-more d cycles old cur new inside run next n few h is g whole m = record {
   grows = whole;
   inside_truth = HasSort-Extends cur new g.extends inside sort.Bool h.inside_truth;
   inside_says = λ t q fits some. Says-later (trail_world t q) cur new inside sort.Bool (MeetsInvariant d t.interp t.state) g.extends h.inside_truth (h.inside_says t q fits some);
   run_is = is;
+  made = λ later left id more all r.
+      h.made later (suc left) id (Extends-trans cur new later g.extends more) (omega (arith, all))
+      (next.state, next.flushed, next.commutes, cycle-Extends new later more d n run.state.entries run.flushed run.commutes next.state next.flushed next.commutes m, r);
 }
 
 -- after all of them the implication claims the run
@@ -173,6 +182,12 @@ running-claims d cycles old cur new inside run n id some all h is = record {
       Says-implies w cur new inside run.commutes id (MeetsInvariant d t.interp t.state) ((m : ℕ) → m < length t.inputs → CycleCommutesAt d t q m) (h.inside_says t q over.fits (omega (arith, some, over.counted)))
       (subst (λ k. Says w cur run.commutes ((m : ℕ) → m < k → CycleCommutesAt d t q m)) same now.commutes) is;
 }
+
+-- and the calls are those for it
+pub running-made : (d : DesignView) (cycles : ℕ) (old cur new : List Node) (inside : ℕ) (run : Run) (n : ℕ) (r : Result ℕ AllocError) → 1 ≤ cycles → n ≡ cycles → Running d cycles old cur inside run n → Extends cur new
+    → IfOk r (IsImplication new inside run.commutes) → IfOk r (IsBoundedRoot new d cycles)
+running-made d cycles old cur new inside run n r some all h e m =
+    IfOk-weaker r (IsImplication new inside run.commutes) (IsBoundedRoot new d cycles) (λ id k. bounded-root new d cycles inside run.commutes id some (h.made new 0 run.commutes e (omega (arith, all)) refl) k) m
 
 -- of no cycle nothing is claimed
 pub none-claims : (d : DesignView) (nodes : List Node) (id : ℕ) → Denotes nodes id (λ w. Truth true) → ClaimsRuns d 0 nodes id

@@ -1,5 +1,6 @@
 pub mod Symbols
 pub mod Formula
+pub mod Made
 pub mod Claims
 pub mod Bounded
 pub mod Laws

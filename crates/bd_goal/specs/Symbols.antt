@@ -20,10 +20,6 @@ address_use i = record { symbol = symbol.Address i; arity = 0; sort = sort.Word 
 abbrev pub IsKnown : DesignView → ℕ → Use → Type 0
 IsKnown d n u = IsDeclared d u ⊎ ((i : ℕ) × (i < n) × (u ≡ address_use i))
 
--- the graph applies no other symbol
-pub record AppliesKnown (d : DesignView) (n : ℕ) (nodes : List Node) : Type 0 where
-  pub known : (u : Use) → Contains (uses nodes) u → IsKnown d n u
-
 -- the root reaches no other symbol
 pub record ReachesKnown (d : DesignView) (n : ℕ) (nodes : List Node) (root : ℕ) : Type 0 where
   pub known : (u : Use) → ReachesUse nodes root u → IsKnown d n u

@@ -6,6 +6,8 @@ ghost use Rattle.bd_model.specs.Lawful.{IsLawful};
 ghost use Rattle.bd_symbolic.specs.DesignSymbols.{GrowsWithin, KeepsDesign};
 ghost use Rattle.bd_symbolic.specs.States.{StateHasSorts};
 ghost use Rattle.bd_abstraction.specs.Abstraction.{IsLawfulAbstraction, IsLawfulGiven, abstraction_of, values_by};
+ghost use Rattle.bd_symbolic.specs.Made.{AreMadeOver};
+ghost use Rattle.bd_goal.specs.Made.{AreVisible, alone};
 ghost use Rattle.bd_goal.specs.inner.Shown.{StandsFor};
 
 use crate::invariant::without_inputs;
@@ -30,6 +32,8 @@ pub(crate) fn abstracted(
     requires sorted { StateHasSorts (design_view design.now).pipe graph.old state.now }
     ensures shown { IfOk result (λ visible. StandsFor (design_view design.now) graph.old graph.new
         state.now (abstraction_of (design_view design.now) abs.now) visible) }
+    ensures made { IfOk result (λ visible.
+        AreVisible graph.new (design_view design.now) abs.now state.now visible.entries) }
     ensures grows { GrowsWithin (design_view design.now) graph.old graph.new }
 {
     match abs {
@@ -58,6 +62,9 @@ fn given(
     ensures shown { IfOk result (λ visible. StandsFor (design_view design.now) graph.old graph.new
         state.now (values_by (map local_view lets.now) (list_of_views (expr_views parts.now)))
         visible) }
+    ensures made { IfOk result (λ visible. AreMadeOver graph.new (design_view design.now)
+        (alone state.now) (map local_view lets.now) (list_of_views (expr_views parts.now))
+        visible.entries) }
     ensures grows { GrowsWithin (design_view design.now) graph.old graph.new }
 {
     let alone = without_inputs(alloc, state)?;

@@ -2,7 +2,7 @@
 //!
 //! The cycles are built one after another over the terms of the first state, and share them. What a state is flushed to
 //! after a cycle is what the next cycle starts from, so each state is flushed once.
-ghost use Rattle.std.specs.Prelude.{◌≡◌, ◌≤◌, ◌<◌, ◌+◌, ◌*◌, IfOk};
+ghost use Rattle.std.specs.Prelude.{◌≡◌, ◌≤◌, ◌<◌, ◌+◌, ◌*◌, [], IfOk};
 ghost use Rattle.bd_model.specs.DesignView.{design_view};
 ghost use Rattle.bd_model.specs.Lawful.{IsLawful};
 ghost use Rattle.bd_model.specs.declared.design.Sort.TheVariants as sort;
@@ -11,7 +11,8 @@ ghost use Rattle.bd_symbolic.specs.DesignSymbols.{GrowsWithin, KeepsDesign};
 ghost use Rattle.bd_symbolic.specs.Widened.{widened};
 ghost use Rattle.bd_goal.specs.Bounded.{ClaimsRuns};
 ghost use Rattle.bd_goal.specs.Formula.{address_count};
-ghost use Rattle.bd_goal.specs.Symbols.{AppliesKnown, GrowsKnown, KeepsAddresses, ReachesKnown};
+ghost use Rattle.bd_goal.specs.Made.{IsBoundedRoot, IsCycleOfRun, IsStart};
+ghost use Rattle.bd_goal.specs.Symbols.{GrowsKnown, KeepsAddresses, ReachesKnown};
 ghost use Rattle.bd_goal.specs.inner.Run.{IsRun, StartsRun};
 ghost use Rattle.bd_model.specs.Limits.{most_cycles};
 
@@ -22,7 +23,7 @@ use crate::invariant::invariant;
 use crate::question::Goal;
 use bd_abstraction::Abstraction;
 use bd_model::Design;
-use bd_symbolic::{SymState, sym_entries, sym_inputs, sym_step};
+use bd_symbolic::{SymState, implies, sym_entries, sym_inputs, sym_step};
 use bd_terms::{Graph, Id};
 use std::alloc::{AllocError, Global};
 
@@ -37,16 +38,16 @@ pub fn bounded_goal(
 ) -> Result<Goal, AllocError>
     requires lawful { IsLawful (design_view design.now) }
     requires few { cycles ≤ most_cycles }
-    requires keeps { KeepsDesign (widened (design_view design.now) cycles) graph.old }
-    requires words { KeepsAddresses graph.old }
+    requires empty { graph.old ≡ [] }
     ensures sorted { IfOk result (λ goal. HasSort graph.new goal.root sort.Bool) }
     ensures denotes { IfOk result (λ goal.
         ClaimsRuns (design_view design.now) cycles graph.new goal.root) }
+    ensures made { IfOk result (λ goal.
+        IsBoundedRoot graph.new (design_view design.now) cycles goal.root) }
     ensures addresses { IfOk result (λ goal.
         goal.addresses ≡ cycles * address_count (design_view design.now)) }
     ensures symbols { IfOk result (λ goal.
-        AppliesKnown (widened (design_view design.now) cycles) goal.addresses graph.old
-        → ReachesKnown (widened (design_view design.now) cycles) goal.addresses
+        ReachesKnown (widened (design_view design.now) cycles) goal.addresses
         graph.new goal.root) }
     ensures grows { GrowsKnown (widened (design_view design.now) cycles)
         (cycles * address_count (design_view design.now)) graph.old graph.new }
@@ -82,6 +83,7 @@ fn right_run(
     requires words { KeepsAddresses graph.old }
     ensures sorted { IfOk result (λ id. HasSort graph.new id sort.Bool) }
     ensures denotes { IfOk result (ClaimsRuns (design_view design.now) cycles graph.new) }
+    ensures made { IfOk result (IsBoundedRoot graph.new (design_view design.now) cycles) }
     ensures grows { GrowsKnown (widened (design_view design.now) cycles)
         (cycles * address_count (design_view design.now)) graph.old graph.new }
 {
@@ -89,7 +91,7 @@ fn right_run(
     for cycle in 0..cycles {
         run = one_cycle_more(alloc, graph, design, run, cycle)?;
     }
-    graph.mk_implies(inside, run.commutes)
+    implies(graph, inside, run.commutes)
 }
 
 /// A run of no cycle yet, from the state before the first, and the term that the invariant is true in it.
@@ -97,6 +99,8 @@ fn no_cycle(alloc: Global, graph: &mut Graph, design: &Design) -> Result<(Id, Ru
     requires lawful { IsLawful (design_view design.now) }
     requires keeps { KeepsDesign (design_view design.now) graph.old }
     ensures starts { IfOk result (λ r. StartsRun (design_view design.now) graph.new r.0 r.1) }
+    ensures made { IfOk result (λ r. IsStart graph.new (design_view design.now)
+        r.1.state.entries r.1.flushed r.0 r.1.commutes) }
     ensures grows { GrowsWithin (design_view design.now) graph.old graph.new }
 {
     let entries = sym_entries(alloc, graph, design)?;
@@ -127,6 +131,8 @@ fn one_cycle_more(
     requires words { KeepsAddresses graph.old }
     requires run { IsRun (design_view design.now) graph.old cycle run }
     ensures run { IfOk result (IsRun (design_view design.now) graph.new (cycle + 1)) }
+    ensures made { IfOk result (λ next. IsCycleOfRun graph.new (design_view design.now) cycle
+        run.state.entries run.flushed run.commutes next.state next.flushed next.commutes) }
     ensures grows { GrowsKnown (widened (design_view design.now) (cycle + 1))
         ((cycle + 1) * address_count (design_view design.now)) graph.old graph.new }
 {

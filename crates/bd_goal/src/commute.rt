@@ -1,7 +1,7 @@
 //! For which numbers of steps of the specification a cycle stands.
-ghost use Rattle.std.specs.Prelude.{◌≤◌, ◌+◌, ◌||◌, not, List, [], IfOk};
+ghost use Rattle.std.specs.Prelude.{◌≤◌, ◌+◌, ◌||◌, not, List, [], IfOk, map};
 ghost use Rattle.bd_model.specs.Conditions.{IsAllowed};
-ghost use Rattle.bd_model.specs.DesignView.{design_view};
+ghost use Rattle.bd_model.specs.DesignView.{ExactView, design_view};
 ghost use Rattle.bd_model.specs.Lawful.{IsLawful, entry_sorts};
 ghost use Rattle.bd_model.specs.declared.design.Sort.TheVariants as sort;
 ghost use Rattle.bd_model.specs.declared.table.Scalar.{Scalar};
@@ -13,6 +13,8 @@ ghost use Rattle.bd_symbolic.specs.Symbolic.{DenoteValues, HaveSorts};
 ghost use Rattle.bd_symbolic.specs.DesignSymbols.{GrowsWithin, KeepsDesign};
 ghost use Rattle.bd_symbolic.specs.States.{DenotesState, StateHasSorts};
 ghost use Rattle.bd_goal.specs.Formula.{address_count, address_number};
+ghost use Rattle.bd_symbolic.specs.Made.{AreMadeOver};
+ghost use Rattle.bd_goal.specs.Made.{IsAllowance, IsCommuting, IsStanding, IsUnless};
 ghost use Rattle.bd_goal.specs.Symbols.{GrowsKnown, KeepsAddresses};
 ghost use Rattle.bd_goal.specs.inner.Shown.{AreConditions, DenoteConditions, EqualIn, IsVisible, most_first_address, Says, StandsUpTo};
 
@@ -49,6 +51,8 @@ pub(crate) fn commutes(
         → DenoteValues w graph.old after.now.entries b
         → Says w graph.new id (StandsUpTo (design_view design.now) w interp values inputs first
         a b design.now.steps)) }
+    ensures made { IfOk result (IsCommuting graph.new (design_view design.now) state.now
+        before after.now.entries first) }
     ensures grows { GrowsKnown (design_view design.now)
         (first + address_count (design_view design.now)) graph.old graph.new }
 {
@@ -104,6 +108,8 @@ fn stands(
         → DenoteValues w graph.old joined.now c
         → Says w graph.new id (IsAllowed (design_view design.now) interp values inputs j
         × EqualIn w (λ m. first + address_number (design_view design.now) m j) b c)) }
+    ensures made { IfOk result (IsStanding graph.new (design_view design.now) whens.now
+        after.now joined.now first j) }
     ensures grows { GrowsKnown (design_view design.now)
         (first + address_count (design_view design.now)) graph.old graph.new }
 {
@@ -127,6 +133,9 @@ fn conditions(
         (values : List Value) (inputs : List Scalar)
         → DenotesState (design_view design.now) w graph.old state.now interp values inputs
         → DenoteConditions (design_view design.now) w graph.new whens interp values inputs) }
+    ensures made { IfOk result (AreMadeOver graph.new (design_view design.now) state.now
+        (design_view design.now).pipe.locals
+        (map (λ (x : ExactView). x.when) (design_view design.now).exact)) }
     ensures grows { GrowsWithin (design_view design.now) graph.old graph.new }
 {
     let lets = sym_lets(alloc, graph, design, &design.pipe.locals, state)?;
@@ -145,6 +154,7 @@ fn allowed(graph: &mut Graph, design: &Design, whens: &TermIds, j: u32) -> Resul
         (inputs : List Scalar)
         → DenoteConditions (design_view design.now) w graph.old whens.now interp values inputs
         → Says w graph.new id (IsAllowed (design_view design.now) interp values inputs j)) }
+    ensures made { IfOk result (IsAllowance graph.new (design_view design.now) whens.now j) }
     ensures extends { Extends graph.old graph.new }
     ensures uses { AddsUses graph.old graph.new [] }
 {
@@ -162,6 +172,7 @@ fn unless(graph: &mut Graph, is_free: bool, when: Id) -> Result<Id, AllocError>
     ensures sorted { IfOk result (λ id. HasSort graph.new id sort.Bool) }
     ensures denotes { IfOk result (λ id. Denotes graph.new id
         (λ w. Truth (is_free || not (truth w graph.old when)))) }
+    ensures made { IfOk result (IsUnless graph.new is_free when) }
     ensures extends { Extends graph.old graph.new }
     ensures uses { AddsUses graph.old graph.new [] }
 {

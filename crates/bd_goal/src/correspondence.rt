@@ -6,11 +6,12 @@ ghost use Rattle.bd_model.specs.Lawful.{IsLawful};
 ghost use Rattle.bd_model.specs.declared.design.Sort.TheVariants as sort;
 ghost use Rattle.bd_terms.specs.Graph.{AddsUses, Extends, HasSort};
 ghost use Rattle.bd_terms.specs.Denotation.{Denotes, Truth, truth};
-ghost use Rattle.bd_symbolic.specs.DesignSymbols.{KeepsDesign};
 ghost use Rattle.bd_abstraction.specs.Abstraction.{IsLawfulAbstraction, abstraction_of};
 ghost use Rattle.bd_goal.specs.Claims.{Claims};
 ghost use Rattle.bd_goal.specs.Formula.{AgreesAt, Corresponds, address_count, memory_count};
-ghost use Rattle.bd_goal.specs.Symbols.{AppliesKnown, GrowsKnown, KeepsAddresses, ReachesKnown};
+ghost use Rattle.bd_abstraction.specs.declared.abstraction.Abstraction.TheVariants as abstraction;
+ghost use Rattle.bd_goal.specs.Made.{IsAgreement, IsCorrespondence};
+ghost use Rattle.bd_goal.specs.Symbols.{GrowsKnown, ReachesKnown};
 
 use crate::abstracted::abstracted;
 use crate::commute::commutes;
@@ -19,7 +20,7 @@ use crate::invariant::invariant;
 use crate::question::Goal;
 use bd_abstraction::Abstraction;
 use bd_model::Design;
-use bd_symbolic::{sym_state, sym_step};
+use bd_symbolic::{implies, sym_state, sym_step};
 use bd_terms::{Graph, Id};
 use std::alloc::{AllocError, Global};
 
@@ -27,17 +28,17 @@ use std::alloc::{AllocError, Global};
 /// of memory, the graph may keep further nodes.
 pub fn goal(alloc: Global, graph: &mut Graph, design: &Design) -> Result<Goal, AllocError>
     requires lawful { IsLawful (design_view design.now) }
-    requires keeps { KeepsDesign (design_view design.now) graph.old }
-    requires words { KeepsAddresses graph.old }
+    requires empty { graph.old ≡ [] }
     ensures sorted { IfOk result (λ goal. HasSort graph.new goal.root sort.Bool) }
     ensures denotes { IfOk result (λ goal. Claims (design_view design.now)
         (Corresponds (design_view design.now) (flushed (design_view design.now)))
         graph.new goal.root) }
+    ensures made { IfOk result (λ goal. IsCorrespondence graph.new (design_view design.now)
+        abstraction.Flushing goal.root) }
     ensures addresses { IfOk result (λ goal.
         goal.addresses ≡ address_count (design_view design.now)) }
     ensures symbols { IfOk result (λ goal.
-        AppliesKnown (design_view design.now) goal.addresses graph.old
-        → ReachesKnown (design_view design.now) goal.addresses graph.new goal.root) }
+        ReachesKnown (design_view design.now) goal.addresses graph.new goal.root) }
     ensures grows { GrowsKnown (design_view design.now)
         (address_count (design_view design.now)) graph.old graph.new }
 {
@@ -55,17 +56,17 @@ pub fn goal_by(
 ) -> Result<Goal, AllocError>
     requires lawful { IsLawful (design_view design.now) }
     requires abstraction { IsLawfulAbstraction (design_view design.now) abs.now }
-    requires keeps { KeepsDesign (design_view design.now) graph.old }
-    requires words { KeepsAddresses graph.old }
+    requires empty { graph.old ≡ [] }
     ensures sorted { IfOk result (λ goal. HasSort graph.new goal.root sort.Bool) }
     ensures denotes { IfOk result (λ goal. Claims (design_view design.now)
         (Corresponds (design_view design.now) (abstraction_of (design_view design.now) abs.now))
         graph.new goal.root) }
+    ensures made { IfOk result (λ goal.
+        IsCorrespondence graph.new (design_view design.now) abs.now goal.root) }
     ensures addresses { IfOk result (λ goal.
         goal.addresses ≡ address_count (design_view design.now)) }
     ensures symbols { IfOk result (λ goal.
-        AppliesKnown (design_view design.now) goal.addresses graph.old
-        → ReachesKnown (design_view design.now) goal.addresses graph.new goal.root) }
+        ReachesKnown (design_view design.now) goal.addresses graph.new goal.root) }
     ensures grows { GrowsKnown (design_view design.now)
         (address_count (design_view design.now)) graph.old graph.new }
 {
@@ -77,7 +78,7 @@ pub fn goal_by(
     let before = abstracted(alloc, graph, design, abs, &state)?;
     let commutes = commutes(alloc, graph, design, &state, before, &after, 0)?;
     let holds = graph.mk_and(kept, commutes)?;
-    let root = graph.mk_implies(inside, holds)?;
+    let root = implies(graph, inside, holds)?;
     Ok(Goal {
         root,
         addresses: memory_count(design) * (design.steps + 1),
@@ -95,17 +96,17 @@ pub fn agree_goal(
 ) -> Result<Goal, AllocError>
     requires lawful { IsLawful (design_view design.now) }
     requires abstraction { IsLawfulAbstraction (design_view design.now) abs.now }
-    requires keeps { KeepsDesign (design_view design.now) graph.old }
-    requires words { KeepsAddresses graph.old }
+    requires empty { graph.old ≡ [] }
     ensures sorted { IfOk result (λ goal. HasSort graph.new goal.root sort.Bool) }
     ensures denotes { IfOk result (λ goal. Claims (design_view design.now)
         (AgreesAt (design_view design.now) (abstraction_of (design_view design.now) abs.now))
         graph.new goal.root) }
+    ensures made { IfOk result (λ goal.
+        IsAgreement graph.new (design_view design.now) abs.now goal.root) }
     ensures addresses { IfOk result (λ goal.
         goal.addresses ≡ memory_count (design_view design.now)) }
     ensures symbols { IfOk result (λ goal.
-        AppliesKnown (design_view design.now) goal.addresses graph.old
-        → ReachesKnown (design_view design.now) goal.addresses graph.new goal.root) }
+        ReachesKnown (design_view design.now) goal.addresses graph.new goal.root) }
     ensures grows { GrowsKnown (design_view design.now)
         (memory_count (design_view design.now)) graph.old graph.new }
 {
@@ -114,7 +115,7 @@ pub fn agree_goal(
     let given = abstracted(alloc, graph, design, abs, &state)?;
     let flushed = abstracted(alloc, graph, design, &Abstraction::Flushing, &state)?;
     let same = equal(graph, design, &given.entries, &flushed.entries, 0, 1)?;
-    let root = graph.mk_implies(inside, same)?;
+    let root = implies(graph, inside, same)?;
     Ok(Goal {
         root,
         addresses: memory_count(design),

@@ -9,6 +9,7 @@ ghost use Rattle.bd_terms.specs.declared.node.Sym.TheVariants as symbol;
 ghost use Rattle.bd_terms.specs.Denotation.{World};
 ghost use Rattle.bd_symbolic.specs.Symbolic.{DenoteValues, HaveSorts};
 ghost use Rattle.bd_goal.specs.Formula.{is_memory, memory_count};
+ghost use Rattle.bd_goal.specs.Made.{AreEqual};
 ghost use Rattle.bd_goal.specs.Symbols.{GrowsKnown, KeepsAddresses};
 ghost use Rattle.bd_goal.specs.inner.Shown.{EqualIn, EqualTerms, Says};
 ghost use Rattle.bd_model.specs.Limits.{most_items};
@@ -52,6 +53,8 @@ pub(crate) fn equal(
         → DenoteValues w graph.old ours.now a
         → DenoteValues w graph.old theirs.now b
         → Says w graph.new id (EqualIn w (λ m. m * stride + first) a b)) }
+    ensures made { IfOk result
+        (AreEqual graph.new (design_view design.now) ours.now theirs.now first stride) }
     ensures grows { (n : ℕ) → ((m : ℕ) → m < memory_count (design_view design.now)
         → m * stride + first < n) → GrowsKnown (design_view design.now) n graph.old graph.new }
 {

@@ -1,5 +1,5 @@
 //! The invariant as a term.
-ghost use Rattle.std.specs.Prelude.{◌≡◌, ℕ, List, [], IfOk};
+ghost use Rattle.std.specs.Prelude.{◌≡◌, List, [], IfOk};
 ghost use Rattle.bd_model.specs.Conditions.{MeetsInvariant};
 ghost use Rattle.bd_model.specs.DesignView.{design_view};
 ghost use Rattle.bd_model.specs.Lawful.{IsLawful};
@@ -13,7 +13,8 @@ ghost use Rattle.bd_symbolic.specs.DesignSymbols.{GrowsWithin, KeepsDesign};
 ghost use Rattle.bd_symbolic.specs.States.{DenotesState, StateHasSorts};
 ghost use Rattle.bd_goal.specs.Claims.{Claims};
 ghost use Rattle.bd_goal.specs.Formula.{IsOutside};
-ghost use Rattle.bd_goal.specs.Symbols.{AppliesKnown, ReachesKnown};
+ghost use Rattle.bd_goal.specs.Made.{IsDenial, IsInvariant};
+ghost use Rattle.bd_goal.specs.Symbols.{ReachesKnown};
 ghost use Rattle.bd_goal.specs.inner.Shown.{Says};
 
 use bd_list::Sequence;
@@ -26,13 +27,12 @@ use std::alloc::{AllocError, Global};
 /// nodes.
 pub fn meets(alloc: Global, graph: &mut Graph, design: &Design) -> Result<Id, AllocError>
     requires lawful { IsLawful (design_view design.now) }
-    requires keeps { KeepsDesign (design_view design.now) graph.old }
+    requires empty { graph.old ≡ [] }
     ensures sorted { IfOk result (λ root. HasSort graph.new root sort.Bool) }
     ensures denotes { IfOk result (λ root.
         Claims (design_view design.now) (IsOutside (design_view design.now)) graph.new root) }
-    ensures symbols { IfOk result (λ root.
-        (n : ℕ) → AppliesKnown (design_view design.now) n graph.old
-        → ReachesKnown (design_view design.now) n graph.new root) }
+    ensures made { IfOk result (IsDenial graph.new (design_view design.now)) }
+    ensures symbols { IfOk result (ReachesKnown (design_view design.now) 0 graph.new) }
     ensures grows { GrowsWithin (design_view design.now) graph.old graph.new }
 {
     let state = sym_state(alloc, graph, design)?;
@@ -55,6 +55,7 @@ pub(crate) fn invariant(
         (inputs : List Scalar)
         → DenotesState (design_view design.now) w graph.old state.now interp values inputs
         → Says w graph.new id (MeetsInvariant (design_view design.now) interp values)) }
+    ensures made { IfOk result (IsInvariant graph.new (design_view design.now) state.now) }
     ensures grows { GrowsWithin (design_view design.now) graph.old graph.new }
 {
     let alone = without_inputs(alloc, state)?;

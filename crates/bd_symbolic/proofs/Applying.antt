@@ -1,7 +1,9 @@
 -- The application of a symbol of the design.
-use Rattle.std.proofs.Common.{◌≡◌, ℕ, Bool, true, false, List, [], ◌∷◌, Result, Ok, Err, IfOk, Some, refl, ap, ap₂, sym, ◌∙◌, subst}
+use Rattle.std.proofs.Common.{◌≡◌, ℕ, ◌<◌, length, Bool, true, false, List, [], ◌∷◌, Result, Ok, Err, IfOk, Some, refl, ap, ap₂, sym, ◌∙◌, subst}
 use Rattle.std.specs.Prelude.{slice_get, if◌then◌else◌}
+use Rattle.std.specs.List.{All, AllByRecursion}
 use Rattle.std.specs.declared.alloc.AllocError.{AllocError}
+use Rattle.std.proofs.lemmas.List.Elements.{All-weaker, recursion_from_All}
 use Rattle.bd_model.specs.DesignView.{DesignView}
 use Rattle.bd_model.specs.ExprView.{ExprViews, Apply}
 use Rattle.bd_model.specs.Table.{at}
@@ -17,13 +19,17 @@ use Rattle.bd_model.proofs.Pairs.{AllZip-at}
 use Rattle.bd_model.proofs.SortLemmas.{at-sort}
 use Rattle.bd_terms.specs.declared.node.Sym.TheVariants as symbol
 use Rattle.bd_terms.specs.declared.node.Node.{Node}
+use Rattle.bd_terms.specs.declared.node.Node.TheVariants as node
+use Rattle.bd_terms.specs.Simplified.{Gives, simplified}
 use Rattle.bd_terms.specs.Graph.{AddsUses, Extends, KeepsSymbol, Use}
 use Rattle.bd_terms.specs.Graph.{HasSort as TermHasSort}
 use Rattle.bd_terms.specs.Denotation.{World, Denotes, Truth, Word, applied, holds, words}
 use Rattle.bd_symbolic.specs.World.{IsWorldOf, denotes_scalar}
 use Rattle.bd_symbolic.specs.DesignSymbols.{IsDeclared, KeepsDesign, GrowsWithin, function_use}
+use Rattle.bd_symbolic.specs.Made.{Called, symbol_node}
 use Rattle.bd_symbolic.specs.Symbolic.{Terms}
 use Rattle.bd_symbolic.specs.inner.Evaluates.{Applied, DenoteWords, Evaluates}
+use Rattle.bd_symbolic.proofs.Making.{called, mades-Extends}
 use Rattle.bd_symbolic.proofs.Growing.{Grows-by, Grows-trans}
 use Rattle.bd_list.proofs.Membership.{Contains-one}
 
@@ -63,28 +69,48 @@ scalar_is_word : (x : Scalar) → scalar_sort x ≡ sort.Word → Word (scalar_w
 scalar_is_word (scalar.Bool b) h = cc
 scalar_is_word (scalar.Word n) h = refl
 
+words_inside : (nodes : List Node) (args : List ℕ) → All (λ a. TermHasSort nodes a sort.Word) args → AllByRecursion (λ a. a < length nodes) args
+words_inside nodes args h = recursion_from_All (λ a. a < length nodes) args (All-weaker (λ a. TermHasSort nodes a sort.Word) (λ a. a < length nodes) (λ a k. k.inside) args h)
+
 same_sort : (d : DesignView) (f : ℕ) (y z : Symbol) (s : Sort) → slice_get d.symbols f ≡ Some y → slice_get d.symbols f ≡ Some z → s ≡ result_sort y → s ≡ result_sort z
 same_sort d f y z s h k e = let same : y ≡ z = cc in e ∙ ap result_sort same
 
 pub applied_pred : (d : DesignView) (old new : List Node) (f : ℕ) (args : List ℕ) (y : Symbol) (r : Result ℕ AllocError) → slice_get d.symbols f ≡ Some y → sort.Bool ≡ result_sort y
-    → IfOk r (λ id. Denotes new id (λ w. Truth (holds w (symbol.Function f) (words w old args)))) → IfOk r (λ id. TermHasSort new id sort.Bool) → IfOk r (Applied d old new f args)
-applied_pred d old new f args y (Ok id) h e q s = record {
+    → IfOk r (λ id. Denotes new id (λ w. Truth (holds w (symbol.Function f) (words w old args)))) → IfOk r (λ id. TermHasSort new id sort.Bool)
+    → IfOk r (Called new (symbol_node (slice_get d.symbols f) f args)) → IfOk r (Applied d old new f args)
+applied_pred d old new f args y (Ok id) h e q s m = record {
   inside = s.inside;
   sorted = λ z k. subst (TermHasSort new id) (same_sort d f y z sort.Bool h k e) s;
   denotes = λ w interp k. q.is w ∙ ap (λ t. Truth (scalar_truth (at t (words w old args)))) (k.functions f)
       ∙ scalar_is_truth (at (table_of interp f) (words w old args)) (table_sort d interp w f y (words w old args) k h ∙ sym e);
+  made = m;
 }
-applied_pred d old new f args y (Err x) h e q s = tt
+applied_pred d old new f args y (Err x) h e q s m = tt
 
 pub applied_app : (d : DesignView) (old new : List Node) (f : ℕ) (args : List ℕ) (y : Symbol) (r : Result ℕ AllocError) → slice_get d.symbols f ≡ Some y → sort.Word ≡ result_sort y
-    → IfOk r (λ id. Denotes new id (λ w. Word (applied w (symbol.Function f) (words w old args)))) → IfOk r (λ id. TermHasSort new id sort.Word) → IfOk r (Applied d old new f args)
-applied_app d old new f args y (Ok id) h e q s = record {
+    → IfOk r (λ id. Denotes new id (λ w. Word (applied w (symbol.Function f) (words w old args)))) → IfOk r (λ id. TermHasSort new id sort.Word)
+    → IfOk r (Called new (symbol_node (slice_get d.symbols f) f args)) → IfOk r (Applied d old new f args)
+applied_app d old new f args y (Ok id) h e q s m = record {
   inside = s.inside;
   sorted = λ z k. subst (TermHasSort new id) (same_sort d f y z sort.Word h k e) s;
   denotes = λ w interp k. q.is w ∙ ap (λ t. Word (scalar_word (at t (words w old args)))) (k.functions f)
       ∙ scalar_is_word (at (table_of interp f) (words w old args)) (table_sort d interp w f y (words w old args) k h ∙ sym e);
+  made = m;
 }
-applied_app d old new f args y (Err x) h e q s = tt
+applied_app d old new f args y (Err x) h e q s m = tt
+
+-- the call by which a predicate is applied, and a function
+pub called_pred : (d : DesignView) (old new : List Node) (f : ℕ) (args : List ℕ) (y : Symbol) (r : Result ℕ AllocError) → slice_get d.symbols f ≡ Some y → y.predicate ≡ true → All (λ a. TermHasSort old a sort.Word) args
+    → IfOk r (λ id. Gives old new id (simplified old (node.Pred (symbol.Function f) args))) → IfOk r (Called new (symbol_node (slice_get d.symbols f) f args))
+called_pred d old new f args y r h e all g =
+    let same : node.Pred (symbol.Function f) args ≡ symbol_node (slice_get d.symbols f) f args = sym (ap (λ o. symbol_node o f args) h ∙ ap (λ b. let n : Node = if b then node.Pred (symbol.Function f) args else node.App (symbol.Function f) args in n) e) in
+    subst (λ n. IfOk r (Called new n)) same (called old new (node.Pred (symbol.Function f) args) r (words_inside old args all) g)
+
+pub called_app : (d : DesignView) (old new : List Node) (f : ℕ) (args : List ℕ) (y : Symbol) (r : Result ℕ AllocError) → slice_get d.symbols f ≡ Some y → y.predicate ≡ false → All (λ a. TermHasSort old a sort.Word) args
+    → IfOk r (λ id. Gives old new id (simplified old (node.App (symbol.Function f) args))) → IfOk r (Called new (symbol_node (slice_get d.symbols f) f args))
+called_app d old new f args y r h e all g =
+    let same : node.App (symbol.Function f) args ≡ symbol_node (slice_get d.symbols f) f args = sym (ap (λ o. symbol_node o f args) h ∙ ap (λ b. let n : Node = if b then node.Pred (symbol.Function f) args else node.App (symbol.Function f) args in n) e) in
+    subst (λ n. IfOk r (Called new n)) same (called old new (node.App (symbol.Function f) args) r (words_inside old args all) g)
 
 -- an application to the words of its arguments
 pub apply_arm : (t : Terms) (f : ℕ) (es : ExprViews) (args : List ℕ) (old mid new : List Node) (r : Result ℕ AllocError) → GrowsWithin t.design old mid → GrowsWithin t.design mid new → DenoteWords old mid t es args
@@ -95,6 +121,7 @@ apply_arm t f es args old mid new (Ok id) p q h a = record {
     inside = a.inside;
     sorted = λ s k. subst (TermHasSort new id) (sym k.0.2) (a.sorted k.0.0 k.0.1);
     denotes = λ w env k. a.denotes w env.interp k.world ∙ ap (λ ws. denotes_scalar (at (table_of env.interp f) ws)) (h.denotes w env k);
+    made = (args, mades-Extends mid new q.extends t es args h.made, a.made);
   };
 }
 apply_arm t f es args old mid new (Err x) p q h a = record { grows = Grows-trans t.design old mid new p q; term = tt }

@@ -4,7 +4,7 @@ use Rattle.std.specs.List.{AllZip, AllByRecursion}
 use Rattle.std.specs.Result.{MatchResult}
 use Rattle.std.proofs.lemmas.List.Elements.{same_from_all_zip}
 use Rattle.bd_model.specs.ExprView.{ExprView}
-use Rattle.bd_model.specs.DesignView.{DesignView, MachineView, PortView}
+use Rattle.bd_model.specs.DesignView.{DesignView, LocalView, MachineView, PortView}
 use Rattle.bd_model.specs.Value.{value_of, scalar_of, env_of}
 use Rattle.bd_model.specs.Cycle.{step, idle_inputs, flush_cycles, flush}
 use Rattle.bd_model.specs.Lawful.{Context, HasSort, LetsHaveSorts, without_lets, context_of, entry_sorts, IsLawfulMachine, IsLawfulPort, IsLawful}
@@ -18,19 +18,22 @@ use Rattle.bd_model.specs.declared.table.Value.TheVariants as value
 use Rattle.bd_model.proofs.Pairs.{AllZip-map_first}
 use Rattle.bd_model.proofs.NoInput.{value_of-whatever_inputs}
 use Rattle.bd_terms.specs.declared.node.Node.{Node}
-use Rattle.bd_terms.specs.Graph.{IsGraph, sort_at}
+use Rattle.bd_terms.specs.Graph.{Extends, IsGraph, sort_at}
 use Rattle.bd_terms.specs.Denotation.{World, denoted_sort}
 use Rattle.bd_terms.proofs.Simplifying.{denoted-sort}
 use Rattle.bd_symbolic.specs.World.{denotes_value}
 use Rattle.bd_symbolic.specs.DesignSymbols.{GrowsWithin, KeepsDesign}
+use Rattle.bd_terms.proofs.Growth.{Extends-trans}
+use Rattle.bd_symbolic.specs.Made.{AreFlushed, AreMadeOver, IsFlushCycle}
 use Rattle.bd_symbolic.specs.Symbolic.{HaveSorts, AreTerms, DenoteValues, DenoteScalars, context_in, terms_of}
-use Rattle.bd_symbolic.specs.States.{StateHasSorts, DenotesState, DenoteLets, DenotesFlush, DenotesSpecStep, port_sorts, local_sorts}
+use Rattle.bd_symbolic.specs.States.{StateHasSorts, DenotesState, DenoteLets, DenotesSpecStep, port_sorts, local_sorts}
 use Rattle.bd_symbolic.specs.inner.Cycles.{DenotesCycle, DenotesIdle, DenotesFlushCycle}
 use Rattle.bd_symbolic.specs.inner.Evaluates.{DenoteExprs, HasSomeSort}
 use Rattle.bd_symbolic.specs.declared.state.SymState.{SymState}
 use Rattle.bd_symbolic.proofs.Growing.{Grows-trans, KeepsDesign-Grows}
 use Rattle.bd_symbolic.proofs.States.{HaveSorts-inside, HaveSorts-sorts, HaveSorts-Extends, StateHasSorts-Extends, DenotesState-Extends, AreTerms-state, context_in-state, DenoteEnv-state}
-use Rattle.bd_symbolic.proofs.Gathering.{exprs_sorted, exprs_values}
+use Rattle.bd_symbolic.proofs.Gathering.{exprs_made, exprs_sorted, exprs_values}
+use Rattle.bd_symbolic.proofs.Making.{flush_cycle-Extends, lets-Extends}
 
 -- a fact of an Ok that follows from another
 pub IfOk-follows : {A E : Type 0} (P Q : A → Type 0) (r : Result A E) → ((x : A) → P x → Q x) → IfOk r P → IfOk r Q
@@ -87,6 +90,14 @@ cycle_denotes d m old mid new state lets ids h g l x = record {
   denotes = λ w interp values inputs k.
       exprs_values mid new (terms_of d state lets) w (env_of m.locals interp values inputs) m.nexts ids
       (DenoteEnv-state d w mid state lets m.locals interp values inputs (DenotesState-Extends d m w old mid state interp values inputs g.extends h k) (l.denotes w interp values inputs k)) x;
+}
+
+-- the terms of expressions after those of lets
+pub over_made : (d : DesignView) (old mid new : List Node) (state : SymState) (locals : List LocalView) (es : List ExprView) (lets ids : List ℕ) → Extends mid new → DenoteLets d old mid state locals lets → DenoteExprs mid new (terms_of d state lets) es ids → AreMadeOver new d state locals es ids
+over_made d old mid new state locals es lets ids e l h = record {
+  lets = lets;
+  first = lets-Extends mid new e d state [] locals lets l.made;
+  made = exprs_made mid new (terms_of d state lets) es ids h;
 }
 
 -- a step of the specification is a cycle without inputs
@@ -178,11 +189,12 @@ pub record FlushesSo (d : DesignView) (old new : List Node) (state now : SymStat
   pub sorted : StateHasSorts d.pipe new now
   pub denotes : (w : World) (interp : List Table) (values : List Value) (inputs : List Scalar) → DenotesState d w old state interp values inputs
       → (vs : List Value) × (xs : List Scalar) × DenotesState d w new now interp vs xs × (flush_cycles left d.pipe interp vs ≡ flush d interp values)
+  pub made : (later : List Node) (ids : List ℕ) → Extends new later → AreFlushed later d left now ids → AreFlushed later d d.flush state ids
 
 -- one flush cycle more
-pub flushes_step : (d : DesignView) (old mid new : List Node) (state now next : SymState) (left less : ℕ) → left ≡ suc less → FlushesSo d old mid state now left → GrowsWithin d mid new → StateHasSorts d.pipe new next → DenotesFlushCycle d mid new now next
+pub flushes_step : (d : DesignView) (old mid new : List Node) (state now next : SymState) (left less : ℕ) → left ≡ suc less → FlushesSo d old mid state now left → GrowsWithin d mid new → StateHasSorts d.pipe new next → DenotesFlushCycle d mid new now next → IsFlushCycle new d now next
     → FlushesSo d old new state next less
-flushes_step d old mid new state now next left less is h g s c = record {
+flushes_step d old mid new state now next left less is h g s c m = record {
   grows = Grows-trans d old mid new h.grows g;
   sorted = s;
   denotes = λ w interp values inputs k.
@@ -192,4 +204,6 @@ flushes_step d old mid new state now next left less is h g s c = record {
         c.denotes w interp one.0 one.1 one.2,
         subst (λ n. flush_cycles n d.pipe interp one.0 ≡ flush d interp values) is one.3,
       );
+  made = λ later ids more j.
+      h.made later ids (Extends-trans mid new later g.extends more) (subst (λ n. AreFlushed later d n now ids) (sym is) (next, flush_cycle-Extends new later more d now next m, j));
 }

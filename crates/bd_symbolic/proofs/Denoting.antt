@@ -18,6 +18,7 @@ use Rattle.bd_symbolic.specs.World.{denotes_value}
 use Rattle.bd_symbolic.specs.DesignSymbols.{GrowsWithin}
 use Rattle.bd_symbolic.specs.Symbolic.{Terms, AreTerms, DenotesExpr}
 use Rattle.bd_symbolic.specs.inner.Evaluates.{IsReady}
+use Rattle.bd_symbolic.proofs.Making.{made-Extends}
 use Rattle.bd_symbolic.proofs.Growing.{AreTerms-Grows, context_in-Grows, DenoteEnv-Grows}
 
 pub truth_of-value : (v : Value) → truth_of (denotes_value v) ≡ is_true v
@@ -63,6 +64,7 @@ Denotes-later t e id old mid new g h = record {
   inside = inside-Extends mid new g.extends id h.inside;
   sorted = λ s p. HasSort-Extends mid new g.extends id s (h.sorted s p);
   denotes = λ w env p. denoted-Extends w mid new g.extends id h.inside ∙ h.denotes w env p;
+  made = made-Extends mid new g.extends t e id h.made;
 }
 
 -- and where the names stood for their terms before
@@ -71,4 +73,5 @@ Denotes-earlier t e id old mid new g a h = record {
   inside = h.inside;
   sorted = λ s p. h.sorted s (subst (λ c. HasSort c e s) (sym (context_in-Grows t old mid g a)) p);
   denotes = λ w env p. h.denotes w env (DenoteEnv-Grows w t env old mid g a p);
+  made = h.made;
 }

@@ -1,5 +1,7 @@
 -- The terms of entries and inputs before the first cycle.
-use Rattle.std.proofs.Common.{◌≡◌, ℕ, zero, suc, ◌+◌, ◌*◌, ◌&&◌, true, false, ◌++◌, List, [], ◌∷◌, map, length, Some, Result, Ok, Err, IfOk, refl, ap, sym, ◌∙◌, subst, arith, append-nil, append_assoc, length-append, zero-add, get_or, ◌<◌}
+use Rattle.std.proofs.Common.{◌≡◌, ◌≢◌, ℕ, zero, suc, ◌+◌, ◌*◌, ◌&&◌, true, false, ◌++◌, List, [], ◌∷◌, map, length, Some, Result, Ok, Err, IfOk, refl, ap, sym, ◌∙◌, subst, arith, append-nil, append_assoc, length-append, zero-add, get_or, ◌<◌, true≢false}
+use denote.Enum.Bare.{sameb}
+use Rattle.bd_model.specs.contracts.design.Sort.{the_type}
 use Rattle.std.specs.Prelude.{◌==◌, slice_get, slice_index_or, if◌then◌else◌}
 use Rattle.std.specs.List.{AllZip, AllByRecursion}
 use Rattle.std.specs.declared.alloc.AllocError.{AllocError}
@@ -22,6 +24,7 @@ use Rattle.bd_model.specs.declared.table.Value.{Value}
 use Rattle.bd_model.specs.declared.table.Value.TheVariants as value
 use Rattle.bd_model.proofs.Pairs.{AllZip-map_first}
 use Rattle.bd_terms.specs.declared.node.Node.{Node}
+use Rattle.bd_terms.specs.declared.node.Node.TheVariants as node
 use Rattle.bd_terms.specs.declared.node.Sym.{Sym}
 use Rattle.bd_terms.specs.declared.node.Sym.TheVariants as symbol
 use Rattle.bd_terms.specs.Graph.{AddsUses, Extends, Use}
@@ -30,12 +33,14 @@ use Rattle.bd_terms.specs.Denotation.{World, Denotes, Truth, Word, Contents, app
 use Rattle.bd_terms.proofs.Growth.{HasSort-Extends, denoted-Extends}
 use Rattle.bd_symbolic.specs.World.{slot_row, value_table, denotes_value, world_of}
 use Rattle.bd_symbolic.specs.DesignSymbols.{IsDeclared, KeepsDesign, GrowsWithin, sort_use, entry_use, port_use}
+use Rattle.bd_symbolic.specs.Made.{AreFirst, Called, first_node}
 use Rattle.bd_symbolic.specs.Symbolic.{HaveSorts}
 use Rattle.bd_symbolic.specs.States.{StateHasSorts, DenotesCases, DenotesEntries, DenotesInputs, port_sorts}
 use Rattle.bd_symbolic.specs.Widened.{widened}
 use Rattle.bd_symbolic.specs.inner.First.{KeepsUse, IsFirstTerm, FirstTerms}
 use Rattle.bd_symbolic.specs.declared.state.SymState.{SymState}
 use Rattle.bd_symbolic.proofs.Growing.{Grows-self, Grows-trans, KeepsDesign-Grows}
+use Rattle.bd_symbolic.proofs.Making.{called-Extends}
 use Rattle.bd_symbolic.proofs.Applying.{Grows-one}
 use Rattle.bd_symbolic.proofs.Worlds.{IsWorldOf-world_of}
 use Rattle.bd_symbolic.proofs.Widening.{repeated-there}
@@ -50,19 +55,49 @@ memory_read : (m : Memory) → (λ a. scalar_word (at (value_table (value.Memory
 memory_read m = fun_ext (λ a. slots_read m.rows a m.default)
 
 -- the first contents of a memory, where their table is that of the memory
-pub first_memory : (nodes : List Node) (e : ℕ) (r : Result ℕ AllocError) → IfOk r (λ id. Denotes nodes id (λ w. Contents (λ a. applied w (symbol.Entry e) (a ∷ [])))) → IfOk r (λ id. TermHasSort nodes id sort.Memory)
+pub first_memory : (nodes : List Node) (e : ℕ) (r : Result ℕ AllocError) → IfOk r (λ id. Denotes nodes id (λ w. Contents (λ a. applied w (symbol.Entry e) (a ∷ [])))) → IfOk r (λ id. TermHasSort nodes id sort.Memory) → IfOk r (Called nodes (node.Init e))
     → IfOk r (IsFirstTerm nodes (symbol.Entry e) sort.Memory)
-first_memory nodes e (Err x) d h = tt
-first_memory nodes e (Ok id) d h = record { sorted = h; denotes = λ w v k is. d.is w ∙ ap (λ t. Contents (λ a. scalar_word (at t (a ∷ [])))) is ∙ same v k } where
+first_memory nodes e (Err x) d h m = tt
+first_memory nodes e (Ok id) d h m = record { sorted = h; denotes = λ w v k is. d.is w ∙ ap (λ t. Contents (λ a. scalar_word (at t (a ∷ [])))) is ∙ same v k; made = m } where
   same : (v : Value) → value_sort v ≡ sort.Memory → Contents (λ a. scalar_word (at (value_table v) (a ∷ []))) ≡ denotes_value v
   same (value.Memory m) k = ap Contents (memory_read m)
   same (value.Scalar (scalar.Bool b)) k = absurd (cc k)
   same (value.Scalar (scalar.Word n)) k = absurd (cc k)
 
+-- a truth value, and a word, where their table is that of the value
+pub first_truth : (nodes : List Node) (s : Sym) (t : Sort) (r : Result ℕ AllocError) → t ≡ sort.Bool → IfOk r (λ id. Denotes nodes id (λ w. Truth (holds w s []))) → IfOk r (λ id. TermHasSort nodes id sort.Bool) → IfOk r (Called nodes (node.Pred s []))
+    → IfOk r (IsFirstTerm nodes s t)
+first_truth nodes s t (Err x) e d h m = tt
+first_truth nodes s t (Ok id) e d h m = subst (λ u. IsFirstTerm nodes s u id) (sym e) (record { sorted = h; denotes = λ w v k is. d.is w ∙ ap (λ x. Truth (scalar_truth (at x []))) is ∙ same v k; made = m }) where
+  same : (v : Value) → value_sort v ≡ sort.Bool → Truth (scalar_truth (at (value_table v) [])) ≡ denotes_value v
+  same (value.Scalar (scalar.Bool b)) k = refl
+  same (value.Scalar (scalar.Word n)) k = absurd (cc k)
+  same (value.Memory m) k = absurd (cc k)
+
+pub first_word : (nodes : List Node) (s : Sym) (t : Sort) (r : Result ℕ AllocError) → t ≡ sort.Word → IfOk r (λ id. Denotes nodes id (λ w. Word (applied w s []))) → IfOk r (λ id. TermHasSort nodes id sort.Word) → IfOk r (Called nodes (node.App s []))
+    → IfOk r (IsFirstTerm nodes s t)
+first_word nodes s t (Err x) e d h m = tt
+first_word nodes s t (Ok id) e d h m = subst (λ u. IsFirstTerm nodes s u id) (sym e) (record { sorted = h; denotes = λ w v k is. d.is w ∙ ap (λ x. Word (scalar_word (at x []))) is ∙ same v k; made = m }) where
+  same : (v : Value) → value_sort v ≡ sort.Word → Word (scalar_word (at (value_table v) [])) ≡ denotes_value v
+  same (value.Scalar (scalar.Bool b)) k = absurd (cc k)
+  same (value.Scalar (scalar.Word n)) k = refl
+  same (value.Memory m) k = absurd (cc k)
+
+pub is_bool : (t : Sort) → sameb the_type t sort.Bool ≡ true → t ≡ sort.Bool
+is_bool sort.Bool h = refl
+is_bool sort.Word h = absurd (true≢false (sym h))
+is_bool sort.Memory h = absurd (true≢false (sym h))
+
+pub word_left : (t : Sort) → sameb the_type t sort.Bool ≡ false → t ≢ sort.Memory → t ≡ sort.Word
+word_left sort.Bool h k = absurd (true≢false h)
+word_left sort.Word h k = refl
+word_left sort.Memory h k = absurd (k refl)
+
 first-Extends : (old new : List Node) → Extends old new → (s : Sym) (t : Sort) (id : ℕ) → IsFirstTerm old s t id → IsFirstTerm new s t id
 first-Extends old new e s t id h = record {
   sorted = HasSort-Extends old new e id t h.sorted;
   denotes = λ w v k is. denoted-Extends w old new e id h.sorted.inside ∙ h.denotes w v k is;
+  made = called-Extends old new e (first_node s t) id h.made;
 }
 
 -- one term more, where the graph has grown
@@ -85,6 +120,12 @@ firsts_sorted symbols nodes n [] [] h = tt
 firsts_sorted symbols nodes n [] (t ∷ sorts) h = absurd h
 firsts_sorted symbols nodes n (x ∷ ids) [] h = absurd h
 firsts_sorted symbols nodes n (x ∷ ids) (t ∷ sorts) h = (h.0.sorted, firsts_sorted symbols nodes (suc n) ids sorts h.1)
+
+pub firsts_made : (symbols : ℕ → Sym) (nodes : List Node) (n : ℕ) (ids : List ℕ) (sorts : List Sort) → FirstTerms symbols nodes n ids sorts → AreFirst symbols nodes n ids sorts
+firsts_made symbols nodes n [] [] h = tt
+firsts_made symbols nodes n [] (t ∷ sorts) h = absurd h
+firsts_made symbols nodes n (x ∷ ids) [] h = absurd h
+firsts_made symbols nodes n (x ∷ ids) (t ∷ sorts) h = (h.0.made, firsts_made symbols nodes (suc n) ids sorts h.1)
 
 -- what they denote in a world that has the values' tables for the symbols
 firsts_denote : {V : Type 0} (f : V → Value) (d : V) (symbols : ℕ → Sym) (nodes : List Node) (w : World) (n : ℕ) (ids : List ℕ) (sorts : List Sort) (values : List V) → FirstTerms symbols nodes n ids sorts

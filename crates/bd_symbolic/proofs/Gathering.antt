@@ -14,16 +14,19 @@ use Rattle.bd_model.specs.declared.table.Value.{Value}
 use Rattle.bd_model.specs.declared.table.Value.TheVariants as value
 use Rattle.bd_model.proofs.Pairs.{AllZip-append}
 use Rattle.bd_terms.specs.declared.node.Node.{Node}
-use Rattle.bd_terms.specs.Graph.{sort_at}
+use Rattle.bd_terms.specs.Graph.{Extends, sort_at}
 use Rattle.bd_terms.specs.Graph.{HasSort as TermHasSort}
 use Rattle.bd_terms.specs.Denotation.{World, denoted}
 use Rattle.bd_symbolic.specs.World.{denotes_value}
 use Rattle.bd_symbolic.specs.DesignSymbols.{GrowsWithin}
+use Rattle.bd_terms.proofs.Growth.{Extends-self, Extends-trans}
+use Rattle.bd_symbolic.specs.Made.{AreLets, IsMade}
 use Rattle.bd_symbolic.specs.Symbolic.{Terms, HaveSorts, AreInside, AreTerms, DenoteEnv, DenoteValues, DenotesExpr, context_in, terms_of}
 use Rattle.bd_symbolic.specs.States.{DenotesState, DenoteLets, local_sorts}
 use Rattle.bd_symbolic.specs.inner.Evaluates.{DenoteExprs, HasSomeSort}
 use Rattle.bd_symbolic.specs.declared.state.SymState.{SymState}
 use Rattle.bd_symbolic.proofs.Growing.{Grows-self, Grows-trans, KeepsDesign-Grows, AreInside-Extends, sorts-Extends, context_in-Grows, Denote-Extends}
+use Rattle.bd_symbolic.proofs.Making.{made-Extends}
 use Rattle.bd_symbolic.proofs.Denoting.{Denotes-later, Denotes-earlier}
 use Rattle.bd_symbolic.proofs.States.{HaveSorts-given}
 
@@ -52,6 +55,7 @@ pub record LetsDone (d : DesignView) (old new : List Node) (state : SymState) (l
   pub left : LetsHaveSorts (context_in new (terms_of d state lets)) rest
   pub denotes : (w : World) (interp : List Table) (values : List Value) (inputs : List Scalar) → DenotesState d w old state interp values inputs
       → (done : List Value) × DenoteValues w new lets done × (grown (let_value interp values inputs) done rest ≡ let_values interp values inputs locals)
+  pub made : (later : List Node) (ids : List ℕ) → Extends new later → AreLets later d state lets rest ids → AreLets later d state [] locals ids
 
 pub lets_init : (d : DesignView) (old : List Node) (state : SymState) (locals : List LocalView) → LetsHaveSorts (context_in old (terms_of d state [])) locals → LetsDone d old old state locals locals []
 lets_init d old state locals h = record {
@@ -60,6 +64,7 @@ lets_init d old state locals h = record {
   sorts = refl;
   left = h;
   denotes = λ w interp values inputs k. ([], tt, refl);
+  made = λ later ids more j. j;
 }
 
 -- the terms that the next let stands over
@@ -101,12 +106,15 @@ lets_step d old mid next state locals l rest lets id k h g e =
                 (Denote-Extends denotes_value w mid next g.extends lets one.0 h.inside one.1) (e.denotes w env here),
             one.2,
           );
+      made = λ later ids more j.
+          h.made later ids (Extends-trans mid next later g.extends more) (id, made-Extends next later more (terms_of d state lets) l.value id e.made, j);
     }
 
 pub lets_done : (d : DesignView) (old new : List Node) (state : SymState) (locals : List LocalView) (lets : List ℕ) → LetsDone d old new state locals [] lets → DenoteLets d old new state locals lets
 lets_done d old new state locals lets h = record {
   sorted = subst (HaveSorts new lets) (sym (append-nil (map (sort_at new) lets)) ∙ h.sorts) (HaveSorts-given new lets h.inside);
   denotes = λ w interp values inputs k. let one = h.denotes w interp values inputs k in subst (DenoteValues w new lets) one.2 one.1;
+  made = h.made new lets (Extends-self new) refl;
 }
 
 -- the expressions so far have their terms, and the rest is to come
@@ -158,3 +166,10 @@ exprs_values old new t w env [] [] k h = tt
 exprs_values old new t w env [] (id ∷ ids) k h = absurd h
 exprs_values old new t w env (e ∷ es) [] k h = absurd h
 exprs_values old new t w env (e ∷ es) (id ∷ ids) k h = (h.0.denotes w env k, exprs_values old new t w env es ids k h.1)
+
+-- and were made of them
+pub exprs_made : (old new : List Node) (t : Terms) (es : List ExprView) (ids : List ℕ) → DenoteExprs old new t es ids → AllZip (IsMade new t) es ids
+exprs_made old new t [] [] h = tt
+exprs_made old new t [] (id ∷ ids) h = absurd h
+exprs_made old new t (e ∷ es) [] h = absurd h
+exprs_made old new t (e ∷ es) (id ∷ ids) h = (h.0.made, exprs_made old new t es ids h.1)

@@ -16,6 +16,7 @@ use Rattle.bd_terms.specs.declared.node.Node.{Node}
 use Rattle.bd_terms.specs.Graph.{sort_at}
 use Rattle.bd_terms.specs.Denotation.{World, denoted}
 use Rattle.bd_symbolic.specs.World.{denotes_value}
+use Rattle.bd_symbolic.specs.Made.{IsMade}
 use Rattle.bd_symbolic.specs.Symbolic.{Terms, AreInside, DenoteEnv, context_in}
 use Rattle.bd_symbolic.specs.inner.Evaluates.{Evaluates, IsReady}
 use Rattle.bd_symbolic.proofs.Growing.{Grows-self}
@@ -87,11 +88,17 @@ input_bound nodes t e i is h = map_inside (sort_at nodes) t.inputs i h.sorted.0 
 pub local_bound : (nodes : List Node) (t : Terms) (e : ExprView) (i : ℕ) → e ≡ Local i → IsReady nodes t e → i < length t.lets
 local_bound nodes t e i is h = map_inside (sort_at nodes) t.lets i h.sorted.0 (subst (λ x. HasSort (context_in nodes t) x h.sorted.0) is h.sorted.1)
 
+same_at : (ids : List ℕ) (i d : ℕ) → i < length ids → slice_index_or ids i d ≡ slice_index_or ids i 0
+same_at ids i d within =
+    let one : slice_get ids i ≡ Some (slice_index_or ids i d) = slice_get-get_or ids i d within in
+    let two : slice_get ids i ≡ Some (slice_index_or ids i 0) = slice_get-get_or ids i 0 within in
+    cc
+
 leaf : (nodes : List Node) (t : Terms) (e f : ExprView) (id : ℕ) → e ≡ f → id < length nodes → ((s : Sort) → HasSort (context_in nodes t) f s → sort_at nodes id ≡ s)
-    → ((w : World) (env : Env) → DenoteEnv w nodes t env → denoted w nodes id ≡ denotes_value (value_of env f)) → Evaluates nodes nodes t e (Ok id)
-leaf nodes t e f id is inside sorted means = subst (λ x. Evaluates nodes nodes t x (Ok id)) (sym is) (record {
+    → ((w : World) (env : Env) → DenoteEnv w nodes t env → denoted w nodes id ≡ denotes_value (value_of env f)) → IsMade nodes t f id → Evaluates nodes nodes t e (Ok id)
+leaf nodes t e f id is inside sorted means made = subst (λ x. Evaluates nodes nodes t x (Ok id)) (sym is) (record {
   grows = Grows-self t.design nodes;
-  term = record { inside = inside; sorted = λ s h. record { inside = inside; sorted = sorted s h }; denotes = means };
+  term = record { inside = inside; sorted = λ s h. record { inside = inside; sorted = sorted s h }; denotes = means; made = made };
 })
 
 pub entry_arm : (nodes : List Node) (t : Terms) (e : ExprView) (i d : ℕ) → e ≡ Entry i → IsReady nodes t e → Evaluates nodes nodes t e (Ok (slice_index_or t.entries i d))
@@ -99,18 +106,18 @@ entry_arm nodes t e i d is h =
     let bound : i < length t.entries = entry_bound nodes t e i is h in
     let there : slice_get t.entries i ≡ Some (slice_index_or t.entries i d) = slice_get-get_or t.entries i d bound in
     leaf nodes t e (Entry i) _ is (inside_at nodes t.entries i _ h.terms.entries there) (λ s k. map_at (sort_at nodes) t.entries i _ s there k)
-    (λ w env k. AllZip-at (λ x v. denoted w nodes x ≡ denotes_value v) t.entries env.state (truth false) k.state i _ there)
+    (λ w env k. AllZip-at (λ x v. denoted w nodes x ≡ denotes_value v) t.entries env.state (truth false) k.state i _ there) (same_at t.entries i d bound)
 
 pub input_arm : (nodes : List Node) (t : Terms) (e : ExprView) (i d : ℕ) → e ≡ Input i → IsReady nodes t e → Evaluates nodes nodes t e (Ok (slice_index_or t.inputs i d))
 input_arm nodes t e i d is h =
     let bound : i < length t.inputs = input_bound nodes t e i is h in
     let there : slice_get t.inputs i ≡ Some (slice_index_or t.inputs i d) = slice_get-get_or t.inputs i d bound in
     leaf nodes t e (Input i) _ is (inside_at nodes t.inputs i _ h.terms.inputs there) (λ s k. map_at (sort_at nodes) t.inputs i _ s there k)
-    (λ w env k. AllZip-at (λ x v. denoted w nodes x ≡ denotes_value (value.Scalar v)) t.inputs env.inputs (scalar.Bool false) k.inputs i _ there)
+    (λ w env k. AllZip-at (λ x v. denoted w nodes x ≡ denotes_value (value.Scalar v)) t.inputs env.inputs (scalar.Bool false) k.inputs i _ there) (same_at t.inputs i d bound)
 
 pub local_arm : (nodes : List Node) (t : Terms) (e : ExprView) (i d : ℕ) → e ≡ Local i → IsReady nodes t e → Evaluates nodes nodes t e (Ok (slice_index_or t.lets i d))
 local_arm nodes t e i d is h =
     let bound : i < length t.lets = local_bound nodes t e i is h in
     let there : slice_get t.lets i ≡ Some (slice_index_or t.lets i d) = slice_get-get_or t.lets i d bound in
     leaf nodes t e (Local i) _ is (inside_at nodes t.lets i _ h.terms.lets there) (λ s k. map_at (sort_at nodes) t.lets i _ s there k)
-    (λ w env k. AllZip-at (λ x v. denoted w nodes x ≡ denotes_value v) t.lets env.locals (truth false) k.locals i _ there)
+    (λ w env k. AllZip-at (λ x v. denoted w nodes x ≡ denotes_value v) t.lets env.locals (truth false) k.locals i _ there) (same_at t.lets i d bound)

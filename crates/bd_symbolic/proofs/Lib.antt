@@ -1,4 +1,5 @@
 pub mod Growing
+pub mod Making
 pub mod Denoting
 pub mod Arms
 pub mod Applying

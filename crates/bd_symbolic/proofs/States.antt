@@ -1,9 +1,8 @@
 -- States of terms: their sorts, and what they denote where the graph grows.
-use Rattle.std.proofs.Common.{◌≡◌, ℕ, suc, List, [], ◌∷◌, map, length, refl, ap, ap₂, sym, ◌∙◌, subst}
+use Rattle.std.proofs.Common.{◌≡◌, ℕ, suc, List, [], ◌∷◌, map, length, refl, ap, ap₂, ◌∙◌}
 use Rattle.std.proofs.lemmas.List.{length-map}
 use Rattle.bd_model.specs.DesignView.{DesignView, MachineView, LocalView}
 use Rattle.bd_model.specs.Value.{env_of, let_values}
-use Rattle.bd_model.specs.Cycle.{step}
 use Rattle.bd_model.specs.Lawful.{context_of, entry_sorts}
 use Rattle.bd_model.specs.declared.design.Sort.{Sort}
 use Rattle.bd_model.specs.declared.table.Scalar.{Scalar}
@@ -16,8 +15,8 @@ use Rattle.bd_terms.specs.Denotation.{World}
 use Rattle.bd_terms.proofs.Growth.{HasSort-Extends}
 use Rattle.bd_symbolic.specs.World.{denotes_value}
 use Rattle.bd_symbolic.specs.DesignSymbols.{KeepsDesign}
-use Rattle.bd_symbolic.specs.Symbolic.{HaveSorts, AreInside, AreTerms, DenoteEnv, DenoteValues, DenoteScalars, context_in, terms_of}
-use Rattle.bd_symbolic.specs.States.{StateHasSorts, DenotesState, DenotesStep, port_sorts, local_sorts}
+use Rattle.bd_symbolic.specs.Symbolic.{HaveSorts, AreInside, AreTerms, DenoteEnv, DenoteValues, context_in, terms_of}
+use Rattle.bd_symbolic.specs.States.{StateHasSorts, DenotesState, port_sorts, local_sorts}
 use Rattle.bd_symbolic.specs.declared.state.SymState.{SymState}
 use Rattle.bd_symbolic.proofs.Growing.{Denote-Extends}
 

@@ -17,6 +17,7 @@ use Rattle.bd_terms.specs.declared.node.Sym.TheVariants as sym
 use Rattle.bd_terms.specs.Denotation.{World}
 use Rattle.bd_symbolic.specs.declared.state.SymState.{SymState}
 use Rattle.bd_symbolic.specs.World.{IsWorldOf, constant, value_table, world_of}
+use Rattle.bd_symbolic.specs.Made.{AreLets}
 use Rattle.bd_symbolic.specs.Symbolic.{HaveSorts, DenoteValues, DenoteScalars}
 
 abbrev pub port_sorts : MachineView → List Sort
@@ -57,11 +58,13 @@ pub record DenotesCases (d : DesignView) (nodes : List Node) (state : SymState) 
   pub denotes : (c : Case) (addresses : List ℕ) → Fits d c
       → DenotesState d (world_of c.interp c.state c.inputs addresses) nodes state c.interp c.state c.inputs
 
--- wherever the terms of a state denote values and inputs, the terms of lets denote the values of the lets
+-- wherever the terms of a state denote values and inputs, the terms of lets denote the values of the lets, of which they
+-- were made
 pub record DenoteLets (d : DesignView) (old new : List Node) (state : SymState) (locals : List LocalView) (lets : List ℕ) : Type 0 where
   pub sorted : HaveSorts new lets (local_sorts locals)
   pub denotes : (w : World) (interp : List Table) (values : List Value) (inputs : List Scalar)
       → DenotesState d w old state interp values inputs → DenoteValues w new lets (let_values interp values inputs locals)
+  pub made : AreLets new d state [] locals lets
 
 -- wherever the terms of a state denote values and inputs, the new entries denote the values after a cycle
 pub record DenotesStep (d : DesignView) (old new : List Node) (state next : SymState) : Type 0 where

@@ -3,31 +3,19 @@ use Rattle.std.specs.Prelude.{◌≡◌, ℕ, ◌<◌, List, map, length}
 use Rattle.std.specs.List.{AllZip, AllByRecursion}
 use Rattle.bd_model.specs.ExprView.{ExprView}
 use Rattle.bd_model.specs.Value.{Env, value_of}
-use Rattle.bd_model.specs.DesignView.{DesignView}
 use Rattle.bd_model.specs.Lawful.{Context, HasSort}
 use Rattle.bd_model.specs.declared.design.Sort.{Sort}
 use Rattle.bd_model.specs.declared.table.Scalar.{Scalar}
 use Rattle.bd_model.specs.declared.table.Value.{Value}
 use Rattle.bd_model.specs.declared.table.Value.TheVariants as value
-use Rattle.bd_symbolic.specs.declared.state.SymState.{SymState}
 use Rattle.bd_terms.specs.declared.node.Node.{Node}
 use Rattle.bd_terms.specs.Graph.{sort_at}
 use Rattle.bd_terms.specs.Graph.{HasSort as TermHasSort}
 use Rattle.bd_terms.specs.Denotation.{World, denoted}
 use Rattle.bd_symbolic.specs.World.{IsWorldOf, denotes_value}
 use Rattle.bd_symbolic.specs.DesignSymbols.{KeepsDesign}
-
--- the terms that names stand for where an expression is built
-pub record Terms : Type 0 where
-  pub design : DesignView
-  pub entries : List ℕ
-  pub inputs : List ℕ
-  pub lets : List ℕ
-
--- those of a state of terms and of lets
-abbrev pub terms_of : DesignView → SymState → List ℕ → Terms
-terms_of d state lets =
-    record { design = d; entries = state.entries; inputs = state.inputs; lets = lets }
+use Rattle.bd_symbolic.specs.Made.{IsMade}
+pub use Rattle.bd_symbolic.specs.Terms.{Terms, terms_of}
 
 -- the Ids are in the graph, with these sorts
 abbrev pub HaveSorts : List Node → List ℕ → List Sort → Type 0
@@ -67,8 +55,10 @@ pub record DenoteEnv (w : World) (nodes : List Node) (t : Terms) (env : Env) : T
   pub inputs : DenoteScalars w nodes t.inputs env.inputs
   pub locals : DenoteValues w nodes t.lets env.locals
 
--- wherever the terms denote what the names stand for, the new term denotes the value of the expression
+-- wherever the terms denote what the names stand for, the new term denotes the value of the expression, of which it
+-- was made
 pub record DenotesExpr (old new : List Node) (t : Terms) (e : ExprView) (id : ℕ) : Type 0 where
   pub inside : id < length new
   pub sorted : (s : Sort) → HasSort (context_in old t) e s → TermHasSort new id s
   pub denotes : (w : World) (env : Env) → DenoteEnv w old t env → denoted w new id ≡ denotes_value (value_of env e)
+  pub made : IsMade new t e id

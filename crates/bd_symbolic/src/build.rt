@@ -4,11 +4,12 @@ ghost use mathlib.Core.Bool.{beq};
 ghost use Rattle.bd_model.specs.declared.design.Sort.TheVariants as sort;
 ghost use Rattle.bd_terms.specs.Graph.{AddsUses, Extends, HasSort};
 ghost use Rattle.bd_terms.specs.Denotation.{Denotes, Truth, truth};
-ghost use Rattle.std.specs.Prelude.{[], length, slice_get, Some};
+ghost use Rattle.std.specs.Prelude.{◌||◌, [], length, not, slice_get, Some};
 ghost use Rattle.std.specs.List.{All};
 ghost use Rattle.bd_model.specs.DesignView.{design_view};
 ghost use Rattle.bd_model.specs.declared.design.Symbol as symbol;
 ghost use Rattle.bd_symbolic.specs.DesignSymbols.{GrowsWithin, KeepsDesign};
+ghost use Rattle.bd_symbolic.specs.Made.{IsConstant, IsEquivalence, IsImplication};
 ghost use Rattle.bd_symbolic.specs.inner.Evaluates.{Applied};
 
 use bd_model::Design;
@@ -19,11 +20,27 @@ use std::alloc::AllocError;
 pub(crate) fn constant(graph: &mut Graph, value: bool) -> Result<Id, AllocError>
     ensures denotes { IfOk result (λ id. Denotes graph.new id (λ w. Truth value)) }
     ensures sorted { IfOk result (λ id. HasSort graph.new id sort.Bool) }
+    ensures made { IfOk result (IsConstant graph.new value) }
     ensures extends { Extends graph.old graph.new }
     ensures uses { AddsUses graph.old graph.new [] }
 {
     let yes = graph.mk_true()?;
     if value { Ok(yes) } else { graph.mk_not(yes) }
+}
+
+/// The implication, as the disjunction with the negation. Refused for want of memory, the graph may keep the negation.
+pub fn implies(graph: &mut Graph, a: Id, b: Id) -> Result<Id, AllocError>
+    requires first { HasSort graph.old a sort.Bool }
+    requires second { HasSort graph.old b sort.Bool }
+    ensures denotes { IfOk result (λ id. Denotes graph.new id
+        (λ w. Truth (not (truth w graph.old a) || truth w graph.old b))) }
+    ensures sorted { IfOk result (λ id. HasSort graph.new id sort.Bool) }
+    ensures made { IfOk result (IsImplication graph.new a b) }
+    ensures extends { Extends graph.old graph.new }
+    ensures uses { AddsUses graph.old graph.new [] }
+{
+    let denied = graph.mk_not(a)?;
+    graph.mk_or(denied, b)
 }
 
 /// The equality of truth values: the second where the first is true, else its negation.
@@ -33,6 +50,7 @@ pub(crate) fn iff(graph: &mut Graph, a: Id, b: Id) -> Result<Id, AllocError>
     ensures denotes { IfOk result (λ id. Denotes graph.new id
         (λ w. Truth (beq (truth w graph.old a) (truth w graph.old b)))) }
     ensures sorted { IfOk result (λ id. HasSort graph.new id sort.Bool) }
+    ensures made { IfOk result (IsEquivalence graph.new a b) }
     ensures extends { Extends graph.old graph.new }
     ensures uses { AddsUses graph.old graph.new [] }
 {

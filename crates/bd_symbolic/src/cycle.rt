@@ -7,7 +7,9 @@ ghost use Rattle.bd_model.specs.DesignView.{design_view, machine_view};
 ghost use Rattle.bd_model.specs.ExprView.{expr_views, list_of_views};
 ghost use Rattle.bd_model.specs.Lawful.{IsLawful, IsLawfulMachine, entry_sorts};
 ghost use Rattle.bd_symbolic.specs.DesignSymbols.{GrowsWithin, KeepsDesign};
-ghost use Rattle.bd_symbolic.specs.Symbolic.{AreTerms, HaveSorts, context_in, terms_of};
+ghost use Rattle.bd_symbolic.specs.Made.{AreMadeOver};
+ghost use Rattle.bd_symbolic.specs.Symbolic.{AreTerms, HaveSorts, context_in};
+ghost use Rattle.bd_symbolic.specs.Terms.{terms_of};
 ghost use Rattle.bd_symbolic.specs.States.{DenotesStep, DenotesSpecStep, StateHasSorts};
 ghost use Rattle.bd_symbolic.specs.inner.Cycles.{DenotesCycle};
 ghost use Rattle.bd_symbolic.specs.inner.Evaluates.{DenoteExprs, HasSomeSort};
@@ -35,6 +37,8 @@ pub fn sym_step(
     ensures inputs { IfOk result (λ next. next.inputs ≡ state.now.inputs) }
     ensures denotes { IfOk result
         (DenotesStep (design_view design.now) graph.old graph.new state.now) }
+    ensures made { IfOk result (λ next. AreMadeOver graph.new (design_view design.now) state.now
+        (design_view design.now).pipe.locals (design_view design.now).pipe.nexts next.entries) }
     ensures grows { GrowsWithin (design_view design.now) graph.old graph.new }
 {
     let entries = next_entries(alloc, graph, design, &design.pipe, state)?;
@@ -60,6 +64,8 @@ pub fn sym_spec_step(
     ensures inputs { IfOk result (λ next. next.inputs ≡ []) }
     ensures denotes { IfOk result
         (DenotesSpecStep (design_view design.now) graph.old graph.new visible.now) }
+    ensures made { IfOk result (λ next. AreMadeOver graph.new (design_view design.now) visible.now
+        (design_view design.now).spec.locals (design_view design.now).spec.nexts next.entries) }
     ensures grows { GrowsWithin (design_view design.now) graph.old graph.new }
 {
     let entries = next_entries(alloc, graph, design, &design.spec, visible)?;
@@ -82,6 +88,8 @@ pub(crate) fn next_entries(
         HaveSorts graph.new ids (entry_sorts (machine_view machine.now))) }
     ensures denotes { IfOk result (DenotesCycle (design_view design.now)
         (machine_view machine.now) graph.old graph.new state.now) }
+    ensures made { IfOk result (AreMadeOver graph.new (design_view design.now) state.now
+        (machine_view machine.now).locals (machine_view machine.now).nexts) }
     ensures grows { GrowsWithin (design_view design.now) graph.old graph.new }
 {
     let lets = sym_lets(alloc, graph, design, &machine.locals, state)?;

@@ -7,11 +7,12 @@ ghost use Rattle.bd_model.specs.declared.design.Sort.{Sort};
 ghost use Rattle.bd_model.specs.DesignView.{design_view};
 ghost use Rattle.bd_model.specs.Lawful.{HasSort};
 ghost use Rattle.bd_symbolic.specs.DesignSymbols.{GrowsWithin};
-ghost use Rattle.bd_symbolic.specs.Symbolic.{AreTerms, DenotesExpr, context_in, terms_of};
+ghost use Rattle.bd_symbolic.specs.Symbolic.{AreTerms, DenotesExpr, context_in};
+ghost use Rattle.bd_symbolic.specs.Terms.{terms_of};
 ghost use Rattle.bd_symbolic.specs.inner.Names.{names_view};
 ghost use Rattle.bd_symbolic.specs.inner.Evaluates.{IsReady, AreReady, Evaluates, EvaluatesWords};
 
-use crate::build::{apply, constant, iff};
+use crate::build::{apply, constant, iff, implies};
 use crate::state::{SymState, TermIds};
 use bd_model::{Design, Expr, Exprs};
 use bd_terms::{Graph, Id};
@@ -74,7 +75,7 @@ pub(crate) fn eval(graph: &mut Graph, names: &Context, expr: &Expr) -> Result<Id
         Expr::Implies(a, b) => {
             let first = eval(graph, names, a)?;
             let second = eval(graph, names, b)?;
-            graph.mk_implies(first, second)
+            implies(graph, first, second)
         }
         Expr::Iff(a, b) => {
             let first = eval(graph, names, a)?;

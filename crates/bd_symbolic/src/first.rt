@@ -7,6 +7,7 @@ ghost use Rattle.bd_terms.specs.Graph.{AddsUses, Extends};
 ghost use Rattle.bd_terms.specs.declared.node.Sym.TheVariants as symbol;
 ghost use Rattle.bd_symbolic.specs.DesignSymbols.{GrowsWithin, KeepsDesign, sort_use};
 ghost use Rattle.bd_symbolic.specs.States.{DenotesCases, DenotesEntries, DenotesInputs, StateHasSorts, port_sorts};
+ghost use Rattle.bd_symbolic.specs.Made.{AreFirstEntries, AreFirstInputs, IsFirstState};
 ghost use Rattle.bd_symbolic.specs.Symbolic.{HaveSorts};
 ghost use Rattle.bd_symbolic.specs.Widened.{widened};
 ghost use Rattle.bd_symbolic.specs.inner.First.{FirstTerms, IsFirstTerm, KeepsUse};
@@ -25,6 +26,7 @@ pub fn sym_state(alloc: Global, graph: &mut Graph, design: &Design) -> Result<Sy
     requires keeps { KeepsDesign (design_view design.now) graph.old }
     ensures sorted { IfOk result (StateHasSorts (design_view design.now).pipe graph.new) }
     ensures denotes { IfOk result (DenotesCases (design_view design.now) graph.new) }
+    ensures made { IfOk result (IsFirstState (design_view design.now) graph.new) }
     ensures grows { GrowsWithin (design_view design.now) graph.old graph.new }
 {
     let entries = first_entries(alloc, graph, design)?;
@@ -40,6 +42,7 @@ pub fn sym_entries(alloc: Global, graph: &mut Graph, design: &Design) -> Result<
     ensures sorted { IfOk result (λ ids.
         HaveSorts graph.new ids (entry_sorts (design_view design.now).pipe)) }
     ensures denotes { IfOk result (DenotesEntries (design_view design.now) graph.new) }
+    ensures made { IfOk result (AreFirstEntries (design_view design.now) graph.new) }
     ensures grows { GrowsWithin (design_view design.now) graph.old graph.new }
 {
     first_entries(alloc, graph, design)
@@ -59,6 +62,7 @@ pub fn sym_inputs(
     ensures sorted { IfOk result (λ ids.
         HaveSorts graph.new ids (port_sorts (design_view design.now).pipe)) }
     ensures denotes { IfOk result (DenotesInputs (design_view design.now) cycle graph.new) }
+    ensures made { IfOk result (AreFirstInputs (design_view design.now) cycle graph.new) }
     ensures grows { GrowsWithin (widened (design_view design.now) (cycle + 1))
         graph.old graph.new }
 {

@@ -8,7 +8,9 @@ ghost use Rattle.std.specs.List.{AllByRecursion};
 ghost use Rattle.bd_model.specs.DesignView.{design_view, port_view, PortView};
 ghost use Rattle.bd_model.specs.Lawful.{IsLawful};
 ghost use Rattle.bd_symbolic.specs.DesignSymbols.{GrowsWithin, KeepsDesign};
-ghost use Rattle.bd_symbolic.specs.Symbolic.{AreTerms, context_in, terms_of};
+ghost use Rattle.bd_symbolic.specs.Made.{AreFlushed, AreMadeOver, IsFlushCycle};
+ghost use Rattle.bd_symbolic.specs.Symbolic.{AreTerms, context_in};
+ghost use Rattle.bd_symbolic.specs.Terms.{terms_of};
 ghost use Rattle.bd_symbolic.specs.States.{DenotesFlush, StateHasSorts};
 ghost use Rattle.bd_symbolic.specs.inner.Cycles.{DenotesFlushCycle, DenotesIdle};
 ghost use Rattle.bd_symbolic.specs.inner.Evaluates.{DenoteExprs, HasSomeSort};
@@ -37,6 +39,8 @@ pub fn sym_flush(
     ensures inputs { IfOk result (λ flushed. flushed.inputs ≡ state.now.inputs) }
     ensures denotes { IfOk result
         (DenotesFlush (design_view design.now) graph.old graph.new state.now) }
+    ensures made { IfOk result (λ flushed. AreFlushed graph.new (design_view design.now)
+        design.now.flush state.now flushed.entries) }
     ensures grows { GrowsWithin (design_view design.now) graph.old graph.new }
 {
     let inputs = copy_of(&state.inputs)?;
@@ -66,6 +70,7 @@ fn flush_cycle(
     ensures sorted { IfOk result (StateHasSorts (design_view design.now).pipe graph.new) }
     ensures denotes { IfOk result
         (DenotesFlushCycle (design_view design.now) graph.old graph.new state) }
+    ensures made { IfOk result (IsFlushCycle graph.new (design_view design.now) state) }
     ensures grows { GrowsWithin (design_view design.now) graph.old graph.new }
 {
     let inputs = idle_inputs(alloc, graph, design, &state)?;
@@ -92,6 +97,9 @@ fn idle_inputs(
     requires sorted { StateHasSorts (design_view design.now).pipe graph.old state.now }
     ensures idle { IfOk result
         (DenotesIdle (design_view design.now) graph.old graph.new state.now) }
+    ensures made { IfOk result (AreMadeOver graph.new (design_view design.now) state.now
+        (design_view design.now).pipe.locals
+        (map (λ (p : PortView). p.idle) (design_view design.now).pipe.ports)) }
     ensures grows { GrowsWithin (design_view design.now) graph.old graph.new }
 {
     let lets = sym_lets(alloc, graph, design, &design.pipe.locals, state)?;

@@ -3,7 +3,8 @@ ghost use Rattle.std.specs.Prelude.{IfOk, [], map};
 ghost use Rattle.bd_model.specs.DesignView.{design_view, local_view};
 ghost use Rattle.bd_model.specs.Lawful.{LetsHaveSorts};
 ghost use Rattle.bd_symbolic.specs.DesignSymbols.{GrowsWithin};
-ghost use Rattle.bd_symbolic.specs.Symbolic.{AreTerms, context_in, terms_of};
+ghost use Rattle.bd_symbolic.specs.Symbolic.{AreTerms, context_in};
+ghost use Rattle.bd_symbolic.specs.Terms.{terms_of};
 ghost use Rattle.bd_symbolic.specs.States.{DenoteLets};
 
 use crate::eval::sym_eval;

@@ -14,6 +14,7 @@ mod lets;
 mod state;
 mod visible;
 
+pub use build::implies;
 pub use cycle::{sym_spec_step, sym_step};
 pub use eval::sym_eval;
 pub use first::{sym_entries, sym_inputs, sym_state};

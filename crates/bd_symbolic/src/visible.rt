@@ -27,6 +27,8 @@ pub fn project(alloc: Global, design: &Design, state: &SymState) -> Result<SymSt
         (w : World) (nodes : List Node) (values : List Value)
         → DenoteValues w nodes state.now.entries values
         → DenoteValues w nodes visible.entries (look (design_view design.now) values)) }
+    ensures made { IfOk result (λ visible. visible.entries
+        ≡ map (λ i. slice_index_or state.now.entries i 0) design.now.visible) }
 {
     let mut entries = Vec::new(alloc);
     for place in design.visible.as_slice() {

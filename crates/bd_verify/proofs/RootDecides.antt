@@ -1,5 +1,5 @@
 -- What the roots of the questions decide.
-use Rattle.std.proofs.Common.{◌≡◌, ℕ, List, [], Result, Ok, Err, IfOk, sym, subst}
+use Rattle.std.proofs.Common.{◌≡◌, ℕ, List, Result, Ok, Err, IfOk, sym, subst}
 use Rattle.std.specs.declared.alloc.AllocError.{AllocError}
 use Rattle.bd_model.specs.DesignView.{DesignView}
 use Rattle.bd_model.specs.Cycle.{flushed}
@@ -12,18 +12,13 @@ use Rattle.bd_terms.specs.Graph.{HasSort, IsGraph}
 use Rattle.bd_goal.specs.Claims.{Claims, Decides}
 use Rattle.bd_goal.specs.Formula.{Corresponds, IsOutside, address_count}
 use Rattle.bd_goal.specs.Laws.{BreaksSome}
-use Rattle.bd_goal.specs.Symbols.{AppliesKnown, ReachesKnown}
+use Rattle.bd_goal.specs.Symbols.{ReachesKnown}
 use Rattle.bd_goal.proofs.Deciding.{breaks_from, breaks_to, decides, meets_from, meets_to}
-use Rattle.bd_goal.proofs.Known.{AppliesKnown-empty}
 use Rattle.bd_verify.specs.declared.verdict.Question.{Question}
 use Rattle.bd_verify.specs.declared.verdict.Question.TheVariants as question
 use Rattle.bd_verify.specs.Decided.{IsKnownRoot}
 use Rattle.bd_verify.specs.Kept.{IsRootOf, addresses_of}
 use Rattle.bd_verify.specs.Verdict.{IsAsked}
-
--- a graph of no term applies what is known
-pub known-empty : (d : DesignView) (n : ℕ) (old : List Node) → old ≡ [] → AppliesKnown d n old
-known-empty d n old e = subst (AppliesKnown d n) (sym e) (AppliesKnown-empty d n)
 
 pub root-breaks : (d : DesignView) (asked : Question) (nodes : List Node) (root n : ℕ) → asked ≡ question.Breaks → HasSort nodes root sort.Bool → Claims d (Corresponds d (flushed d)) nodes root
     → n ≡ address_count d → ReachesKnown d n nodes root → IsRootOf d asked nodes root
@@ -33,14 +28,14 @@ root-breaks d asked nodes root n e sorted claims count known = subst (λ q. IsRo
   known = subst (λ k. ReachesKnown d k nodes root) count known;
 })
 
-pub root-meets : (d : DesignView) (asked : Question) (nodes old : List Node) → old ≡ [] → asked ≡ question.Meets → (r : Result ℕ AllocError) → IfOk r (λ root. HasSort nodes root sort.Bool)
-    → IfOk r (λ root. Claims d (IsOutside d) nodes root) → IfOk r (λ root. (n : ℕ) → AppliesKnown d n old → ReachesKnown d n nodes root) → IfOk r (IsRootOf d asked nodes)
-root-meets d asked nodes old empty e (Ok root) sorted claims known = subst (λ q. IsRootOf d q nodes root) (sym e) (record {
+pub root-meets : (d : DesignView) (asked : Question) (nodes : List Node) → asked ≡ question.Meets → (r : Result ℕ AllocError) → IfOk r (λ root. HasSort nodes root sort.Bool)
+    → IfOk r (λ root. Claims d (IsOutside d) nodes root) → IfOk r (ReachesKnown d 0 nodes) → IfOk r (IsRootOf d asked nodes)
+root-meets d asked nodes e (Ok root) sorted claims known = subst (λ q. IsRootOf d q nodes root) (sym e) (record {
   sorted = sorted;
   claims = claims;
-  known = known 0 (known-empty d 0 old empty);
+  known = known;
 })
-root-meets d asked nodes old empty e (Err error) sorted claims known = tt
+root-meets d asked nodes e (Err error) sorted claims known = tt
 
 -- a question's root reaches what is known
 pub root-known : (d : DesignView) (asked : Question) (nodes : List Node) (root : ℕ) → IsRootOf d asked nodes root → IsKnownRoot d nodes root

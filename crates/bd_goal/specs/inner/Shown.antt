@@ -21,6 +21,7 @@ use Rattle.bd_symbolic.specs.declared.state.SymState.{SymState}
 use Rattle.bd_symbolic.specs.Symbolic.{DenoteValues, HaveSorts}
 use Rattle.bd_symbolic.specs.States.{DenotesState}
 use Rattle.bd_goal.specs.Formula.{EqualFrom, address_number}
+use Rattle.bd_goal.specs.Made.{IsEquation}
 use Rattle.bd_goal.specs.Symbols.{address_use}
 
 -- the most that the number of the first address of a cycle may be: with those after it, it has 32 bits
@@ -80,10 +81,11 @@ address_uses sort.Bool address = []
 address_uses sort.Word address = []
 address_uses sort.Memory address = address_use address ∷ []
 
--- the term denotes whether the two are equal
+-- the term denotes whether the two are equal, and was made of them
 pub record EqualTerms (old new : List Node) (s : Sort) (a b address : ℕ) (r : Result ℕ AllocError) : Type 0 where
   pub sorted : IfOk r (λ id. HasSort new id sort.Bool)
   pub denotes : IfOk r (λ id. (w : World)
       → truth w new id ≡ are_equal s (applied w (symbol.Address address) []) (denoted w old a) (denoted w old b))
   pub extends : Extends old new
   pub uses : AddsUses old new (address_uses s address)
+  pub made : IfOk r (IsEquation new s a b address)

@@ -19,6 +19,7 @@ use Rattle.bd_model.specs.declared.design.Symbol.{Symbol}
 use Rattle.bd_model.specs.declared.table.Table.{Table}
 use Rattle.bd_symbolic.specs.World.{IsWorldOf, denotes_scalar}
 use Rattle.bd_symbolic.specs.DesignSymbols.{GrowsWithin}
+use Rattle.bd_symbolic.specs.Made.{AreMade, Called, symbol_node}
 use Rattle.bd_symbolic.specs.Symbolic.{Terms, AreTerms, DenoteEnv, DenotesExpr, context_in}
 
 -- the terms are there, and the expression has a sort
@@ -51,12 +52,14 @@ pub record Applied (d : DesignView) (old new : List Node) (f : ℕ) (args : List
   pub inside : id < length new
   pub sorted : (y : Symbol) → slice_get d.symbols f ≡ Some y → TermHasSort new id (result_sort y)
   pub denotes : (w : World) (interp : List Table) → IsWorldOf d interp w → denoted w new id ≡ denotes_scalar (at (table_of interp f) (words w old args))
+  pub made : Called new (symbol_node (slice_get d.symbols f) f args) id
 
 -- words that denote the values of expressions
 pub record DenoteWords (old new : List Node) (t : Terms) (es : ExprViews) (ids : List ℕ) : Type 0 where
   pub sorted : All (λ id. TermHasSort new id sort.Word) ids
   pub count : length ids ≡ count_of es
   pub denotes : (w : World) (env : Env) → DenoteEnv w old t env → words w new ids ≡ map word_of (values_of env es)
+  pub made : AreMade new t es ids
 
 pub record EvaluatesWords (old new : List Node) (t : Terms) (es : ExprViews) (r : Result (Vec ℕ Global) AllocError) : Type 0 where
   pub grows : GrowsWithin t.design old new

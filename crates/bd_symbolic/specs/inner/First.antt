@@ -8,6 +8,7 @@ use Rattle.bd_terms.specs.declared.node.Node.{Node}
 use Rattle.bd_terms.specs.Graph.{KeepsSymbol, Use}
 use Rattle.bd_terms.specs.Graph.{HasSort as TermHasSort}
 use Rattle.bd_terms.specs.Denotation.{World, denoted}
+use Rattle.bd_symbolic.specs.Made.{Called, first_node}
 use Rattle.bd_symbolic.specs.World.{denotes_value, value_table}
 
 abbrev pub KeepsUse : List Node → Use → Type 0
@@ -17,6 +18,7 @@ KeepsUse nodes u = KeepsSymbol nodes u.symbol u.arity u.sort
 pub record IsFirstTerm (nodes : List Node) (symbol : Sym) (s : Sort) (id : ℕ) : Type 0 where
   pub sorted : TermHasSort nodes id s
   pub denotes : (w : World) (v : Value) → value_sort v ≡ s → w symbol ≡ value_table v → denoted w nodes id ≡ denotes_value v
+  pub made : Called nodes (first_node symbol s) id
 
 -- such a term for each sort, where the symbols are numbered from n
 abbrev pub FirstTerms : (ℕ → Sym) → List Node → ℕ → List ℕ → List Sort → Type 0

@@ -2,7 +2,7 @@ use Rattle.std.proofs.Common.{refl}
 use Rattle.std.proofs.lemmas.Result.{IfOk-weaker}
 use Rattle.bd_model.specs.DesignView.{design_view}
 use Rattle.bd_verify.specs.declared.verdict.Question.TheVariants.{Breaks}
-use Rattle.bd_verify.proofs.RootDecides.{known-empty, root-breaks}
+use Rattle.bd_verify.proofs.RootDecides.{root-breaks}
 use Rattle.bd_about.specs.Applications.{AreApplications}
 use Rattle.bd_about.specs.inner.Counted.{IsCountedPlain}
 use Rattle.bd_about.proofs.counting.applications_of.Goals as goal
@@ -25,7 +25,7 @@ returns c =
         terms = c.goal.new.graph;
         term = found.root;
         graph = c.len.ensures.graph;
-        asked = root-breaks d Breaks c.goal.new.graph found.root found.addresses refl h.sorted h.denotes h.addresses (h.symbols (known-empty d found.addresses c.new-graph.result c.new-graph.ensures));
+        asked = root-breaks d Breaks c.goal.new.graph found.root found.addresses refl h.sorted h.denotes h.addresses h.symbols;
         built = b.built;
         built_root = b.built_root;
         memories = b.memories;

@@ -8,6 +8,9 @@ use Rattle.bd_symbolic.specs.Symbolic.{AreTerms, DenotesExpr, context_in, terms_
 use Rattle.bd_model.specs.declared.expr.Exprs.{out-Exprs}
 use Rattle.bd_model.proofs.Views.{list_of-expr_views}
 use Rattle.bd_symbolic.proofs.Growing.{Grows-trans}
+use Rattle.bd_symbolic.specs.Made.{AreMadeOver}
+use Rattle.bd_symbolic.specs.declared.state.SymState.{SymState}
+use Rattle.bd_goal.proofs.Making.{alone-is}
 use Rattle.bd_goal.proofs.Lists.{map-length, map-there}
 use Rattle.bd_goal.proofs.Named.{Gathered, Gathers, alone-stated, gathers-all, gathers-next, gathers-none, gathers-ready, named-terms, stated-lets, stated-terms}
 use Rattle.bd_goal.proofs.Standing.{given-sorts, given-stands}
@@ -76,3 +79,12 @@ returns-clause-shown c =
 
 pub returns-clause-grows : goal.returns-clause-grows
 returns-clause-grows c = c.loop-part.invariant.named.grows
+
+pub returns-clause-made : goal.returns-clause-made
+returns-clause-made c =
+    let d = design_view c.args.design.now in
+    let past = map-length expr_view c.deref-part-items.result.now (out-Exprs c.args.parts.now).items.items c.loop-part.part-index c.deref-part-items.ensures.value c.loop-part-test.false in
+    let none : length (list_of_views (expr_views c.args.parts.now)) ≤ c.loop-part.part-index = omega (arith, past, ap length (list_of-expr_views c.args.parts.now)) in
+    subst (λ (s : SymState). AreMadeOver c.loop-part.graph d s (map local_view c.args.lets.now) (list_of_views (expr_views c.args.parts.now)) c.from_vec.result) (alone-is c.args.state.now c.in_ok-alone.alone c.in_ok-alone.ensures.entries c.in_ok-alone.ensures.inputs)
+    (subst (AreMadeOver c.loop-part.graph d c.in_ok-alone.alone (map local_view c.args.lets.now) (list_of_views (expr_views c.args.parts.now))) (sym c.from_vec.ensures)
+    (gathers-all d [] _ _ _ (map local_view c.args.lets.now) _ (entry_sorts d.spec) (list_of_views (expr_views c.args.parts.now)) c.loop-part.part-index _ (given-sorts d (map local_view c.args.lets.now) (list_of_views (expr_views c.args.parts.now)) c.requires.given) none c.loop-part.invariant).made)

@@ -4,7 +4,8 @@ use Rattle.bd_symbolic.specs.Widened.{widened}
 use Rattle.bd_symbolic.proofs.Widening.{GrowsWithin-own, KeepsDesign-fewer, KeepsDesign-own}
 use Rattle.bd_goal.specs.Formula.{address_count}
 use Rattle.bd_goal.proofs.Known.{KeepsAddresses-Known, KeepsDesign-Known, Known-none, Known-trans, Known-within}
-use Rattle.bd_goal.proofs.Running.{Known-wider, addresses-fewer, running-claimed, running-more}
+use Rattle.bd_goal.proofs.Making.{run-started}
+use Rattle.bd_goal.proofs.Running.{Known-wider, addresses-fewer, running-claimed, running-made, running-more}
 use Rattle.bd_goal.proofs.bounded.right_run.Goals as goal
 
 pub no_cycle-requires-clause-keeps : goal.no_cycle-requires-clause-keeps
@@ -20,7 +21,7 @@ returns-in_err-inside-clause-grows c =
 pub loop-cycle-init : goal.loop-cycle-init
 loop-cycle-init c =
     let d = design_view c.args.design.now in
-    record { grows = Known-within (widened d c.args.cycles) (c.args.cycles * address_count d) _ _ (GrowsWithin-own d c.args.cycles _ _ c.requires.some c.no_cycle.ensures.grows); inside_truth = c.in_ok-inside.ensures.starts.truth; inside_says = c.in_ok-inside.ensures.starts.says; run_is = c.in_ok-inside.ensures.starts.running }
+    record { grows = Known-within (widened d c.args.cycles) (c.args.cycles * address_count d) _ _ (GrowsWithin-own d c.args.cycles _ _ c.requires.some c.no_cycle.ensures.grows); inside_truth = c.in_ok-inside.ensures.starts.truth; inside_says = c.in_ok-inside.ensures.starts.says; run_is = c.in_ok-inside.ensures.starts.running; made = run-started d c.args.cycles _ _ _ _ _ c.in_ok-inside.ensures.made }
 
 pub one_cycle_more-requires-clause-keeps : goal.one_cycle_more-requires-clause-keeps
 one_cycle_more-requires-clause-keeps c =
@@ -46,24 +47,28 @@ pub loop-cycle-preserved : goal.loop-cycle-preserved
 loop-cycle-preserved c =
     let d = design_view c.args.design.now in
     running-more d c.args.cycles _ _ _ _ _ _ c.loop-cycle.cycle (omega (arith, c.loop-cycle-test.true)) c.loop-cycle.invariant c.in_ok-run.ensures.run c.one_cycle_more.ensures.grows
-    (Known-trans (widened d c.args.cycles) (c.args.cycles * address_count d) _ _ _ c.loop-cycle.invariant.grows (Known-wider d (c.loop-cycle.cycle + 1) c.args.cycles _ _ _ _ (omega (arith, c.loop-cycle-test.true)) (addresses-fewer d (c.loop-cycle.cycle + 1) c.args.cycles (omega (arith, c.loop-cycle-test.true))) c.one_cycle_more.ensures.grows))
+    (Known-trans (widened d c.args.cycles) (c.args.cycles * address_count d) _ _ _ c.loop-cycle.invariant.grows (Known-wider d (c.loop-cycle.cycle + 1) c.args.cycles _ _ _ _ (omega (arith, c.loop-cycle-test.true)) (addresses-fewer d (c.loop-cycle.cycle + 1) c.args.cycles (omega (arith, c.loop-cycle-test.true))) c.one_cycle_more.ensures.grows)) c.in_ok-run.ensures.made
 
-pub mk_implies-requires-clause-first : goal.mk_implies-requires-clause-first
-mk_implies-requires-clause-first c =
+pub implies-requires-clause-first : goal.implies-requires-clause-first
+implies-requires-clause-first c =
     let d = design_view c.args.design.now in
     c.loop-cycle.invariant.inside_truth
 
-pub mk_implies-requires-clause-second : goal.mk_implies-requires-clause-second
-mk_implies-requires-clause-second c =
+pub implies-requires-clause-second : goal.implies-requires-clause-second
+implies-requires-clause-second c =
     let d = design_view c.args.design.now in
     c.loop-cycle.invariant.run_is.truth
 
 pub returns-clause-denotes : goal.returns-clause-denotes
 returns-clause-denotes c =
     let d = design_view c.args.design.now in
-    running-claimed d c.args.cycles _ _ _ _ _ c.loop-cycle.cycle _ c.requires.some (omega (arith, c.loop-cycle-test.false, c.loop-cycle.auto.cycle-end)) c.loop-cycle.invariant c.mk_implies.ensures.denotes
+    running-claimed d c.args.cycles _ _ _ _ _ c.loop-cycle.cycle _ c.requires.some (omega (arith, c.loop-cycle-test.false, c.loop-cycle.auto.cycle-end)) c.loop-cycle.invariant c.implies.ensures.denotes
 
 pub returns-clause-grows : goal.returns-clause-grows
 returns-clause-grows c =
     let d = design_view c.args.design.now in
-    Known-trans (widened d c.args.cycles) (c.args.cycles * address_count d) _ _ _ c.loop-cycle.invariant.grows (Known-none (widened d c.args.cycles) (c.args.cycles * address_count d) _ _ c.mk_implies.ensures.extends c.mk_implies.ensures.uses)
+    Known-trans (widened d c.args.cycles) (c.args.cycles * address_count d) _ _ _ c.loop-cycle.invariant.grows (Known-none (widened d c.args.cycles) (c.args.cycles * address_count d) _ _ c.implies.ensures.extends c.implies.ensures.uses)
+
+pub returns-clause-made : goal.returns-clause-made
+returns-clause-made c =
+    running-made (design_view c.args.design.now) c.args.cycles _ _ _ _ _ c.loop-cycle.cycle c.implies.result c.requires.some (omega (arith, c.loop-cycle-test.false, c.loop-cycle.auto.cycle-end)) c.loop-cycle.invariant c.implies.ensures.extends c.implies.ensures.made

@@ -1,12 +1,15 @@
-use Rattle.std.proofs.Common.{◌≡◌, ◌+◌, sym, subst, arith}
+use Rattle.std.proofs.Common.{◌≡◌, ◌+◌, Ok, sym, subst, arith}
 use Rattle.bd_model.specs.DesignView.{design_view}
 use Rattle.bd_model.specs.declared.design.Sort.TheVariants as sort
-use Rattle.bd_terms.proofs.Growth.{Extends-trans, HasSort-Extends}
+use Rattle.bd_terms.proofs.Growth.{Extends-trans, HasSort-Extends, inside-Extends}
+use Rattle.bd_terms.specs.declared.node.Node.TheVariants as node
+use Rattle.bd_symbolic.proofs.Making.{called}
+use Rattle.bd_goal.specs.Made.{IsStanding}
 use Rattle.bd_goal.specs.inner.Shown.{AreConditions}
 use Rattle.bd_goal.specs.Formula.{address_count}
 use Rattle.bd_goal.proofs.Known.{KeepsAddresses-Known, KeepsDesign-Known, Known-none, Known-trans, Known-within}
 use Rattle.bd_goal.proofs.Showing.{HaveSorts-later}
-use Rattle.bd_goal.proofs.Joining.{Commuting, SaysStands, commuting-more, commuting-none, commutes-said, conditions-later}
+use Rattle.bd_goal.proofs.Joining.{Commuting, SaysStands, commuting-more, commuting-none, commutes-made, commutes-said, conditions-later}
 use Rattle.bd_goal.proofs.commute.commutes.Goals as goal
 
 pub stands-requires-clause-words : goal.stands-requires-clause-words
@@ -33,7 +36,7 @@ loop-done-init c =
     let d = design_view c.args.design.now in
     subst (λ ws. Commuting d c.args.graph.now c.stands.new.graph c.args.state.now ws c.args.before c.args.after.now c.args.before c.args.first 0 c.in_ok-any.any) (sym c.whens.view_is)
     (commuting-none d _ _ _ c.args.state.now _ c.args.before c.args.after.now c.args.first _ c.conditions.ensures.grows c.in_ok-whens.ensures.whens c.in_ok-whens.ensures.denotes c.requires.after c.requires.before c.stands.ensures.grows
-    c.in_ok-any.ensures.sorted c.in_ok-any.ensures.says)
+    c.in_ok-any.ensures.sorted c.in_ok-any.ensures.says c.in_ok-whens.ensures.made c.in_ok-any.ensures.made)
 
 pub sym_spec_step-requires-clause-keeps : goal.sym_spec_step-requires-clause-keeps
 sym_spec_step-requires-clause-keeps c = KeepsDesign-Known (design_view c.args.design.now) _ _ _ c.loop-done.invariant.grows c.requires.keeps
@@ -96,6 +99,15 @@ pub loop-done-preserved : goal.loop-done-preserved
 loop-done-preserved c =
     let d = design_view c.args.design.now in
     let says = subst (λ ws. SaysStands d c.sym_spec_step.new.graph c.stands-in-loop-done.new.graph ws c.args.after.now.entries c.in_ok-joined.joined.entries c.args.first (c.loop-done.done + 1) c.in_ok-one.one) (sym c.whens.view_is) c.in_ok-one.ensures.says in
+    let made = subst (λ ws. IsStanding c.stands-in-loop-done.new.graph d ws c.args.after.now.entries c.in_ok-joined.joined.entries c.args.first (c.loop-done.done + 1) c.in_ok-one.one) (sym c.whens.view_is) c.in_ok-one.ensures.made in
     commuting-more d _ _ _ _ _ c.args.state.now _ c.args.before c.args.after.now _ _ c.args.first c.loop-done.done _ _ _ c.loop-done.invariant c.sym_spec_step.ensures.grows
     (record { sorted = c.in_ok-joined.ensures.sorted; inputs = c.in_ok-joined.ensures.inputs }) c.in_ok-joined.ensures.denotes c.stands-in-loop-done.ensures.grows c.in_ok-one.ensures.sorted says
-    c.mk_or.ensures.extends c.mk_or.ensures.uses c.in_ok-any-2.ensures.sorted c.in_ok-any-2.ensures.denotes
+    c.mk_or.ensures.extends c.mk_or.ensures.uses c.in_ok-any-2.ensures.sorted c.in_ok-any-2.ensures.denotes c.in_ok-joined.ensures.made made
+    (called _ _ (node.Or c.loop-done.any c.in_ok-one.one) (Ok _)
+    (inside-Extends _ _ (Extends-trans _ _ _ c.sym_spec_step.ensures.grows.extends c.stands-in-loop-done.ensures.grows.extends) _ c.loop-done.invariant.sorted.inside, (c.in_ok-one.ensures.sorted.inside, tt)) c.in_ok-any-2.ensures.simplified)
+
+pub returns-clause-made : goal.returns-clause-made
+returns-clause-made c =
+    let d = design_view c.args.design.now in
+    let last : c.loop-done.done ≡ d.steps = omega (arith, c.loop-done-test.false, c.loop-done.auto.done-end) in
+    commutes-made d _ _ c.args.state.now _ c.args.before c.args.after.now _ c.args.first _ _ last c.loop-done.invariant

@@ -81,3 +81,11 @@ returns-clause-denotes c =
 
 pub returns-clause-grows : goal.returns-clause-grows
 returns-clause-grows c = c.loop-exact.invariant.named.grows
+
+pub returns-clause-made : goal.returns-clause-made
+returns-clause-made c =
+    let d = design_view c.args.design.now in
+    let past = map-length exact_view c.as_slice-exact-items.result.now c.args.design.now.exact c.loop-exact.exact-index c.as_slice-exact-items.ensures c.loop-exact-test.false in
+    rw c.from_vec.ensures
+    (gathers-all d (port_sorts d.pipe) _ _ c.args.state.now d.pipe.locals _ (map (λ (e : ExactView). sort.Bool) d.exact) (map (λ (e : ExactView). e.when) d.exact) c.loop-exact.exact-index _ (exact-sorts d c.requires.lawful)
+    (omega (arith, past, length-map d.exact (λ (e : ExactView). e.when))) c.loop-exact.invariant).made

@@ -1,11 +1,13 @@
 use Rattle.std.proofs.Common.{◌+◌}
 use Rattle.bd_model.specs.DesignView.{design_view}
 use Rattle.bd_model.specs.declared.design.Sort.TheVariants as sort
-use Rattle.bd_terms.proofs.Growth.{HasSort-Extends}
+use Rattle.bd_terms.proofs.Growth.{HasSort-Extends, inside-Extends}
+use Rattle.bd_terms.specs.declared.node.Node.TheVariants as node
+use Rattle.bd_symbolic.proofs.Making.{called}
 use Rattle.bd_goal.specs.Formula.{address_count}
 use Rattle.bd_goal.proofs.Known.{KeepsAddresses-Known, Known-none, Known-trans}
 use Rattle.bd_goal.proofs.Showing.{HaveSorts-later}
-use Rattle.bd_goal.proofs.Joining.{below-count, stands-said}
+use Rattle.bd_goal.proofs.Joining.{below-count, stands-made, stands-said}
 use Rattle.bd_goal.proofs.commute.stands.Goals as goal
 
 pub equal-requires-clause-addresses : goal.equal-requires-clause-addresses
@@ -46,3 +48,10 @@ returns-in_err-same-clause-grows c =
     let d = design_view c.args.design.now in
     let n = c.args.first + address_count d in
     Known-trans d n _ _ _ (Known-none d n _ _ c.allowed.ensures.extends c.allowed.ensures.uses) (c.equal.ensures.grows n (below-count d c.args.first c.args.j c.requires.few))
+
+pub returns-clause-made : goal.returns-clause-made
+returns-clause-made c =
+    let d = design_view c.args.design.now in
+    let grows = (c.equal.ensures.grows (c.args.first + address_count d) (below-count d c.args.first c.args.j c.requires.few)).extends in
+    stands-made d _ _ _ c.args.whens.now c.args.after.now c.args.joined.now c.args.first c.args.j _ _ c.mk_and.result grows c.mk_and.ensures.extends c.in_ok-allowed.ensures.made c.in_ok-same.ensures.made
+    (called _ _ (node.And c.in_ok-allowed.allowed c.in_ok-same.same) c.mk_and.result (inside-Extends _ _ grows _ c.in_ok-allowed.ensures.sorted.inside, (c.in_ok-same.ensures.sorted.inside, tt)) c.mk_and.ensures.simplified)

@@ -1,15 +1,17 @@
-use Rattle.std.proofs.Common.{◌<◌, ap, arith, length}
+use Rattle.std.proofs.Common.{◌<◌, Ok, ap, arith, length}
 use Rattle.bd_model.specs.DesignView.{design_view}
 use Rattle.bd_model.specs.declared.design.Sort.TheVariants as sort
-use Rattle.bd_terms.proofs.Growth.{HasSort-Extends}
+use Rattle.bd_terms.proofs.Growth.{HasSort-Extends, inside-Extends}
+use Rattle.bd_terms.specs.declared.node.Node.TheVariants as node
+use Rattle.bd_symbolic.proofs.Making.{called}
 use Rattle.bd_goal.proofs.Lists.{get-there}
-use Rattle.bd_goal.proofs.Equalling.{IsAt, address-fits, advance-le, equalled-all, equalled-next, equalled-none, equalled-refused, ids-length, is-at}
+use Rattle.bd_goal.proofs.Equalling.{IsAt, address-fits, advance-le, equalled-all, equalled-made, equalled-next, equalled-none, equalled-refused, ids-length, is-at}
 use Rattle.bd_goal.proofs.Known.{Known-none, Known-trans}
 use Rattle.bd_goal.proofs.equal.equal.Goals as goal
 
 pub loop-i-init : goal.loop-i-init
 loop-i-init c =
-    equalled-none (design_view c.args.design.now) _ _ c.args.ours.now c.args.theirs.now c.args.first c.args.stride _ c.mk_true.ensures.graph c.mk_true.ensures.extends c.mk_true.ensures.uses c.in_ok-all.ensures.sorted c.in_ok-all.ensures.denotes
+    equalled-none (design_view c.args.design.now) _ _ c.args.ours.now c.args.theirs.now c.args.first c.args.stride _ c.mk_true.ensures.graph c.mk_true.ensures.extends c.mk_true.ensures.uses c.in_ok-all.ensures.sorted c.in_ok-all.ensures.denotes (called _ _ node.True (Ok _) tt c.in_ok-all.ensures.simplified)
 
 pub bounds-our-i : goal.bounds-our-i
 bounds-our-i c =
@@ -81,7 +83,8 @@ loop-i-preserved c =
     (get-there c.as_slice-their.result.now c.args.theirs.now c.loop-i.i c.index-their-i.result c.as_slice-their.ensures within_their c.index-their-i.is) in
     rw c.advance-address.ensures
     (equalled-next d _ _ _ _ c.args.ours.now c.args.theirs.now c.args.first c.args.stride c.loop-i.i _ _ _ _ _ _ c.entry-item.result c.requires.ours c.requires.theirs at there
-    c.mk_and.ensures.graph c.loop-i.invariant c.in_ok-one.ensures c.mk_and.ensures.extends c.mk_and.ensures.uses c.in_ok-all-2.ensures.sorted c.in_ok-all-2.ensures.denotes)
+    c.mk_and.ensures.graph c.loop-i.invariant c.in_ok-one.ensures c.mk_and.ensures.extends c.mk_and.ensures.uses c.in_ok-all-2.ensures.sorted c.in_ok-all-2.ensures.denotes
+    (called _ _ (node.And c.loop-i.all c.in_ok-one.one) (Ok _) (inside-Extends _ _ c.equal_terms.ensures.extends _ c.loop-i.invariant.sorted.inside, (c.in_ok-one.ensures.sorted.inside, tt)) c.in_ok-all-2.ensures.simplified))
 
 pub returns-clause-says : goal.returns-clause-says
 returns-clause-says c =
@@ -90,3 +93,7 @@ returns-clause-says c =
 
 pub returns-clause-grows : goal.returns-clause-grows
 returns-clause-grows c = c.loop-i.invariant.grows
+
+pub returns-clause-made : goal.returns-clause-made
+returns-clause-made c =
+    equalled-made (design_view c.args.design.now) _ _ c.args.ours.now c.args.theirs.now c.args.first c.args.stride c.loop-i.i _ _ (omega (arith, c.loop-i-test.false, ap length c.as_slice-entry-items.ensures)) c.loop-i.invariant

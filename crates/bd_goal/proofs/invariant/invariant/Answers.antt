@@ -1,9 +1,13 @@
-use Rattle.std.proofs.Common.{[]}
+use Rattle.std.proofs.Common.{[], ◌∷◌, subst}
 use Rattle.std.proofs.lemmas.Result.{IfOk-weaker}
 use Rattle.bd_model.specs.DesignView.{design_view}
 use Rattle.bd_model.specs.declared.design.Sort.TheVariants as sort
 use Rattle.bd_symbolic.proofs.Growing.{Grows-trans}
 use Rattle.bd_goal.proofs.Named.{IsNamed, alone-stated, named-sort, named-terms, stated-lets, stated-terms, term-sort}
+use Rattle.bd_symbolic.specs.Made.{AreMadeOver}
+use Rattle.bd_symbolic.specs.declared.state.SymState.{SymState}
+use Rattle.bd_symbolic.proofs.Cycles.{over_made}
+use Rattle.bd_goal.proofs.Making.{alone-is}
 use Rattle.bd_goal.proofs.Standing.{invariant-said}
 use Rattle.bd_goal.proofs.invariant.invariant.Goals as goal
 
@@ -35,3 +39,11 @@ returns-clause-says c =
 
 pub returns-clause-grows : goal.returns-clause-grows
 returns-clause-grows c = Grows-trans (design_view c.args.design.now) _ _ _ c.sym_lets.ensures.grows c.sym_eval.ensures.grows
+
+pub returns-clause-made : goal.returns-clause-made
+returns-clause-made c =
+    let d = design_view c.args.design.now in
+    IfOk-weaker c.sym_eval.result _ _ (λ id t.
+    subst (λ (s : SymState). AreMadeOver c.sym_eval.new.graph d s d.inv_locals (d.inv ∷ []) (id ∷ [])) (alone-is c.args.state.now c.in_ok-alone.alone c.in_ok-alone.ensures.entries c.in_ok-alone.ensures.inputs)
+    (over_made d c.args.graph.now c.sym_lets.new.graph c.sym_eval.new.graph c.in_ok-alone.alone d.inv_locals (d.inv ∷ []) c.in_ok-lets.lets (id ∷ []) c.sym_eval.ensures.grows.extends c.in_ok-lets.ensures.lets (t, tt)))
+    c.sym_eval.ensures.term

@@ -1,7 +1,7 @@
 use Rattle.bd_model.specs.DesignView.{design_view, machine_view}
 use Rattle.bd_symbolic.proofs.Growing.{Grows-trans}
 use Rattle.bd_symbolic.proofs.States.{AreTerms-state}
-use Rattle.bd_symbolic.proofs.Cycles.{IfOk-follows, lets_sorted, after_lets, nexts_sorted, cycle_sorted, cycle_denotes}
+use Rattle.bd_symbolic.proofs.Cycles.{IfOk-follows, lets_sorted, after_lets, nexts_sorted, cycle_sorted, cycle_denotes, over_made}
 use Rattle.bd_symbolic.proofs.cycle.next_entries.Goals as goal
 
 pub sym_lets-requires-clause-terms : goal.sym_lets-requires-clause-terms
@@ -32,3 +32,10 @@ returns-clause-denotes c =
 
 pub returns-clause-grows : goal.returns-clause-grows
 returns-clause-grows c = Grows-trans (design_view c.args.design.now) _ _ _ c.sym_lets.ensures.grows c.next_terms.ensures.grows
+
+pub returns-clause-made : goal.returns-clause-made
+returns-clause-made c =
+    let m = machine_view c.args.machine.now in
+    IfOk-follows _ _ c.next_terms.result
+    (λ ids h. over_made (design_view c.args.design.now) c.args.graph.now c.sym_lets.new.graph c.next_terms.new.graph c.args.state.now m.locals m.nexts _ ids c.next_terms.ensures.grows.extends c.in_ok-lets.ensures.lets h)
+    c.next_terms.ensures.terms

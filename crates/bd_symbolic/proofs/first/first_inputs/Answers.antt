@@ -1,4 +1,4 @@
-use Rattle.std.proofs.Common.{◌≡◌, ◌+◌, ◌*◌, ◌∙◌, Some, refl, sym, subst, length, arith}
+use Rattle.std.proofs.Common.{◌≡◌, ◌+◌, ◌*◌, ◌∙◌, Some, refl, sym, subst, length}
 use Rattle.std.specs.Prelude.{slice_get}
 use Rattle.bd_model.specs.DesignView.{design_view, port_view}
 use Rattle.bd_model.specs.Lawful.{IsLawfulPort}

@@ -3,7 +3,8 @@ use Rattle.bd_model.specs.DesignView.{design_view}
 use Rattle.bd_symbolic.specs.States.{StateHasSorts}
 use Rattle.bd_symbolic.specs.declared.state.SymState.{SymState}
 use Rattle.bd_symbolic.proofs.Growing.{Grows-trans, KeepsDesign-Grows}
-use Rattle.bd_symbolic.proofs.Cycles.{idle_sorted, flush_sorted, flush_denotes}
+use Rattle.bd_symbolic.proofs.Making.{over-Extends}
+use Rattle.bd_symbolic.proofs.Cycles.{idles, idle_sorted, flush_sorted, flush_denotes}
 use Rattle.bd_symbolic.proofs.flush.flush_cycle.Goals as goal
 
 pub next_entries-requires-clause-keeps : goal.next_entries-requires-clause-keeps
@@ -29,3 +30,11 @@ returns-clause-denotes c =
 
 pub returns-clause-grows : goal.returns-clause-grows
 returns-clause-grows c = Grows-trans (design_view c.args.design.now) _ _ _ c.idle_inputs.ensures.grows c.next_entries.ensures.grows
+
+pub returns-clause-made : goal.returns-clause-made
+returns-clause-made c =
+    let d = design_view c.args.design.now in
+    record {
+      inputs = over-Extends _ _ c.next_entries.ensures.grows.extends d c.args.state d.pipe.locals (idles d.pipe.ports) _ c.in_ok-inputs.ensures.made;
+      entries = c.in_ok-entries.ensures.made;
+    }

@@ -1,7 +1,7 @@
 use Rattle.bd_model.specs.DesignView.{design_view}
 use Rattle.bd_symbolic.proofs.Growing.{Grows-trans}
 use Rattle.bd_symbolic.proofs.States.{AreTerms-state}
-use Rattle.bd_symbolic.proofs.Cycles.{lets_sorted, after_lets, idles_sorted, idle_denotes}
+use Rattle.bd_symbolic.proofs.Cycles.{lets_sorted, after_lets, idles, idles_sorted, idle_denotes, over_made}
 use Rattle.bd_symbolic.proofs.flush.idle_inputs.Goals as goal
 
 pub sym_lets-requires-clause-terms : goal.sym_lets-requires-clause-terms
@@ -27,3 +27,8 @@ returns-clause-idle c =
 
 pub returns-clause-grows : goal.returns-clause-grows
 returns-clause-grows c = Grows-trans (design_view c.args.design.now) _ _ _ c.sym_lets.ensures.grows c.idle_terms.ensures.grows
+
+pub returns-clause-made : goal.returns-clause-made
+returns-clause-made c =
+    let d = design_view c.args.design.now in
+    over_made d c.args.graph.now c.sym_lets.new.graph c.idle_terms.new.graph c.args.state.now d.pipe.locals (idles d.pipe.ports) _ _ c.idle_terms.ensures.grows.extends c.in_ok-lets.ensures.lets c.in_ok-inputs.ensures.terms
