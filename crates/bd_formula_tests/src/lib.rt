@@ -1,4 +1,4 @@
-//! Tests of the way from a design to clauses, over public calls alone.
+//! Tests of the way from a design to clauses, and back to a case, over public calls alone.
 #![tactic(auto)]
 
 #[cfg(test)]
@@ -11,6 +11,8 @@ mod equality;
 mod function;
 #[cfg(test)]
 mod graphs;
+#[cfg(test)]
+mod lifting;
 #[cfg(test)]
 mod memory;
 #[cfg(test)]

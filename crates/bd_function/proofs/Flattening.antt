@@ -1,5 +1,5 @@
 -- One pass in rising order flattens what the root reaches.
-use Rattle.std.proofs.Common.{◌≡◌, ℕ, zero, suc, ◌+◌, ◌<◌, ◌⊎◌, inl, inr, ◌&&◌, ◌||◌, ◌==◌, not, if◌then◌else◌, false, List, [], ◌∷◌, ◌++◌, length, map, slice_get, Some, Contains, refl, ap, sym, ◌∙◌, subst, arith, length-append}
+use Rattle.std.proofs.Common.{◌≡◌, ℕ, zero, suc, ◌+◌, ◌<◌, ◌^◌, ◌⊎◌, inl, inr, ◌&&◌, ◌||◌, ◌==◌, not, if◌then◌else◌, false, List, [], ◌∷◌, ◌++◌, length, map, slice_get, Some, Contains, refl, ap, sym, ◌∙◌, subst, arith, length-append}
 use Rattle.std.specs.List.{All}
 use Rattle.std.proofs.lemmas.Option.{none-some, same_Some}
 use Rattle.std.proofs.lemmas.List.{get_or_append_left}
@@ -25,10 +25,11 @@ use Rattle.bd_terms.proofs.Symbols.{uses-get}
 use Rattle.bd_function.specs.declared.flat.FlatRow.{FlatRow}
 use Rattle.bd_function.specs.declared.flat.FlatSym.{FlatSym}
 use Rattle.bd_function.specs.declared.eliminate.Taken.{Taken}
-use Rattle.bd_function.specs.Flat.{AreApplications, Flattens, HasAllApplications, IsChosen, IsFlat, KeepsFirst, ReachesNoMemory, is_variable, under}
+use Rattle.bd_function.specs.Flat.{AreApplications, Flattens, HasAllApplications, HasSmallVariables, IsChosen, IsFlat, KeepsFirst, ReachesNoMemory, is_variable, under}
 use Rattle.bd_terms.specs.Renamed.{id_at, renamed}
 use Rattle.bd_function.specs.inner.Taken.{AreAlike, HasRow, HasUse, IsApplied, IsPlain, KeepsRow, IsTaken, row_sort, use_of}
 use Rattle.bd_function.proofs.Applying.{Contains-later}
+use Rattle.bd_function.proofs.Rows.{same-number}
 use Rattle.bd_terms.proofs.Places.{All-of}
 use Rattle.bd_function.proofs.Taking.{StepsNode}
 use Rattle.bd_list.proofs.Membership.{first, second, third, Contains-none, Contains-one}
@@ -304,6 +305,14 @@ get-named : (ss : List FlatSym) (i : ℕ) (x : FlatSym) → slice_get ss i ≡ S
 get-named [] i x h = absurd (none-some x h)
 get-named (s ∷ ss) zero x h = ap (λ (z : FlatSym). Some z.sym) (same_Some s x h)
 get-named (s ∷ ss) (suc i) x h = get-named ss i x h
+
+pub IsFlattened-small : (old : List Node) (root : ℕ) (ids : List ℕ) (t : Taken) → IsFlattened old root ids t → length t.variables.items < 2 ^ 60 → HasSmallVariables t.graph
+IsFlattened-small old root ids t f few = record {
+  small = λ x u p e.
+      let below = f.taken.applied u p in
+      let same : x ≡ below.number = same-number x below.number (sym e ∙ below.same) in
+      omega (arith, few, below.below, same);
+}
 
 pub IsFlattened-IsFlat : (old : List Node) (root : ℕ) (ids : List ℕ) (t : Taken) → IsFlattened old root ids t → root < length ids → HasSort old root sort.Bool → IsFlat t.graph (id_at ids root) t.rows.items
 IsFlattened-IsFlat old root ids t f inside s = record {

@@ -1,7 +1,7 @@
 -- Elimination of function and predicate symbols by nested ite, one variable for each application (Bryant, German
 -- and Velev 2001). Of applications with equal arguments the first one's variable is the value of all, so the
 -- variables of the others are free, as positive equality needs.
-use Rattle.std.specs.Prelude.{◌≡◌, ◌≤◌, ◌⊎◌, ℕ, Bool, true, false, List, [], Contains, length, map, slice_get, Some}
+use Rattle.std.specs.Prelude.{◌≡◌, ◌≤◌, ◌<◌, ◌^◌, ◌⊎◌, ℕ, Bool, true, false, List, [], Contains, length, map, slice_get, Some}
 use Rattle.std.specs.List.{All}
 use Rattle.bd_model.specs.declared.design.Sort.TheVariants as sort
 use Rattle.bd_model.specs.declared.table.Scalar.{Scalar}
@@ -128,3 +128,7 @@ pub record IsFlat (nodes : List Node) (root : ℕ) (syms : List FlatSym) : Type 
   pub words : (s : FlatSym) → Contains syms s → (r : FlatRow) → Contains s.rows r → All (λ a. HasSort nodes a sort.Word) r.args
   pub once : (i j : ℕ) (s t : FlatSym) → slice_get syms i ≡ Some s → slice_get syms j ≡ Some t → s.sym ≡ t.sym → i ≡ j
   pub different : (s t : FlatSym) (q r : FlatRow) → Contains syms s → Contains s.rows q → Contains syms t → Contains t.rows r → q.var ≡ r.var → (s.sym ≡ t.sym) × (q ≡ r)
+
+-- the number of each variable of the graph has 60 bits
+pub record HasSmallVariables (nodes : List Node) : Type 0 where
+  pub small : (x : ℕ) (u : Use) → Contains (uses nodes) u → u.symbol ≡ Var x → x < 2 ^ 60

@@ -61,6 +61,8 @@ pub fn flatten(alloc: Global, graph: &Graph, root: Id) -> Result<Flat, AllocErro
         };
         ids.push(id)?;
     }
+    let variables = taken.variables.as_slice();
+    prove!(variables.len() < 1 << 60);
     Ok(Flat {
         graph: taken.graph,
         root: ids[root.index()],

@@ -1,5 +1,5 @@
 //! A formula without functions: variables, and for each symbol the variables of its applications.
-ghost use Rattle.bd_function.specs.Flat.{IsFlat};
+ghost use Rattle.bd_function.specs.Flat.{HasSmallVariables, IsFlat};
 
 use bd_list::Sequence;
 use bd_terms::{Graph, Id, Ids, Sym};
@@ -25,11 +25,12 @@ pub struct FlatSym {
 pub type FlatSyms = Sequence<FlatSym>;
 
 /// A graph whose applications are those of variables alone, its root, which is a truth value, and the rows of the
-/// symbols that were eliminated. No symbol has two entries.
+/// symbols that were eliminated. No symbol has two entries, and a variable's number has 60 bits.
 #[derive(Drop)]
 pub struct Flat {
     pub graph: Graph,
     pub root: Id,
     pub syms: FlatSyms,
     ghost flat: { IsFlat graph root syms },
+    ghost small: { HasSmallVariables graph },
 }

@@ -17,14 +17,14 @@ use Rattle.bd_terms.specs.Graph.{IsGraph, Use, node_uses, uses}
 use Rattle.bd_terms.proofs.Graphs.{uses-push}
 use Rattle.bd_terms.proofs.Places.{around}
 use Rattle.bd_terms.proofs.Symbols.{uses-get}
-use Rattle.bd_function.specs.Flat.{HaveSorts}
+use Rattle.bd_function.specs.Flat.{HasSmallVariables, HaveSorts}
 use Rattle.bd_prop.specs.declared.atom.Atom.{Atom}
 use Rattle.bd_prop.specs.declared.atom.Atom.TheVariants as atom
 use Rattle.bd_prop.specs.Values.{truth_of}
 use Rattle.bd_transitive.specs.declared.graph.Order.{Order}
 use Rattle.bd_transitive.specs.Triangle.{class_of}
 use Rattle.bd_lift.specs.Decoded.{AreDecodedBy, decoded_word, is_end, variable_use}
-use Rattle.bd_lift.specs.inner.Steps.{AreDecodedSo, decoded_at, word_by}
+use Rattle.bd_lift.specs.inner.Steps.{AreDecodedSo, HasSmallVariable, decoded_at, word_by}
 use Rattle.bd_lift.proofs.Numbered.{take-get}
 use Rattle.bd_list.proofs.Membership.{Contains-none, Contains-one}
 
@@ -142,6 +142,26 @@ AreDecodedSo-more nodes g i node at word atoms h k so step =
         | inr q ↦ truth_new word atoms node x (h x) q
       ];
     }
+
+-- each node of a graph whose variables have small numbers
+pub small-at : (nodes : List Node) (i : ℕ) (node : Node) → slice_get nodes i ≡ Some node → HasSmallVariables nodes → HasSmallVariable node
+small-at nodes i (App (Var x) args) at h =
+    let own : Use = record { symbol = Var x; arity = length args; sort = sort.Word } in
+    h.small x own (uses-get nodes i (App (Var x) args) at own (0, omega arith, refl)) refl
+small-at nodes i True at h = tt
+small-at nodes i (Not a) at h = tt
+small-at nodes i (And a b) at h = tt
+small-at nodes i (Or a b) at h = tt
+small-at nodes i (Ite c a b) at h = tt
+small-at nodes i (Eq a b) at h = tt
+small-at nodes i (App (Function f) args) at h = tt
+small-at nodes i (App (Entry f) args) at h = tt
+small-at nodes i (App (Input f) args) at h = tt
+small-at nodes i (App (Address f) args) at h = tt
+small-at nodes i (Pred s args) at h = tt
+small-at nodes i (Read m a) at h = tt
+small-at nodes i (Write m a d) at h = tt
+small-at nodes i (Init e) at h = tt
 
 unwrap-if : (t : Bool) (c d : ℕ) → unwrap_or (if t then Some c else None) d ≡ (if t then c else d)
 unwrap-if true c d = refl

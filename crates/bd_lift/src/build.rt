@@ -1,6 +1,6 @@
 //! The case that tables make. It starts as the case of no table, and takes the tables from the last one on, so that
 //! the first one of a symbol counts.
-ghost use Rattle.std.specs.Prelude.{◌≡◌, ◌≤◌, ◌+◌, ◌*◌, ℕ, false, List, [], map, length, slice_get, slice_set, IfOk, OnOk, Some};
+ghost use Rattle.std.specs.Prelude.{◌≡◌, ◌≤◌, ◌<◌, ◌+◌, ◌*◌, ◌^◌, ℕ, false, List, [], map, length, slice_get, slice_set, IfOk, OnOk, Some};
 ghost use Rattle.bd_model.specs.DesignView.{design_view};
 ghost use Rattle.bd_model.specs.Fits.{result_sort};
 ghost use Rattle.bd_model.specs.Value.{no_table};
@@ -32,23 +32,23 @@ struct Building {
     inputs: Vec<Scalar>,
 }
 
-/// The case of these tables, with inputs for each of the cycles, where so many classes are words.
+/// The case of these tables, with inputs for each of the cycles, where as many classes as vertices are words.
 pub(crate) fn case_of(
     alloc: Global,
     design: &Design,
     cycles: u32,
-    classes: usize,
+    vertices: &[u64],
     tables: FlatTables,
 ) -> Result<Case, AllocError>
     ensures { IfOk result (λ c.
-        IsBuilt (widened (design_view design.now) cycles) classes (world_of_tables tables)
-        c.interp c.state c.inputs) }
+        IsBuilt (widened (design_view design.now) cycles) (length vertices.now)
+        (world_of_tables tables) c.interp c.state c.inputs) }
 {
     let sorts = input_sorts(alloc, design.pipe.ports.as_slice(), cycles)?;
-    let mut case = blank(alloc, design, &sorts, classes)?;
+    let mut case = blank(alloc, design, &sorts, vertices)?;
     let mut rest = tables.into_vec();
     while let Some(table) = rest.pop() {
-        place(alloc, design, &sorts, classes, &mut case, table)?;
+        place(alloc, design, &sorts, vertices, &mut case, table)?;
     }
     let Building {
         interp,
@@ -82,14 +82,14 @@ fn blank(
     alloc: Global,
     design: &Design,
     sorts: &[Sort],
-    classes: usize,
+    vertices: &[u64],
 ) -> Result<Building, AllocError>
     ensures { IfOk result (λ b. (cycles : ℕ) →
         sorts.now ≡ port_sorts (widened (design_view design.now) cycles).pipe →
-        IsBuilt (widened (design_view design.now) cycles) classes (world_of_tables [])
-        b.interp.items b.state.items b.inputs.items) }
+        IsBuilt (widened (design_view design.now) cycles) (length vertices.now)
+        (world_of_tables []) b.interp.items b.state.items b.inputs.items) }
 {
-    let interp = blank_interp(alloc, design.symbols.as_slice(), classes)?;
+    let interp = blank_interp(alloc, design.symbols.as_slice(), vertices)?;
     let state = blank_state(alloc, design.pipe.entries.as_slice())?;
     let inputs = blank_inputs(alloc, sorts)?;
     Ok(Building {
@@ -100,13 +100,17 @@ fn blank(
 }
 
 /// The tables of a case where no symbol has one yet: a constant has a number of its own, all else is 0 or false.
-fn blank_interp(alloc: Global, symbols: &[Symbol], classes: usize) -> Result<Vec<Table>, AllocError>
+fn blank_interp(
+    alloc: Global,
+    symbols: &[Symbol],
+    vertices: &[u64],
+) -> Result<Vec<Table>, AllocError>
     ensures { IfOk result (λ tables.
-        tables.items ≡ functions_of classes (world_of_tables []) symbols.now) }
+        tables.items ≡ functions_of (length vertices.now) (world_of_tables []) symbols.now) }
 {
     let mut tables = Vec::with_capacity(alloc, symbols.len())?;
     for (place, symbol) in symbols.iter().enumerate() {
-        let table = function_table(alloc, classes, place, symbol, blank_table(alloc))?;
+        let table = function_table(alloc, vertices, place, symbol, blank_table(alloc))?;
         tables.push(table)?;
     }
     Ok(tables)
@@ -151,19 +155,19 @@ fn place(
     alloc: Global,
     design: &Design,
     sorts: &[Sort],
-    classes: usize,
+    vertices: &[u64],
     case: &mut Building,
     table: SymTable,
 ) -> Result<(), AllocError>
     requires { (cycles : ℕ) × (w : World) ×
         (sorts.now ≡ port_sorts (widened (design_view design.now) cycles).pipe) ×
-        IsBuilt (widened (design_view design.now) cycles) classes w
+        IsBuilt (widened (design_view design.now) cycles) (length vertices.now) w
         case.old.interp.items case.old.state.items case.old.inputs.items }
     ensures { OnOk result ((cycles : ℕ) (w : World) →
         sorts.now ≡ port_sorts (widened (design_view design.now) cycles).pipe →
-        IsBuilt (widened (design_view design.now) cycles) classes w
+        IsBuilt (widened (design_view design.now) cycles) (length vertices.now) w
         case.old.interp.items case.old.state.items case.old.inputs.items →
-        IsBuilt (widened (design_view design.now) cycles) classes
+        IsBuilt (widened (design_view design.now) cycles) (length vertices.now)
         (with_table w table.sym table.table)
         case.new.interp.items case.new.state.items case.new.inputs.items) }
 {
@@ -171,7 +175,14 @@ fn place(
     match sym {
         Sym::Function(f) => {
             let symbols = design.symbols.as_slice();
-            place_function(alloc, &mut case.interp, symbols, classes, f as usize, table)
+            place_function(
+                alloc,
+                &mut case.interp,
+                symbols,
+                vertices,
+                f as usize,
+                table,
+            )
         }
         Sym::Entry(i) => {
             let entries = design.pipe.entries.as_slice();
@@ -190,17 +201,18 @@ fn place_function(
     alloc: Global,
     interp: &mut Vec<Table>,
     symbols: &[Symbol],
-    classes: usize,
+    vertices: &[u64],
     f: usize,
     table: Table,
 ) -> Result<(), AllocError>
     requires { length interp.old.items ≡ length symbols.now }
     ensures there { OnOk result ((y : TheSymbol) → slice_get symbols.now f ≡ Some y →
-        interp.new.items ≡ slice_set interp.old.items f (function_table classes f y table)) }
+        interp.new.items
+        ≡ slice_set interp.old.items f (function_table (length vertices.now) f y table)) }
     ensures other { OnOk result (length symbols.now ≤ f → interp.new.items ≡ interp.old.items) }
 {
     if f < symbols.len() {
-        interp[f] = function_table(alloc, classes, f, &symbols[f], table)?;
+        interp[f] = function_table(alloc, vertices, f, &symbols[f], table)?;
     }
     Ok(())
 }
@@ -239,16 +251,17 @@ fn place_input(inputs: &mut Vec<Scalar>, sorts: &[Sort], i: usize, value: Scalar
 /// A function's table. A constant has no rows, and one without a variable a number of its own.
 fn function_table(
     alloc: Global,
-    classes: usize,
+    vertices: &[u64],
     f: usize,
     symbol: &Symbol,
     table: Table,
 ) -> Result<Table, AllocError>
-    ensures { IfOk result (λ t. t ≡ function_table classes f symbol.now table) }
+    requires { f < 2 ^ 60 }
+    ensures { IfOk result (λ t. t ≡ function_table (length vertices.now) f symbol.now table) }
 {
     let Table { default, rows } = table;
     let default = if rows.is_empty() && symbol.arity == 0 && !symbol.predicate {
-        Scalar::Word(constant_number(classes, f)?)
+        Scalar::Word(constant_number(vertices, f))
     } else {
         scalar_as(result_sort(symbol), default)
     };
@@ -261,11 +274,11 @@ fn function_table(
 }
 
 /// The number of its own for a constant without a variable: at an odd place past the classes; variables have even ones.
-fn constant_number(classes: usize, f: usize) -> Result<u64, AllocError>
-    ensures { IfOk result (λ number. number ≡ classes + 2 * f + 1) }
+fn constant_number(vertices: &[u64], f: usize) -> u64
+    requires { f < 2 ^ 60 }
+    ensures { result ≡ length vertices.now + 2 * f + 1 }
 {
-    let number = own_number(classes, f as u64)?;
-    number.checked_add(1).ok_or(AllocError)
+    own_number(vertices, f as u64) + 1
 }
 
 /// The sort of a symbol's applications.

@@ -1,12 +1,12 @@
 //! Values of the flat graph's variables.
-ghost use Rattle.std.specs.Prelude.{◌≡◌, ◌+◌, ◌*◌, ℕ, nat_eq, slice_index, IfOk, OnOk, Some, None, if◌then◌else◌};
+ghost use Rattle.std.specs.Prelude.{◌≡◌, ◌<◌, ◌+◌, ◌*◌, ◌^◌, ℕ, length, nat_eq, slice_index, IfOk, OnOk, Some, None, if◌then◌else◌};
 ghost use Rattle.std.specs.List.{IsDistinct};
 ghost use Rattle.std.specs.Map.{lookup};
 ghost use Rattle.bd_transitive.specs.Orders.{IsOrder, place};
 ghost use Rattle.bd_transitive.specs.Triangle.{class_of};
 ghost use Rattle.bd_function.specs.Values.{held, scalar_of};
 ghost use Rattle.bd_lift.specs.Decoded.{AreDecodedBy, edge_truths, is_end};
-ghost use Rattle.bd_lift.specs.inner.Steps.{AreDecodedSo, decoded_at, word_by};
+ghost use Rattle.bd_lift.specs.inner.Steps.{AreDecodedSo, HasSmallVariable, decoded_at, word_by};
 
 use bd_function::{Flat, Values};
 use bd_model::Scalar;
@@ -31,8 +31,7 @@ pub(crate) fn edge_values(
     Ok(EdgeValues::from_vec(truths))
 }
 
-/// The value of each variable of the graph, from classes and the atoms' values. A number past 64 bits ends as want of
-/// memory.
+/// The value of each variable of the graph, from classes and the atoms' values.
 pub(crate) fn decode(
     alloc: Global,
     flat: &Flat,
@@ -45,7 +44,7 @@ pub(crate) fn decode(
         AreDecodedBy flat.now.graph order.now values.now classes.now (scalar_of v)) }
 {
     let ends = end_classes(alloc, order, classes.as_slice())?;
-    decode_all(alloc, flat, &ends, order.vertices.len(), values)
+    decode_all(alloc, flat, &ends, order.vertices.as_slice(), values)
 }
 
 /// The value of each variable: a word is its vertex's class or a number of its own, a truth value its atom's.
@@ -53,16 +52,16 @@ fn decode_all(
     alloc: Global,
     flat: &Flat,
     ends: &IndexMap<u64, u64>,
-    count: usize,
+    vertices: &[u64],
     values: &AtomValues,
 ) -> Result<Values, AllocError>
     ensures { IfOk result (λ v. AreDecodedSo flat.now.graph
-        (word_by ends.now.entries count) values.now (held v)) }
+        (word_by ends.now.entries (length vertices.now)) values.now (held v)) }
 {
     let mut decoded = Values::new(alloc);
     for index in 0..flat.graph.len() {
         let node = flat.graph.node(flat.graph.id(index));
-        decode_node(&mut decoded, ends, count, values, node)?;
+        decode_node(&mut decoded, ends, vertices, values, node)?;
     }
     Ok(decoded)
 }
@@ -71,16 +70,18 @@ fn decode_all(
 fn decode_node(
     decoded: &mut Values,
     ends: &IndexMap<u64, u64>,
-    count: usize,
+    vertices: &[u64],
     values: &AtomValues,
     node: &Node,
 ) -> Result<(), AllocError>
+    requires { HasSmallVariable node.now }
     ensures { OnOk result ((y : ℕ) → held decoded.new y
-        ≡ decoded_at (word_by ends.now.entries count) values.now node.now y (held decoded.old y)) }
+        ≡ decoded_at (word_by ends.now.entries (length vertices.now)) values.now node.now y
+        (held decoded.old y)) }
 {
     match node {
         Node::App(Sym::Var(var), _) => {
-            let word = word_of(ends, count, *var)?;
+            let word = word_of(ends, vertices, *var);
             decoded.set(*var, Scalar::Word(word))
         }
         Node::Pred(Sym::Var(var), _) => {
@@ -92,21 +93,24 @@ fn decode_node(
 }
 
 /// The class of the variable's vertex, or a number of its own.
-fn word_of(ends: &IndexMap<u64, u64>, count: usize, var: u64) -> Result<u64, AllocError>
-    ensures { IfOk result (λ word. word ≡ word_by ends.now.entries count var) }
+fn word_of(ends: &IndexMap<u64, u64>, vertices: &[u64], var: u64) -> u64
+    requires { var < 2 ^ 60 }
+    ensures { result ≡ word_by ends.now.entries (length vertices.now) var }
 {
     match ends.get(&var) {
-        Some(class) => Ok(*class),
-        None => own_number(count, var),
+        Some(class) => *class,
+        None => own_number(vertices, var),
     }
 }
 
-/// The number past the classes of a variable in no edge, at twice its own; past 64 bits it ends as want of memory.
-pub(crate) fn own_number(classes: usize, index: u64) -> Result<u64, AllocError>
-    ensures { IfOk result (λ number. number ≡ classes + 2 * index) }
+/// The number past the classes of a variable in no edge, at twice its own. It has 64 bits, since so many vertices fit
+/// the memory.
+pub(crate) fn own_number(vertices: &[u64], index: u64) -> u64
+    requires { index < 2 ^ 60 }
+    ensures number { result ≡ length vertices.now + 2 * index }
+    ensures small { result < 3 * 2 ^ 60 }
 {
-    let place = index.checked_mul(2).ok_or(AllocError)?;
-    place.checked_add(classes as u64).ok_or(AllocError)
+    vertices.len() as u64 + index * 2
 }
 
 /// The class of each end of an edge of the order.

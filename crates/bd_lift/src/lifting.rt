@@ -21,7 +21,7 @@ use std::alloc::{AllocError, Global};
 
 /// A case in whose world each symbol has the table of the values that the atoms stand for: a word variable has the
 /// class of its vertex, one in no edge a number of its own, and a truth variable its atom's value. Of rows with the
-/// same arguments the first one stays. A number past 64 bits ends as want of memory.
+/// same arguments the first one stays.
 pub fn lift(
     alloc: Global,
     design: &Design,
@@ -47,7 +47,7 @@ pub fn lift(
 /// A trail with inputs for so many cycles, in whose world each symbol has the table of the values that the atoms stand
 /// for: a word variable has the class of its vertex, one in no edge a number of its own, and a truth variable its
 /// atom's value. Of rows with the same arguments the first one stays. Input i of q inputs in cycle t, from 0, is the
-/// input of number t * q + i. A number past 64 bits ends as want of memory.
+/// input of number t * q + i.
 pub fn lift_trail(
     alloc: Global,
     design: &Design,
@@ -101,7 +101,7 @@ fn lifted(
     let decoded = decode(alloc, flat, order, &classes, values)?;
     let tables = tables(alloc, flat, &decoded)?;
     let first = first_tables(alloc, tables)?;
-    case_of(alloc, design, cycles, order.vertices.len(), first)
+    case_of(alloc, design, cycles, order.vertices.as_slice(), first)
 }
 
 /// The trail of a case that has the inputs of all cycles one after another, so many each.

@@ -1,5 +1,5 @@
 -- What a node adds to the values that are decoded.
-use Rattle.std.specs.Prelude.{◌≡◌, Contains, ℕ, Bool, ◌==◌, ◌+◌, ◌*◌, List, Option, Some, unwrap_or, nat_eq, if◌then◌else◌}
+use Rattle.std.specs.Prelude.{◌≡◌, Contains, ℕ, Bool, ◌==◌, ◌<◌, ◌+◌, ◌*◌, ◌^◌, List, Option, Some, unwrap_or, nat_eq, if◌then◌else◌}
 use Rattle.std.specs.Map.{lookup}
 use Rattle.bd_model.specs.declared.table.Scalar.{Scalar}
 use Rattle.bd_model.specs.declared.table.Scalar.TheVariants as scalar
@@ -16,6 +16,11 @@ use Rattle.bd_lift.specs.Decoded.{variable_use}
 -- the word of a variable by the classes of ends, or after so many classes
 abbrev pub word_by : List (ℕ × ℕ) → ℕ → ℕ → ℕ
 word_by ends count x = unwrap_or (lookup (nat_eq x) ends) (count + 2 * x)
+
+-- the number of a variable that the node applies as a word has 60 bits
+abbrev pub HasSmallVariable : Node → Type 0
+HasSmallVariable (App (Var x) args) = x < 2 ^ 60
+HasSmallVariable _ = Unit {0}
 
 -- what is held at y after the node, where this was held before it
 abbrev pub decoded_at : (ℕ → ℕ) → List (Atom × Bool) → Node → ℕ → Option Scalar → Option Scalar

@@ -1,5 +1,5 @@
 -- The pass takes what is reached and passes the rest.
-use Rattle.std.proofs.Common.{◌≡◌, ◌+◌, ◌<◌, ◌++◌, ◌∷◌, [], length, slice_get, ap, sym, ◌∙◌, subst, arith, true≢false, length-append}
+use Rattle.std.proofs.Common.{◌≡◌, ◌+◌, ◌<◌, ◌^◌, ◌++◌, ◌∷◌, [], length, slice_get, ap, sym, ◌∙◌, subst, arith, true≢false, length-append}
 use Rattle.std.proofs.lemmas.Grind.{common_steps}
 use Rattle.std.specs.List.{All}
 use Rattle.bd_terms.specs.Graph.{FitsSorts, children}
@@ -7,7 +7,7 @@ use Rattle.bd_terms.specs.Reaches.{Reaches}
 use Rattle.bd_terms.proofs.Graphs.{FitsSorts-get}
 use Rattle.bd_function.specs.Flat.{AreApplications, Flattens, HasAllApplications, IsChosen, IsFlat}
 use Rattle.bd_terms.specs.Renamed.{id_at, renamed}
-use Rattle.bd_function.proofs.Flattening.{IsFlattened, IsFlattened-Flattens, IsFlattened-IsFlat, IsFlattened-pass, IsFlattened-rows, IsFlattened-all, IsFlattened-start, IsFlattened-take, alike_node, children_inside, children_taken, fits_renamed, plain_reached}
+use Rattle.bd_function.proofs.Flattening.{IsFlattened, IsFlattened-Flattens, IsFlattened-IsFlat, IsFlattened-small, IsFlattened-pass, IsFlattened-rows, IsFlattened-all, IsFlattened-start, IsFlattened-take, alike_node, children_inside, children_taken, fits_renamed, plain_reached}
 use Rattle.bd_function.specs.Flattened.{IsMadeFlat}
 use Rattle.bd_function.specs.inner.Taken.{MakesTerm}
 use Rattle.bd_function.proofs.Making.{IsMaking, IsMaking-end, IsMaking-pass, IsMaking-start, IsMaking-take}
@@ -131,4 +131,5 @@ invariant_of-result c =
       flat = subst (IsFlat c.loop-index.taken.graph c.index-2.result.now) (sym c.from_vec.ensures)
           (subst (λ i. IsFlat c.loop-index.taken.graph i c.loop-index.taken.rows.items) (sym root)
           (IsFlattened-IsFlat c.args.graph.now c.args.root ids c.loop-index.taken c.loop-index.invariant.1 inside c.requires.sorted));
+      small = IsFlattened-small c.args.graph.now c.args.root ids c.loop-index.taken c.loop-index.invariant.1 (subst (λ l. length l < 2 ^ 60) c.as_slice-variables.ensures.value c.if-prove.false);
     }

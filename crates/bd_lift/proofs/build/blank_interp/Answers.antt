@@ -1,4 +1,4 @@
-use Rattle.std.proofs.Common.{◌≡◌, ◌++◌, ◌∷◌, [], slice_get, Some, ap, sym, ◌∙◌, arith}
+use Rattle.std.proofs.Common.{◌≡◌, ◌++◌, ◌∷◌, [], slice_get, Some, ap, sym, ◌∙◌, arith, length}
 use Rattle.std.proofs.lemmas.Option.{slice_get-get_or}
 use Rattle.bd_model.specs.Value.{no_table}
 use Rattle.bd_model.specs.declared.design.Symbol.{Symbol}
@@ -13,5 +13,5 @@ loop-place-preserved c =
     let x = c.index-symbols-place.result in
     let at : slice_get xs i ≡ Some x = slice_get-get_or xs i x (omega arith) ∙ ap Some (sym c.index-symbols-place.is) in
     c.in_ok-push.ensures.items
-    ∙ (λ n. c.loop-place.invariant n ++ (c.in_ok-table.ensures ∙ ap (function_table c.args.classes i x) c.blank_table.ensures) n ∷ [])
-    ∙ sym (numbered-take (λ k (z : Symbol). function_table c.args.classes k z no_table) xs i x at)
+    ∙ (λ n. c.loop-place.invariant n ++ (c.in_ok-table.ensures ∙ ap (function_table (length c.args.vertices.now) i x) c.blank_table.ensures) n ∷ [])
+    ∙ sym (numbered-take (λ k (z : Symbol). function_table (length c.args.vertices.now) k z no_table) xs i x at)

@@ -1,5 +1,5 @@
 -- The case of the tables that are taken, with the sorts of the inputs of all cycles.
-use Rattle.std.proofs.Common.{◌++◌, ◌∷◌, [], map, sym, ap, ◌∙◌, append-nil, append_assoc}
+use Rattle.std.proofs.Common.{◌++◌, ◌∷◌, [], map, sym, ap, ◌∙◌, append-nil, append_assoc, length}
 use Rattle.bd_model.specs.declared.design.Port.{Port}
 use Rattle.bd_symbolic.specs.Widened.{repeated}
 use Rattle.bd_function.specs.Tables.{world_of_tables}

@@ -1,5 +1,5 @@
 -- The case of the tables of the decoded values.
-use Rattle.std.proofs.Common.{length, IfOk, sym, subst}
+use Rattle.std.proofs.Common.{length, IfOk, ap, sym, subst}
 use Rattle.bd_model.specs.DesignView.{design_view}
 use Rattle.bd_model.specs.Fits.{Fits}
 use Rattle.bd_model.specs.declared.case.Case.{Case}
@@ -39,7 +39,7 @@ settled c = record {
 }
 
 built : (c : After-case_of) → IfOk c.case_of.result (λ (k : Case). IsBuilt (widened (design_view c.args.design.now) c.args.cycles) (length c.args.order.now.vertices) (world_of_tables c.in_ok-first.first) k.interp k.state k.inputs)
-built c = subst (λ n. IfOk c.case_of.result (λ (k : Case). IsBuilt (widened (design_view c.args.design.now) c.args.cycles) n (world_of_tables c.in_ok-first.first) k.interp k.state k.inputs)) c.len.ensures c.case_of.ensures
+built c = subst (λ n. IfOk c.case_of.result (λ (k : Case). IsBuilt (widened (design_view c.args.design.now) c.args.cycles) n (world_of_tables c.in_ok-first.first) k.interp k.state k.inputs)) (ap length c.as_slice.ensures) c.case_of.ensures
 
 alike : (c : After-case_of) → AreAlike (sym_tables (scalar_of c.in_ok-decoded.decoded) c.args.flat.now.graph c.args.flat.now.syms) c.in_ok-first.first
 alike c = subst (λ ts. AreAlike ts c.in_ok-first.first) c.in_ok-tables.ensures.exact c.in_ok-first.ensures.alike
