@@ -2,6 +2,7 @@
 use Rattle.std.specs.Prelude.{◌≡◌, ◌≢◌, ◌-◌, ◌==◌, ⊤, ℕ, List, Option, Some, None, slice_get, if◌then◌else◌, IfSome}
 use Rattle.std.specs.Option.{option_map, option_and_then}
 use Rattle.std.specs.List.{All, AllZip}
+use Rattle.bd_model.specs.DesignView.{DesignView}
 use Rattle.bd_model.specs.declared.table.Scalar.{Scalar}
 use Rattle.bd_model.specs.declared.table.Value.{Value}
 use Rattle.bd_model.specs.declared.case.Case.{Case}
@@ -21,6 +22,7 @@ use Rattle.bd_picture.specs.declared.grid.Look.TheVariants as look
 use Rattle.bd_picture.specs.declared.grid.Head.{Head}
 use Rattle.bd_picture.specs.declared.grid.GridRow.{GridRow}
 use Rattle.bd_picture.specs.declared.picture.Tables.{Tables}
+use Rattle.bd_picture.specs.Claims.{IsClaimsRow}
 
 -- a value of one of these states
 abbrev pub state_value : List (List Value) → ℕ → Location → Option Scalar
@@ -103,7 +105,8 @@ IsStepsCell g (place.Input i) h cell = cell.content ≡ content.Nothing
 abbrev pub IsStepsRow : Diagram → List Head → GridRow → Type 0
 IsStepsRow g heads row = AllZip (IsStepsCell g row.place) heads row.cells.items
 
--- the cells of all tables are those of the diagram
-pub record ArePrinted (c : Case) (g : Diagram) (t : Tables) : Type 0 where
+-- the cells of all tables are those of the diagram, and of what the invariant says in its states
+pub record ArePrinted (d : DesignView) (c : Case) (g : Diagram) (t : Tables) : Type 0 where
+  pub claims : IfSome t.claims (λ s. All (IsClaimsRow d c g s.heads.items) s.rows.items)
   pub states : All (IsStatesRow c g t.states.heads.items) t.states.rows.items
   pub steps : IfSome t.steps (λ s. All (IsStepsRow g s.heads.items) s.rows.items)

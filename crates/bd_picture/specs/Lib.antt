@@ -2,3 +2,4 @@ pub mod Cells
 pub mod Page
 pub mod Seen
 pub mod Sentence
+pub mod Claims

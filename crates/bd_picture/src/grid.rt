@@ -38,11 +38,12 @@ pub enum Look {
     Different,
 }
 
-/// What a cell shows, and how it looks.
+/// What a cell shows, how it looks, and which number its value has among those that are shown.
 #[derive(Clone, Copy, PartialEq, Eq)]
 pub struct Cell {
     pub content: Content,
     pub look: Look,
+    pub number: Option<usize>,
 }
 
 /// The cells of an entry, of an address of a memory or of an input.

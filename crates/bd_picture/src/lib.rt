@@ -5,6 +5,8 @@
 //! each other one. Columns in which no value is new are folded into the one before.
 #![tactic(auto)]
 
+mod claims;
+mod cycle_list;
 mod differing;
 mod drawing;
 mod grid;
@@ -13,12 +15,13 @@ mod list;
 mod marks;
 mod page;
 mod picture;
+mod rests;
 mod states;
 mod steps;
 mod table;
 mod words;
 
 pub use page::page_of;
-pub use picture::{Outcome, Picture, ShownCase, picture_of};
+pub use picture::{Outcome, Picture, ShownCase, ShownNames, picture_of};
 pub use table::text_of;
 pub use words::sentence;

@@ -1,19 +1,49 @@
-//! Lists of `NAME=VALUE`: the lets of the cycle, and the rows of the functions.
+//! Lists of `NAME=VALUE`: lets, and rows of the functions and predicates.
 
+use crate::cycle_list::{let_parts, row_parts};
 use crate::differing::note_rows;
-use crate::marks::{ShownValues, Slice};
+use crate::marks::ShownValues;
 use crate::picture::ShownCase;
-use crate::words::{addressed, is_zero, push_number, push_scalar};
-use bd_model::{Memory, Scalar, Symbol, Table, Value};
-use bd_slice::{Cycle, Finding, Subject};
+use crate::words::{is_zero, push_number, push_scalar};
+use bd_model::{Scalar, Symbol, Table, Value};
 use std::alloc::{AllocError, Global};
 use std::collections::BTreeSet;
 
-/// A title, and the items of a list.
+/// An item of a list, and which number it has among what is shown.
+#[derive(Drop)]
+pub struct ListItem {
+    pub text: Vec<u8>,
+    pub number: Option<usize>,
+}
+
+/// Items under a heading, or without one.
+#[derive(Drop)]
+pub struct ListPart {
+    pub heading: Vec<u8>,
+    pub items: Vec<ListItem>,
+}
+
+/// A title, and the parts of a list.
 #[derive(Drop)]
 pub struct TitledList {
     pub title: &'static str,
-    pub items: Vec<Vec<u8>>,
+    pub parts: Vec<ListPart>,
+}
+
+/// Items without a heading as the only part of a list, which has none where there is no item.
+fn one_part(alloc: Global, items: Vec<ListItem>) -> Result<Vec<ListPart>, AllocError> {
+    let mut parts = Vec::new(alloc);
+    if !items.is_empty() {
+        let heading = Vec::new(alloc);
+        parts.push(ListPart { heading, items })?;
+    }
+    Ok(parts)
+}
+
+/// Puts an item without a number.
+fn push_plain(items: &mut Vec<ListItem>, text: Vec<u8>) -> Result<(), AllocError> {
+    items.push(ListItem { text, number: None })?;
+    Ok(())
 }
 
 /// Puts the words of a memory in braces: at each address that a row has, and elsewhere.
@@ -46,73 +76,32 @@ fn let_item(alloc: Global, name: &[u8], value: &Value) -> Result<Vec<u8>, AllocE
     Ok(item)
 }
 
-/// Puts `NAME[ADDRESS]=VALUE` for each address at which the word of a let is in a slice.
-fn push_let_words(
-    alloc: Global,
-    items: &mut Vec<Vec<u8>>,
-    slice: &Slice,
-    number: u32,
-    name: &[u8],
-    memory: &Memory,
-) -> Result<(), AllocError> {
-    let Some(addresses) = slice.let_addresses(number) else {
-        return Ok(());
-    };
-    for address in addresses.iter() {
-        let mut item = addressed(alloc, name, *address)?;
-        item.push(b'=')?;
-        push_number(&mut item, memory.at(*address))?;
-        items.push(item)?;
+/// All lets of the case's cycle.
+fn all_lets(alloc: Global, view: &ShownCase<'_>) -> Result<Vec<ListItem>, AllocError> {
+    let mut items = Vec::new(alloc);
+    for (name, value) in view.names.lets.iter().zip(view.diagram.lets.as_slice()) {
+        push_plain(&mut items, let_item(alloc, name.as_slice(), value)?)?;
     }
-    Ok(())
+    Ok(items)
 }
 
-/// Puts a let, if it is shown.
-fn push_let(
-    alloc: Global,
-    items: &mut Vec<Vec<u8>>,
-    marks: &ShownValues,
-    number: u32,
-    name: &[u8],
-    value: &Value,
-) -> Result<(), AllocError> {
-    match (marks, value) {
-        (ShownValues::All, _) => {
-            items.push(let_item(alloc, name, value)?)?;
-            Ok(())
-        }
-        (ShownValues::Of(slice), Value::Memory(memory)) => {
-            push_let_words(alloc, items, slice, number, name, memory)
-        }
-        (ShownValues::Of(slice), Value::Scalar(_)) => {
-            if slice.reasons.has(Subject::Let(Cycle::Case, number)) {
-                items.push(let_item(alloc, name, value)?)?;
-            }
-            Ok(())
-        }
-    }
-}
-
-/// The lets of the case's cycle that are shown.
+/// The lets that are shown: all of the case's cycle, or those of a slice by their cycles.
 pub fn lets(
     alloc: Global,
     view: &ShownCase<'_>,
     marks: &ShownValues,
 ) -> Result<TitledList, AllocError> {
-    let mut items = Vec::new(alloc);
-    let mut number = 0u32;
-    for (name, value) in view.names.iter().zip(view.diagram.lets.as_slice()) {
-        push_let(alloc, &mut items, marks, number, name.as_slice(), value)?;
-        number = number.saturating_add(1);
-    }
     Ok(TitledList {
         title: "lets",
-        items,
+        parts: match marks {
+            ShownValues::All => one_part(alloc, all_lets(alloc, view)?)?,
+            ShownValues::Of(slice) => let_parts(alloc, view, slice)?,
+        },
     })
 }
 
 /// The text `NAME(ARG,ARG)=VALUE` of a row of a function or predicate.
-fn row_item(
+pub fn row_item(
     alloc: Global,
     name: &[u8],
     args: &[u64],
@@ -145,7 +134,7 @@ fn default_item(alloc: Global, symbol: &Symbol, value: Scalar) -> Result<Vec<u8>
 /// Puts the rows of a function or predicate, and its value elsewhere where that isn't 0.
 fn push_table(
     alloc: Global,
-    items: &mut Vec<Vec<u8>>,
+    items: &mut Vec<ListItem>,
     symbol: &Symbol,
     table: &Table,
 ) -> Result<(), AllocError> {
@@ -156,16 +145,16 @@ fn push_table(
             row.args.as_slice(),
             row.value,
         )?;
-        items.push(item)?;
+        push_plain(items, item)?;
     }
     if !is_zero(table.default) {
-        items.push(default_item(alloc, symbol, table.default)?)?;
+        push_plain(items, default_item(alloc, symbol, table.default)?)?;
     }
     Ok(())
 }
 
 /// The rows of the functions and predicates, and their values elsewhere.
-fn all_rows(alloc: Global, view: &ShownCase<'_>) -> Result<Vec<Vec<u8>>, AllocError> {
+fn all_rows(alloc: Global, view: &ShownCase<'_>) -> Result<Vec<ListItem>, AllocError> {
     let mut items = Vec::new(alloc);
     let symbols = view.design.symbols.as_slice();
     for (symbol, table) in symbols.iter().zip(view.case.interp.as_slice()) {
@@ -174,41 +163,7 @@ fn all_rows(alloc: Global, view: &ShownCase<'_>) -> Result<Vec<Vec<u8>>, AllocEr
     Ok(items)
 }
 
-/// The arguments to which each function or predicate is applied in a slice, where its value isn't 0 or false.
-fn applied(alloc: Global, slice: &Slice) -> Result<BTreeSet<(u32, Vec<u64>)>, AllocError> {
-    let mut rows = BTreeSet::new(alloc);
-    for reason in slice.reasons.as_slice() {
-        for fact in &reason.facts {
-            if let Finding::Applied(symbol, args, value) = &fact.finding {
-                if !is_zero(*value) {
-                    rows.insert((*symbol, Vec::from_slice(alloc, args.as_slice())?))?;
-                }
-            }
-        }
-    }
-    Ok(rows)
-}
-
-/// The rows that are read in a slice.
-fn read_rows(
-    alloc: Global,
-    view: &ShownCase<'_>,
-    slice: &Slice,
-) -> Result<Vec<Vec<u8>>, AllocError> {
-    let mut items = Vec::new(alloc);
-    for (number, args) in applied(alloc, slice)?.iter() {
-        let symbol = view.design.symbols.as_slice().get(*number as usize);
-        let table = view.case.interp.as_slice().get(*number as usize);
-        if let (Some(symbol), Some(table)) = (symbol, table) {
-            let value = table.at(args.as_slice());
-            let name = symbol.name.as_slice();
-            items.push(row_item(alloc, name, args.as_slice(), value)?)?;
-        }
-    }
-    Ok(items)
-}
-
-/// The rows of the functions and predicates that are shown.
+/// The rows of the functions and predicates that are shown: all, or those of a slice by the cycles that apply them.
 pub fn rows(
     alloc: Global,
     view: &ShownCase<'_>,
@@ -216,9 +171,9 @@ pub fn rows(
 ) -> Result<TitledList, AllocError> {
     Ok(TitledList {
         title: "functions",
-        items: match marks {
-            ShownValues::All => all_rows(alloc, view)?,
-            ShownValues::Of(slice) => read_rows(alloc, view, slice)?,
+        parts: match marks {
+            ShownValues::All => one_part(alloc, all_rows(alloc, view)?)?,
+            ShownValues::Of(slice) => row_parts(alloc, view, slice)?,
         },
     })
 }

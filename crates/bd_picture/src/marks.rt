@@ -3,19 +3,21 @@
 use crate::differing::{Differing, both_sides};
 use crate::grid::Signal;
 use crate::picture::{Outcome, ShownCase};
+use crate::words::is_zero;
 use bd_model::{Condition, Design, Judged};
-use bd_slice::{Column, Cycle, Location, Reasons, Subject, history_of, reasons_of};
+use bd_slice::{Column, Finding, Location, Reasons, Subject, history_of, reasons_of};
+use indexmap::IndexSet;
 use std::alloc::{AllocError, Global};
-use std::collections::BTreeSet;
+use std::collections::{BTreeMap, BTreeSet};
 
-/// Addresses of words, by the number of the entry or the let that has them.
+/// Addresses of words, by the number of the entry that has them.
 #[derive(Drop)]
 struct Addresses {
     of: Vec<BTreeSet<u64>>,
 }
 
 impl Addresses {
-    /// The marks of so many entries or lets, of which no address is marked.
+    /// The marks of so many entries, of which no address is marked.
     fn new(alloc: Global, count: usize) -> Result<Addresses, AllocError> {
         let mut of = Vec::new(alloc);
         for _number in 0..count {
@@ -24,7 +26,7 @@ impl Addresses {
         Ok(Addresses { of })
     }
 
-    /// Marks an address of the entry or let of this number; a number past the last changes nothing.
+    /// Marks an address of the entry of this number; a number past the last changes nothing.
     fn add(&mut self, number: u32, address: u64) -> Result<(), AllocError> {
         if let Some(addresses) = self.of.get_mut(number as usize) {
             addresses.insert(address)?;
@@ -32,18 +34,21 @@ impl Addresses {
         Ok(())
     }
 
-    /// The marked addresses of the entry or let of this number; none past the last.
+    /// The marked addresses of the entry of this number; none past the last.
     fn get(&self, number: u32) -> Option<&BTreeSet<u64>> {
         self.of.get(number as usize)
     }
 }
 
-/// The values of a run that some of its values rest on.
+/// The values of a run that some of its values rest on, and what the functions and predicates are applied to in them
+/// where the value isn't 0 or false. Values are numbered from 0 in the order of their reasons, and applications after
+/// them.
 #[derive(Drop)]
 pub struct Slice {
     pub reasons: Reasons,
     cells: Addresses,
-    lets: Addresses,
+    numbers: IndexSet<Subject>,
+    pub applied: BTreeMap<(u32, Vec<u64>), usize>,
 }
 
 /// Which values of a run are shown: all, or those of a slice.
@@ -59,10 +64,41 @@ impl Slice {
         self.cells.get(entry)
     }
 
-    /// The addresses at which words of a let are in the slice, in the case's cycle.
-    pub fn let_addresses(&self, number: u32) -> Option<&BTreeSet<u64>> {
-        self.lets.get(number)
+    /// The number of a value that is in the slice.
+    pub fn number(&self, subject: Subject) -> Option<usize> {
+        self.numbers.get_index_of(&subject)
     }
+}
+
+/// The numbers of values, in the order of their reasons.
+fn numbers_of(alloc: Global, reasons: &Reasons) -> Result<IndexSet<Subject>, AllocError> {
+    let mut numbers = IndexSet::new(alloc);
+    for reason in reasons.as_slice() {
+        numbers.insert(reason.subject)?;
+    }
+    Ok(numbers)
+}
+
+/// The symbols with the arguments that they are applied to behind values, where the value isn't 0 or false, numbered
+/// from `first` on.
+fn applied_in(
+    alloc: Global,
+    reasons: &Reasons,
+    first: usize,
+) -> Result<BTreeMap<(u32, Vec<u64>), usize>, AllocError> {
+    let mut applied = BTreeMap::new(alloc);
+    for reason in reasons.as_slice() {
+        for fact in &reason.facts {
+            if let Finding::Applied(symbol, args, value) = &fact.finding {
+                let row = (*symbol, Vec::from_slice(alloc, args.as_slice())?);
+                let number = first.saturating_add(applied.len());
+                if !is_zero(*value) && !applied.contains_key(&row) {
+                    applied.insert(row, number)?;
+                }
+            }
+        }
+    }
+    Ok(applied)
 }
 
 /// The addresses at which words of the pipeline's entries are among values.
@@ -81,25 +117,16 @@ fn cells_of(alloc: Global, design: &Design, reasons: &Reasons) -> Result<Address
     Ok(cells)
 }
 
-/// The addresses at which words of its lets are among values, in the case's cycle.
-fn lets_of(alloc: Global, design: &Design, reasons: &Reasons) -> Result<Addresses, AllocError> {
-    let mut lets = Addresses::new(alloc, design.pipe.locals.len())?;
-    for reason in reasons.as_slice() {
-        if let Subject::LetCell(Cycle::Case, number, address) = reason.subject {
-            lets.add(number, address)?;
-        }
-    }
-    Ok(lets)
-}
-
 /// The slice of these values.
 fn sliced(alloc: Global, design: &Design, reasons: Reasons) -> Result<Slice, AllocError> {
     let cells = cells_of(alloc, design, &reasons)?;
-    let lets = lets_of(alloc, design, &reasons)?;
+    let numbers = numbers_of(alloc, &reasons)?;
+    let applied = applied_in(alloc, &reasons, numbers.len())?;
     Ok(Slice {
         reasons,
         cells,
-        lets,
+        numbers,
+        applied,
     })
 }
 
@@ -115,6 +142,14 @@ fn subject_of(place: Signal, column: Column) -> Option<Subject> {
 }
 
 impl ShownValues {
+    /// The number of the value that a line has in a column, where it is in a slice.
+    pub fn number(&self, place: Signal, column: Column) -> Option<usize> {
+        match self {
+            ShownValues::All => None,
+            ShownValues::Of(slice) => slice.number(subject_of(place, column)?),
+        }
+    }
+
     /// Whether the value that a line has in a column is shown.
     pub fn has(&self, place: Signal, column: Column) -> bool {
         match self {

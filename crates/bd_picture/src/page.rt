@@ -4,8 +4,9 @@ ghost use Rattle.bd_picture.specs.Page.{IsPage};
 
 use crate::drawing::put_drawing;
 use crate::grid::{Cell, Content, Grid, GridRow, Head, Look, content_text, sign_of};
-use crate::list::TitledList;
+use crate::list::{ListPart, TitledList};
 use crate::picture::{Outcome, Picture, Tables};
+use crate::words::push_number;
 use bd_model::{Condition, Judged};
 use std::alloc::{AllocError, Global};
 
@@ -26,6 +27,17 @@ fn has_bar(grid: &Grid, column: usize) -> bool {
     column != 0 && column == grid.bar
 }
 
+/// Puts the number of a value that is shown, which the script reads.
+fn put_number(out: &mut Vec<u8>, number: Option<usize>) -> Result<(), AllocError> {
+    let Some(number) = number else {
+        return Ok(());
+    };
+    out.extend_from_slice(b" data-value=\"")?;
+    push_number(out, number as u64)?;
+    out.push(b'"')?;
+    Ok(())
+}
+
 /// Puts a cell.
 fn put_cell(
     alloc: Global,
@@ -40,7 +52,9 @@ fn put_cell(
         b"<td class=\""
     })?;
     out.extend_from_slice(class_of(cell, head).as_bytes())?;
-    out.extend_from_slice(b"\">")?;
+    out.push(b'"')?;
+    put_number(out, cell.number)?;
+    out.push(b'>')?;
     if let Some(sign) = sign_of(cell.look) {
         out.extend_from_slice(&[sign, b' '])?;
     }
@@ -100,17 +114,32 @@ fn put_grid(alloc: Global, out: &mut Vec<u8>, grid: &Grid, legend: &str) -> Resu
 
 /// Puts a list.
 fn put_list(out: &mut Vec<u8>, list: &TitledList, legend: &str) -> Result<(), AllocError> {
-    if list.items.is_empty() {
+    if list.parts.is_empty() {
         return Ok(());
     }
     out.extend_from_slice(b"<p>")?;
     out.extend_from_slice(legend.as_bytes())?;
-    for item in list.items.as_slice() {
-        out.extend_from_slice(b" <code>")?;
-        out.extend_from_slice(item.as_slice())?;
-        out.extend_from_slice(b"</code>")?;
+    for part in list.parts.as_slice() {
+        put_part(out, part)?;
     }
     out.extend_from_slice(b"</p>\n")
+}
+
+/// Puts a part of a list, on a line of its own where it has a heading.
+fn put_part(out: &mut Vec<u8>, part: &ListPart) -> Result<(), AllocError> {
+    if !part.heading.is_empty() {
+        out.extend_from_slice(b"<br>\n<b>")?;
+        out.extend_from_slice(part.heading.as_slice())?;
+        out.extend_from_slice(b"</b>")?;
+    }
+    for item in part.items.as_slice() {
+        out.extend_from_slice(b" <code")?;
+        put_number(out, item.number)?;
+        out.push(b'>')?;
+        out.extend_from_slice(item.text.as_slice())?;
+        out.extend_from_slice(b"</code>")?;
+    }
+    Ok(())
 }
 
 /// What the compared states are.
@@ -131,13 +160,34 @@ fn states_legend(outcome: Outcome) -> &'static str {
     }
 }
 
-/// Puts where both sides end.
+/// Whether the invariant is broken: then there is no diagram.
+fn is_invariant(outcome: Outcome) -> bool {
+    matches!(
+        outcome,
+        Outcome::Flushed(Judged::Broken(Condition::Invariant))
+            | Outcome::Completed(Judged::Broken(Condition::Invariant))
+    )
+}
+
+/// What of the invariant is shown.
+fn claims_legend(outcome: Outcome) -> &'static str {
+    if is_invariant(outcome) {
+        CLAIMS
+    } else {
+        FALSE_CLAIMS
+    }
+}
+
+/// Puts what the invariant says, and where both sides end.
 fn put_ends(
     alloc: Global,
     out: &mut Vec<u8>,
     tables: &Tables,
     outcome: Outcome,
 ) -> Result<(), AllocError> {
+    if let Some(claims) = &tables.claims {
+        put_grid(alloc, out, claims, claims_legend(outcome))?;
+    }
     match &tables.steps {
         Some(steps) => put_grid(alloc, out, steps, steps_legend(outcome)),
         None => Ok(()),
@@ -152,8 +202,8 @@ fn put_states(
     outcome: Outcome,
 ) -> Result<(), AllocError> {
     put_grid(alloc, out, &tables.states, states_legend(outcome))?;
-    put_list(out, &tables.lets, "Lets in the cycle:")?;
-    put_list(out, &tables.rows, "Functions, 0 or false elsewhere:")
+    put_list(out, &tables.lets, LETS)?;
+    put_list(out, &tables.rows, ROWS)
 }
 
 /// Puts what only some of the values show, or all of them.
@@ -165,11 +215,16 @@ fn put_section(out: &mut Vec<u8>, class: &str, inner: &[u8]) -> Result<(), Alloc
     out.extend_from_slice(b"</section>\n")
 }
 
-/// Where both sides end, the drawing and the states. Without a cycle there is no drawing.
+/// Whether there is a drawing: of both ways round a cycle.
+fn is_drawn(outcome: Outcome) -> bool {
+    !is_invariant(outcome) && !matches!(outcome, Outcome::Compared(_))
+}
+
+/// Where both sides end, the drawing and the states.
 fn plain(alloc: Global, tables: &Tables, outcome: Outcome) -> Result<Vec<u8>, AllocError> {
     let mut out = Vec::new(alloc);
     put_ends(alloc, &mut out, tables, outcome)?;
-    if !matches!(outcome, Outcome::Compared(_)) {
+    if is_drawn(outcome) {
         put_drawing(alloc, &mut out, tables)?;
     }
     put_states(alloc, &mut out, tables, outcome)?;
@@ -189,13 +244,25 @@ fn switched(
         put_ends(alloc, &mut ends, tables, outcome)?;
         put_section(&mut out, class, ends.as_slice())?;
     }
-    put_drawing(alloc, &mut out, some)?;
+    if is_drawn(outcome) {
+        put_drawing(alloc, &mut out, some)?;
+    }
     for (class, tables) in [("some", some), ("all", all)] {
         let mut states = Vec::new(alloc);
         put_states(alloc, &mut states, tables, outcome)?;
         put_section(&mut out, class, states.as_slice())?;
     }
     Ok(out)
+}
+
+/// Puts the script that marks what a value rests on, where only some values are shown.
+fn put_script(out: &mut Vec<u8>, picture: &Picture) -> Result<(), AllocError> {
+    let Some(rests) = &picture.rests else {
+        return Ok(());
+    };
+    out.extend_from_slice(b"<script>\nconst rests=")?;
+    out.extend_from_slice(rests.as_slice())?;
+    out.extend_from_slice(SCRIPT)
 }
 
 /// What a page shows under its head.
@@ -208,6 +275,7 @@ fn body(alloc: Global, picture: &Picture) -> Result<Vec<u8>, AllocError> {
         None => plain(alloc, &picture.tables, picture.outcome)?,
     };
     out.extend_from_slice(tables.as_slice())?;
+    put_script(&mut out, picture)?;
     out.extend_from_slice(b"</html>\n")?;
     Ok(out)
 }
@@ -230,6 +298,25 @@ const SWITCH: &[u8] =
     b"<input type=\"checkbox\" id=\"switch\"><label for=\"switch\"> show all values, \
 also those that don't matter</label>\n";
 
+/// From the value that is pointed at it goes down to all that the value rests on.
+const SCRIPT: &[u8] = b";\n\
+document.querySelector(\"label\").insertAdjacentHTML(\"afterend\",\
+\"<p id=hint>Point at a value: what it rests on gets a frame.</p>\");\n\
+document.addEventListener(\"pointerover\",e=>{\n\
+const at=e.target.closest(\"[data-value]\"),behind=new Set(),todo=at?[at.dataset.value]:[];\n\
+while(todo.length){const n=+todo.pop();if(!behind.has(n)){behind.add(n);todo.push(...(rests[n]||[]));}}\n\
+for(const it of document.querySelectorAll(\"[data-value]\"))\
+it.classList.toggle(\"behind\",behind.has(+it.dataset.value));\n\
+});\n\
+</script>\n";
+
+const CLAIMS: &str =
+    "What the invariant says before the cycle and after it: its lets and its conjuncts, each with its line. \
+# stands by a conjunct that is false.";
+
+const FALSE_CLAIMS: &str =
+    "The conjuncts of the invariant that are false in the case's state, each with its line.";
+
 const STATES: &str =
     "The states before the cycle and after it, and after each flush cycle (f1, f2, ..) \
 from there. * is visible to the specification, and # differs there; an empty cell is what stands on its left, \
@@ -237,6 +324,10 @@ from there. * is visible to the specification, and # differs there; an empty cel
 
 const BOTH: &str = "The states before the cycle and after it. * is visible to the specification, \
 . is a value that doesn't matter, and an input stands under the state that its cycle led to.";
+
+const LETS: &str = "Lets, of the cycle or by the cycles in which one changes:";
+
+const ROWS: &str = "Functions, all or by the cycles that apply them, 0 or false elsewhere:";
 
 const STEPS: &str =
     "Where the flushed pipeline stands after the cycle, and the specification after j \
@@ -268,6 +359,7 @@ td.different{color:#a00;font-weight:bold}\n\
 td.same{color:#060}\n\
 .hidden{color:#999}\n\
 .ruled-out{color:#666;font-style:italic}\n\
+.behind{outline:2px solid #06c;outline-offset:-1px}\n\
 .differs th,.differs td{background:#fdf1ef}\n\
 .differs th{font-weight:bold;box-shadow:inset 4px 0 #a00}\n\
 .all,#switch:checked~.some{display:none}\n\
@@ -284,5 +376,5 @@ line.arrow{marker-end:url(#tip)}\n\
 line.same{stroke:#060}\n\
 line.different{stroke:#a00;stroke-dasharray:6 4}\n\
 line.ruled-out{stroke:#999;stroke-dasharray:2 4}\n\
-@media print{#switch,label{display:none}body{max-width:none;margin:0}div{overflow:visible}svg,tr{break-inside:avoid}}\n\
+@media print{#switch,label,#hint{display:none}body{max-width:none;margin:0}div{overflow:visible}svg,tr{break-inside:avoid}}\n\
 </style>\n";

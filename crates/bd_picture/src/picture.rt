@@ -6,10 +6,12 @@ ghost use Rattle.bd_picture.specs.Cells.{ArePrinted, IsStepsRow};
 ghost use Rattle.bd_picture.specs.Seen.{IsSeen};
 ghost use Rattle.bd_picture.specs.Sentence.{outcome_sentence};
 
+use crate::claims::claims_grid;
 use crate::differing::{Differing, differing_of};
 use crate::grid::Grid;
 use crate::list::{TitledList, lets, rows};
 use crate::marks::{ShownValues, marks_of};
+use crate::rests::rests_of;
 use crate::states::states_grid;
 use crate::steps::steps_grid;
 use crate::words::outcome_sentence;
@@ -28,21 +30,31 @@ pub enum Outcome {
     Compared(bool),
 }
 
-/// A case of a design, what is found of it and its diagram, and the names of the pipeline's lets, in their order; and
-/// whether all values are printed, or only those that what is broken rests on. By a completion function all are printed.
+/// What is called how: the pipeline's lets and the specification's, each in their order, and the invariant's lets and
+/// conjuncts. Without an invariant there are none of these.
+#[derive(Clone, Copy)]
+pub struct ShownNames<'a> {
+    pub lets: &'a [Vec<u8>],
+    pub steps: &'a [Vec<u8>],
+    pub claims: &'a [Vec<u8>],
+}
+
+/// A case of a design, what is found of it and its diagram, and names; and whether all values are printed, or only those
+/// that what is broken rests on. By a completion function all are printed.
 #[derive(Drop)]
 pub struct ShownCase<'a> {
     pub design: &'a Design,
     pub case: &'a Case,
     pub outcome: Outcome,
     pub diagram: &'a Diagram,
-    pub names: &'a [Vec<u8>],
+    pub names: ShownNames<'a>,
     pub whole: bool,
 }
 
 /// Tables and lists. Where the invariant is broken no steps are compared.
 #[derive(Drop)]
 pub struct Tables {
+    pub claims: Option<Grid>,
     pub states: Grid,
     pub steps: Option<Grid>,
     pub lets: TitledList,
@@ -56,13 +68,15 @@ pub struct Picture {
     pub(crate) outcome: Outcome,
     pub(crate) tables: Tables,
     pub(crate) whole: Option<Tables>,
+    /// What each numbered value rests on, where only some values are shown: an array of arrays of numbers.
+    pub(crate) rests: Option<Vec<u8>>,
 }
 
 /// The compared states, unless the invariant is broken.
 fn steps_of(
     alloc: Global,
     view: &ShownCase<'_>,
-    whole: bool,
+    marks: &ShownValues,
     differing: &Differing,
 ) -> Result<Option<Grid>, AllocError>
     ensures { IfOk result (λ steps. IfSome steps (λ g.
@@ -71,7 +85,7 @@ fn steps_of(
     match view.outcome {
         Outcome::Flushed(Judged::Broken(Condition::Invariant))
         | Outcome::Completed(Judged::Broken(Condition::Invariant)) => Ok(None),
-        _ => Ok(Some(steps_grid(alloc, view, whole, &differing.all)?)),
+        _ => Ok(Some(steps_grid(alloc, view, marks, &differing.all)?)),
     }
 }
 
@@ -82,12 +96,13 @@ fn tables_of(
     marks: &ShownValues,
     differing: &Differing,
 ) -> Result<Tables, AllocError>
-    ensures { IfOk result (ArePrinted view.now.case.now view.now.diagram.now) }
+    ensures { IfOk result (ArePrinted (design_view view.now.design.now)
+        view.now.case.now view.now.diagram.now) }
 {
-    let whole = matches!(marks, ShownValues::All);
     Ok(Tables {
+        claims: claims_grid(alloc, view)?,
         states: states_grid(alloc, view, marks, &differing.all)?,
-        steps: steps_of(alloc, view, whole, differing)?,
+        steps: steps_of(alloc, view, marks, differing)?,
         lets: lets(alloc, view, marks)?,
         rows: rows(alloc, view, marks)?,
     })
@@ -114,10 +129,10 @@ pub fn picture_of(alloc: Global, view: &ShownCase<'_>) -> Result<Picture, AllocE
         view.now.diagram.now }
     ensures sentence { IfOk result (λ p.
         p.sentence.items ≡ outcome_sentence (design_view view.now.design.now) view.now.outcome) }
-    ensures tables { IfOk result (λ p.
-        ArePrinted view.now.case.now view.now.diagram.now p.tables) }
-    ensures whole { IfOk result (λ p. IfSome p.whole
-        (ArePrinted view.now.case.now view.now.diagram.now)) }
+    ensures tables { IfOk result (λ p. ArePrinted (design_view view.now.design.now)
+        view.now.case.now view.now.diagram.now p.tables) }
+    ensures whole { IfOk result (λ p. IfSome p.whole (ArePrinted
+        (design_view view.now.design.now) view.now.case.now view.now.diagram.now)) }
 {
     let differing = differing_of(alloc, view)?;
     let sentence = outcome_sentence(alloc, view.design, view.outcome)?;
@@ -128,12 +143,14 @@ pub fn picture_of(alloc: Global, view: &ShownCase<'_>) -> Result<Picture, AllocE
             outcome: view.outcome,
             tables: all,
             whole: None,
+            rests: None,
         }),
         Some(marks) => Ok(Picture {
             sentence,
             outcome: view.outcome,
             tables: tables_of(alloc, view, &marks, &differing)?,
             whole: Some(all),
+            rests: rests_of(alloc, &marks)?,
         }),
     }
 }

@@ -141,7 +141,11 @@ fn cell_of(view: &ShownCase<'_>, marks: &ShownValues, place: Signal, column: Col
         Content::Value(_) if earlier(column).is_some() => Look::Changed,
         _ => Look::Plain,
     };
-    Cell { content, look }
+    Cell {
+        content,
+        look,
+        number: marks.number(place, column),
+    }
 }
 
 /// The number of the last state that is printed of each way: by a completion function nothing is flushed.

@@ -7,6 +7,7 @@ ghost use Rattle.bd_picture.specs.declared.grid.Content.TheVariants as content;
 use crate::differing::Spots;
 use crate::grid::{Cell, Content, Grid, GridRow, Head, Look, Signal};
 use crate::line::{RowLabel, visible_lines};
+use crate::marks::ShownValues;
 use crate::picture::{Outcome, ShownCase};
 use crate::words::{numbered, value_of};
 use bd_diagram::Comparison;
@@ -97,8 +98,34 @@ fn look_of(view: &ShownCase<'_>, spot: Location, column: Column, value: Scalar) 
     }
 }
 
+/// The value of the run that an entry of the specification has in a state that is compared: that of the pipeline's
+/// entry where the pipeline stands.
+fn spot_in_run(view: &ShownCase<'_>, spot: Location, column: Column) -> Option<Location> {
+    if matches!(column, Column::Steps(_)) {
+        return Some(spot);
+    }
+    let places = view.design.visible.as_slice();
+    match spot {
+        Location::Latch(entry) => Some(Location::Latch(*places.get(entry as usize)?)),
+        Location::Cell(entry, address) => {
+            Some(Location::Cell(*places.get(entry as usize)?, address))
+        }
+    }
+}
+
+/// The number that a value which is compared has among those that are shown.
+fn number_of(
+    view: &ShownCase<'_>,
+    marks: &ShownValues,
+    spot: Location,
+    column: Column,
+) -> Option<usize> {
+    let spot = spot_in_run(view, spot, column)?;
+    marks.number(Signal::Value(spot), column)
+}
+
 /// The cell of an entry of the specification in a state that is compared.
-fn compared_cell(view: &ShownCase<'_>, spot: Location, column: Column) -> Cell
+fn compared_cell(view: &ShownCase<'_>, marks: &ShownValues, spot: Location, column: Column) -> Cell
     ensures shown { IsCompared view.now.diagram.now spot column result.content }
     ensures signed { IsSigned view.now.diagram.now spot result.look result.content }
 {
@@ -106,24 +133,26 @@ fn compared_cell(view: &ShownCase<'_>, spot: Location, column: Column) -> Cell
         Some(value) => Cell {
             content: Content::Value(value),
             look: look_of(view, spot, column, value),
+            number: number_of(view, marks, spot, column),
         },
-        None => Cell {
-            content: Content::Nothing,
-            look: Look::Plain,
-        },
+        None => NOTHING,
     }
 }
 
+/// The cell of what isn't there.
+const NOTHING: Cell = Cell {
+    content: Content::Nothing,
+    look: Look::Plain,
+    number: None,
+};
+
 /// The cell of a line under a heading.
-fn cell_of(view: &ShownCase<'_>, place: Signal, head: &Head) -> Cell
+fn cell_of(view: &ShownCase<'_>, marks: &ShownValues, place: Signal, head: &Head) -> Cell
     ensures { IsStepsCell view.now.diagram.now place head.now result }
 {
     match place {
-        Signal::Value(spot) => compared_cell(view, spot, head.column),
-        Signal::Input(_) => Cell {
-            content: Content::Nothing,
-            look: Look::Plain,
-        },
+        Signal::Value(spot) => compared_cell(view, marks, spot, head.column),
+        Signal::Input(_) => NOTHING,
     }
 }
 
@@ -131,6 +160,7 @@ fn cell_of(view: &ShownCase<'_>, place: Signal, head: &Head) -> Cell
 fn cells_of(
     alloc: Global,
     view: &ShownCase<'_>,
+    marks: &ShownValues,
     place: Signal,
     heads: &[Head],
 ) -> Result<Vec<Cell>, AllocError>
@@ -139,7 +169,7 @@ fn cells_of(
 {
     let mut cells = Vec::new(alloc);
     for head in heads {
-        cells.push(cell_of(view, place, head))?;
+        cells.push(cell_of(view, marks, place, head))?;
     }
     Ok(cells)
 }
@@ -148,12 +178,13 @@ fn cells_of(
 fn row(
     alloc: Global,
     view: &ShownCase<'_>,
+    marks: &ShownValues,
     line: &RowLabel,
     heads: &[Head],
 ) -> Result<GridRow, AllocError>
     ensures { IfOk result (IsStepsRow view.now.diagram.now heads.now) }
 {
-    let cells = cells_of(alloc, view, line.place, heads)?;
+    let cells = cells_of(alloc, view, marks, line.place, heads)?;
     Ok(GridRow {
         name: line.name.clone()?,
         place: line.place,
@@ -167,6 +198,7 @@ fn row(
 fn rows(
     alloc: Global,
     view: &ShownCase<'_>,
+    marks: &ShownValues,
     lines: &[RowLabel],
     heads: &[Head],
 ) -> Result<Vec<GridRow>, AllocError>
@@ -175,7 +207,7 @@ fn rows(
 {
     let mut rows = Vec::new(alloc);
     for line in lines {
-        rows.push(row(alloc, view, line, heads)?)?;
+        rows.push(row(alloc, view, marks, line, heads)?)?;
     }
     Ok(rows)
 }
@@ -194,15 +226,16 @@ fn title_of(outcome: Outcome) -> &'static str {
 pub fn steps_grid(
     alloc: Global,
     view: &ShownCase<'_>,
-    whole: bool,
+    marks: &ShownValues,
     spots: &Spots,
 ) -> Result<Grid, AllocError>
     ensures { IfOk result (λ g.
         All (IsStepsRow view.now.diagram.now g.heads.items) g.rows.items) }
 {
+    let whole = matches!(marks, ShownValues::All);
     let lines = visible_lines(alloc, view, whole, spots)?;
     let heads = headings(alloc, view)?;
-    let rows = rows(alloc, view, lines.as_slice(), heads.as_slice())?;
+    let rows = rows(alloc, view, marks, lines.as_slice(), heads.as_slice())?;
     Ok(Grid {
         title: title_of(view.outcome),
         heads,

@@ -2,7 +2,7 @@
 ghost use Rattle.std.specs.Prelude.{◌≡◌, ◌++◌, ℕ, List, IfOk};
 
 use crate::grid::{Cell, Grid, GridRow, content_text, is_shown, sign_of};
-use crate::list::TitledList;
+use crate::list::{ListItem, TitledList};
 use crate::picture::Picture;
 use std::alloc::{AllocError, Global};
 
@@ -182,33 +182,54 @@ fn put_grid(alloc: Global, pen: &mut Pen, grid: &Grid) -> Result<(), AllocError>
     Ok(())
 }
 
-/// Where the items of lists begin.
+/// Where lists begin.
 const INDENT: usize = 11;
+
+/// Where the items of lists begin: after the longest heading.
+fn items_indent(lets: &TitledList, rows: &TitledList) -> usize {
+    let mut most = 0;
+    for part in lets.parts.iter().chain(&rows.parts) {
+        if !part.heading.is_empty() {
+            most = most.max(part.heading.len().saturating_add(2));
+        }
+    }
+    most.saturating_add(INDENT)
+}
 
 /// Puts lists, and an empty line before them unless both are empty.
 fn put_lists(pen: &mut Pen, lets: &TitledList, rows: &TitledList) -> Result<(), AllocError> {
-    if !lets.items.is_empty() || !rows.items.is_empty() {
+    if !lets.parts.is_empty() || !rows.parts.is_empty() {
         pen.end()?;
     }
-    put_list(pen, lets)?;
-    put_list(pen, rows)
+    let indent = items_indent(lets, rows);
+    put_list(pen, lets, indent)?;
+    put_list(pen, rows, indent)
 }
 
-/// Puts a list, as many items a line as it has room for.
-fn put_list(pen: &mut Pen, list: &TitledList) -> Result<(), AllocError> {
-    if list.items.is_empty() {
-        return Ok(());
-    }
-    pen.put(list.title.as_bytes())?;
-    for (number, item) in list.items.iter().enumerate() {
-        let next = pen.column.saturating_add(2);
-        if number != 0 && next.saturating_add(item.len()) > WIDTH {
-            pen.end()?;
-            pen.go_to(INDENT);
-        } else {
-            pen.go_to(next.max(INDENT));
+/// Puts a list, each part on a line of its own.
+fn put_list(pen: &mut Pen, list: &TitledList, indent: usize) -> Result<(), AllocError> {
+    for (number, part) in list.parts.iter().enumerate() {
+        if number == 0 {
+            pen.put(list.title.as_bytes())?;
         }
-        pen.put(item.as_slice())?;
+        pen.go_to(INDENT);
+        pen.put(part.heading.as_slice())?;
+        put_items(pen, part.items.as_slice(), indent)?;
+    }
+    Ok(())
+}
+
+/// Puts items, as many a line as it has room for.
+fn put_items(pen: &mut Pen, items: &[ListItem], indent: usize) -> Result<(), AllocError> {
+    for (number, item) in items.iter().enumerate() {
+        let next = pen.column.saturating_add(2);
+        if number != 0 && next.saturating_add(item.text.len()) > WIDTH {
+            pen.end()?;
+            pen.go_to(indent);
+        } else {
+            pen.go_to(next.max(indent));
+        }
+        pen.put(item.text.as_slice())?;
     }
     pen.end()
 }
@@ -222,6 +243,9 @@ fn tables(alloc: Global, picture: &Picture) -> Result<Vec<u8>, AllocError> {
     };
     let tables = &picture.tables;
     pen.end()?;
+    if let Some(claims) = &tables.claims {
+        put_grid(alloc, &mut pen, claims)?;
+    }
     put_grid(alloc, &mut pen, &tables.states)?;
     if let Some(steps) = &tables.steps {
         put_grid(alloc, &mut pen, steps)?;

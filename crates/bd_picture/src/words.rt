@@ -7,7 +7,7 @@ ghost use Rattle.bd_picture.specs.Sentence.{compared_sentence, completed_sentenc
 
 use crate::picture::Outcome;
 use bd_model::{Condition, Design, Judged, Scalar, Value};
-use bd_slice::Location;
+use bd_slice::{Cycle, Location};
 use itoa::Buffer;
 use std::alloc::{AllocError, Global};
 
@@ -17,6 +17,32 @@ pub fn push_number(out: &mut Vec<u8>, number: u64) -> Result<(), AllocError>
 {
     let mut buffer = Buffer::new();
     out.extend_from_slice(buffer.format(number).as_bytes())
+}
+
+/// Puts a cycle by the columns of the tables that it leads from and to: `before to after`, `after f1 to f2`, `step 1`.
+pub fn push_cycle(out: &mut Vec<u8>, cycle: Cycle) -> Result<(), AllocError> {
+    match cycle {
+        Cycle::Case => out.extend_from_slice(b"before to after"),
+        Cycle::FlushBefore(number) => push_flush(out, b"before", number),
+        Cycle::FlushAfter(number) => push_flush(out, b"after", number),
+        Cycle::Step(number) => {
+            out.extend_from_slice(b"step ")?;
+            push_number(out, u64::from(number).saturating_add(1))
+        }
+        Cycle::Invariant => out.extend_from_slice(b"invariant"),
+    }
+}
+
+/// Puts a flush cycle, as `before to f1` or `after f1 to f2`.
+fn push_flush(out: &mut Vec<u8>, start: &[u8], number: u32) -> Result<(), AllocError> {
+    let number = u64::from(number);
+    out.extend_from_slice(start)?;
+    if number != 0 {
+        out.extend_from_slice(b" f")?;
+        push_number(out, number)?;
+    }
+    out.extend_from_slice(b" to f")?;
+    push_number(out, number.saturating_add(1))
 }
 
 /// Puts a truth value or a word after a text.

@@ -10,6 +10,7 @@ ghost use Rattle.bd_show.specs.inner.Answered.{IsDoneOn, IsOfVerdict, check_of};
 ghost use Rattle.bd_show.specs.inner.Loaded.{AreFew, texts_view};
 
 use crate::answer::{Answer, Ended};
+use crate::claim_names::{claim_names, let_names};
 use crate::fault::{refused, unloaded};
 use crate::load::{FileNames, Texts, load_texts};
 use crate::names::machine_lets;
@@ -19,7 +20,7 @@ use bd_about::finding_of;
 use bd_app::{Asked, decide, verdict_report};
 use bd_files::Files;
 use bd_model::{Design, Judged};
-use bd_picture::text_of;
+use bd_picture::{ShownNames, text_of};
 use bd_syntax::Kind;
 use bd_verify::{Mode, Verdict};
 use std::alloc::{AllocError, Global};
@@ -59,8 +60,15 @@ fn shown_case(
     match verdict {
         Verdict::Wrong(condition, case, _) => {
             let lets = machine_lets(alloc, texts.pipe.as_slice(), Kind::Pipeline)?;
+            let steps = let_names(alloc, texts.spec.as_slice())?;
+            let claims = claim_names(alloc, &texts.inv)?;
+            let names = ShownNames {
+                lets: lets.as_slice(),
+                steps: steps.as_slice(),
+                claims: claims.as_slice(),
+            };
             let judged = Judged::Broken(*condition);
-            let picture = pictured(alloc, design, case, judged, false, lets.as_slice())?;
+            let picture = pictured(alloc, design, case, judged, false, names)?;
             text_of(alloc, &picture)
         }
         _ => Ok(Vec::new(alloc)),

@@ -197,6 +197,7 @@ const VALUE: &str = "A latch or MEMORY[ADDRESS], then @before, @after or @step, 
 
 /// What the signs of the tables mean.
 const LEGEND: &str = "The tables:
+  invariant   its lets and conjuncts with their lines, # by a conjunct that is false
   states      before the cycle and after it, and after N flush cycles from there, fN
   flushed     where the pipeline is then, and the specification after j steps
   completed   the same by a completion function
@@ -207,8 +208,8 @@ const LEGEND: &str = "The tables:
   input       what the cycle was given that led to the state above
   = and #     the same as the pipeline, and another
   (not allowed)  an exact item rules out so many steps
-  lets        of the pipeline, in the cycle
-  functions   values of functions and predicates, as far as something rests on them";
+  lets        of the pipeline in its cycles, of the specification in its steps, where they change
+  functions   values of functions and predicates, by the cycles that apply them";
 
 /// The names of the files of a design.
 #[tactic(auto, unfolding(crate::specs::Commands::design_names))]

@@ -22,6 +22,7 @@ ghost use Rattle.bd_show.specs.inner.Loaded.{AreFew, texts_view};
 
 use crate::answer::{Answer, Ended};
 use crate::claim::{Claim, claim_in, compared_note, completed_note};
+use crate::claim_names::claim_names;
 use crate::fault::refused_joined;
 use crate::load::Texts;
 use crate::names::machine_lets;
@@ -32,17 +33,17 @@ use bd_completion::judge_by;
 use bd_diagram::{Diagram, contrast_with, diagram_between};
 use bd_list::Sequence;
 use bd_model::{Case, Design, Judged, State};
-use bd_picture::{Outcome, Picture, ShownCase, page_of, picture_of, text_of};
+use bd_picture::{Outcome, Picture, ShownCase, ShownNames, page_of, picture_of, text_of};
 use bd_sim::{flushed, meets_invariant, same, step, values_after};
 use bd_syntax::Kind;
 use bd_typer::Joined;
 use std::alloc::{AllocError, Global};
 
-/// The text of a case, with the line before it, and the names of the pipeline's lets.
+/// The text of a case, with the line before it, and names.
 #[derive(Clone, Copy)]
 struct Shown<'a> {
     text: &'a Option<Vec<u8>>,
-    names: &'a [Vec<u8>],
+    names: ShownNames<'a>,
 }
 
 /// What a state stands for by the completion function.
@@ -83,7 +84,7 @@ fn drawn(
     case: &Case,
     outcome: Outcome,
     diagram: &Diagram,
-    names: &[Vec<u8>],
+    names: ShownNames<'_>,
 ) -> Result<Picture, AllocError>
     requires { IsSeen (design_view design.now) case.now outcome diagram.now }
     ensures { IfOk result (λ p.
@@ -230,12 +231,17 @@ fn on_design(
     ensures drawn { IfOk result (λ r.
         IsDrawn (texts_view texts.now) r.answer.ended (bytes_of r.page)) }
 {
-    let names = machine_lets(alloc, texts.pipe.as_slice(), Kind::Pipeline)?;
+    let lets = machine_lets(alloc, texts.pipe.as_slice(), Kind::Pipeline)?;
+    let claims = claim_names(alloc, &texts.inv)?;
     match joined_case(alloc, joined, texts) {
         Ok(case) => {
             let shown = Shown {
                 text: &texts.case,
-                names: names.as_slice(),
+                names: ShownNames {
+                    lets: lets.as_slice(),
+                    steps: &[],
+                    claims: claims.as_slice(),
+                },
             };
             on_case(alloc, joined, &case, shown)
         }

@@ -5,6 +5,7 @@ mod about;
 mod answer;
 mod checking;
 mod claim;
+mod claim_names;
 mod command;
 mod completed;
 mod fault;

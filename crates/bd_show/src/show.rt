@@ -18,6 +18,7 @@ ghost use Rattle.bd_show.specs.inner.Loaded.{AreFew, texts_view};
 
 use crate::answer::{Answer, Ended};
 use crate::claim::push_note;
+use crate::claim_names::{claim_names, let_names};
 use crate::completed::on_joined;
 use crate::fault::{joined, refused, unloaded};
 use crate::load::{FileNames, Texts, load_texts};
@@ -27,7 +28,7 @@ use crate::trail::on_trail;
 use bd_diagram::diagram_of;
 use bd_files::{Files, SaveError};
 use bd_model::{Case, Design, Judged};
-use bd_picture::{Outcome, Picture, ShownCase, page_of, picture_of, text_of};
+use bd_picture::{Outcome, Picture, ShownCase, ShownNames, page_of, picture_of, text_of};
 use bd_shrink::shrink;
 use bd_sim::judge;
 use bd_syntax::Kind;
@@ -74,7 +75,7 @@ pub fn drawn(
     case: &Case,
     judged: Judged,
     whole: bool,
-    names: &[Vec<u8>],
+    names: ShownNames<'_>,
 ) -> Result<Picture, AllocError>
     requires { IsJudged (design_view design.now) case.now judged }
     ensures { IfOk result (λ p. p.sentence.items ≡ sentence (design_view design.now) judged) }
@@ -98,7 +99,7 @@ pub fn pictured(
     case: &Case,
     judged: Judged,
     whole: bool,
-    names: &[Vec<u8>],
+    names: ShownNames<'_>,
 ) -> Result<Picture, AllocError>
     requires fits { Fits (design_view design.now) case.now }
     requires judged { IsJudged (design_view design.now) case.now judged }
@@ -118,7 +119,7 @@ fn on_judged(
     case: &Case,
     judged: Judged,
     whole: bool,
-    names: &[Vec<u8>],
+    names: ShownNames<'_>,
 ) -> Result<Showing, AllocError>
     requires fits { Fits (design_view design.now) case.now }
     requires judged { IsJudged (design_view design.now) case.now judged }
@@ -158,7 +159,7 @@ fn on_case(
     case: &Case,
     text: &Option<Vec<u8>>,
     whole: bool,
-    names: &[Vec<u8>],
+    names: ShownNames<'_>,
 ) -> Result<Showing, AllocError>
     requires { Fits (design_view design.now) case.now }
     ensures { IfOk result (λ r. (judged : Judged) × (r.answer.ended ≡ Ended.Shown judged)
@@ -199,10 +200,16 @@ fn on_design(
     ensures drawn { IfOk result (λ r.
         IsDrawn (texts_view texts.now) r.answer.ended (bytes_of r.page)) }
 {
-    let names = machine_lets(alloc, texts.pipe.as_slice(), Kind::Pipeline)?;
+    let lets = machine_lets(alloc, texts.pipe.as_slice(), Kind::Pipeline)?;
+    let steps = let_names(alloc, texts.spec.as_slice())?;
+    let claims = claim_names(alloc, &texts.inv)?;
     match case(alloc, design, texts) {
         Ok(case) => {
-            let names = names.as_slice();
+            let names = ShownNames {
+                lets: lets.as_slice(),
+                steps: steps.as_slice(),
+                claims: claims.as_slice(),
+            };
             on_case(alloc, design, &case, &texts.case, options.whole, names)
         }
         Err(fault) => unseen(refused(alloc, options.names, texts, fault)),

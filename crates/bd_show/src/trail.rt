@@ -18,15 +18,17 @@ ghost use Rattle.bd_show.specs.inner.Loaded.{AreFew, texts_view};
 ghost use Rattle.bd_show.specs.inner.Read.{IsRefusedBy};
 
 use crate::answer::{Answer, Ended};
+use crate::claim_names::let_names;
 use crate::fault::refused_trail;
 use crate::load::Texts;
 use crate::names::machine_lets;
 use crate::read::{started, trail};
 use crate::show::{ShowOptions, Showing, drawn, unseen};
+use bd_app::retraced_line;
 use bd_model::{
     Case, Condition, Design, Expr, Inputs, Judged, Locals, Port, Scalar, State, Trail, TrailJudged,
 };
-use bd_picture::{Picture, page_of, text_of};
+use bd_picture::{Picture, ShownNames, page_of, text_of};
 use bd_sim::{judge_trail, step};
 use bd_syntax::Kind;
 use bd_typer::DesignFault;
@@ -97,31 +99,14 @@ fn push_cycles(out: &mut Vec<u8>, ports: &[Port], cycles: &[Inputs]) -> Result<(
     Ok(())
 }
 
-/// Puts a judgement in words after a text.
-fn push_judged(out: &mut Vec<u8>, judged: TrailJudged) -> Result<(), AllocError>
-    ensures { OnOk result (out.new.items ≡ out.old.items ++ retraced_words judged) }
-{
-    let mut buffer = Buffer::new();
-    match judged {
-        TrailJudged::Holds => out.extend_from_slice(b"holds"),
-        TrailJudged::Outside => out.extend_from_slice(b"outside"),
-        TrailJudged::Broken(cycle) => {
-            out.extend_from_slice(b"broken commute ")?;
-            out.extend_from_slice(buffer.format(cycle).as_bytes())
-        }
-    }
-}
-
 /// The line of a judgement, and the lines of the cycles.
 fn lines(alloc: Global, design: &Design, judging: &Judging) -> Result<Vec<u8>, AllocError>
     requires { length judging.now.trail.inputs ≤ most_cycles }
     ensures { IfOk result (λ text. text.items ≡ retraced_words judging.now.judged
         ++ 10 ∷ cycles_text (design_view design.now).pipe.ports 1 judging.now.trail.inputs) }
 {
-    let mut text = Vec::new(alloc);
+    let mut text = retraced_line(alloc, judging.judged)?;
     let ports = design.pipe.ports.as_slice();
-    push_judged(&mut text, judging.judged)?;
-    text.push(b'\n')?;
     push_cycles(&mut text, ports, judging.trail.inputs.as_slice())?;
     Ok(text)
 }
@@ -163,7 +148,7 @@ fn picture(
     trail: &Trail,
     cycle: u32,
     whole: bool,
-    names: &[Vec<u8>],
+    names: ShownNames<'_>,
 ) -> Result<Picture, AllocError>
     requires { IsBreaking (design_view design.now) trail.now cycle }
     ensures { IfOk result (λ p. p.sentence.items
@@ -190,14 +175,20 @@ fn on_break(
     ensures { IfOk result (λ r. IsTrailSeen (design_view design.now) judging.now.trail
         judging.now.judged r.answer.ended r.answer.text.items (bytes_of r.page)) }
 {
-    let names = machine_lets(alloc, texts.pipe.as_slice(), Kind::Pipeline)?;
-    let names = names.as_slice();
+    let lets = machine_lets(alloc, texts.pipe.as_slice(), Kind::Pipeline)?;
+    let steps = let_names(alloc, texts.spec.as_slice())?;
+    let names = ShownNames {
+        lets: lets.as_slice(),
+        steps: steps.as_slice(),
+        claims: &[],
+    };
     let picture = picture(alloc, design, &judging.trail, cycle, options.whole, names)?;
     let shown = text_of(alloc, &picture)?;
+    let tables = shown.as_slice();
     let page = page_of(alloc, &picture)?;
     let mut text = lines(alloc, design, judging)?;
     text.push(b'\n')?;
-    text.extend_from_slice(shown.as_slice())?;
+    text.extend_from_slice(tables)?;
     let ended = Ended::Traced(judging.judged);
     Ok(Showing {
         answer: Answer { ended, text },

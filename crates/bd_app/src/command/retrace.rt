@@ -62,7 +62,7 @@ fn push_words(text: &mut String, judged: TrailJudged) -> Result<(), AllocError>
 }
 
 /// The line of a judgement.
-fn judged_line(alloc: Global, judged: TrailJudged) -> Result<Vec<u8>, AllocError>
+pub fn retraced_line(alloc: Global, judged: TrailJudged) -> Result<Vec<u8>, AllocError>
     ensures { IfOk result (λ line. line.items ≡ retraced_words judged ++ 10 ∷ []) }
 {
     let mut line = String::new(alloc);
@@ -75,7 +75,7 @@ fn judged_answer(alloc: Global, judged: TrailJudged) -> Result<Answer, AllocErro
     ensures { IfOk result (λ a.
         (a.ended ≡ Ended.Retraced judged) × (a.report.items ≡ retraced_words judged ++ 10 ∷ [])) }
 {
-    let report = judged_line(alloc, judged)?;
+    let report = retraced_line(alloc, judged)?;
     Ok(Answer {
         ended: Ended::Retraced(judged),
         report,
