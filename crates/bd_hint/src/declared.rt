@@ -1,7 +1,8 @@
 //! What the files declare.
 
-use crate::file::{File, Headed, atom_at, list_of};
+use crate::file::{File, Headed, list_of};
 use bd_model::Sort;
+use bd_outline::atom_at;
 use bd_text::Tree;
 use bd_typer::Text;
 use std::alloc::{AllocError, Global};

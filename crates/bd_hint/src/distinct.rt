@@ -1,8 +1,9 @@
 //! Constants that are kept apart and have equal values: E19.
 
-use crate::file::{File, Headed, atom_at, atom_of, list_of, parts_of};
+use crate::file::{File, Headed, list_of};
 use crate::lines::Lines;
 use crate::view::FaultView;
+use bd_outline::{atom_at, atom_of, parts_of};
 use bd_typer::Text;
 use indexmap::IndexMap;
 use std::alloc::{AllocError, Global};

@@ -1,8 +1,9 @@
 //! The trees of a file.
 
 use crate::source::NamedFile;
+use bd_outline::{atom_at, atom_of, parts_of, trees_of};
 use bd_syntax::lists::offset_of;
-use bd_text::{TextFault, Tree, Trees, read_trees};
+use bd_text::{Tree, Trees};
 use bd_typer::Text;
 use std::alloc::{AllocError, Global};
 
@@ -20,27 +21,6 @@ pub struct Headed<'t> {
     pub head: &'t [u8],
     /// The head and what follows it.
     pub parts: &'t [Tree],
-}
-
-/// The parts of a list.
-pub fn parts_of(tree: &Tree) -> Option<&[Tree]> {
-    match tree {
-        Tree::Atom { .. } => None,
-        Tree::List { parts, .. } => Some(parts.as_slice()),
-    }
-}
-
-/// The bytes of an atom.
-pub fn atom_of(tree: &Tree) -> Option<&[u8]> {
-    match tree {
-        Tree::Atom { text, .. } => Some(text.as_slice()),
-        Tree::List { .. } => None,
-    }
-}
-
-/// The atom at a place of a list.
-pub fn atom_at(parts: &[Tree], place: usize) -> Option<&[u8]> {
-    atom_of(parts.get(place)?)
 }
 
 /// A list that begins with a word.
@@ -75,15 +55,6 @@ fn commented(alloc: Global, text: &[u8]) -> Result<Vec<u8>, AllocError> {
         bytes.extend_from_slice(rest)?;
     }
     Ok(bytes)
-}
-
-/// The trees of a text, none where it has a fault.
-fn trees_of(alloc: Global, text: &[u8]) -> Result<Trees, AllocError> {
-    match read_trees(alloc, text) {
-        Ok(trees) => Ok(trees),
-        Err(TextFault::Bad { .. }) => Ok(Trees::from_vec(Vec::new(alloc))),
-        Err(TextFault::Memory) => Err(AllocError),
-    }
 }
 
 impl<'a> File<'a> {

@@ -1,11 +1,12 @@
 //! Forms of items and expressions, and what is wrong with one: E05, E11 and E14.
 
 use crate::declared::sort_named;
-use crate::file::{Headed, atom_at, list_of, parts_of};
+use crate::file::{Headed, list_of};
 use crate::lines::Lines;
 use crate::near::nearest_word;
 use crate::source::{kind_form, kind_text};
 use crate::view::FaultView;
+use bd_outline::{atom_at, parts_of};
 use bd_syntax::Operator;
 use bd_syntax::lists::offset_of;
 use bd_text::Tree;

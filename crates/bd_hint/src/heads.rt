@@ -1,11 +1,11 @@
 //! Files of another kind than is wanted: E04.
 
 use crate::brackets::ended_before;
-use crate::file::{atom_of, parts_of};
 use crate::lines::Lines;
 use crate::near::nearest_word;
 use crate::source::{kind_form, kind_of, kind_text};
 use crate::view::FaultView;
+use bd_outline::{atom_of, parts_of};
 use bd_typer::Text;
 use std::alloc::AllocError;
 

@@ -1,10 +1,10 @@
 //! Inputs where none may be used: E17.
 
 use crate::declared::{Declaration, Declared};
-use crate::file::{atom_of, parts_of};
 use crate::lines::Lines;
 use crate::source::kind_text;
 use crate::view::FaultView;
+use bd_outline::{atom_of, parts_of};
 use bd_text::Tree;
 use bd_typer::Text;
 use indexmap::IndexMap;

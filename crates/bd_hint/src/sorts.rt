@@ -2,12 +2,13 @@
 
 use crate::cases::wrong_value;
 use crate::declared::{Declared, sort_named, sort_text};
-use crate::file::{atom_at, list_of};
+use crate::file::list_of;
 use crate::forms::item_form;
 use crate::lines::Lines;
 use crate::view::FaultView;
 use crate::way::Level;
 use bd_model::Sort;
+use bd_outline::atom_at;
 use bd_syntax::Operator;
 use bd_typer::Text;
 use std::alloc::AllocError;

@@ -1,8 +1,9 @@
 //! What is given twice: E07, and E12 and E13 where something stands twice.
 
-use crate::file::{Headed, atom_of, list_of};
+use crate::file::{Headed, list_of};
 use crate::lines::Lines;
 use crate::view::FaultView;
+use bd_outline::atom_of;
 use bd_syntax::lists::offset_of;
 use std::alloc::AllocError;
 

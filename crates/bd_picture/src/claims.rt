@@ -355,8 +355,9 @@ fn false_before(
 
 /// All lines in both states, or the conjuncts that are false before the cycle. Without a line there is no table.
 fn grid_of(alloc: Global, view: &ShownCase<'_>, is_broken: bool) -> Result<Option<Grid>, AllocError>
-    ensures { IfOk result (λ grid. IfSome grid (λ g. All (IsClaimsRow (design_view view.now.design.now)
-        view.now.case.now view.now.diagram.now g.heads.items) g.rows.items)) }
+    ensures { IfOk result (λ grid. IfSome grid (λ g.
+        All (IsClaimsRow (design_view view.now.design.now) view.now.case.now view.now.diagram.now
+        g.heads.items) g.rows.items)) }
 {
     let values = both(alloc, view)?;
     let mut claims = lines(alloc, view, &values)?;
@@ -378,8 +379,9 @@ fn grid_of(alloc: Global, view: &ShownCase<'_>, is_broken: bool) -> Result<Optio
 
 /// What the invariant says, where it is broken or the case is outside.
 pub fn claims_grid(alloc: Global, view: &ShownCase<'_>) -> Result<Option<Grid>, AllocError>
-    ensures { IfOk result (λ grid. IfSome grid (λ g. All (IsClaimsRow (design_view view.now.design.now)
-        view.now.case.now view.now.diagram.now g.heads.items) g.rows.items)) }
+    ensures { IfOk result (λ grid. IfSome grid (λ g.
+        All (IsClaimsRow (design_view view.now.design.now) view.now.case.now view.now.diagram.now
+        g.heads.items) g.rows.items)) }
 {
     match view.outcome {
         Outcome::Flushed(Judged::Broken(Condition::Invariant))

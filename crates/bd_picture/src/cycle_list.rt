@@ -4,7 +4,8 @@
 use crate::list::{ListItem, ListPart, row_item};
 use crate::marks::Slice;
 use crate::picture::ShownCase;
-use crate::words::{addressed, is_zero, push_cycle, push_scalar};
+use crate::words::{addressed, is_zero};
+use bd_label::{push_cycle, push_scalar};
 use bd_model::Design;
 use bd_slice::{Cycle, Finding, Reason, Subject};
 use std::alloc::{AllocError, Global};
@@ -134,6 +135,16 @@ fn cycles_of(alloc: Global, design: &Design, slice: &Slice) -> Result<Cycles, Al
     Ok(cycles)
 }
 
+/// What a cycle is called above what it has.
+fn heading_of(alloc: Global, cycle: Cycle) -> Result<Vec<u8>, AllocError> {
+    if let Cycle::Invariant = cycle {
+        return Vec::from_slice(alloc, b"invariant");
+    }
+    let mut heading = Vec::new(alloc);
+    push_cycle(&mut heading, cycle)?;
+    Ok(heading)
+}
+
 /// Puts items under the name of their cycle, if there are any.
 fn push_part(
     alloc: Global,
@@ -142,8 +153,7 @@ fn push_part(
     items: Vec<ListItem>,
 ) -> Result<(), AllocError> {
     if !items.is_empty() {
-        let mut heading = Vec::new(alloc);
-        push_cycle(&mut heading, cycle)?;
+        let heading = heading_of(alloc, cycle)?;
         parts.push(ListPart { heading, items })?;
     }
     Ok(())

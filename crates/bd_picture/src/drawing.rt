@@ -6,7 +6,7 @@
 
 use crate::grid::{Cell, Grid, GridRow, Head, Look, content_text, is_shown, sign_of};
 use crate::picture::Tables;
-use crate::words::push_number;
+use bd_label::push_number;
 use std::alloc::{AllocError, Global};
 
 const BOX_WIDTH: u64 = 240;

@@ -1,6 +1,6 @@
 //! Cells in rows under headings.
 
-use crate::words::push_scalar;
+use bd_label::push_scalar;
 use bd_model::Scalar;
 use bd_slice::{Column, Location};
 use std::alloc::{AllocError, Global};

@@ -4,7 +4,8 @@ use crate::cycle_list::{let_parts, row_parts};
 use crate::differing::note_rows;
 use crate::marks::ShownValues;
 use crate::picture::ShownCase;
-use crate::words::{is_zero, push_number, push_scalar};
+use crate::words::is_zero;
+use bd_label::{push_application, push_number, push_scalar};
 use bd_model::{Scalar, Symbol, Table, Value};
 use std::alloc::{AllocError, Global};
 use std::collections::BTreeSet;
@@ -107,16 +108,8 @@ pub fn row_item(
     args: &[u64],
     value: Scalar,
 ) -> Result<Vec<u8>, AllocError> {
-    let mut item = Vec::from_slice(alloc, name)?;
-    for (number, arg) in args.iter().enumerate() {
-        item.push(if number == 0 { b'(' } else { b',' })?;
-        push_number(&mut item, *arg)?;
-    }
-    if !args.is_empty() {
-        item.push(b')')?;
-    }
-    item.push(b'=')?;
-    push_scalar(&mut item, value)?;
+    let mut item = Vec::new(alloc);
+    push_application(&mut item, name, args, value)?;
     Ok(item)
 }
 

@@ -6,7 +6,7 @@ use crate::drawing::put_drawing;
 use crate::grid::{Cell, Content, Grid, GridRow, Head, Look, content_text, sign_of};
 use crate::list::{ListPart, TitledList};
 use crate::picture::{Outcome, Picture, Tables};
-use crate::words::push_number;
+use bd_label::push_number;
 use bd_model::{Condition, Judged};
 use std::alloc::{AllocError, Global};
 

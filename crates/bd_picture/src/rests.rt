@@ -1,7 +1,7 @@
 //! What each value of a slice rests on, for the page, which shows it where one points at the value.
 
 use crate::marks::{ShownValues, Slice};
-use crate::words::push_number;
+use bd_label::push_number;
 use bd_slice::{Fact, Finding, Reason};
 use std::alloc::{AllocError, Global};
 

@@ -1,58 +1,15 @@
 //! Values as they are printed.
-ghost use Rattle.std.specs.Prelude.{◌≡◌, ◌++◌, decimal, IfOk, OnOk};
+ghost use Rattle.std.specs.Prelude.{◌≡◌, ◌++◌, decimal, IfOk};
 ghost use Rattle.bd_model.specs.DesignView.{design_view};
 ghost use Rattle.bd_slice.specs.Columns.{spot_value};
 ghost use Rattle.bd_slice.specs.declared.place.Location.TheVariants as spot;
 ghost use Rattle.bd_picture.specs.Sentence.{compared_sentence, completed_sentence, outcome_sentence, sentence};
 
 use crate::picture::Outcome;
+use bd_label::{push_number, push_word_name};
 use bd_model::{Condition, Design, Judged, Scalar, Value};
-use bd_slice::{Cycle, Location};
-use itoa::Buffer;
+use bd_slice::Location;
 use std::alloc::{AllocError, Global};
-
-/// Puts a number in decimal digits after a text.
-pub fn push_number(out: &mut Vec<u8>, number: u64) -> Result<(), AllocError>
-    ensures { OnOk result (out.new.items ≡ out.old.items ++ decimal number) }
-{
-    let mut buffer = Buffer::new();
-    out.extend_from_slice(buffer.format(number).as_bytes())
-}
-
-/// Puts a cycle by the columns of the tables that it leads from and to: `before to after`, `after f1 to f2`, `step 1`.
-pub fn push_cycle(out: &mut Vec<u8>, cycle: Cycle) -> Result<(), AllocError> {
-    match cycle {
-        Cycle::Case => out.extend_from_slice(b"before to after"),
-        Cycle::FlushBefore(number) => push_flush(out, b"before", number),
-        Cycle::FlushAfter(number) => push_flush(out, b"after", number),
-        Cycle::Step(number) => {
-            out.extend_from_slice(b"step ")?;
-            push_number(out, u64::from(number).saturating_add(1))
-        }
-        Cycle::Invariant => out.extend_from_slice(b"invariant"),
-    }
-}
-
-/// Puts a flush cycle, as `before to f1` or `after f1 to f2`.
-fn push_flush(out: &mut Vec<u8>, start: &[u8], number: u32) -> Result<(), AllocError> {
-    let number = u64::from(number);
-    out.extend_from_slice(start)?;
-    if number != 0 {
-        out.extend_from_slice(b" f")?;
-        push_number(out, number)?;
-    }
-    out.extend_from_slice(b" to f")?;
-    push_number(out, number.saturating_add(1))
-}
-
-/// Puts a truth value or a word after a text.
-pub fn push_scalar(out: &mut Vec<u8>, scalar: Scalar) -> Result<(), AllocError> {
-    match scalar {
-        Scalar::Bool(true) => out.extend_from_slice(b"true"),
-        Scalar::Bool(false) => out.extend_from_slice(b"false"),
-        Scalar::Word(word) => push_number(out, word),
-    }
-}
 
 /// Whether a value is 0 or false.
 pub fn is_zero(scalar: Scalar) -> bool {
@@ -70,10 +27,8 @@ pub fn numbered(alloc: Global, word: &[u8], number: u64) -> Result<Vec<u8>, Allo
 
 /// The text `NAME[ADDRESS]` of a memory's word.
 pub fn addressed(alloc: Global, name: &[u8], address: u64) -> Result<Vec<u8>, AllocError> {
-    let mut text = Vec::from_slice(alloc, name)?;
-    text.push(b'[')?;
-    push_number(&mut text, address)?;
-    text.push(b']')?;
+    let mut text = Vec::new(alloc);
+    push_word_name(&mut text, name, address)?;
     Ok(text)
 }
 

@@ -1,7 +1,9 @@
 //! The items of a text: its lets, inputs and next values, each with its tree.
 
 use crate::source::Source;
-use bd_text::{TextFault, Tree, Trees, read_trees};
+use bd_outline::{atom_at, is_headed, parts_of, trees_of};
+use bd_syntax::lists::offset_of;
+use bd_text::{Tree, Trees};
 use std::alloc::{AllocError, Global};
 
 /// An item: where its list begins, its name, and its expression.
@@ -22,55 +24,11 @@ pub struct Listing<'a> {
     nexts: Vec<usize>,
 }
 
-/// The trees of a text, none where it has a fault.
-fn trees_of(alloc: Global, text: &[u8]) -> Result<Trees, AllocError> {
-    match read_trees(alloc, text) {
-        Ok(trees) => Ok(trees),
-        Err(TextFault::Bad { .. }) => Ok(Trees::from_vec(Vec::new(alloc))),
-        Err(TextFault::Memory) => Err(AllocError),
-    }
-}
-
-/// Where a tree begins.
-pub fn offset_of(tree: &Tree) -> usize {
-    match tree {
-        Tree::Atom { offset, .. } | Tree::List { offset, .. } => *offset,
-    }
-}
-
-/// The parts of a list.
-pub fn parts_of(tree: &Tree) -> Option<&[Tree]> {
-    match tree {
-        Tree::Atom { .. } => None,
-        Tree::List { parts, .. } => Some(parts.as_slice()),
-    }
-}
-
-/// The bytes of an atom.
-fn atom_of(tree: &Tree) -> Option<&[u8]> {
-    match tree {
-        Tree::Atom { text, .. } => Some(text.as_slice()),
-        Tree::List { .. } => None,
-    }
-}
-
-/// The atom at a place of a list.
-fn atom_at(tree: &Tree, place: usize) -> Option<&[u8]> {
-    atom_of(parts_of(tree)?.get(place)?)
-}
-
-/// Whether a tree is a list that begins with this atom.
-fn is_headed(tree: &Tree, head: &[u8]) -> bool {
-    match atom_at(tree, 0) {
-        Some(atom) => atom == head,
-        None => false,
-    }
-}
-
 /// The item that a list is, where its name comes second and its expression last.
 fn item_of(tree: &Tree) -> Option<ListedItem<'_>> {
-    let name = atom_at(tree, 1)?;
-    let expression = parts_of(tree)?.last()?;
+    let parts = parts_of(tree)?;
+    let name = atom_at(parts, 1)?;
+    let expression = parts.last()?;
     Some(ListedItem {
         offset: offset_of(tree),
         name,

@@ -1,9 +1,10 @@
 //! The lines of an explanation, at most a screen.
 
-use crate::listing::parts_of;
 use crate::telling::{shown, told, told_short};
 use crate::view::{ItemPlace, ListedDesign};
-use crate::words::{push_column, push_name, push_number, push_scalar};
+use crate::words::{push_column, push_name};
+use bd_label::{push_number, push_scalar};
+use bd_outline::parts_of;
 use bd_slice::{Column, Reasons, Subject};
 use indexmap::IndexSet;
 use std::alloc::{AllocError, Global};

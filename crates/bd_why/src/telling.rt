@@ -2,12 +2,14 @@
 //! underlined.
 
 use crate::decided::decided_path;
-use crate::listing::{ListedItem, offset_of};
+use crate::listing::ListedItem;
 use crate::part::{end_of, part_at};
 use crate::source::Source;
 use crate::view::ListedDesign;
-use crate::words::{push_application, push_cycle, push_name, push_number, push_scalar};
+use crate::words::{push_name, symbol_name};
+use bd_label::{push_application, push_cycle, push_number, push_scalar};
 use bd_slice::{Fact, Finding, Reason};
+use bd_syntax::lists::offset_of;
 use bd_text::{Line, Tree};
 use std::alloc::{AllocError, Global};
 
@@ -128,7 +130,8 @@ fn fact_text(
             push_scalar(&mut text, *value)?;
         }
         Finding::Applied(symbol, arguments, value) => {
-            push_application(&mut text, view, *symbol, arguments.as_slice(), *value)?;
+            let name = symbol_name(view.design, *symbol);
+            push_application(&mut text, name, arguments.as_slice(), *value)?;
         }
         _ => {}
     }
