@@ -1,12 +1,12 @@
 -- What a state of the pipeline stands for: what is visible once the pipeline is flushed (Burch and Dill 1994), or
 -- the values of given expressions (completion functions), over the names that an invariant may use.
 use Rattle.std.specs.Prelude.{List, [], map}
-use Rattle.std.specs.List.{AllZip}
+use Rattle.std.specs.List.{AllByRecursion, AllZip}
 use Rattle.bd_model.specs.ExprView.{ExprView, expr_views, list_of_views}
 use Rattle.bd_model.specs.DesignView.{DesignView, LocalView, local_view}
 use Rattle.bd_model.specs.Value.{value_of, env_of}
 use Rattle.bd_model.specs.Cycle.{flushed}
-use Rattle.bd_model.specs.Lawful.{Context, HasSort, LetsHaveSorts, inv_context, without_lets}
+use Rattle.bd_model.specs.Lawful.{Context, HasSort, IsWithinLimits, LetsHaveSorts, inv_context, without_lets}
 use Rattle.bd_model.specs.Conditions as conditions
 use Rattle.bd_model.specs.declared.design.Entry as entry
 use Rattle.bd_abstraction.specs.declared.abstraction.Abstraction.{Abstraction}
@@ -36,11 +36,13 @@ abbrev pub context_after : DesignView → List LocalView → Context
 context_after d lets =
     record (inv_context d) { locals = map (λ (l : LocalView). l.sort) lets }
 
--- the lets have their sorts, and there is one expression for each visible entry, of its sort
+-- the lets have their sorts, there is one expression for each visible entry, of its sort, and all are within the limits
 pub record IsLawfulGiven (d : DesignView) (locals : List LocalView) (exprs : List ExprView) :
     Type 0 where
   pub lets : LetsHaveSorts (without_lets (inv_context d)) locals
   pub parts : AllZip (λ (x : entry.Entry) e. HasSort (context_after d locals) e x.sort) d.spec.entries exprs
+  pub let_limits : AllByRecursion (λ (l : LocalView). IsWithinLimits l.value) locals
+  pub part_limits : AllByRecursion IsWithinLimits exprs
 
 abbrev pub IsLawfulAbstraction : DesignView → Abstraction → Type 0
 IsLawfulAbstraction d abstraction.Flushing = Unit {0}

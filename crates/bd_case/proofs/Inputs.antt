@@ -63,10 +63,6 @@ fit_sizes ps (xs ∷ rest) all = (AllZip-long (λ (p : PortView) x. scalar_sort 
 pub inputs_back : (ps : List PortView) (inputs : List (List Scalar)) → AllByRecursion (ScalarsFit ps) inputs → inputs_from 0 (length inputs) (input_tables 0 ps inputs) ≡ inputs
 inputs_back ps inputs fit = rows_back ps inputs 0 (length inputs) (omega arith) (fit_sizes ps inputs fit)
 
-pub length-input_tables : (i : ℕ) (ps : List PortView) (inputs : List (List Scalar)) → length (input_tables i ps inputs) ≡ length ps
-length-input_tables i [] inputs = refl
-length-input_tables i (p ∷ ps) inputs = let rest = length-input_tables (i + 1) ps inputs in omega arith
-
 -- ---- sorts
 
 -- the inputs from this place on fit

@@ -24,7 +24,7 @@ pub struct Frame<'a> {
 }
 
 impl<'a> Frame<'a> {
-    /// That of a design's texts in a layout.
+    /// The places and the kinds of what the texts of a design in a layout have entries for.
     pub fn new(alloc: Global, design: &'a Design, layout: Layout) -> Result<Frame<'a>, AllocError>
         ensures design { IfOk result (λ frame. frame.design.now ≡ design.now) }
         ensures layout { IfOk result (λ frame. frame.layout ≡ layout) }

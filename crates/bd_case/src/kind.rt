@@ -66,7 +66,7 @@ const SECOND_HEADS: [EntryHead; 6] = [
 ];
 
 impl Subject {
-    /// What its text begins with.
+    /// The word that a case's or a trail's text begins with.
     pub fn text(self) -> &'static [u8]
         ensures { result.now ≡ subject_text self }
     {
@@ -78,7 +78,7 @@ impl Subject {
 }
 
 impl EntryHead {
-    /// Its text.
+    /// The word that entries with this head begin with.
     pub fn text(self) -> &'static [u8]
         ensures { result.now ≡ head_text self }
     {
@@ -106,14 +106,14 @@ impl EntryHead {
         }
     }
 
-    /// Whether it's that head.
+    /// Whether two heads are the same.
     pub fn is(self, other: EntryHead) -> bool
         ensures { result ≡ is_head self other }
     {
         self.text() == other.text()
     }
 
-    /// Whether it has so many parts after it, where an input has a value for each of so many cycles.
+    /// Whether an entry may have so many parts after this head; an input's has one for its name and one for each cycle.
     pub fn takes(self, cycles: u32, parts: usize) -> bool
         ensures { result ≡ head_takes cycles self parts }
     {
@@ -124,14 +124,14 @@ impl EntryHead {
         }
     }
 
-    /// Whether it's that of an input.
+    /// Whether entries with this head give an input's values.
     pub fn is_input(self) -> bool
         ensures { result ≡ is_input self }
     {
         matches!(self, EntryHead::Input)
     }
 
-    /// Whether there may be no such entry.
+    /// Whether a text may lack an entry with this head for what the design declares.
     pub fn may_lack(self) -> bool
         ensures { result ≡ may_lack self }
     {
@@ -153,7 +153,7 @@ fn symbol_head(version: Version, apart: bool, predicate: bool) -> EntryHead
 }
 
 impl EntryKind {
-    /// That of a function or predicate.
+    /// What the entry of a function or predicate gives.
     pub fn of_symbol(version: Version, apart: bool, symbol: &Symbol) -> EntryKind
         ensures { result ≡ symbol_kind version apart symbol.now }
     {
@@ -165,7 +165,7 @@ impl EntryKind {
         }
     }
 
-    /// That of a latch or memory.
+    /// What the entry of a latch or memory gives.
     pub fn of_entry(sort: Sort) -> EntryKind
         ensures { result ≡ sort_kind sort }
     {
@@ -185,7 +185,7 @@ impl EntryKind {
         }
     }
 
-    /// That of an input.
+    /// What the entry of an input gives.
     pub fn of_input(sort: Sort) -> EntryKind
         ensures { result ≡ input_kind sort }
     {

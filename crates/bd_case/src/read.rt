@@ -22,6 +22,9 @@ use bd_syntax::{FormFault, bad};
 use bd_text::{Code, Tree, Trees, read_trees};
 use std::alloc::{AllocError, Global};
 
+/// The most cycles of a trail.
+const MOST_CYCLES: u64 = 16;
+
 /// The layout of a case, by the version that a tree is.
 fn version_of(tree: &Tree) -> Result<Layout, FormFault>
     ensures { Gives (λ l. l) result (version_part (node_of tree.now)) }
@@ -48,7 +51,7 @@ fn cycles_of(tree: &Tree) -> Result<Layout, FormFault>
     ensures { Gives (λ l. l) result
         (cycles_part (offset_of (node_of tree.now)) (number_form most_cycles (node_of tree.now))) }
 {
-    match number(tree, 16) {
+    match number(tree, MOST_CYCLES) {
         Ok(cycles) => Ok(Layout {
             version: Version::Two,
             cycles: cycles as u32,
@@ -81,7 +84,7 @@ struct File<'a> {
 }
 
 impl<'a> File<'a> {
-    /// That of a text's trees.
+    /// The one tree of a text, with its layout and entries.
     fn of(subject: Subject, trees: &'a Trees) -> Result<File<'a>, FormFault>
         ensures { Gives (λ file. (file.offset, (file.layout, nodes_of_all file.entries.now)))
             result

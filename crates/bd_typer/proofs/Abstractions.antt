@@ -1,4 +1,4 @@
--- What a completion abstracts to has its sorts: one expression for each entry of the specification.
+-- What a completion abstracts to has its sorts, within the limits: one expression for each entry of the specification.
 use Rattle.std.proofs.Common.{◌≡◌, ◌≢◌, ℕ, ◌<◌, Bool, true, false, cond, List, [], ◌∷◌, length, map, set, get_or, Some, Ok, refl, ap, sym, ◌∙◌, subst, arith, inl, inr}
 use Rattle.std.specs.Prelude.{◌⊎◌, slice_get, replicate}
 use Rattle.std.specs.List.{AllByRecursion, AllZip}
@@ -11,7 +11,7 @@ use Rattle.bd_abstraction.specs.declared.abstraction.Abstraction.{Abstraction}
 use Rattle.bd_abstraction.specs.declared.abstraction.Abstraction.TheVariants as abstraction
 use Rattle.bd_model.specs.DesignView.{DesignView}
 use Rattle.bd_model.specs.ExprView.{ExprView, Truth}
-use Rattle.bd_model.specs.Lawful.{Context, HasSort}
+use Rattle.bd_model.specs.Lawful.{Context}
 use Rattle.bd_model.specs.declared.design.Sort.{Sort}
 use Rattle.bd_model.specs.declared.design.Entry as entry
 use Rattle.bd_syntax.specs.Completion.{AbstractView, IsAbstract}
@@ -27,7 +27,7 @@ use Rattle.bd_typer.specs.declared.names.Meaning.TheVariants.{Entry}
 use Rattle.bd_typer.proofs.Lists.{some_is, same_text-true}
 use Rattle.bd_typer.proofs.Machines.{zip_from}
 use Rattle.bd_typer.proofs.Sound.{NamesFit, then_ok}
-use Rattle.bd_typer.proofs.TypedItems.{named_entry, typed_within}
+use Rattle.bd_typer.proofs.TypedItems.{IsTyped, named_entry, typed_within}
 
 -- a lawful abstraction, as its view shows it
 abbrev pub IsLawfulView : DesignView → AbstractionView → Type 0
@@ -44,13 +44,17 @@ entry_at name sort = record { name = name; sort = sort }
 module _ (c : Context) (flags : List Bool) (names spec : NameMap) (entries : List entry.Entry) (fits : NamesFit c flags false names)
     (stands : (q : List ℕ) (n : ℕ) (s : Sort) → spec q ≡ Some (Entry n s) → slice_get entries n ≡ Some (record { name = q; sort = s }))
     (once : (n k : ℕ) (x y : entry.Entry) → slice_get entries n ≡ Some x → slice_get entries k ≡ Some y → x.name ≡ y.name → n ≡ k) where
+  -- an expression of an entry's sort, within the limits
+  abbrev IsPart : entry.Entry → ExprView → Type 0
+  IsPart x e = IsTyped c flags false x.sort e
+
   -- the expressions so far, where these names have one
   record PartsAre (parts : List ExprView) (seen : NameSet) : Type 0 where
     count : length parts ≡ length entries
-    sorts : (n : ℕ) (x : entry.Entry) → slice_get entries n ≡ Some x → seen x.name ≡ true → HasSort c (get_or parts n (Truth false)) x.sort
+    parts_fit : (n : ℕ) (x : entry.Entry) → slice_get entries n ≡ Some x → seen x.name ≡ true → IsPart x (get_or parts n (Truth false))
 
-  set_one : (parts : List ExprView) (seen : NameSet) → PartsAre parts seen → (k : ℕ) (name : List ℕ) (sort : Sort) (e : ExprView) → slice_get entries k ≡ Some (entry_at name sort) → HasSort c e sort
-      → (n : ℕ) (x : entry.Entry) → slice_get entries n ≡ Some x → with_text seen name x.name ≡ true → HasSort c (get_or (set parts k e) n (Truth false)) x.sort
+  set_one : (parts : List ExprView) (seen : NameSet) → PartsAre parts seen → (k : ℕ) (name : List ℕ) (sort : Sort) (e : ExprView) → slice_get entries k ≡ Some (entry_at name sort) → IsTyped c flags false sort e
+      → (n : ℕ) (x : entry.Entry) → slice_get entries n ≡ Some x → with_text seen name x.name ≡ true → IsPart x (get_or (set parts k e) n (Truth false))
   set_one parts seen ok k name sort e at_k typed_e n x at_n there = by_place (cases_eq k n) where
     was_seen : k ≢ n → seen x.name ≡ true
     was_seen apart = by_word (same_text name x.name) refl there where
@@ -58,15 +62,15 @@ module _ (c : Context) (flags : List Bool) (names spec : NameMap) (entries : Lis
       by_word false w h = h
       by_word true w h = absurd (apart (once k n (entry_at name sort) x at_k at_n (same_text-true name x.name w)))
 
-    by_place : (k ≡ n) ⊎ (k ≢ n) → HasSort c (get_or (set parts k e) n (Truth false)) x.sort
+    by_place : (k ≡ n) ⊎ (k ≢ n) → IsPart x (get_or (set parts k e) n (Truth false))
     by_place (inl same) =
         let both : Some (entry_at name sort) ≡ Some x = sym at_k ∙ ap (slice_get entries) same ∙ at_n in
         let sorts : sort ≡ x.sort = ap (λ (y : entry.Entry). y.sort) (some_is (entry_at name sort) x both) in
         let within : k < length parts = omega (arith, ok.count, slice_get_within entries k _ at_k) in
         let set_there : get_or (set parts k e) n (Truth false) ≡ e = get_or-set_at parts k n e (Truth false) (sym same) within in
-        subst (λ z. HasSort c z x.sort) (sym set_there) (subst (HasSort c e) sorts typed_e)
+        subst (IsPart x) (sym set_there) (subst (λ z. IsTyped c flags false z e) sorts typed_e)
     by_place (inr apart) =
-        subst (λ z. HasSort c z x.sort) (sym (get_or-set_other parts k n e (Truth false) (λ z. apart (sym z)))) (ok.sorts n x at_n (was_seen apart))
+        subst (IsPart x) (sym (get_or-set_other parts k n e (Truth false) (λ z. apart (sym z)))) (ok.parts_fit n x at_n (was_seen apart))
 
   part_is : (parts more : List ExprView) (part : AbstractView) (seen : NameSet) → PartsAre parts seen → IsExpression part.value → IsLimited part.value → typed_abstract names spec parts part ≡ Ok more → PartsAre more (with_text seen part.name.text)
   unfolding typed_abstract
@@ -78,7 +82,7 @@ module _ (c : Context) (flags : List Bool) (names spec : NameMap) (entries : Lis
       let there = stands part.name.text p.0.0 p.0.1 (named_entry part.name.offset (spec part.name.text) p.0 p.1) in
       subst (λ xs. PartsAre xs (with_text seen part.name.text)) e (record {
         count = length-set parts p.0.0 q.0 ∙ ok.count;
-        sorts = set_one parts seen ok p.0.0 part.name.text p.0.1 q.0 there one.sort;
+        parts_fit = set_one parts seen ok p.0.0 part.name.text p.0.1 q.0 there one;
       })
 
   parts_are : (abstracts : List AbstractView) (parts all : List ExprView) (seen : NameSet) → PartsAre parts seen → AllByRecursion IsAbstract abstracts → AllByRecursion (λ (part : AbstractView). IsLimited part.value) abstracts
@@ -88,10 +92,10 @@ module _ (c : Context) (flags : List Bool) (names spec : NameMap) (entries : Lis
       let p = then_ok (typed_abstract names spec parts part) (λ more. typed_abstracts names spec more abstracts) all h in
       parts_are abstracts p.0 all (with_text seen part.name.text) (part_is parts p.0 part seen ok is.0.1 limited.0 p.1) is.1 limited.1 p.2
 
-  pub parts_have_sorts : (abstracts : List AbstractView) (all : List ExprView) → AllByRecursion IsAbstract abstracts → AllByRecursion (λ (part : AbstractView). IsLimited part.value) abstracts
+  pub parts_typed : (abstracts : List AbstractView) (all : List ExprView) → AllByRecursion IsAbstract abstracts → AllByRecursion (λ (part : AbstractView). IsLimited part.value) abstracts
       → ((n : ℕ) (x : entry.Entry) → slice_get entries n ≡ Some x → with_names no_texts (map abstract_name abstracts) x.name ≡ true)
-      → typed_abstracts names spec (replicate (length entries) (Truth false)) abstracts ≡ Ok all → AllZip (λ (x : entry.Entry) e. HasSort c e x.sort) entries all
-  parts_have_sorts abstracts all is limited each h =
-      let none : PartsAre (replicate (length entries) (Truth false)) no_texts = record { count = length-replicate (length entries) (Truth false); sorts = λ n x there no. absurd (cc no) } in
+      → typed_abstracts names spec (replicate (length entries) (Truth false)) abstracts ≡ Ok all → AllZip IsPart entries all
+  parts_typed abstracts all is limited each h =
+      let none : PartsAre (replicate (length entries) (Truth false)) no_texts = record { count = length-replicate (length entries) (Truth false); parts_fit = λ n x there no. absurd (cc no) } in
       let ok = parts_are abstracts (replicate (length entries) (Truth false)) all no_texts none is limited h in
-      zip_from (λ (x : entry.Entry) e. HasSort c e x.sort) entries all (Truth false) ok.count (λ n x there. ok.sorts n x there (each n x there))
+      zip_from IsPart entries all (Truth false) ok.count (λ n x there. ok.parts_fit n x there (each n x there))

@@ -1,13 +1,13 @@
 -- The design of files that are read is lawful, and so is the abstraction.
 use Rattle.std.proofs.Common.{◌≡◌, ◌≤◌, ℕ, true, false, List, [], ◌∷◌, ◌++◌, length, Option, Some, None, Ok, refl, ap, sym, ◌∙◌, subst, arith, length-append}
 use Rattle.std.specs.Prelude.{IfSome, replicate, slice_get}
-use Rattle.std.specs.List.{filter_map, AllByRecursion}
+use Rattle.std.specs.List.{filter_map, AllByRecursion, AllZip}
 use Rattle.bd_abstraction.specs.Abstraction.{AbstractionView, flushing, given}
-use Rattle.bd_model.specs.ExprView.{Truth}
+use Rattle.bd_model.specs.ExprView.{ExprView, Truth}
 use Rattle.bd_model.specs.DesignView.{DesignView, PortView, ExactView}
 use Rattle.bd_model.specs.declared.design.Entry as entry
 use Rattle.bd_model.specs.declared.design.Sort.{Sort}
-use Rattle.bd_model.specs.Lawful.{IsLawful, IsLawfulPort, IsLawfulExact, IsLawfulGroup, uses_input}
+use Rattle.bd_model.specs.Lawful.{HasSort, IsLawful, IsLawfulPort, IsLawfulExact, IsLawfulGroup, IsWithinLimits, uses_input}
 use Rattle.bd_model.specs.declared.design.Sort.TheVariants as sorts
 use Rattle.bd_syntax.specs.Completion.{CompView}
 use Rattle.bd_syntax.specs.Forms.{ItemView, latch_item, memory_item, input_item, function_item, predicate_item, let_item, next_item, flush_item, steps_item, exact_item, distinct_item, AstView, InvView}
@@ -27,14 +27,14 @@ use Rattle.bd_typer.specs.Joined.{declared_comp, declared_inv, declared, start, 
 use Rattle.bd_typer.specs.NameMap.{no_names, shared_names}
 use Rattle.bd_typer.specs.Repeats.{no_texts, with_names}
 use Rattle.bd_typer.specs.Walk.{typed_items}
-use Rattle.bd_typer.proofs.Abstractions.{IsLawfulView, parts_have_sorts}
+use Rattle.bd_typer.proofs.Abstractions.{IsLawfulView, parts_typed}
 use Rattle.bd_typer.proofs.Faultless.{entries_abstracted, in_file_ok, none_of, IsDeclared, is_declared, agree_alone, IsAcross, is_across, IsShared, map_empty}
 use Rattle.bd_typer.proofs.Invariants.{InvIs, inv_is, inv_names, items_are, shared_fit}
-use Rattle.bd_typer.proofs.Machines.{MachineIs, at_place, was_entry, machine_is, machine_lawful, has_sort, symbols_stand, all_weaker, fixed_of, given_of}
+use Rattle.bd_typer.proofs.Machines.{MachineIs, at_place, was_entry, machine_is, machine_lawful, has_sort, symbols_stand, all_weaker, zip_weaker, zip_right, fixed_of, given_of}
 use Rattle.bd_typer.proofs.DesignNames.{all_append, arities_small, names_well, names_different, visible_stands, visible_different}
 use Rattle.bd_typer.proofs.DeclaredNames.{declared_entry, input_entry}
 use Rattle.bd_typer.proofs.Sound.{NamesFit, then_ok}
-use Rattle.bd_typer.proofs.TypedItems.{IsPort, IsExact, IsGroup, port_entry, sorts_of, fits_now}
+use Rattle.bd_typer.proofs.TypedItems.{IsPort, IsExact, IsGroup, IsTyped, port_entry, sorts_of, fits_now}
 use Rattle.bd_model.specs.Limits.{longest_text}
 
 -- the items of a machine file have their parts
@@ -250,9 +250,16 @@ module _ (pipe spec : AstView) (p s : TypedMachine) (i : TypedInv) (is : Machine
       let q = then_ok (typed_abstracts t.0.names s.typed.names unset comp.parts) (λ parts. Ok (given t.0.locals parts)) a t.2 in
       let e : given t.0.locals q.0 ≡ a = cc q.2 in
       let lets = items_are s.symbols sorts comp.lets (start names 0) t.0 (record { names = fits; flag_count = refl; lets = tt; limits = tt }) file.formed.lets file.limited.lets.each t.1 in
-      let parts = parts_have_sorts (inv_names s.symbols sorts t.0.locals) t.0.flags t.0.names s.typed.names s.entries lets.0.names entry_stands entry_once comp.parts q.0 file.formed.parts file.limited.each
+      let c = inv_names s.symbols sorts t.0.locals in
+      let part : entry.Entry → ExprView → Type 0 = λ x e. IsTyped c t.0.flags false x.sort e in
+      let parts : AllZip part s.entries q.0 = parts_typed c t.0.flags t.0.names s.typed.names s.entries lets.0.names entry_stands entry_once comp.parts q.0 file.formed.parts file.limited.each
       (has_abstract comp (none_of (completion_faults pipe spec comp) (tt {0}) fine)) q.1 in
-      subst (IsLawfulView (assembled pipe.items p s i)) e (record { lets = lets.0.lets; parts = parts })
+      subst (IsLawfulView (assembled pipe.items p s i)) e (record {
+        lets = lets.0.lets;
+        parts = zip_weaker part (λ (x : entry.Entry) e. HasSort c e x.sort) (λ x e h. h.sort) s.entries q.0 parts;
+        let_limits = lets.0.limits;
+        part_limits = zip_right part IsWithinLimits (λ x e h. h.limits) s.entries q.0 parts;
+      })
 
 pub both_lawful : (pipe spec : AstView) (comp : Option CompView) (inv : Option InvView) (j : JoinedView) → IsMachineFile Pipeline pipe → IsMachineFile Specification spec → IfSome comp IsCompFile → IfSome inv IsInvFile
     → joined_with pipe spec comp inv ≡ Ok j → IsLawful j.design × IsLawfulView j.design j.abs

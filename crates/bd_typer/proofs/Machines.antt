@@ -40,13 +40,13 @@ zip_from R [] (y ∷ ys) d same h = absurd (omega arith)
 zip_from R (x ∷ xs) [] d same h = absurd (omega arith)
 zip_from R (x ∷ xs) (y ∷ ys) d same h = (h 0 x refl, zip_from R xs ys d (omega arith) (λ n z there. h (suc n) z there))
 
-zip_weaker : {X Y : Type 0} (R Q : X → Y → Type 0) → ((x : X) (y : Y) → R x y → Q x y) → (xs : List X) (ys : List Y) → AllZip R xs ys → AllZip Q xs ys
+pub zip_weaker : {X Y : Type 0} (R Q : X → Y → Type 0) → ((x : X) (y : Y) → R x y → Q x y) → (xs : List X) (ys : List Y) → AllZip R xs ys → AllZip Q xs ys
 zip_weaker R Q f [] [] h = tt
 zip_weaker R Q f [] (y ∷ ys) h = absurd h
 zip_weaker R Q f (x ∷ xs) [] h = absurd h
 zip_weaker R Q f (x ∷ xs) (y ∷ ys) h = (f x y h.0, zip_weaker R Q f xs ys h.1)
 
-zip_right : {X Y : Type 0} (R : X → Y → Type 0) (P : Y → Type 0) → ((x : X) (y : Y) → R x y → P y) → (xs : List X) (ys : List Y) → AllZip R xs ys → AllByRecursion P ys
+pub zip_right : {X Y : Type 0} (R : X → Y → Type 0) (P : Y → Type 0) → ((x : X) (y : Y) → R x y → P y) → (xs : List X) (ys : List Y) → AllZip R xs ys → AllByRecursion P ys
 zip_right R P f [] [] h = tt
 zip_right R P f [] (y ∷ ys) h = absurd h
 zip_right R P f (x ∷ xs) [] h = absurd h

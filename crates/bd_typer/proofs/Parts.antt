@@ -24,9 +24,6 @@ nesting-part (f ∷ forms) (suc i) d lt = omega (arith, nesting-part forms i d (
 
 -- a list whose operation is known
 module _ (names : NameMap) (inputs : Bool) (want : Sort) (offset : ℕ) (head : Spot) (parts : Expressions) where
-  pub no_operation : (fault : TextFault) → Fails fault (operation names want offset head (expression_count parts) (operator_of head.text)) → Fails fault (typed names inputs want (application offset head parts))
-  no_operation fault h = fails_then fault _ _ h
-
   pub parts_fail : (how : Operation) (fault : TextFault) → operation names want offset head (expression_count parts) (operator_of head.text) ≡ Ok how → Fails fault (typed_parts names inputs how want 0 parts)
       → Fails fault (typed names inputs want (application offset head parts))
   parts_fail how fault is h = rw is (fails_then fault (typed_parts names inputs how want 0 parts) (λ xs. Ok (built how xs)) h)

@@ -59,7 +59,7 @@ fn typed_abstracts(
 }
 
 /// What a completion that is given abstracts to, where the specification has so many entries.
-#[tactic(auto, unfolding(crate::specs::Joined::typed_completion), using(crate::proofs::GivenOnce::item_count))]
+#[tactic(auto, unfolding(crate::specs::Joined::typed_completion))]
 fn given_completion(
     alloc: Global,
     pipe: &NameMap<'_>,

@@ -50,7 +50,8 @@ fn trees(alloc: Global, file: Text, bytes: &[u8]) -> Result<Trees, TypeFault>
 /// The forms of a machine's trees.
 fn machine(alloc: Global, file: Text, trees: &Trees, kind: Kind) -> Result<Ast, TypeFault>
     requires { AreWithinLimits (nodes_of trees.now) }
-    ensures exact { GivesIn ast_view result (in_file file (machine_form kind (nodes_of trees.now))) }
+    ensures exact { GivesIn ast_view result
+        (in_file file (machine_form kind (nodes_of trees.now))) }
     ensures formed { IfOk result (λ ast. IsMachineFile kind (ast_view ast)) }
 {
     located(file, read_machine(alloc, trees, kind))

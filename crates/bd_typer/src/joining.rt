@@ -109,7 +109,7 @@ pub struct TypedInv {
 }
 
 /// The lets and the expression of an invariant that is given.
-#[tactic(auto, unfolding(crate::specs::Joined::typed_inv), using(crate::proofs::GivenOnce::item_count))]
+#[tactic(auto, unfolding(crate::specs::Joined::typed_inv))]
 fn given_inv(
     alloc: Global,
     pipe: &NameMap<'_>,

@@ -2,10 +2,10 @@
 //! fault.
 //!
 //! The files are gone through in passes. The declarations of all of them come first, then their expressions, and then
-//! the specification against the pipeline. What a file's names mean is a function of its items (`specs/Names.antt`), an
-//! expression is typed and built in one walk (`specs/Typing.antt`), and what files denote is one definition over these
-//! (`specs/Joined.antt`). Names are found in maps, and lists gone through by loops; only expressions are gone into by
-//! recursion, as deep as they nest.
+//! the specification against the pipeline. What a file's names mean is a function of its items
+//! (`specs/NameMap.antt`), an expression is typed and built in one walk (`specs/Typing.antt`), and what files denote is
+//! one definition over these (`specs/Joined.antt`). Names are found in maps, and lists gone through by loops; only
+//! expressions are gone into by recursion, as deep as they nest.
 #![tactic(auto)]
 
 mod across;

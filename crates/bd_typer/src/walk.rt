@@ -2,6 +2,7 @@
 
 ghost use Rattle.std.specs.Prelude.{◌≡◌, ◌<◌, ◌≤◌, ◌+◌, ◌++◌, ◌∷◌, [], IfOk, OnOk, Option, false, length, map, replicate, set};
 ghost use Rattle.bd_model.specs.Lawful.{uses_input};
+ghost use Rattle.bd_model.specs.Limits.{most_items};
 ghost use Rattle.bd_typer.specs.NameMap.{declare};
 ghost use Rattle.bd_model.specs.ExprView.{Truth, expr_view};
 ghost use Rattle.bd_syntax.specs.Forms.{expression_of, item_view};
@@ -158,7 +159,7 @@ impl<'a> Typed<'a> {
 
     /// Keeps a let, which its name means from now on.
     fn keep(&mut self, name: &'a Spot, sort: Sort, value: Expr) -> Result<(), AllocError>
-        requires { length self.old.locals < 4294967296 }
+        requires { length self.old.locals < most_items }
         ensures names { OnOk result (meanings self.new.names
             ≡ declare (meanings self.old.names) name.now.text
             (Meaning.Local (length self.old.locals)
@@ -195,7 +196,7 @@ impl<'a> Typed<'a> {
         sort: Sort,
         value: &Form,
     ) -> Result<(), FormFault>
-        requires { length self.old.locals < 4294967296 }
+        requires { length self.old.locals < most_items }
         ensures { Gives (λ _. typed_view outer.entry self.new) result
             (typed_let inputs (typed_view outer.entry self.old) name.now sort
             (expression_of value.now)) }
@@ -265,7 +266,7 @@ impl<'a> Typed<'a> {
         inputs: bool,
         item: &'a Item,
     ) -> Result<(), FormFault>
-        requires { length self.old.locals < 4294967296 }
+        requires { length self.old.locals < most_items }
         ensures { Gives (λ _. typed_view outer.entry self.new) result
             (typed_item inputs (typed_view outer.entry self.old) (item_view item.now)) }
     {
@@ -297,7 +298,7 @@ impl<'a> Typed<'a> {
         inputs: bool,
         items: &'a [Item],
     ) -> Result<(), FormFault>
-        requires { length self.old.locals + length items.now ≤ 4294967296 }
+        requires { length self.old.locals + length items.now ≤ most_items }
         ensures { Gives (λ _. typed_view outer.entry self.new) result
             (typed_items inputs (typed_view outer.entry self.old) (map item_view items.now)) }
     {

@@ -1,12 +1,16 @@
-use Rattle.std.proofs.Common.{Option, Some}
+use Rattle.std.proofs.Common.{Option, Some, arith}
 use Rattle.bd_typer.specs.declared.names.Outer.{Outer}
 use Rattle.std.proofs.lemmas.Result.{err_from_is_err_and}
 use Rattle.bd_model.specs.ExprView.{expr_view}
 use Rattle.bd_syntax.specs.Forms.{invariant_view}
 use Rattle.bd_typer.specs.NameMap.{shared_names}
 use Rattle.bd_typer.specs.inner.Held.{meanings, typed_view}
+use Rattle.bd_typer.proofs.GivenOnce.{item_count}
 use Rattle.bd_typer.proofs.JoinSteps.{lets_fail, value_fails, inv_done}
 use Rattle.bd_typer.proofs.joining.given_inv.Goals as goal
+
+pub items-requires : goal.items-requires
+items-requires c = grind (arith, item_count)
 
 pub returns-in_err-items : goal.returns-in_err-items
 returns-in_err-items c =
