@@ -1,5 +1,5 @@
 -- The addresses at which two memories read differently are found, each once.
-use Rattle.std.proofs.Common.{◌≡◌, ◌≢◌, ℕ, zero, suc, ◌<◌, Bool, true, false, List, [], ◌∷◌, ◌++◌, length, get_or, refl, sym, ◌∙◌, ap, subst, inl, inr, ◌⊎◌, ⊎_elim, arith}
+use Rattle.std.proofs.Common.{◌≡◌, ◌≢◌, ℕ, suc, Bool, true, false, List, [], ◌∷◌, ◌++◌, refl, sym, ◌∙◌, subst, inl, inr, ◌⊎◌, ⊎_elim, arith}
 use Rattle.std.specs.Prelude.{◌||◌, ◌==◌, if◌then◌else◌}
 use Rattle.std.specs.List.{list_any, All, AllByRecursion, AllPairs, Contains}
 use Rattle.std.proofs.lemmas.Bool.{eqb-true, eq-eqb, ne_eqb}
@@ -9,7 +9,8 @@ use Rattle.bd_model.specs.Table.{slot_value, read}
 use Rattle.bd_model.specs.declared.table.Slot.{Slot}
 use Rattle.bd_model.specs.declared.table.Memory.{Memory}
 use Rattle.bd_diagram.specs.Differs.{with_differing, differing_after, differing}
-use Rattle.bd_diagram.specs.Laws.{IsInNoRow, FindsWhereDiffer, AddressesFound}
+use Rattle.bd_diagram.specs.Laws.{IsInRow, IsInNoRow, AddressesFound}
+use Rattle.bd_list.proofs.Membership.{first}
 use Rattle.bd_list.proofs.Truths.{neither}
 
 choose : (P : List ℕ → Type 0) (t u : Bool) (xs ys : List ℕ) → P xs → (t ≡ false → u ≡ false → P ys) → P (if t || u then xs else ys)
@@ -27,7 +28,7 @@ not_any a (x ∷ xs) h =
     let both = neither (x == a) (list_any (λ b. b == a) xs) h in
     All-cons (λ b. b ≢ a) x xs (unequal x a both.0) (not_any a xs both.1)
 
-contains_cons : (x a : ℕ) (xs : List ℕ) → Contains xs a → Contains (x ∷ xs) a
+contains_cons : {X : Type 0} (x a : X) (xs : List X) → Contains xs a → Contains (x ∷ xs) a
 contains_cons x a xs h = (suc h.0, omega (arith, h.1), h.2)
 
 any_in : (a : ℕ) (xs : List ℕ) → list_any (λ b. b == a) xs ≡ true → Contains xs a
@@ -45,11 +46,16 @@ with_one : (P : List ℕ → Type 0) (m n : Memory) (found : List ℕ) (a : ℕ)
 with_one P m n found a here more =
     choose P (read m a == read n a) (list_any (λ b. b == a) found) found (found ++ a ∷ []) here (λ e f. more (unequal (read m a) (read n a) e) (not_any a found f))
 
-all_differ : (m n : Memory) (found : List ℕ) (ss : List Slot) → All (λ a. read m a ≢ read n a) found → All (λ a. read m a ≢ read n a) (differing_after m n found ss)
-all_differ m n found [] h = h
-all_differ m n found (s ∷ ss) h =
-    let differ : ℕ → Type 0 = λ a. read m a ≢ read n a in
-    all_differ m n (with_differing m n found s.address) ss (with_one (λ xs. All differ xs) m n found s.address h (λ other none. All-push differ found s.address h other))
+-- what holds of each row's address at which the memories read differently holds of those found
+all_found : (P : ℕ → Type 0) (m n : Memory) (found : List ℕ) (ss : List Slot) → All P found → ((s : Slot) → Contains ss s → read m s.address ≢ read n s.address → P s.address) → All P (differing_after m n found ss)
+all_found P m n found [] h each = h
+all_found P m n found (s ∷ ss) h each =
+    all_found P m n (with_differing m n found s.address) ss (with_one (λ xs. All P xs) m n found s.address h (λ other none. All-push P found s.address h (each s (first s ss) other)))
+    (λ t has. each t (contains_cons s t ss has))
+
+all_differing : (P : ℕ → Type 0) (m n : Memory) → ((s : Slot) → Contains m.rows s → read m s.address ≢ read n s.address → P s.address)
+    → ((s : Slot) → Contains n.rows s → read m s.address ≢ read n s.address → P s.address) → All P (differing m n)
+all_differing P m n one other = all_found P m n (differing_after m n [] m.rows) n.rows (all_found P m n [] m.rows (All-nil P) one) other
 
 each_once : (m n : Memory) (found : List ℕ) (ss : List Slot) → AllPairs (λ a b. a ≢ b) found → AllPairs (λ a b. a ≢ b) (differing_after m n found ss)
 each_once m n found [] h = h
@@ -111,9 +117,12 @@ no_pairs i j d below within = absurd (omega (arith, within))
 pub found : AddressesFound
 found m n =
     let differ : ℕ → Type 0 = λ a. read m a ≢ read n a in
-    let all = all_differ m n (differing_after m n [] m.rows) n.rows (all_differ m n [] m.rows (All-nil differ)) in
+    let in_row : ℕ → Type 0 = λ a. IsInRow m a ⊎ IsInRow n a in
+    let all_differ = all_differing differ m n (λ s has other. other) (λ s has other. other) in
+    let all_in_row = all_differing in_row m n (λ s has other. inl (s, has, refl)) (λ s has other. inr (s, has, refl)) in
     record {
-      differ = λ a h. All-contains differ (differing m n) a all h;
+      differ = λ a h. All-contains differ (differing m n) a all_differ h;
+      in_row = λ a h. All-contains in_row (differing m n) a all_in_row h;
       all = λ a other. found_all m n a other;
       once = each_once m n (differing_after m n [] m.rows) n.rows (each_once m n [] m.rows no_pairs);
     }

@@ -34,6 +34,10 @@ SameWhereNoDifference =
     ↔ ((length first ≡ length second)
     × AllByRecursion (λ (e : Difference). e ≡ Nothing) (differences first second))
 
+-- some row of a memory has this address
+abbrev pub IsInRow : Memory → ℕ → Type 0
+IsInRow m a = (s : Slot) × Contains m.rows s × (s.address ≡ a)
+
 -- no row of a memory has this address
 abbrev pub IsInNoRow : Memory → ℕ → Type 0
 IsInNoRow m a = AllByRecursion (λ (s : Slot). s.address ≢ a) m.rows
@@ -42,6 +46,7 @@ IsInNoRow m a = AllByRecursion (λ (s : Slot). s.address ≢ a) m.rows
 -- at an address that is in no row they read differently where their defaults do
 pub record FindsWhereDiffer (m n : Memory) : Type 0 where
   pub differ : (a : ℕ) → Contains (differing m n) a → read m a ≢ read n a
+  pub in_row : (a : ℕ) → Contains (differing m n) a → IsInRow m a ⊎ IsInRow n a
   pub all : (a : ℕ) → read m a ≢ read n a →
       Contains (differing m n) a
       ⊎ (IsInNoRow m a × IsInNoRow n a × (m.default ≢ n.default))

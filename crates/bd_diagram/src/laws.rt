@@ -11,7 +11,7 @@ pub fn same_where_no_difference()
     ensures { SameWhereNoDifference }
 {}
 
-/// The addresses that are found are those at which two memories read differently, each once.
+/// The addresses that are found are those, in a row of either, at which two memories read differently, each once.
 pub fn addresses_found()
     ensures { AddressesFound }
 {}

@@ -2,3 +2,4 @@ mod Left
 mod AllStays
 mod Differing
 mod Lowered
+mod Parts

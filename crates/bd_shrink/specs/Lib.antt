@@ -1,4 +1,5 @@
 pub mod Remnant
+pub mod Part
 pub mod Apart
 pub mod Shrunk
 pub mod inner

@@ -4,6 +4,7 @@
 
 mod apart;
 mod fate;
+mod laws;
 mod pass;
 mod remnant;
 mod search;
@@ -11,4 +12,5 @@ mod shrinking;
 mod whole;
 
 pub use fate::Fate;
+pub use laws::remnant_is_part;
 pub use shrinking::shrink;

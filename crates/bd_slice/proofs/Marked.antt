@@ -1,5 +1,5 @@
 -- The places of marked nodes decide what rests on them.
-use Rattle.std.proofs.Common.{◌≡◌, ℕ, Bool, true, List, [], ◌∷◌, ◌++◌, get_or, IsTrue, Some, refl, sym, ◌∙◌}
+use Rattle.std.proofs.Common.{◌≡◌, ℕ, Bool, true, List, [], ◌∷◌, get_or, IsTrue, Some, refl, sym, ◌∙◌}
 use Rattle.std.specs.Prelude.{slice_get, slice_index_or}
 use Rattle.std.proofs.lemmas.Option.{get_or_from_slice_get}
 use Rattle.bd_model.specs.DesignView.{DesignView}
@@ -31,10 +31,6 @@ agrees_with_itself c (p ∷ ps) = (agrees_at_itself c p, agrees_with_itself c ps
 -- the item at the next place
 pub item_is : (nodes : List SupportNode) (i : ℕ) (x n : SupportNode) → x ≡ get_or nodes i x → slice_get nodes i ≡ Some n → x ≡ n
 item_is nodes i x n is at = is ∙ get_or_from_slice_get nodes i n x at
-
-pub agrees_push : (c other : Case) (places : List CasePlace) (p : CasePlace) → AgreesOn c (places ++ p ∷ []) other → AgreesOn c places other × AgreesAt c other p
-agrees_push c other [] p h = (tt, h.0)
-agrees_push c other (q ∷ qs) p h = let rest = agrees_push c other qs p h.1 in ((h.0, rest.0), rest.1)
 
 -- another case, where the slice has the marked nodes
 abbrev marked : List Bool → Case → Other

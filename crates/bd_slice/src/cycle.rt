@@ -29,7 +29,8 @@ impl<'a> Names<'a> {
     ) -> Result<Names<'a>, AllocError>
         ensures grows { IfOk result (λ n. Grows graph.old.nodes graph.new.nodes) }
         ensures case { IfOk result (λ n. n.case.now ≡ case.now) }
-        ensures follows { IfOk result (λ n. (o : Other) (values : List Value) (given : List Scalar) →
+        ensures follows { IfOk result (λ n.
+            (o : Other) (values : List Value) (given : List Scalar) →
             Holds case.now graph.new.nodes o → FollowsState o state.now values →
             FollowsInputs o inputs.now given → FollowsNames o n
             (env_of (map local_view locals.now) o.case.interp values given)) }
@@ -119,7 +120,8 @@ pub fn flush(
     ensures grows { IfOk result (λ l. Grows graph.old.nodes graph.new.nodes) }
     ensures follows { IfOk result (λ l. (o : Other) (values : List Value) →
         Holds case.now graph.new.nodes o → FollowsState o state.items values →
-        FollowsLine o l cycles (λ n. flush_cycles n (machine_view machine.now) o.case.interp values)) }
+        FollowsLine o l cycles
+        (λ n. flush_cycles n (machine_view machine.now) o.case.interp values)) }
 {
     let mut passed = Sequence::new(alloc);
     let mut reached = state;
@@ -144,7 +146,8 @@ pub fn flush(
 
 /// The visible entries, in the specification's order.
 pub fn look(alloc: Global, visible: &Places, state: &[Kept]) -> Result<Vec<Kept>, AllocError>
-    ensures { IfOk result (λ ks. (o : Other) (values : List Value) → FollowsState o state.now values →
+    ensures { IfOk result (λ ks. (o : Other) (values : List Value) →
+        FollowsState o state.now values →
         FollowsState o ks.items (map (λ i. slice_index_or values i (truth false)) visible.now)) }
 {
     let mut seen = Vec::new(alloc);

@@ -87,7 +87,8 @@ impl SupportGraph {
     /// What a symbol's table has at arguments, which rests on these and on the table's row for them.
     fn applied(&mut self, case: &Case, f: u32, args: Arguments) -> Result<Traced, AllocError>
         ensures grows { IfOk result (λ t. Grows self.old.nodes self.new.nodes) }
-        ensures follows { IfOk result (λ t. (o : Other) (ns : List ℕ) → Holds case.now self.new.nodes o →
+        ensures follows { IfOk result (λ t. (o : Other) (ns : List ℕ) →
+            Holds case.now self.new.nodes o →
             (IsTrue (o.has args.node) → ns ≡ args.words) →
             Follows o t (at (table_of o.case.interp f) ns)) }
     {

@@ -102,7 +102,8 @@ impl Traced {
 
     /// The word, 0 where it is a truth value.
     pub fn word(self) -> TracedWord
-        ensures { (o : Other) (x : Scalar) → Follows o self x → FollowsWord o result (scalar_word x) }
+        ensures { (o : Other) (x : Scalar) → Follows o self x →
+            FollowsWord o result (scalar_word x) }
     {
         TracedWord {
             word: self.value.word(),

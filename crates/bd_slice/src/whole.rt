@@ -94,7 +94,8 @@ pub fn whole_of(
 impl Whole {
     /// The state of a column, where the diagram has it.
     fn state(&self, design: &Design, column: Column) -> Option<&[Kept]>
-        ensures { IfSome result (λ state. (o : Other) → FollowsWhole (design_view design.now) o self.now →
+        ensures { IfSome result (λ state. (o : Other) →
+            FollowsWhole (design_view design.now) o self.now →
             FollowsState o state.now (column_state (design_view design.now) o.case column)) }
     {
         match column {
@@ -115,7 +116,8 @@ impl Whole {
     ) -> Result<Traced, AllocError>
         requires { IsWhole (design_view design.now) case.now graph.old.nodes self.now }
         ensures grows { IfOk result (λ t. Grows graph.old.nodes graph.new.nodes) }
-        ensures pins { IfOk result (Pins (design_view design.now) case.now graph.new.nodes want.now) }
+        ensures pins { IfOk result
+            (Pins (design_view design.now) case.now graph.new.nodes want.now) }
     {
         match self.state(design, want.column) {
             Some(state) => Ok(spot_of(alloc, graph, case, state, want.spot)?),
