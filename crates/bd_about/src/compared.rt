@@ -133,7 +133,7 @@ fn comparisons(
     Ok(lists)
 }
 
-/// The same, by the edges.
+/// The symbols with which each of so many functions and predicates is compared by the edges, of these.
 pub(crate) fn comparisons_of(
     alloc: Global,
     functions: usize,

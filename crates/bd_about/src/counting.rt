@@ -133,7 +133,8 @@ fn counted(
     )
 }
 
-/// The same with what each is compared with.
+/// What is counted of each of so many functions and predicates in a flat formula, its edges and Tseitin's clauses, and
+/// with what each is compared.
 fn in_formula(
     alloc: Global,
     functions: usize,
@@ -181,7 +182,7 @@ fn in_flat(
     in_formula(alloc, design.symbols.len(), flat, symbols, edges, &formula)
 }
 
-/// The same in the flat form of a formula without memories.
+/// What is counted of each function and predicate of a design in the flat form of a formula without memories.
 fn in_plain(
     alloc: Global,
     design: &Design,

@@ -9,17 +9,20 @@ use Rattle.bd_terms.specs.Graph.{HasSort}
 use Rattle.bd_symbolic.specs.Widened.{widened}
 use Rattle.bd_goal.specs.Bounded.{ClaimsRuns, IsBroken, IsTrailOver}
 use Rattle.bd_goal.specs.Formula.{address_count}
+use Rattle.bd_goal.specs.Made.{IsBoundedRoot}
 use Rattle.bd_goal.specs.Symbols.{ReachesKnown}
 use Rattle.bd_cnf.specs.Clause.{Satisfies}
 use Rattle.bd_cnf.specs.Problem.{Problem}
 use Rattle.bd_verify.specs.Kept.{IsKeptOf}
 use Rattle.bd_verify.specs.declared.verdict.Mode.TheVariants.{Plain}
 
--- a root of the question over so many cycles: it claims that each of them commutes, and reaches symbols of the design,
--- with its inputs once for each cycle, and so many addresses for each cycle alone
+-- a root of the question over so many cycles: it claims that each of them commutes, is made from the constructor calls
+-- of such a run, and reaches symbols of the design, with its inputs once for each cycle, and so many addresses for each
+-- cycle alone
 pub record IsRunRoot (d : DesignView) (cycles : ℕ) (nodes : List Node) (root : ℕ) : Type 0 where
   pub sorted : HasSort nodes root sort.Bool
   pub claims : ClaimsRuns d cycles nodes root
+  pub made : IsBoundedRoot nodes d cycles root
   pub known : ReachesKnown (widened d cycles) (cycles * address_count d) nodes root
 
 -- the formula that is kept of the question

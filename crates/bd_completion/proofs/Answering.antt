@@ -1,5 +1,6 @@
 -- What an answer on the root of a question says of an abstraction.
 use Rattle.std.proofs.Common.{◌≡◌, ℕ, Bool, true, false, List, inl, inr, sym, subst}
+use Rattle.bd_abstraction.specs.Abstraction.{AbstractionView}
 use Rattle.bd_model.specs.DesignView.{DesignView}
 use Rattle.bd_model.specs.Conditions.{Abstraction}
 use Rattle.bd_model.specs.Cycle.{flushed}
@@ -24,7 +25,7 @@ use Rattle.bd_verify.specs.Decided.{Falsifies, IsKnownRoot, IsRootWork}
 use Rattle.bd_verify.proofs.Judgements.{right-unless-by}
 use Rattle.bd_verify.proofs.RootAnswers.{such-keeps, such-kept, such-known, such-none, such-some}
 use Rattle.bd_completion.specs.Answer.{IsWorkBy}
-use Rattle.bd_completion.specs.Kept.{IsRootBy, IsSought}
+use Rattle.bd_completion.specs.Kept.{IsRootBy, IsSought, abstraction_by}
 use Rattle.bd_completion.proofs.Roots.{root-decides, root-known}
 
 -- two states that don't differ are the same
@@ -38,35 +39,35 @@ undiffering-same a b h = elim (IsTrue-settled (same_values a b)) [
 pub agrees-unless : (d : DesignView) (abs : Abstraction) → ((c : Case) → Fits d c → Differs d abs c → ⊥) → Agrees d abs
 agrees-unless d abs none c fits inside = undiffering-same (abs c.interp c.state) (flushed d c.interp c.state) (λ differ. none c fits (inside, differ))
 
-module _ (d : DesignView) (lawful : IsLawful d) (abs : Abstraction) (agree : Bool) (nodes : List Node) (root : ℕ) (is : IsRootBy d abs agree nodes root) where
+module _ (d : DesignView) (lawful : IsLawful d) (abs : AbstractionView) (agree : Bool) (nodes : List Node) (root : ℕ) (is : IsRootBy d abs agree nodes root) where
   -- its work is that of the question
   pub work-by : (budget : ℕ) (answer : Found) (w : Work) → IsRootWork d 1 nodes root Plain budget answer w → IsWorkBy d abs agree budget answer w
   work-by budget answer w h = record {
-    kept = such-kept d lawful (IsSought d abs agree) (IsRootBy d abs agree) (root-known d abs agree) (root-decides d lawful abs agree) nodes root is Plain w.cnf h.kept;
-    keeps = such-keeps d lawful (IsSought d abs agree) (IsRootBy d abs agree) (root-known d abs agree) (root-decides d lawful abs agree) nodes root is Plain w.cnf h.kept;
+    kept = such-kept d lawful (IsSought d (abstraction_by d abs) agree) (IsRootBy d abs agree) (root-known d abs agree) (root-decides d lawful abs agree) nodes root is Plain w.cnf h.kept;
+    keeps = such-keeps d lawful (IsSought d (abstraction_by d abs) agree) (IsRootBy d abs agree) (root-known d abs agree) (root-decides d lawful abs agree) nodes root is Plain w.cnf h.kept;
     law = h.law;
   }
 
-  none-by : IsGraph nodes → IsValid d nodes root → (c : Case) → Fits d c → IsSought d abs agree c → ⊥
-  none-by = such-none d lawful (IsSought d abs agree) (IsRootBy d abs agree) (root-known d abs agree) (root-decides d lawful abs agree) nodes root is
+  none-by : IsGraph nodes → IsValid d nodes root → (c : Case) → Fits d c → IsSought d (abstraction_by d abs) agree c → ⊥
+  none-by = such-none d lawful (IsSought d (abstraction_by d abs) agree) (IsRootBy d abs agree) (root-known d abs agree) (root-decides d lawful abs agree) nodes root is
 
   -- where it is valid, the design is right by the abstraction
-  pub valid-right : agree ≡ false → IsGraph nodes → IsValid d nodes root → RightBy d abs
-  valid-right e g valid = right-unless-by d abs lawful (subst (λ a. (c : Case) → Fits d c → IsSought d abs a c → ⊥) e (none-by g valid))
+  pub valid-right : agree ≡ false → IsGraph nodes → IsValid d nodes root → RightBy d (abstraction_by d abs)
+  valid-right e g valid = right-unless-by d (abstraction_by d abs) lawful (subst (λ a. (c : Case) → Fits d c → IsSought d (abstraction_by d abs) a c → ⊥) e (none-by g valid))
 
   -- or the abstraction agrees with flushing
-  pub valid-agrees : agree ≡ true → IsGraph nodes → IsValid d nodes root → Agrees d abs
-  valid-agrees e g valid = agrees-unless d abs (subst (λ a. (c : Case) → Fits d c → IsSought d abs a c → ⊥) e (none-by g valid))
+  pub valid-agrees : agree ≡ true → IsGraph nodes → IsValid d nodes root → Agrees d (abstraction_by d abs)
+  valid-agrees e g valid = agrees-unless d (abstraction_by d abs) (subst (λ a. (c : Case) → Fits d c → IsSought d (abstraction_by d abs) a c → ⊥) e (none-by g valid))
 
-  some-by : (a : Bool) → agree ≡ a → IsGraph nodes → (t : Trail) → Falsifies d 1 nodes root t → (c : Case) → c ≡ case_of_trail t → Fits d c × IsSought d abs a c
+  some-by : (a : Bool) → agree ≡ a → IsGraph nodes → (t : Trail) → Falsifies d 1 nodes root t → (c : Case) → c ≡ case_of_trail t → Fits d c × IsSought d (abstraction_by d abs) a c
   some-by a e g t h c same =
-      let found = such-some d lawful (IsSought d abs agree) (IsRootBy d abs agree) (root-known d abs agree) (root-decides d lawful abs agree) nodes root is g t h in
-      subst (λ k. Fits d k × IsSought d abs a k) (sym same) (found.0, subst (λ b. IsSought d abs b (case_of_trail t)) e found.1)
+      let found = such-some d lawful (IsSought d (abstraction_by d abs) agree) (IsRootBy d abs agree) (root-known d abs agree) (root-decides d lawful abs agree) nodes root is g t h in
+      subst (λ k. Fits d k × IsSought d (abstraction_by d abs) a k) (sym same) (found.0, subst (λ b. IsSought d (abstraction_by d abs) b (case_of_trail t)) e found.1)
 
   -- and the case of a trail in whose world it is false breaks a condition
-  pub false-breaks : agree ≡ false → IsGraph nodes → (t : Trail) → Falsifies d 1 nodes root t → (c : Case) → c ≡ case_of_trail t → Fits d c × BreaksSome d abs c
+  pub false-breaks : agree ≡ false → IsGraph nodes → (t : Trail) → Falsifies d 1 nodes root t → (c : Case) → c ≡ case_of_trail t → Fits d c × BreaksSome d (abstraction_by d abs) c
   false-breaks e = some-by false e
 
   -- or differs
-  pub false-differs : agree ≡ true → IsGraph nodes → (t : Trail) → Falsifies d 1 nodes root t → (c : Case) → c ≡ case_of_trail t → Fits d c × Differs d abs c
+  pub false-differs : agree ≡ true → IsGraph nodes → (t : Trail) → Falsifies d 1 nodes root t → (c : Case) → c ≡ case_of_trail t → Fits d c × Differs d (abstraction_by d abs) c
   false-differs e = some-by true e

@@ -2,9 +2,10 @@
 -- work: the kept formula of the question, and the log of an honest solver's answer over it (Burch and Dill 1994; DIMACS
 -- CNF; textual LRAT).
 use Rattle.std.specs.Prelude.{◌≡◌, ℕ, Bool, true, false, List}
+use Rattle.bd_abstraction.specs.Abstraction.{AbstractionView}
 use Rattle.bd_model.specs.DesignView.{DesignView}
 use Rattle.bd_model.specs.Fits.{Fits}
-use Rattle.bd_model.specs.Conditions.{Abstraction, JudgedBy}
+use Rattle.bd_model.specs.Conditions.{JudgedBy}
 use Rattle.bd_model.specs.Right.{Agrees, RightBy}
 use Rattle.bd_model.specs.declared.case.Judged.TheVariants as judged
 use Rattle.bd_goal.specs.Laws.{Differs}
@@ -18,29 +19,30 @@ use Rattle.bd_verify.specs.Asked.{IsModelSaid, IsSaid}
 use Rattle.bd_verify.specs.Verdict.{Keeps}
 use Rattle.bd_completion.specs.declared.answer.Complete.{Complete}
 use Rattle.bd_completion.specs.declared.answer.Complete.TheVariants.{Right, Wrong, Agree, Differ, Undecided}
-use Rattle.bd_completion.specs.Kept.{IsKeptBy, IsSought}
+use Rattle.bd_completion.specs.Kept.{IsKeptBy, IsSought, abstraction_by}
 
 -- what an answer says of a design and an abstraction: the design is right by it; a fitting case breaks the condition by
 -- it; where agreement is asked, it agrees with flushing wherever the invariant is true; the invariant is true in the
 -- state of a fitting case, and there the two differ; or nothing
-abbrev pub Says : DesignView → Abstraction → Bool → Complete → Type 0
-Says d abs agree (Right work) = (agree ≡ false) × RightBy d abs
+abbrev pub Says : DesignView → AbstractionView → Bool → Complete → Type 0
+Says d abs agree (Right work) = (agree ≡ false) × RightBy d (abstraction_by d abs)
 Says d abs agree (Wrong which c work) =
-    (agree ≡ false) × Fits d c × JudgedBy d abs c (judged.Broken which)
-Says d abs agree (Agree work) = (agree ≡ true) × Agrees d abs
-Says d abs agree (Differ c work) = (agree ≡ true) × Fits d c × Differs d abs c
+    (agree ≡ false) × Fits d c × JudgedBy d (abstraction_by d abs) c (judged.Broken which)
+Says d abs agree (Agree work) = (agree ≡ true) × Agrees d (abstraction_by d abs)
+Says d abs agree (Differ c work) = (agree ≡ true) × Fits d c × Differs d (abstraction_by d abs) c
 Says d abs agree (Undecided work) = Unit {0}
 
--- the kept formula of the question, which is satisfiable exactly where some fitting case is such as is sought, and the
--- log of an honest solver's answer over it
-pub record IsWorkBy (d : DesignView) (abs : Abstraction) (agree : Bool) (budget : ℕ) (answer : Found)
+-- the kept formula of the question, which is satisfiable exactly if the condition that is sought holds of some fitting
+-- case, and the log of an honest solver's answer over it
+pub record IsWorkBy (d : DesignView) (abs : AbstractionView) (agree : Bool) (budget : ℕ) (answer : Found)
     (work : Work) : Type 0 where
   pub kept : IsKeptBy d abs agree work.cnf
-  pub keeps : Keeps d (IsSought d abs agree) work.cnf
+  pub keeps : Keeps d (IsSought d (abstraction_by d abs) agree) work.cnf
   pub law : IsLaw work.cnf budget answer work.log
 
--- the work of an answer: a refutation where none is such, a model where a case is, else the budget is spent
-abbrev pub HasWork : DesignView → Abstraction → Bool → ℕ → Complete → Type 0
+-- the work of an answer: a refutation if what is sought holds of no case, a model if it holds of one, else the budget is
+-- spent
+abbrev pub HasWork : DesignView → AbstractionView → Bool → ℕ → Complete → Type 0
 HasWork d abs agree budget (Right work) = IsWorkBy d abs agree budget found.Refuted work
 HasWork d abs agree budget (Wrong which c work) =
     (model : _) × IsWorkBy d abs agree budget (found.Model model) work

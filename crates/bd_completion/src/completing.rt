@@ -1,6 +1,6 @@
 //! Whether a pipeline is right by an abstraction, and whether the abstraction agrees with flushing.
 ghost use Rattle.std.specs.Prelude.{◌≡◌, [], IfOk};
-ghost use Rattle.bd_abstraction.specs.Abstraction.{IsLawfulAbstraction, abstraction_of};
+ghost use Rattle.bd_abstraction.specs.Abstraction.{IsLawfulAbstraction, abstraction_view};
 ghost use Rattle.bd_model.specs.DesignView.{design_view};
 ghost use Rattle.bd_model.specs.Lawful.{IsLawful};
 ghost use Rattle.bd_completion.specs.Answer.{HasWork, IsAnswerSaid, Says};
@@ -28,10 +28,9 @@ pub fn complete<S: HonestSolver>(
 ) -> Result<Complete, AllocError>
     requires lawful { IsLawful (design_view design.now) }
     requires abstraction { IsLawfulAbstraction (design_view design.now) abs.now }
-    ensures says { IfOk result (Says (design_view design.now)
-        (abstraction_of (design_view design.now) abs.now) agree) }
+    ensures says { IfOk result (Says (design_view design.now) (abstraction_view abs.now) agree) }
     ensures work { IfOk result (HasWork (design_view design.now)
-        (abstraction_of (design_view design.now) abs.now) agree budget) }
+        (abstraction_view abs.now) agree budget) }
     ensures asked { IfOk result (IsAnswerSaid (S.says solver.old) budget) }
 {
     let mut graph = Graph::new(alloc);
@@ -68,13 +67,13 @@ fn root_by(
     requires abstraction { IsLawfulAbstraction (design_view design.now) abs.now }
     requires empty { graph.old ≡ [] }
     ensures { IfOk result (IsRootBy (design_view design.now)
-        (abstraction_of (design_view design.now) abs.now) agree graph.new) }
+        (abstraction_view abs.now) agree graph.new) }
 {
     if agree {
-        let goal = agree_goal(alloc, graph, design, abs)?;
-        Ok(goal.root)
+        let agreement = agree_goal(alloc, graph, design, abs)?;
+        Ok(agreement.root)
     } else {
-        let goal = goal_by(alloc, graph, design, abs)?;
-        Ok(goal.root)
+        let correspondence = goal_by(alloc, graph, design, abs)?;
+        Ok(correspondence.root)
     }
 }

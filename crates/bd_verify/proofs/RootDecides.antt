@@ -9,9 +9,11 @@ use Rattle.bd_model.specs.declared.design.Sort.TheVariants as sort
 use Rattle.bd_terms.specs.declared.node.Node.{Node}
 use Rattle.bd_symbolic.proofs.Widening.{lawful-symbols}
 use Rattle.bd_terms.specs.Graph.{HasSort, IsGraph}
+use Rattle.bd_abstraction.specs.declared.abstraction.Abstraction.TheVariants as abstraction
 use Rattle.bd_goal.specs.Claims.{Claims, Decides}
 use Rattle.bd_goal.specs.Formula.{Corresponds, IsOutside, address_count}
 use Rattle.bd_goal.specs.Laws.{BreaksSome}
+use Rattle.bd_goal.specs.Made.{IsCorrespondence, IsDenial}
 use Rattle.bd_goal.specs.Symbols.{ReachesKnown}
 use Rattle.bd_goal.proofs.Deciding.{breaks_from, breaks_to, decides, meets_from, meets_to}
 use Rattle.bd_verify.specs.declared.verdict.Question.{Question}
@@ -21,21 +23,23 @@ use Rattle.bd_verify.specs.Kept.{IsRootOf, addresses_of}
 use Rattle.bd_verify.specs.Verdict.{IsAsked}
 
 pub root-breaks : (d : DesignView) (asked : Question) (nodes : List Node) (root n : ℕ) → asked ≡ question.Breaks → HasSort nodes root sort.Bool → Claims d (Corresponds d (flushed d)) nodes root
-    → n ≡ address_count d → ReachesKnown d n nodes root → IsRootOf d asked nodes root
-root-breaks d asked nodes root n e sorted claims count known = subst (λ q. IsRootOf d q nodes root) (sym e) (record {
+    → IsCorrespondence nodes d abstraction.Flushing root → n ≡ address_count d → ReachesKnown d n nodes root → IsRootOf d asked nodes root
+root-breaks d asked nodes root n e sorted claims made count known = subst (λ q. IsRootOf d q nodes root) (sym e) (record {
   sorted = sorted;
   claims = claims;
+  made = made;
   known = subst (λ k. ReachesKnown d k nodes root) count known;
 })
 
 pub root-meets : (d : DesignView) (asked : Question) (nodes : List Node) → asked ≡ question.Meets → (r : Result ℕ AllocError) → IfOk r (λ root. HasSort nodes root sort.Bool)
-    → IfOk r (λ root. Claims d (IsOutside d) nodes root) → IfOk r (ReachesKnown d 0 nodes) → IfOk r (IsRootOf d asked nodes)
-root-meets d asked nodes e (Ok root) sorted claims known = subst (λ q. IsRootOf d q nodes root) (sym e) (record {
+    → IfOk r (λ root. Claims d (IsOutside d) nodes root) → IfOk r (IsDenial nodes d) → IfOk r (ReachesKnown d 0 nodes) → IfOk r (IsRootOf d asked nodes)
+root-meets d asked nodes e (Ok root) sorted claims made known = subst (λ q. IsRootOf d q nodes root) (sym e) (record {
   sorted = sorted;
   claims = claims;
+  made = made;
   known = known;
 })
-root-meets d asked nodes e (Err error) sorted claims known = tt
+root-meets d asked nodes e (Err error) sorted claims made known = tt
 
 -- a question's root reaches what is known
 pub root-known : (d : DesignView) (asked : Question) (nodes : List Node) (root : ℕ) → IsRootOf d asked nodes root → IsKnownRoot d nodes root

@@ -27,7 +27,7 @@ said says budget answer work p log found cnf is same h =
 -- a case that meets the invariant was found, by an answer that the solver says and that is therefore lawful
 pub meets-first : {S : Type 0} (says : S → Problem → ℕ → Found → List Line → Type 0) (solver : S) (d : DesignView) (m : Mode) (budget : ℕ) (k : Case) (work : Work)
     → ((answer : Found) → says solver work.cnf budget answer work.log → IsLaw work.cnf budget answer work.log)
-    → IsAnswered d question.Meets m budget (decision.Some k work) → IsAnswerSaid (says solver) budget (decision.Some k work) → MeetsFirst says solver d m budget
+    → IsAnswered d question.Meets m budget (decision.ThisCase k work) → IsAnswerSaid (says solver) budget (decision.ThisCase k work) → MeetsFirst says solver d m budget
 meets-first says solver d m budget k work law found h =
     (work, (h.0, record { kept = found.2.1.kept; keeps = found.2.1.keeps; law = law (Model h.0) h.1 }, h.1))
 

@@ -12,7 +12,9 @@ use Rattle.bd_terms.specs.declared.node.Node.{Node}
 use Rattle.bd_terms.specs.Denotation.{World}
 use Rattle.bd_terms.specs.Graph.{HasSort, IsGraph}
 use Rattle.bd_goal.specs.Claims.{Claims}
+use Rattle.bd_abstraction.specs.declared.abstraction.Abstraction.TheVariants as abstraction
 use Rattle.bd_goal.specs.Formula.{Corresponds, IsOutside, address_count}
+use Rattle.bd_goal.specs.Made.{IsCorrespondence, IsDenial}
 use Rattle.bd_goal.specs.Symbols.{ReachesKnown}
 use Rattle.bd_memory.specs.Forward.{HasNoMemory}
 use Rattle.bd_memory.specs.Forwarded.{Forwarded, Term as OldTerm}
@@ -36,6 +38,7 @@ use Rattle.bd_transitive.specs.declared.graph.Edge.{Edge}
 use Rattle.bd_transitive.specs.declared.graph.Order.{Order}
 use Rattle.bd_transitive.specs.Clauses.{AreTriangleClauses}
 use Rattle.bd_transitive.specs.Edges.{AreEdges, IsEnd}
+use Rattle.bd_transitive.specs.Elimination.{IsByLeastDegree, joined_by}
 use Rattle.bd_transitive.specs.Orders.{IsFillIn, IsOrder}
 use Rattle.bd_tseitin.specs.declared.row.AtomVar.{AtomVar}
 use Rattle.bd_tseitin.specs.Form.{IsTseitin}
@@ -55,10 +58,17 @@ abbrev pub addresses_of : Question → DesignView → ℕ
 addresses_of question.Breaks d = address_count d
 addresses_of question.Meets d = 0
 
--- a root of the question: it makes the claim, and reaches symbols of the design and these addresses alone
+-- from which calls of the constructors its root is made: the correspondence formula by flushing, or that the invariant
+-- is false in the first state
+abbrev pub IsMadeFor : Question → DesignView → List Node → ℕ → Type 0
+IsMadeFor question.Breaks d nodes root = IsCorrespondence nodes d abstraction.Flushing root
+IsMadeFor question.Meets d nodes root = IsDenial nodes d root
+
+-- a root of the question: it makes the claim, is made for it, and reaches symbols of the design and these addresses alone
 pub record IsRootOf (d : DesignView) (asked : Question) (nodes : List Node) (root : ℕ) : Type 0 where
   pub sorted : HasSort nodes root sort.Bool
   pub claims : Claims d (claim_of asked d) nodes root
+  pub made : IsMadeFor asked d nodes root
   pub known : ReachesKnown d (addresses_of asked d) nodes root
 
 -- the new root is made for the old one from reads that are pushed down through writes to first contents; it denotes what
@@ -135,9 +145,10 @@ pub record IsEncoded (d : DesignView) (nodes : List Node) (root : ℕ) (syms : L
   pub apart_are : (edge : Edge) → Contains apart edge ↔ IsApart nodes syms d.distinct marked edge
   pub apart_simple : AreEdges apart
 
--- an elimination order of the edges, which come first
+-- the elimination order of the edges by least degree; they come first, then those that it adds
 pub record IsOrderOf (edges : List Edge) (order : Order) : Type 0 where
   pub is_order : IsOrder order
+  pub fewest : IsByLeastDegree (joined_by edges) order.vertices
   pub vertices : (v : ℕ) → Contains order.vertices v ↔ IsEnd edges v
   pub given : take (length edges) order.edges ≡ edges
   pub further : (e : ℕ) → length edges ≤ e → e < length order.edges → IsFillIn order e

@@ -16,7 +16,8 @@ use Rattle.bd_verify.specs.declared.verdict.Work.{Work}
 use Rattle.bd_verify.specs.Kept.{IsFlatOf, IsFormulaOf, IsKept, IsPositiveVariable, IsRootOf}
 use Rattle.bd_verify.specs.Verdict.{HasWork, IsAsked, Keeps}
 
--- the formula that is kept of a question decides whether some fitting case is such as is asked (Burch and Dill 1994)
+-- the formula that is kept of a question decides it: whether some fitting case breaks a condition, or meets the
+-- invariant (Burch and Dill 1994)
 abbrev pub KeptDecides : Type 0
 KeptDecides =
     (d : DesignView) (asked : Question) (mode : Mode) (formula : Problem) → IsLawful d → IsKept d asked mode formula

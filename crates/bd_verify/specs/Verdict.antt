@@ -1,6 +1,6 @@
 -- What a verdict on a design means, and its work: the kept formula of the question, which is satisfiable exactly where
--- some case is such as was asked, and the log of an honest solver's answer over it (Burch and Dill 1994; DIMACS CNF;
--- textual LRAT).
+-- some fitting case breaks a condition, or meets the invariant, and the log of an honest solver's answer over it (Burch
+-- and Dill 1994; DIMACS CNF; textual LRAT).
 use Rattle.std.specs.Prelude.{◌≡◌, ◌↔◌, ℕ, Bool, true}
 use Rattle.bd_model.specs.DesignView.{DesignView}
 use Rattle.bd_model.specs.Fits.{Fits}

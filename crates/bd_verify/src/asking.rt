@@ -14,18 +14,18 @@ use bd_model::{Case, Design, Trail};
 use bd_terms::{Graph, Id};
 use std::alloc::{AllocError, Global};
 
-/// Whether some fitting case is such as is asked.
+/// The answer to a question about a design's fitting cases: whether one breaks a condition, or meets the invariant.
 #[derive(Drop)]
 pub(crate) enum Decision {
-    /// No fitting case is.
-    None(Work),
-    /// This case is.
-    Some(Case, Work),
-    /// The budget was spent.
+    /// No fitting case does.
+    NoCase(Work),
+    /// This fitting case does.
+    ThisCase(Case, Work),
+    /// The budget was spent on the question.
     Spent(Work),
 }
 
-/// Whether some fitting case is such as is asked, by any honest solver.
+/// The answer to a question about a lawful design, by any honest solver, which may add `budget` clauses.
 pub(crate) fn ask<S: HonestSolver>(
     alloc: Global,
     solver: &mut S,
@@ -41,8 +41,8 @@ pub(crate) fn ask<S: HonestSolver>(
     let mut graph = Graph::new(alloc);
     let root = root_of(alloc, &mut graph, design, asked)?;
     match decide_by(alloc, solver, design, &graph, root, 1, budget, mode)? {
-        Decided::Valid(work) => Ok(Decision::None(work)),
-        Decided::False(trail, work) => Ok(Decision::Some(one_cycle(trail), work)),
+        Decided::Valid(work) => Ok(Decision::NoCase(work)),
+        Decided::False(trail, work) => Ok(Decision::ThisCase(one_cycle(trail), work)),
         Decided::Spent(work) => Ok(Decision::Spent(work)),
     }
 }

@@ -2,7 +2,8 @@
 ghost use Rattle.bd_verify.specs.Agreement.{VerdictsAgree};
 ghost use Rattle.bd_verify.specs.Laws.{KeptDecides, PositiveHaveNoEdge, SpentIsBounded};
 
-/// The formula that is kept of a question is satisfiable exactly where some fitting case is such as is asked.
+/// The formula that is kept of a question is satisfiable exactly where the answer is yes: where some fitting case breaks a
+/// condition, or meets the invariant.
 pub fn kept_decides()
     ensures { KeptDecides }
 {}

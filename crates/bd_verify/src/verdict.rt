@@ -94,8 +94,8 @@ pub fn verify<S: HonestSolver>(
         return breaks(alloc, solver, design, budget, None, mode);
     }
     match ask(alloc, solver, design, budget, Question::Meets, mode)? {
-        Decision::None(work) => Ok(Verdict::Void(work)),
-        Decision::Some(case, _) => breaks(alloc, solver, design, budget, Some(case), mode),
+        Decision::NoCase(work) => Ok(Verdict::Void(work)),
+        Decision::ThisCase(case, _) => breaks(alloc, solver, design, budget, Some(case), mode),
         Decision::Spent(work) => Ok(Verdict::Undecided(Question::Meets, work)),
     }
 }
@@ -116,8 +116,8 @@ fn breaks<S: HonestSolver>(
     ensures said { IfOk result (IsVerdictSaid (S.says solver.old) budget) }
 {
     match ask(alloc, solver, design, budget, Question::Breaks, mode)? {
-        Decision::None(work) => Ok(Verdict::Correct(met, work)),
-        Decision::Some(case, work) => {
+        Decision::NoCase(work) => Ok(Verdict::Correct(met, work)),
+        Decision::ThisCase(case, work) => {
             let condition = broken(judge(alloc, design, &case)?);
             Ok(Verdict::Wrong(condition, case, work))
         }

@@ -21,16 +21,16 @@ use Rattle.bd_verify.specs.Verdict.{IsAsked, IsWorkOf}
 
 -- no case is such; this one is; or the budget is spent
 abbrev pub IsAnswered : DesignView → Question → Mode → ℕ → Decision → Type 0
-IsAnswered d asked mode budget (decision.None work) =
+IsAnswered d asked mode budget (decision.NoCase work) =
     ((c : Case) → Fits d c → ¬ IsAsked asked d c) × IsWorkOf d asked mode budget found.Refuted work
-IsAnswered d asked mode budget (decision.Some c work) =
+IsAnswered d asked mode budget (decision.ThisCase c work) =
     Fits d c × IsAsked asked d c × ((model : _) × IsWorkOf d asked mode budget (found.Model model) work)
 IsAnswered d asked mode budget (decision.Spent work) = IsWorkOf d asked mode budget found.Spent work
 
 -- the answer that it rests on is said of its formula
 abbrev pub IsAnswerSaid : (Problem → ℕ → Found → List Line → Type 0) → ℕ → Decision → Type 0
-IsAnswerSaid says budget (decision.None work) = IsSaid says budget found.Refuted work
-IsAnswerSaid says budget (decision.Some c work) = IsModelSaid says budget work
+IsAnswerSaid says budget (decision.NoCase work) = IsSaid says budget found.Refuted work
+IsAnswerSaid says budget (decision.ThisCase c work) = IsModelSaid says budget work
 IsAnswerSaid says budget (decision.Spent work) = IsSaid says budget found.Spent work
 
 -- the verdict where it is asked whether a case breaks a condition: the case that is carried is this one, and none is such;

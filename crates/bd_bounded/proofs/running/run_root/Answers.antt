@@ -11,5 +11,6 @@ returns c =
     record {
       sorted = h.sorted;
       claims = h.denotes;
+      made = h.made;
       known = subst (λ n. ReachesKnown (widened d c.args.cycles) n c.bounded_goal.new.graph c.in_ok-goal.goal.root) h.addresses h.symbols;
     }

@@ -7,8 +7,8 @@ returns-in_ok-goal-in-Breaks c =
     let d = design_view c.args.design.now in
     let found = c.in_ok-goal-in-Breaks.goal in
     let h = c.in_ok-goal-in-Breaks.ensures in
-    root-breaks d c.args.asked c.goal.new.graph found.root found.addresses c.in-Breaks.is h.sorted h.denotes h.addresses h.symbols
+    root-breaks d c.args.asked c.goal.new.graph found.root found.addresses c.in-Breaks.is h.sorted h.denotes h.made h.addresses h.symbols
 
 pub returns-in-Meets : goal.returns-in-Meets
 returns-in-Meets c =
-    root-meets (design_view c.args.design.now) c.args.asked c.meets.new.graph c.in-Meets.is c.meets.result c.meets.ensures.sorted c.meets.ensures.denotes c.meets.ensures.symbols
+    root-meets (design_view c.args.design.now) c.args.asked c.meets.new.graph c.in-Meets.is c.meets.result c.meets.ensures.sorted c.meets.ensures.denotes c.meets.ensures.made c.meets.ensures.symbols

@@ -34,7 +34,7 @@ returns c = λ cycles.
         apart_are = h.apart;
         apart_simple = h.apart_simple;
       };
-      ordered = record { is_order = o.order; vertices = o.vertices; given = o.given; further = o.further };
+      ordered = record { is_order = o.order; fewest = o.fewest; vertices = o.vertices; given = o.given; further = o.further };
       first = first.cnf;
       first_rows = first.atoms;
       denied = record {

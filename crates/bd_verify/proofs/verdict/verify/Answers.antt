@@ -10,33 +10,33 @@ pub returns-then-not-given-clause-correct : goal.returns-then-not-given-clause-c
 returns-then-not-given-clause-correct g c = λ k work e.
     right-found (design_view c.args.design.now) c.args.mode c.args.budget None k work c.requires.lawful (subst (λ r. IfOk r (IsFound (design_view c.args.design.now) c.args.mode c.args.budget None)) e c.breaks.ensures.found)
 
-pub returns-in-Some-clause-correct : goal.returns-in-Some-clause-correct
-returns-in-Some-clause-correct g c = λ k work e.
-    right-found (design_view c.args.design.now) c.args.mode c.args.budget (Some c.in-Some.case) k work c.requires.lawful
-    (subst (λ r. IfOk r (IsFound (design_view c.args.design.now) c.args.mode c.args.budget (Some c.in-Some.case))) e c.breaks-in-Some.ensures.found)
+pub returns-in-ThisCase-clause-correct : goal.returns-in-ThisCase-clause-correct
+returns-in-ThisCase-clause-correct g c = λ k work e.
+    right-found (design_view c.args.design.now) c.args.mode c.args.budget (Some c.in-ThisCase.case) k work c.requires.lawful
+    (subst (λ r. IfOk r (IsFound (design_view c.args.design.now) c.args.mode c.args.budget (Some c.in-ThisCase.case))) e c.breaks-in-ThisCase.ensures.found)
 
-pub returns-in-Some-clause-holds : goal.returns-in-Some-clause-holds
-returns-in-Some-clause-holds g c = λ k work e.
+pub returns-in-ThisCase-clause-holds : goal.returns-in-ThisCase-clause-holds
+returns-in-ThisCase-clause-holds g c = λ k work e.
     let d = design_view c.args.design.now in
-    let found = subst (IsAnswered d question.Meets c.args.mode c.args.budget) c.in-Some.is c.in_ok-work.ensures.answered in
-    holds-found d c.args.mode c.args.budget c.in-Some.case k work found.0 found.1 (subst (λ r. IfOk r (IsFound d c.args.mode c.args.budget (Some c.in-Some.case))) e c.breaks-in-Some.ensures.found)
+    let found = subst (IsAnswered d question.Meets c.args.mode c.args.budget) c.in-ThisCase.is c.in_ok-work.ensures.answered in
+    holds-found d c.args.mode c.args.budget c.in-ThisCase.case k work found.0 found.1 (subst (λ r. IfOk r (IsFound d c.args.mode c.args.budget (Some c.in-ThisCase.case))) e c.breaks-in-ThisCase.ensures.found)
 
 pub returns-then-not-given-clause-says : goal.returns-then-not-given-clause-says
 returns-then-not-given-clause-says g c =
     says-result (design_view c.args.design.now) c.args.mode c.args.budget c.args.given None c.breaks.result c.requires.lawful (λ yes. absurd (true≢false (sym yes ∙ c.if-not-given.true))) c.breaks.ensures.found
 
-pub returns-in-Some-clause-says : goal.returns-in-Some-clause-says
-returns-in-Some-clause-says g c =
+pub returns-in-ThisCase-clause-says : goal.returns-in-ThisCase-clause-says
+returns-in-ThisCase-clause-says g c =
     let d = design_view c.args.design.now in
-    let found = subst (IsAnswered d question.Meets c.args.mode c.args.budget) c.in-Some.is c.in_ok-work.ensures.answered in
-    says-result d c.args.mode c.args.budget c.args.given (Some c.in-Some.case) c.breaks-in-Some.result c.requires.lawful (λ yes. (c.in-Some.case, found.0, found.1)) c.breaks-in-Some.ensures.found
+    let found = subst (IsAnswered d question.Meets c.args.mode c.args.budget) c.in-ThisCase.is c.in_ok-work.ensures.answered in
+    says-result d c.args.mode c.args.budget c.args.given (Some c.in-ThisCase.case) c.breaks-in-ThisCase.result c.requires.lawful (λ yes. (c.in-ThisCase.case, found.0, found.1)) c.breaks-in-ThisCase.ensures.found
 
-pub returns-in-Some-clause-asked_in_turn : goal.returns-in-Some-clause-asked_in_turn
-returns-in-Some-clause-asked_in_turn g c = λ given.
+pub returns-in-ThisCase-clause-asked_in_turn : goal.returns-in-ThisCase-clause-asked_in_turn
+returns-in-ThisCase-clause-asked_in_turn g c = λ given.
     let d = design_view c.args.design.now in
     let says = g.S.Solver.says c.args.solver.now in
-    let first = meets-first g.S.Solver.says c.args.solver.now d c.args.mode c.args.budget c.in-Some.case _
+    let first = meets-first g.S.Solver.says c.args.solver.now d c.args.mode c.args.budget c.in-ThisCase.case _
     (λ answer h. g.met.S.HonestSolver.law c.args.solver.now _ c.args.budget answer _ h)
-    (subst (IsAnswered d question.Meets c.args.mode c.args.budget) c.in-Some.is c.in_ok-work.ensures.answered)
-    (subst (IsAnswerSaid says c.args.budget) c.in-Some.is c.in_ok-work.ensures.said) in
-    in-turn g.S.Solver.says c.args.solver.now c.ask.new.solver d c.args.mode c.args.budget (Some c.in-Some.case) c.breaks-in-Some.result first c.breaks-in-Some.ensures.found c.breaks-in-Some.ensures.said
+    (subst (IsAnswered d question.Meets c.args.mode c.args.budget) c.in-ThisCase.is c.in_ok-work.ensures.answered)
+    (subst (IsAnswerSaid says c.args.budget) c.in-ThisCase.is c.in_ok-work.ensures.said) in
+    in-turn g.S.Solver.says c.args.solver.now c.ask.new.solver d c.args.mode c.args.budget (Some c.in-ThisCase.case) c.breaks-in-ThisCase.result first c.breaks-in-ThisCase.ensures.found c.breaks-in-ThisCase.ensures.said
