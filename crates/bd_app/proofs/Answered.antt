@@ -3,7 +3,7 @@ use Rattle.std.proofs.Common.{◌≡◌, ◌≢◌, ◌∙◌, ℕ, List, refl, 
 use Rattle.std.specs.Prelude.{◌⊎◌, Option, Some, None, Result, Ok, Err, IfSome, IfOk, IfErr, IsErrAnd, IsErrOf}
 use Rattle.bd_files.specs.Devices.{Held, Rose, Appends, AppendsPrefix, Counts}
 use Rattle.bd_goal.specs.Laws.{Differs}
-use Rattle.bd_model.specs.Conditions.{Abstraction, JudgedBy}
+use Rattle.bd_model.specs.Conditions.{JudgedBy}
 use Rattle.bd_model.specs.DesignView.{DesignView}
 use Rattle.bd_model.specs.Fits.{Fits}
 use Rattle.bd_model.specs.Right.{IsRight}
@@ -126,8 +126,8 @@ pub record IsCompletionOf (q : Question) (held : Option Held) (answer : Complete
   pub design : DesignView
   pub abs : AbstractionView
   pub asks : IfSome held (λ h. CompletesTo question.names h design abs)
-  pub says : SaysBy design (abstraction_by design abs) question.agree answer
-  pub work : HasWorkBy design (abstraction_by design abs) question.agree question.budget answer
+  pub says : SaysBy design abs question.agree answer
+  pub work : HasWorkBy design abs question.agree question.budget answer
 
 pub completion_for : (q : Question) (held : Option Held) (answer : Complete) (report : List ℕ) → (meaning_of q).IsAnswer held (Completed answer) report → IsCompletionOf q held answer
 completion_for (check q) held answer report is = absurd (no_completed is.says.verdict answer (sym is.says.ended))
@@ -145,8 +145,8 @@ completion_for (complete q) held answer report is =
       design = is.design;
       abs = is.abs;
       asks = is.asks;
-      says = subst (λ a. SaysBy is.design (abstraction_by is.design is.abs) q.agree a) same is.says.says;
-      work = subst (λ a. HasWorkBy is.design (abstraction_by is.design is.abs) q.agree q.budget a) same is.says.work;
+      says = subst (λ a. SaysBy is.design is.abs q.agree a) same is.says.says;
+      work = subst (λ a. HasWorkBy is.design is.abs q.agree q.budget a) same is.says.work;
     }
 
 -- ---- before anything is printed
@@ -281,13 +281,13 @@ module _ (words : List (List ℕ)) (final : Ended) (a b : FilesSeen) (out out' :
       let found = run_for q a.held answer printed.0 (subst (λ e. (meaning_of q).IsAnswer a.held e printed.0) is printed.3) in
       (found.question, asks ∙ ap Some found.is_asked, IfSome-weaker _ _ a.held (λ h asked. (found.design, asked, f found.question found.design found.says found.work)) found.asks)
 
-  for_completion : (answer : Complete) (P : Completion → DesignView → Abstraction → Type 0) (o : Option Question) → taken words ≡ o → final ≡ Completed answer
-      → ((q : Completion) (d : DesignView) (abs : Abstraction) → SaysBy d abs q.agree answer → HasWorkBy d abs q.agree q.budget answer → P q d abs) → ForCompletion a.held words P
+  for_completion : (answer : Complete) (P : Completion → DesignView → AbstractionView → Type 0) (o : Option Question) → taken words ≡ o → final ≡ Completed answer
+      → ((q : Completion) (d : DesignView) (abs : AbstractionView) → SaysBy d abs q.agree answer → HasWorkBy d abs q.agree q.budget answer → P q d abs) → ForCompletion a.held words P
   for_completion answer P None asks is f = elim (usage asks) [ inl h ↦ absurd (cc (is, h)) | inr h ↦ absurd (cc (is, h)) ]
   for_completion answer P (Some q) asks is f =
       let printed = (answers q asks).printed (subst HasReport (sym is) tt) in
       let found = completion_for q a.held answer printed.0 (subst (λ e. (meaning_of q).IsAnswer a.held e printed.0) is printed.3) in
-      (found.question, asks ∙ ap Some found.is_asked, IfSome-weaker _ _ a.held (λ h asked. (found.design, found.abs, asked, f found.question found.design (abstraction_by found.design found.abs) found.says found.work)) found.asks)
+      (found.question, asks ∙ ap Some found.is_asked, IfSome-weaker _ _ a.held (λ h asked. (found.design, found.abs, asked, f found.question found.design found.abs found.says found.work)) found.asks)
 
   for_verdict : (v : Verdict) (P : Asked → DesignView → Type 0) → final ≡ ended_by v → ((asked : Asked) (d : DesignView) → IsVerdict d asked v → P asked d) → ForVerdict a.held words P
   for_verdict v P is f =
@@ -311,9 +311,9 @@ module _ (words : List (List ℕ)) (final : Ended) (a b : FilesSeen) (out out' :
     broken = λ cycle t work is. for_run (runs.Broken cycle t work) _ (taken words) refl is (λ q d says work. (says.0.fits, says.1));
     bounded_work = λ answer is. for_run answer _ (taken words) refl is (λ q d says work. work);
     right_by = λ work is. for_completion (completed.Right work) _ (taken words) refl is (λ q d abs says work. says.1);
-    wrong_by = λ k c work is. for_completion (completed.Wrong k c work) (λ q d abs. Fits d c × JudgedBy d abs c (judged.Broken k)) (taken words) refl is (λ q d abs says work. (says.1, says.2));
+    wrong_by = λ k c work is. for_completion (completed.Wrong k c work) (λ q d abs. Fits d c × JudgedBy d (abstraction_by d abs) c (judged.Broken k)) (taken words) refl is (λ q d abs says work. (says.1, says.2));
     agrees = λ work is. for_completion (completed.Agree work) _ (taken words) refl is (λ q d abs says work. says.1);
-    differs = λ c work is. for_completion (completed.Differ c work) (λ q d abs. Fits d c × Differs d abs c) (taken words) refl is (λ q d abs says work. (says.1, says.2));
+    differs = λ c work is. for_completion (completed.Differ c work) (λ q d abs. Fits d c × Differs d (abstraction_by d abs) c) (taken words) refl is (λ q d abs says work. (says.1, says.2));
     completion_work = λ answer is. for_completion answer _ (taken words) refl is (λ q d abs says work. work);
     holds = λ c work is. for_design (verdict.Correct (Some c) work) _ is (λ asked d v. v.is_true.1);
     undecided = λ work is. for_verdict (verdict.Undecided Breaks work) _ is (λ asked d v. v.is_true);

@@ -84,19 +84,6 @@ pub short_both : (h : Held) (some more : List File) → AreShort h some → AreS
 short_both h [] more these others = others
 short_both h (file ∷ some) more these others = (these.0, short_both h some more these.1 others)
 
--- after several files
-pub up_after_all : (a b c : FilesSeen) (some files : List File) (last : File) → IfSome a.held (λ h. AreShort h some) → b.held ≡ a.held → Called a b (loads some) → LoadedUpTo b c files last
-    → LoadedUpTo a c (some ++ files) last
-up_after_all a b c some files last short same these up = record {
-  first = some ++ up.first;
-  rest = up.rest;
-  order = ap (λ fs. some ++ fs) up.order ∙ sym (append_assoc some up.first (last ∷ up.rest));
-  short = IfSome-both _ _ _ a.held (λ h s others. short_both h some up.first s others) short (subst (λ o. IfSome o (λ h. AreShort h up.first)) same up.short);
-  called = subst (λ cs. Called a c cs)
-      (sym (ap loads (append_assoc some up.first (last ∷ [])) ∙ map-append (λ (file : File). loading file.1 (most_bytes file.0)) some (up.first ++ last ∷ [])))
-      (makes_then a.calls b.calls c.calls (loads some) (loads (up.first ++ last ∷ [])) these up.called);
-}
-
 -- the loads up to a file are the first of all
 pub up_to_first : {a b : FilesSeen} {files : List File} {last : File} → LoadedUpTo a b files last → CalledFirst a b (loads files)
 up_to_first {a} {b} {files} {last} up = record {

@@ -1,11 +1,9 @@
 -- From the texts of a design and of a completion function to the answer on them.
-use Rattle.std.proofs.Common.{◌≡◌, ◌∙◌, ℕ, List, refl, sym, subst}
+use Rattle.std.proofs.Common.{◌≡◌, ◌∙◌, ℕ, List, sym, subst}
 use Rattle.std.specs.Prelude.{Bool, Option, Result, Ok, Err, IfSome, IfErr, IsErrAnd}
-use Rattle.bd_abstraction.specs.Abstraction.{abstraction_of, abstraction_view}
-use Rattle.bd_abstraction.specs.declared.abstraction.Abstraction.TheVariants as abstraction
-use Rattle.bd_abstraction.specs.declared.abstraction.Abstraction.{Abstraction as GivenAbstraction}
+use Rattle.bd_abstraction.specs.Abstraction.{AbstractionView, abstraction_view}
+use Rattle.bd_abstraction.specs.declared.abstraction.Abstraction.{Abstraction}
 use Rattle.bd_files.specs.Devices.{Held}
-use Rattle.bd_model.specs.Conditions.{Abstraction}
 use Rattle.bd_model.specs.DesignView.{DesignView}
 use Rattle.bd_typer.specs.Denotes.{DenotesCompleted, OnJoined}
 use Rattle.bd_typer.specs.Joined.{JoinedView}
@@ -16,7 +14,7 @@ use Rattle.bd_typer.specs.declared.fault.TypeFault.TheVariants as typer
 use Rattle.bd_typer.specs.declared.joining.Joined.{Joined}
 use Rattle.bd_app.specs.Answer.{HasReport}
 use Rattle.bd_app.specs.Complete.{Completion, IsCompleteReport, complete_meaning}
-use Rattle.bd_app.specs.Completions.{AreCompleted, Completes, abstraction_by}
+use Rattle.bd_app.specs.Completions.{AreCompleted, Completes}
 use Rattle.bd_app.specs.Files.{HoldsShort}
 use Rattle.bd_app.specs.Meaning.{FilesSeen}
 use Rattle.bd_app.specs.Sources.{Sources, TextSources}
@@ -32,20 +30,15 @@ use Rattle.bd_app.proofs.Loads.{text_short}
 use Rattle.bd_app.proofs.Results.{IfSome-both, passed}
 use Rattle.bd_app.proofs.Verdicts.{no_completed}
 
--- an abstraction is what is seen of it
-pub same_abstraction : (d : DesignView) (abs : GivenAbstraction) → abstraction_of d abs ≡ abstraction_by d (abstraction_view abs)
-same_abstraction d abstraction.Flushing = refl
-same_abstraction d (abstraction.Given lets parts) = refl
-
 -- texts are refused
-pub on_no_completion : (Says : DesignView → Abstraction → Ended → List ℕ → Type 0) (s : Sources) (comp : List ℕ) (e : Fault) (r : Result Answer Fault) → IsErrAnd r (λ y. y ≡ e) → AreNoCompletion s comp e → OnCompletion Says s comp r
+pub on_no_completion : (Says : DesignView → AbstractionView → Ended → List ℕ → Type 0) (s : Sources) (comp : List ℕ) (e : Fault) (r : Result Answer Fault) → IsErrAnd r (λ y. y ≡ e) → AreNoCompletion s comp e → OnCompletion Says s comp r
 on_no_completion Says s comp e r is fault = passed (λ z. OnCompletion Says s comp z) r e is (record { said = tt; refused = fault })
 
 -- the answer on their design and abstraction
-pub on_completion : (Says : DesignView → Abstraction → Ended → List ℕ → Type 0) (s : Sources) (comp : List ℕ) (d : DesignView) (abs : GivenAbstraction) (answer : Answer) → AreCompletion s comp d (abstraction_view abs)
-    → Says d (abstraction_of d abs) answer.ended answer.report.items → OnCompletion Says s comp (Ok answer)
+pub on_completion : (Says : DesignView → AbstractionView → Ended → List ℕ → Type 0) (s : Sources) (comp : List ℕ) (d : DesignView) (abs : Abstraction) (answer : Answer) → AreCompletion s comp d (abstraction_view abs)
+    → Says d (abstraction_view abs) answer.ended answer.report.items → OnCompletion Says s comp (Ok answer)
 on_completion Says s comp d abs answer are says =
-    record { said = (d, abstraction_view abs, are, subst (λ x. Says d x answer.ended answer.report.items) (same_abstraction d abs) says); refused = tt }
+    record { said = (d, abstraction_view abs, are, says); refused = tt }
 
 module _ (q : Completion) (held : Option Held) (s : Sources) (comp : List ℕ) (given : IfSome held (λ h. TextSources q.names h s)) (short : IfSome held (λ h. HoldsShort h (Comp, q.names.text) comp)) where
   completed : (r : Result JoinedView FileFault) → AreCompleted s comp r → IfSome held (λ h. Completes q.names h r)
@@ -56,7 +49,7 @@ module _ (q : Completion) (held : Option Held) (s : Sources) (comp : List ℕ) (
   texts_faulty Memory fault = tt
   texts_faulty _ fault = absurd fault
 
-complete_plain : (agree : Bool) (budget : ℕ) (d : DesignView) (abs : Abstraction) (e : Ended) (report : List ℕ) → IsCompleteReport agree budget d abs e report → IsPlain e
+complete_plain : (agree : Bool) (budget : ℕ) (d : DesignView) (abs : AbstractionView) (e : Ended) (report : List ℕ) → IsCompleteReport agree budget d abs e report → IsPlain e
 complete_plain agree budget d abs e report is = record {
   quiet = record { no_device = λ w same. cc (is.ended, same); no_verdict = λ v same. no_completed v is.answer (sym same ∙ is.ended) };
   reported = subst HasReport (sym is.ended) tt;
@@ -67,7 +60,7 @@ pub complete_done : (q : Completion) (a b : FilesSeen) (s : Sources) (comp : Lis
     → IfSome a.held (λ h. HoldsShort h (Comp, q.names.text) comp) → OnCompletion (IsCompleteReport q.agree q.budget) s comp r → IsDone (complete_meaning q) a b r
 complete_done q a b s comp (Ok answer) stand given short on =
     let said = on.said in
-    quiet_done (complete_meaning q) a b answer stand (complete_plain q.agree q.budget said.0 (abstraction_by said.0 said.1) answer.ended answer.report.items said.3) (record {
+    quiet_done (complete_meaning q) a b answer stand (complete_plain q.agree q.budget said.0 said.1 answer.ended answer.report.items said.3) (record {
       design = said.0;
       abs = said.1;
       asks = completed q a.held s comp given short (Ok (record { design = said.0; abs = said.1 })) said.2;

@@ -5,7 +5,7 @@ pub mod WordValues
 pub mod Saves
 pub mod Verdicts
 pub mod Faults
-pub mod Runs
+pub mod Pieces
 pub mod Effects
 pub mod Texts
 pub mod Sources

@@ -9,12 +9,11 @@ use Rattle.bd_completion.specs.Answer.{HasWork, Says}
 use Rattle.bd_completion.specs.declared.answer.Complete.{Complete}
 use Rattle.bd_completion.specs.declared.answer.Complete.TheVariants as complete
 use Rattle.bd_files.specs.Devices.{Held}
-use Rattle.bd_model.specs.Conditions.{Abstraction}
 use Rattle.bd_model.specs.DesignView.{DesignView}
 use Rattle.bd_model.specs.declared.case.Case.{Case}
 use Rattle.bd_model.specs.declared.case.Condition.TheVariants as condition
 use Rattle.bd_typer.specs.declared.fault.Text.TheVariants.{Comp}
-use Rattle.bd_app.specs.Completions.{CompletesTo, IsCompletionFault, abstraction_by}
+use Rattle.bd_app.specs.Completions.{CompletesTo, IsCompletionFault}
 use Rattle.bd_app.specs.Files.{TextNames, text_files, text_names, text_question}
 use Rattle.bd_app.specs.Meaning.{Meaning, no_proof}
 use Rattle.bd_app.specs.Texts.{IsTextOfIf, case_kind}
@@ -71,7 +70,7 @@ shown_break _ = None
 
 -- the answer is true of the design and of the abstraction, has the formula and the log that show it,
 -- and is reported: a line, and the case, where there is one
-pub record IsCompleteReport (agree : Bool) (budget : ℕ) (d : DesignView) (abs : Abstraction)
+pub record IsCompleteReport (agree : Bool) (budget : ℕ) (d : DesignView) (abs : AbstractionView)
     (e : Ended) (report : List ℕ) : Type 0 where
   pub answer : Complete
   pub says : Says d abs agree answer
@@ -87,7 +86,7 @@ pub record IsCompleteAnswer (q : Completion) (held : Option Held) (e : Ended) (r
   pub design : DesignView
   pub abs : AbstractionView
   pub asks : IfSome held (λ h. CompletesTo q.names h design abs)
-  pub says : IsCompleteReport q.agree q.budget design (abstraction_by design abs) e report
+  pub says : IsCompleteReport q.agree q.budget design abs e report
 
 abbrev pub complete_meaning : Completion → Meaning
 complete_meaning q = record {

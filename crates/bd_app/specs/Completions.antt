@@ -1,9 +1,7 @@
 -- A design and a completion function on it, as files give them.
 use Rattle.std.specs.Prelude.{ℕ, List, Result, Ok, Err}
-use Rattle.bd_abstraction.specs.Abstraction.{AbstractionView, flushing, given, values_by}
+use Rattle.bd_abstraction.specs.Abstraction.{AbstractionView}
 use Rattle.bd_files.specs.Devices.{Held}
-use Rattle.bd_model.specs.Conditions.{Abstraction}
-use Rattle.bd_model.specs.Cycle.{flushed}
 use Rattle.bd_model.specs.DesignView.{DesignView}
 use Rattle.bd_text.specs.declared.code.Code.{Code}
 use Rattle.bd_typer.specs.Denotes.{DenotesCompleted}
@@ -13,6 +11,7 @@ use Rattle.bd_typer.specs.declared.fault.Text.{Text}
 use Rattle.bd_typer.specs.declared.fault.Text.TheVariants.{Comp}
 use Rattle.bd_app.specs.Files.{HoldsShort, TextNames}
 use Rattle.bd_app.specs.Sources.{Sources, TextSources}
+pub use Rattle.bd_completion.specs.Kept.{abstraction_by}
 
 -- the texts of a pipeline, a specification and maybe an invariant, and that of a completion function,
 -- are this design and this abstraction, or have this first fault
@@ -36,9 +35,3 @@ CompletesTo names held d abs = Completes names held (Ok (record { design = d; ab
 abbrev pub IsCompletionFault : TextNames → Held → Text → ℕ → Code → Type 0
 IsCompletionFault names held file offset code =
     Completes names held (Err (record { file = file; offset = offset; code = code }))
-
--- what a state stands for by an abstraction: what is visible once the pipeline is flushed, or the
--- values that are given
-abbrev pub abstraction_by : DesignView → AbstractionView → Abstraction
-abstraction_by d flushing = flushed d
-abstraction_by d (given lets parts) = values_by lets parts

@@ -18,6 +18,7 @@ pub mod Replay
 pub mod Retrace
 pub mod Run
 pub mod Commands
+pub mod Pieces
 pub mod Program
 pub mod Laws
 pub mod inner

@@ -2,7 +2,7 @@
 use Rattle.std.specs.Prelude.{◌≡◌, ◌≢◌, ◌≤◌, ◌⊎◌, ℕ, true, List, Option, Some, None, IfSome}
 use Rattle.bd_model.specs.DesignView.{DesignView}
 use Rattle.bd_model.specs.Fits.{Fits, TrailFits}
-use Rattle.bd_model.specs.Conditions.{Abstraction, IsJudged, JudgedBy, SomeCaseMeetsInvariant}
+use Rattle.bd_model.specs.Conditions.{IsJudged, JudgedBy, SomeCaseMeetsInvariant}
 use Rattle.bd_model.specs.Right.{Agrees, BoundedRight, IsRight, RightBy}
 use Rattle.bd_model.specs.TrailJudged.{IsTrailJudged}
 use Rattle.bd_model.specs.declared.case.Case.{Case}
@@ -20,6 +20,7 @@ use Rattle.bd_completion.specs.declared.answer.Complete.TheVariants as found
 use Rattle.bd_goal.specs.Laws.{Differs}
 use Rattle.bd_cnf.specs.Problem.{Problem}
 use Rattle.bd_files.specs.Devices.{Held, Rose, Appends, AppendsPrefix, Counts, PutsOrFaults}
+use Rattle.bd_files.specs.Pieces.{PutsInPieces}
 use Rattle.bd_proof_text.specs.declared.fault.Why.{Why}
 use Rattle.bd_text.specs.declared.code.Code.{Code}
 use Rattle.bd_typer.specs.declared.fault.Text.{Text}
@@ -33,6 +34,7 @@ use Rattle.bd_app.specs.Commands.{Question, bounded, complete, meaning_of, taken
 use Rattle.bd_app.specs.Complete.{Completion}
 use Rattle.bd_app.specs.Completions.{CompletesTo, abstraction_by}
 use Rattle.bd_app.specs.Meaning.{CalledAll, Effects, FilesSeen, IsProofRefused, IsRefused, IsSaved, Meaning}
+use Rattle.bd_app.specs.Pieces.{line_pieces_of}
 use Rattle.bd_app.specs.Verdicts.{MayGive, ended_by}
 use Rattle.bd_app.specs.declared.answer.Which.TheVariants.{Out}
 use Rattle.bd_app.specs.declared.answer.Ended.{Ended}
@@ -71,13 +73,13 @@ ForBounded held words P =
     (q : BoundedRun) × (taken words ≡ Some (bounded q))
     × IfSome held (λ h. (d : DesignView) × (bounded_meaning q).Asks h d × P q d)
 
--- they ask about a completion function, and this holds of it, of the design and of what states stand for
+-- they ask about a completion function, and this holds of it, of the design and of the abstraction that is given
 abbrev pub ForCompletion :
-    Option Held → List (List ℕ) → (Completion → DesignView → Abstraction → Type 0) → Type 0
+    Option Held → List (List ℕ) → (Completion → DesignView → AbstractionView → Type 0) → Type 0
 ForCompletion held words P =
     (q : Completion) × (taken words ≡ Some (complete q))
     × IfSome held (λ h. (d : DesignView) × (abs : AbstractionView)
-    × CompletesTo q.names h d abs × P q d (abstraction_by d abs))
+    × CompletesTo q.names h d abs × P q d abs)
 
 -- what the verdict that a run answers says of the design: under every interpretation, from every
 -- state that meets the invariant, and for every list of inputs
@@ -98,14 +100,14 @@ pub record Headline (held : Option Held) (words : List (List ℕ)) (e : Ended) :
       ForBounded held words (λ q d. HasBoundedWork d q.cycles q.budget answer)
   -- the same by a completion function in the place of flushing
   pub right_by : (work : Work) → e ≡ Completed (found.Right work) →
-      ForCompletion held words (λ q d abs. RightBy d abs)
+      ForCompletion held words (λ q d abs. RightBy d (abstraction_by d abs))
   pub wrong_by : (k : Condition) (c : Case) (work : Work) → e ≡ Completed (found.Wrong k c work) →
-      ForCompletion held words (λ q d abs. Fits d c × JudgedBy d abs c (Broken k))
+      ForCompletion held words (λ q d abs. Fits d c × JudgedBy d (abstraction_by d abs) c (Broken k))
   -- it agrees with flushing in each state that meets the invariant, or this case tells the two apart
   pub agrees : (work : Work) → e ≡ Completed (found.Agree work) →
-      ForCompletion held words (λ q d abs. Agrees d abs)
+      ForCompletion held words (λ q d abs. Agrees d (abstraction_by d abs))
   pub differs : (c : Case) (work : Work) → e ≡ Completed (found.Differ c work) →
-      ForCompletion held words (λ q d abs. Fits d c × Differs d abs c)
+      ForCompletion held words (λ q d abs. Fits d c × Differs d (abstraction_by d abs) c)
   pub completion_work : (answer : Complete) → e ≡ Completed answer →
       ForCompletion held words (λ q d abs. HasWorkBy d abs q.agree q.budget answer)
   -- a case that is carried by a correct verdict shows that some state meets the invariant
@@ -156,6 +158,9 @@ pub record IsRun (words : List (List ℕ)) (e : Ended)
   pub silent : ¬ HasReport e → e ≢ Device Out → out' ≡ out
   pub line : PutsOrFaults (λ (sink : SinkSeen). sink.written) (λ (sink : SinkSeen). sink.faults)
       err err' (fault_line_of e)
+  -- each of its pieces by one put, up to the first put that failed
+  pub line_puts : PutsInPieces (λ (sink : SinkSeen). sink.written) (λ (sink : SinkSeen). sink.faults)
+      (λ (sink : SinkSeen). sink.puts) err err' (fault_line_of e) (line_pieces_of e)
   pub no_line : HasReport e → err' ≡ err
   -- the counts of faults
   pub files_never_fall : files.faults ≤ files'.faults

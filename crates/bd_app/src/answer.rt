@@ -3,9 +3,11 @@
 //! A verdict, a judgement and a run have a report, which goes to the output in one put, and no line.
 //! A fault has a line, which goes to the error output, and no report. So what a reader of the two
 //! streams sees tells the answers apart, and the status tells them apart once more.
-ghost use Rattle.std.specs.Prelude.{◌≡◌, ◌≤◌, flat_map};
+ghost use Rattle.std.specs.Prelude.{◌≡◌, ◌≤◌, flat_map, length};
 ghost use Rattle.bd_files.specs.Devices.{PutsOrFaults};
+ghost use Rattle.bd_files.specs.Pieces.{PutsInPieces};
 ghost use Rattle.bd_app.specs.Answer.{status_of, fault_line_of, file_word, device_text, refusal_of, refusal_line, HasReport};
+ghost use Rattle.bd_app.specs.Pieces.{line_pieces_of, refusal_pieces};
 ghost use Rattle.bd_app.specs.Verdicts.{ended_by};
 ghost use Rattle.bd_app.specs.inner.Faults.{ended_by_fault};
 
@@ -181,10 +183,12 @@ impl Ended {
         }
     }
 
-    /// Puts the line of a fault on the error output, in pieces and without memory: a put that fails
-    /// ends it. What has a report has no line, and puts nothing.
+    /// Puts the line of a fault on the error output, each of its pieces by one put and without memory:
+    /// a put that fails ends it. What has a report has no line, and puts nothing.
     pub fn put_line<E: Sink>(&self, err: &mut E)
         ensures line { PutsOrFaults E.written E.faults err.old err.new (fault_line_of self.now) }
+        ensures pieces { PutsInPieces E.written E.faults E.puts err.old err.new
+            (fault_line_of self.now) (line_pieces_of self.now) }
         ensures no_line { HasReport self.now → err.new ≡ err.old }
         ensures never_falls { E.faults err.old ≤ E.faults err.new }
     {
@@ -204,19 +208,23 @@ impl Ended {
     }
 }
 
-/// Puts a text in pieces, as far as it goes.
+/// Puts the pieces of a text, each by one put, up to the first put that fails.
 pub(crate) fn put_text<E: Sink>(err: &mut E, pieces: &[&[u8]])
     ensures text { PutsOrFaults E.written E.faults err.old err.new
         (flat_map (λ piece. piece.now) pieces.now) }
+    ensures pieces { PutsInPieces E.written E.faults E.puts err.old err.new
+        (flat_map (λ piece. piece.now) pieces.now) (length pieces.now) }
     ensures never_falls { E.faults err.old ≤ E.faults err.new }
 {
     let _ = put_pieces(err, pieces);
 }
 
-/// Puts `FILE:OFFSET: CODE TEXT`.
+/// Puts the line `FILE:OFFSET: CODE TEXT` in its pieces.
 fn put_refusal<E: Sink>(err: &mut E, file: Text, offset: usize, code: Code)
     ensures line { PutsOrFaults E.written E.faults err.old err.new
         (refusal_line file offset code) }
+    ensures pieces { PutsInPieces E.written E.faults E.puts err.old err.new
+        (refusal_line file offset code) refusal_pieces }
     ensures never_falls { E.faults err.old ≤ E.faults err.new }
 {
     let mut buffer = Buffer::new();
@@ -230,10 +238,12 @@ fn put_refusal<E: Sink>(err: &mut E, file: Text, offset: usize, code: Code)
     );
 }
 
-/// Puts the parts of that line.
+/// Puts the line `FILE:OFFSET: CODE TEXT` of these four parts.
 fn put_parts<E: Sink>(err: &mut E, file: &[u8], offset: &[u8], code: &[u8], text: &[u8])
     ensures line { PutsOrFaults E.written E.faults err.old err.new
         (refusal_of file.now offset.now code.now text.now) }
+    ensures pieces { PutsInPieces E.written E.faults E.puts err.old err.new
+        (refusal_of file.now offset.now code.now text.now) refusal_pieces }
     ensures never_falls { E.faults err.old ≤ E.faults err.new }
 {
     put_text(err, &[file, b":", offset, b": ", code, b" ", text, b"\n"]);

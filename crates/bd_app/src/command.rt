@@ -55,7 +55,7 @@ pub enum Command<'a> {
 /// Why words ask for nothing.
 #[derive(Clone, Copy, PartialEq, Eq)]
 pub enum WordsFault {
-    /// They aren't taken.
+    /// The words aren't taken.
     Usage,
     /// Want of memory.
     Memory,

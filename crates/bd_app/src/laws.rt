@@ -25,7 +25,8 @@ pub fn completions_denote()
     ensures { CompletionsDenote }
 {}
 
-/// They denote at most one thing: one design and abstraction, or one first fault, and never both.
+/// The texts of a design and of a completion function on it denote at most one thing: one design and abstraction, or
+/// one first fault, and never both.
 pub fn completions_denote_once()
     ensures { CompletionsDenoteOnce }
 {}

@@ -19,7 +19,7 @@ pub struct DesignFiles<'a> {
     pub third: Option<&'a str>,
 }
 
-/// Their bytes.
+/// The bytes of the files of a design.
 #[derive(Drop)]
 pub struct Sources {
     pub pipe: Vec<u8>,
@@ -57,7 +57,8 @@ pub struct TextFiles<'a> {
     pub text: &'a str,
 }
 
-/// Their bytes.
+/// The bytes of the files of a design and of a text on it: a case, a trail, a proof or a completion
+/// function.
 #[derive(Drop)]
 pub struct TextBytes {
     pub sources: Sources,

@@ -13,9 +13,9 @@ use bd_typer::Text;
 /// Why a file gave no bytes.
 #[derive(Clone, Copy, PartialEq, Eq)]
 pub enum LoadFault {
-    /// It can't be read.
+    /// The file can't be read.
     Failed(Text),
-    /// It has too many bytes.
+    /// The file has too many bytes.
     TooLong(Text),
     /// Want of memory.
     Memory,

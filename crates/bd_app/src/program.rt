@@ -7,15 +7,18 @@
 //! that it is given, so the clauses speak of all of it.
 ghost use Rattle.std.specs.Prelude.{◌≡◌, ◌≢◌, ◌≤◌, ◌⊎◌, ℕ, Option, Some, None, IfOk, IfErr, IsErrOf};
 ghost use Rattle.bd_files.specs.Devices.{Rose, Appends, AppendsPrefix, Counts};
+ghost use Rattle.bd_files.specs.Pieces.{PutsInPieces};
 ghost use Rattle.bd_model.specs.Fits.{Fits, TrailFits};
 ghost use Rattle.bd_goal.specs.Laws.{Differs};
 ghost use Rattle.bd_model.specs.Conditions.{IsJudged, JudgedBy, SomeCaseMeetsInvariant};
 ghost use Rattle.bd_model.specs.Right.{Agrees, BoundedRight, IsRight, RightBy};
 ghost use Rattle.bd_model.specs.TrailJudged.{IsTrailJudged};
 ghost use Rattle.bd_verify.specs.declared.verdict.Work.{Work};
-ghost use Rattle.bd_app.specs.Answer.{HasReport};
+ghost use Rattle.bd_app.specs.Answer.{HasReport, fault_line_of};
 ghost use Rattle.bd_app.specs.Commands.{Question, meaning_of, taken};
+ghost use Rattle.bd_app.specs.Completions.{abstraction_by};
 ghost use Rattle.bd_app.specs.Meaning.{files_seen, IsCalled};
+ghost use Rattle.bd_app.specs.Pieces.{line_pieces_of};
 ghost use Rattle.bd_app.specs.Program.{ForBounded, ForCompletion, ForDesign, IsRun, sink_seen};
 ghost use Rattle.bd_app.specs.Words.{texts_of};
 ghost use Rattle.bd_app.specs.inner.Asked.{asked, IsInRange};
@@ -122,31 +125,38 @@ pub fn run<F: Files, O: Sink, E: Sink>(
     // The same where a completion function stands in the place of flushing, and whether it agrees with
     // flushing.
     ensures right_by { (work : Work) → result ≡ Ended.Completed (Complete.Right work) →
-        ForCompletion (F.held files.old) (texts_of words.now) (λ q d abs. RightBy d abs) }
+        ForCompletion (F.held files.old) (texts_of words.now) (λ q d abs.
+        RightBy d (abstraction_by d abs)) }
     ensures wrong_by { (k : Condition) (c : Case) (work : Work) →
         result ≡ Ended.Completed (Complete.Wrong k c work) →
         ForCompletion (F.held files.old) (texts_of words.now) (λ q d abs.
-        Fits d c × JudgedBy d abs c (Judged.Broken k)) }
+        Fits d c × JudgedBy d (abstraction_by d abs) c (Judged.Broken k)) }
     ensures agrees { (work : Work) → result ≡ Ended.Completed (Complete.Agree work) →
-        ForCompletion (F.held files.old) (texts_of words.now) (λ q d abs. Agrees d abs) }
+        ForCompletion (F.held files.old) (texts_of words.now) (λ q d abs.
+        Agrees d (abstraction_by d abs)) }
     ensures differs { (c : Case) (work : Work) → result ≡ Ended.Completed (Complete.Differ c work) →
         ForCompletion (F.held files.old) (texts_of words.now) (λ q d abs.
-        Fits d c × Differs d abs c) }
+        Fits d c × Differs d (abstraction_by d abs) c) }
 
     // All of it: what each answer means and what causes it, what is saved and what is printed.
     ensures run { IsRun (texts_of words.now) result
         (files_seen F.held F.faults F.blame F.calls files.old)
         (files_seen F.held F.faults F.blame F.calls files.new)
-        (sink_seen O.written O.faults O.puts out.old) (sink_seen O.written O.faults O.puts out.new)
-        (sink_seen E.written E.faults E.puts err.old) (sink_seen E.written E.faults E.puts err.new) }
+        (sink_seen O.written O.faults O.puts out.old)
+        (sink_seen O.written O.faults O.puts out.new)
+        (sink_seen E.written E.faults E.puts err.old)
+        (sink_seen E.written E.faults E.puts err.new) }
 
     // The calls: each file is loaded once and each part saved once, in the order of the words, up to
-    // the call that a fault comes of; and a report is put at once.
+    // the call that a fault comes of; a report is put at once; and the line of a fault is put piece by
+    // piece, up to the first put that fails.
     ensures calls { (q : Question) → taken (texts_of words.now) ≡ Some q →
         IsCalled (meaning_of q) (files_seen F.held F.faults F.blame F.calls files.old)
         (files_seen F.held F.faults F.blame F.calls files.new) result }
     ensures one_put { HasReport result ⊎ (result ≡ Ended.Device Which.Out) →
         Counts (O.puts out.old) (O.puts out.new) 1 }
+    ensures line_puts { PutsInPieces E.written E.faults E.puts err.old err.new
+        (fault_line_of result) (line_pieces_of result) }
 
     // What is left alone.
     ensures untouched { taken (texts_of words.now) ≡ None → files.new ≡ files.old }

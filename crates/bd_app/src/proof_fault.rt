@@ -1,6 +1,8 @@
 //! The line of a fault of a proof text.
 ghost use Rattle.std.specs.Prelude.{◌≡◌, ◌≤◌, ◌++◌, IfOk};
 ghost use Rattle.bd_files.specs.Devices.{PutsOrFaults};
+ghost use Rattle.bd_files.specs.Pieces.{PutsInPieces};
+ghost use Rattle.bd_app.specs.Pieces.{proof_pieces};
 ghost use Rattle.bd_app.specs.ProofFaults.{cause_text, proof_line, refused_words, why_code, why_words};
 ghost use Rattle.bd_app.specs.inner.ProofLine.{number_text, proof_parts};
 
@@ -77,6 +79,8 @@ pub fn cause_text(alloc: Global, why: Why) -> Result<Vec<u8>, AllocError>
 /// Puts `proof:LINE:COLUMN: CODE TEXT`, in pieces and without memory.
 pub(crate) fn put_proof_fault<E: Sink>(err: &mut E, line: u64, column: u64, why: Why)
     ensures line { PutsOrFaults E.written E.faults err.old err.new (proof_line line column why) }
+    ensures pieces { PutsInPieces E.written E.faults E.puts err.old err.new
+        (proof_line line column why) proof_pieces }
     ensures never_falls { E.faults err.old ≤ E.faults err.new }
 {
     let mut line_buffer = Buffer::new();
@@ -98,7 +102,8 @@ pub(crate) fn put_proof_fault<E: Sink>(err: &mut E, line: u64, column: u64, why:
     );
 }
 
-/// Puts the parts of that line.
+/// Puts the line `proof:LINE:COLUMN: CODE TEXT` of its parts, with the words and the number that
+/// stand after the text.
 fn put_parts<E: Sink>(
     err: &mut E,
     line: &[u8],
@@ -110,6 +115,8 @@ fn put_parts<E: Sink>(
 )
     ensures line { PutsOrFaults E.written E.faults err.old err.new
         (proof_parts line.now column.now code.now text.now words.now number.now) }
+    ensures pieces { PutsInPieces E.written E.faults E.puts err.old err.new
+        (proof_parts line.now column.now code.now text.now words.now number.now) proof_pieces }
     ensures never_falls { E.faults err.old ≤ E.faults err.new }
 {
     put_text(

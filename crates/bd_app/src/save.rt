@@ -41,7 +41,7 @@ enum Part<'a> {
     Proof(&'a Log),
 }
 
-/// Its text.
+/// The text of a part of a verdict's work.
 fn text(alloc: Global, part: Part<'_>) -> Result<Vec<u8>, AllocError>
     ensures { IfOk result (λ text. text.items ≡ part_text part.entry) }
 {

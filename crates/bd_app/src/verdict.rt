@@ -64,7 +64,7 @@ fn shown(verdict: &Verdict, shows: bool) -> Option<&Case>
     }
 }
 
-/// Its text.
+/// The text of a case of a design, if there is a case.
 pub fn text_of(alloc: Global, design: &Design, case: Option<&Case>) -> Result<Vec<u8>, AllocError>
     requires lawful { IsLawful (design_view design.now) }
     requires fits { IfSome (option_map (λ c. c.now) case) (Fits (design_view design.now)) }

@@ -1,4 +1,5 @@
 pub mod Devices
+pub mod Pieces
 pub mod Numbers
 pub mod Noted
 pub mod Shelf

@@ -2,10 +2,9 @@
 use Rattle.std.specs.Prelude.{Bool, ℕ, List, Result, Ok, Err, IfOk, IfErr}
 use Rattle.bd_abstraction.specs.Abstraction.{AbstractionView}
 use Rattle.bd_completion.specs.Answer.{HasWork, Says}
-use Rattle.bd_model.specs.Conditions.{Abstraction}
 use Rattle.bd_model.specs.DesignView.{DesignView}
 use Rattle.bd_app.specs.Complete.{shown_break}
-use Rattle.bd_app.specs.Completions.{AreCompleted, abstraction_by}
+use Rattle.bd_app.specs.Completions.{AreCompleted}
 use Rattle.bd_app.specs.Sources.{Sources}
 use Rattle.bd_app.specs.Texts.{IsTextOfIf, case_kind}
 use Rattle.bd_app.specs.declared.answer.Answer.{Answer}
@@ -26,14 +25,14 @@ AreNoCompletion s comp Memory = Unit {0}
 AreNoCompletion s comp _ = ⊥
 
 -- this is said of the design and the abstraction of texts, unless they are refused
-pub record OnCompletion (Says : DesignView → Abstraction → Ended → List ℕ → Type 0)
+pub record OnCompletion (Says : DesignView → AbstractionView → Ended → List ℕ → Type 0)
     (s : Sources) (comp : List ℕ) (r : Result Answer Fault) : Type 0 where
   pub said : IfOk r (λ a. (d : DesignView) × (abs : AbstractionView) × AreCompletion s comp d abs
-      × Says d (abstraction_by d abs) a.ended a.report.items)
+      × Says d abs a.ended a.report.items)
   pub refused : IfErr r (AreNoCompletion s comp)
 
 -- an answer on a design and an abstraction, and the text of the case that is shown with it
-pub record IsShownBreak (d : DesignView) (abs : Abstraction) (agree : Bool) (budget : ℕ)
+pub record IsShownBreak (d : DesignView) (abs : AbstractionView) (agree : Bool) (budget : ℕ)
     (f : ShownBreak) : Type 0 where
   pub says : Says d abs agree f.answer
   pub work : HasWork d abs agree budget f.answer

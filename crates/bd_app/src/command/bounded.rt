@@ -30,7 +30,7 @@ use bd_typer::Premise;
 use clap::{Arg, ArgMatches, Command, value_parser};
 use std::alloc::{AllocError, Global};
 
-/// Its options.
+/// The options of `bounded`.
 #[derive(Clone, Copy)]
 pub struct BoundedOptions<'a> {
     pub pipe: &'a str,
@@ -43,7 +43,7 @@ pub struct BoundedOptions<'a> {
 /// The most cycles of a bounded run.
 const MOST_CYCLES: u32 = 16;
 
-/// The number of cycles.
+/// The argument that gives the number of cycles of a bounded run.
 fn cycles<'a>(alloc: Global) -> Arg<'a>
     ensures rule { rule_of result ≡ in_range 0 most_cycles (required (codes "C")) }
     ensures local { result.global ≡ false }
@@ -53,7 +53,7 @@ fn cycles<'a>(alloc: Global) -> Arg<'a>
         .value_parser(value_parser!(u32).range(0..=16))
 }
 
-/// Its words.
+/// The words that `bounded` takes.
 pub fn command<'a>(alloc: Global) -> Result<Command<'a>, AllocError>
     ensures shape { IfOk result (λ c. shape_of c ≡ bounded_command) }
     ensures local { IfOk result (λ c. (fields_of c).has_globals ≡ false) }
@@ -64,7 +64,7 @@ pub fn command<'a>(alloc: Global) -> Result<Command<'a>, AllocError>
     with(command, budget(alloc))
 }
 
-/// The options that its words give.
+/// The options that the words of `bounded` give.
 pub fn options<'a>(matches: &ArgMatches<'a>) -> BoundedOptions<'a>
     ensures asked { bounded_of result ≡ bounded_question (rows_of (found_of matches.now)) }
     ensures bounded { HasFewCycles result }
@@ -95,10 +95,11 @@ fn shown(answer: &Bounded) -> Option<&Trail>
     }
 }
 
-/// Its text.
+/// The text of a trail of a design, if there is a trail.
 fn text_of(alloc: Global, design: &Design, trail: Option<&Trail>) -> Result<Vec<u8>, AllocError>
     requires lawful { IsLawful (design_view design.now) }
-    requires fits { IfSome (option_map (λ t. t.now) trail) (TrailFitsShort (design_view design.now)) }
+    requires fits { IfSome (option_map (λ t. t.now) trail)
+        (TrailFitsShort (design_view design.now)) }
     ensures { IfOk result (λ text. IsTextOfIf trail_kind (design_view design.now)
         (option_map (λ t. t.now) trail.entry) text.items) }
 {
@@ -119,7 +120,7 @@ fn decide(alloc: Global, design: &Design, cycles: u32, budget: u32) -> Result<Bo
     bounded(alloc, &mut solver, design, cycles, budget)
 }
 
-/// The same, with the text of its trail.
+/// What a design is found to be over so many cycles, with the text of the trail that shows it.
 fn shown_run(
     alloc: Global,
     design: &Design,
@@ -202,7 +203,7 @@ fn run_on_sources(
     Ok(answer)
 }
 
-/// Its answer.
+/// The answer to `bounded`.
 pub fn answer<F: Files>(
     alloc: Global,
     files: &mut F,

@@ -22,7 +22,7 @@ use bd_verify::Mode;
 use clap::{Arg, ArgMatches, Command};
 use std::alloc::{AllocError, Global};
 
-/// Its options.
+/// The options of `check`.
 #[derive(Clone, Copy)]
 pub struct CheckOptions<'a> {
     pub pipe: &'a str,
@@ -34,7 +34,7 @@ pub struct CheckOptions<'a> {
     pub mode: Mode,
 }
 
-/// Its words.
+/// The words that `check` takes.
 pub fn command<'a>(alloc: Global) -> Result<Command<'a>, AllocError>
     ensures shape { IfOk result (λ c. shape_of c ≡ check_command) }
     ensures local { IfOk result (λ c. (fields_of c).has_globals ≡ false) }
@@ -47,7 +47,7 @@ pub fn command<'a>(alloc: Global) -> Result<Command<'a>, AllocError>
     with(command, flag(alloc, "diverse"))
 }
 
-/// The options that its words give.
+/// The options that the words of `check` give.
 pub fn options<'a>(matches: &ArgMatches<'a>) -> CheckOptions<'a>
     ensures { check_of result ≡ check_question (rows_of (found_of matches.now)) }
 {
@@ -73,7 +73,7 @@ fn asked(options: CheckOptions<'_>) -> Asked
     }
 }
 
-/// Its answer.
+/// The answer to `check`.
 pub fn answer<F: Files>(
     alloc: Global,
     files: &mut F,

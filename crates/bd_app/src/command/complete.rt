@@ -3,7 +3,7 @@ ghost use Rattle.std.specs.Prelude.{◌≡◌, ◌≤◌, ◌++◌, [], ◌∷�
 ghost use Rattle.std.specs.Option.{option_map};
 ghost use Rattle.clap.specs.Words.{found_of, rows_of, shape_of};
 ghost use Rattle.clap.specs.declared.builder.command.Command.TheViews.{out-Command as fields_of};
-ghost use Rattle.bd_abstraction.specs.Abstraction.{IsLawfulAbstraction, abstraction_of};
+ghost use Rattle.bd_abstraction.specs.Abstraction.{IsLawfulAbstraction, abstraction_view};
 ghost use Rattle.bd_completion.specs.Answer.{HasWork, Says};
 ghost use Rattle.bd_model.specs.DesignView.{design_view};
 ghost use Rattle.bd_model.specs.Lawful.{IsLawful};
@@ -31,7 +31,7 @@ use bd_typer::Text;
 use clap::{ArgMatches, Command};
 use std::alloc::{AllocError, Global};
 
-/// Its options.
+/// The options of `complete`.
 #[derive(Clone, Copy)]
 pub struct CompleteOptions<'a> {
     pub files: TextFiles<'a>,
@@ -39,7 +39,7 @@ pub struct CompleteOptions<'a> {
     pub budget: u32,
 }
 
-/// Its words.
+/// The words that `complete` takes.
 pub fn command<'a>(alloc: Global) -> Result<Command<'a>, AllocError>
     ensures shape { IfOk result (λ c. shape_of c ≡ complete_command) }
     ensures local { IfOk result (λ c. (fields_of c).has_globals ≡ false) }
@@ -49,7 +49,7 @@ pub fn command<'a>(alloc: Global) -> Result<Command<'a>, AllocError>
     with(command, budget(alloc))
 }
 
-/// The options that its words give.
+/// The options that the words of `complete` give.
 pub fn options<'a>(matches: &ArgMatches<'a>) -> CompleteOptions<'a>
     ensures { complete_of result ≡ complete_question (rows_of (found_of matches.now)) }
 {
@@ -87,16 +87,15 @@ fn decide(
 ) -> Result<Complete, AllocError>
     requires lawful { IsLawful (design_view design.now) }
     requires given { IsLawfulAbstraction (design_view design.now) abs.now }
-    ensures says { IfOk result (Says (design_view design.now)
-        (abstraction_of (design_view design.now) abs.now) agree) }
+    ensures says { IfOk result (Says (design_view design.now) (abstraction_view abs.now) agree) }
     ensures work { IfOk result (HasWork (design_view design.now)
-        (abstraction_of (design_view design.now) abs.now) agree budget) }
+        (abstraction_view abs.now) agree budget) }
 {
     let mut solver = Cdcl::new(alloc);
     complete(alloc, &mut solver, design, abs, agree, budget)
 }
 
-/// The same, with the text of its case.
+/// What a design is found to be by an abstraction, with the text of the case that shows it.
 fn shown_answer(
     alloc: Global,
     design: &Design,
@@ -107,7 +106,7 @@ fn shown_answer(
     requires lawful { IsLawful (design_view design.now) }
     requires given { IsLawfulAbstraction (design_view design.now) abs.now }
     ensures { IfOk result (IsShownBreak (design_view design.now)
-        (abstraction_of (design_view design.now) abs.now) agree budget) }
+        (abstraction_view abs.now) agree budget) }
 {
     let answer = decide(alloc, design, abs, agree, budget)?;
     let case = text_of(alloc, design, shown(&answer))?;
@@ -150,7 +149,7 @@ fn answer_on(
     requires lawful { IsLawful (design_view design.now) }
     requires given { IsLawfulAbstraction (design_view design.now) abs.now }
     ensures { IfOk result (λ a. IsCompleteReport agree budget (design_view design.now)
-        (abstraction_of (design_view design.now) abs.now) a.ended a.report.items) }
+        (abstraction_view abs.now) a.ended a.report.items) }
 {
     let ShownBreak { answer, case } = shown_answer(alloc, design, abs, agree, budget)?;
     let report = report(alloc, &answer, budget, case.as_slice())?;
@@ -177,7 +176,7 @@ fn answer_on_bytes(
     Ok(answer)
 }
 
-/// Its answer.
+/// The answer to `complete`.
 pub fn answer<F: Files>(
     alloc: Global,
     files: &mut F,

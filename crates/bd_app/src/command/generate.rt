@@ -19,14 +19,14 @@ use bd_verify::Mode;
 use clap::{Arg, ArgMatches, Command, value_parser};
 use std::alloc::{AllocError, Global};
 
-/// Its options.
+/// The options of `gen`.
 #[derive(Clone, Copy)]
 pub struct GenOptions {
     pub depth: u32,
     pub drop: u32,
 }
 
-/// Its words.
+/// The words that `gen` takes.
 pub fn command<'a>(alloc: Global) -> Result<Command<'a>, AllocError>
     ensures shape { IfOk result (λ c. shape_of c ≡ gen_command) }
     ensures local { IfOk result (λ c. (fields_of c).has_globals ≡ false) }
@@ -40,7 +40,7 @@ pub fn command<'a>(alloc: Global) -> Result<Command<'a>, AllocError>
     Command::new(alloc, "gen").arg(depth)?.arg(drop)
 }
 
-/// The options that its words give.
+/// The options that the words of `gen` give.
 pub fn options(matches: &ArgMatches<'_>) -> GenOptions
     ensures asked { gen_of result ≡ gen_question (rows_of (found_of matches.now)) }
     ensures bounded { HasDepth result }
@@ -73,7 +73,7 @@ fn sources(alloc: Global, options: GenOptions) -> Result<Sources, AllocError>
     })
 }
 
-/// What the line of its verdict begins with.
+/// What the line of the verdict on a generated pipeline begins with.
 fn lead(alloc: Global, options: GenOptions) -> Result<String, AllocError>
     requires { HasDepth options }
     ensures { IfOk result (λ text. string_bytes text ≡ gen_lead (gen_of options)) }
@@ -85,17 +85,18 @@ fn lead(alloc: Global, options: GenOptions) -> Result<String, AllocError>
     Ok(text)
 }
 
-/// The verdict on these texts, with its line.
+/// The verdict on the design of sources, with its line, which begins with `lead`.
 fn answer_on(alloc: Global, lead: &str, sources: &Sources) -> Result<Answer, Fault>
     requires { AreFew (sources_view sources.now) }
-    ensures { OnDesign (IsVerdictReport gen_asked false lead.now) (sources_view sources.now) result }
+    ensures { OnDesign (IsVerdictReport gen_asked false lead.now)
+        (sources_view sources.now) result }
 {
     let shown = verdict_on(alloc, sources, ASKED, false)?;
     let answer = verdict_answer(alloc, lead, shown, ASKED.budget)?;
     Ok(answer)
 }
 
-/// Its answer. No case is printed.
+/// The answer to `gen`, with which no case is printed.
 pub fn answer(alloc: Global, options: GenOptions) -> Result<Answer, Fault>
     requires { HasDepth options }
     ensures { (files : FilesSeen) → IsDone (gen_meaning (gen_of options)) files files result }

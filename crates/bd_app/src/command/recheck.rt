@@ -23,7 +23,7 @@ use bd_verify::Work;
 use clap::{ArgMatches, Command};
 use std::alloc::{AllocError, Global};
 
-/// Its words.
+/// The words that `recheck` takes.
 pub fn command<'a>(alloc: Global) -> Result<Command<'a>, AllocError>
     ensures shape { IfOk result (λ c. shape_of c ≡ recheck_command) }
     ensures local { IfOk result (λ c. (fields_of c).has_globals ≡ false) }
@@ -31,7 +31,7 @@ pub fn command<'a>(alloc: Global) -> Result<Command<'a>, AllocError>
     text_command(alloc, "recheck", "PROOF")
 }
 
-/// Its options, the names of the files of a proof.
+/// The options of `recheck`: the names of the files of a design and of a proof on it.
 pub fn options<'a>(matches: &ArgMatches<'a>) -> TextFiles<'a>
     ensures { recheck_of result ≡ recheck_question (rows_of (found_of matches.now)) }
 {
@@ -70,7 +70,7 @@ fn proved_bytes(alloc: Global, bytes: &TextBytes) -> Result<Answer, Fault>
     proved(alloc, &design, bytes.text.as_slice())
 }
 
-/// Its answer.
+/// The answer to `recheck`.
 pub fn answer<F: Files>(
     alloc: Global,
     files: &mut F,

@@ -23,7 +23,7 @@ use bd_typer::Text;
 use clap::{ArgMatches, Command};
 use std::alloc::{AllocError, Global};
 
-/// Its words.
+/// The words that `replay` takes.
 pub fn command<'a>(alloc: Global) -> Result<Command<'a>, AllocError>
     ensures shape { IfOk result (λ c. shape_of c ≡ replay_command) }
     ensures local { IfOk result (λ c. (fields_of c).has_globals ≡ false) }
@@ -31,7 +31,7 @@ pub fn command<'a>(alloc: Global) -> Result<Command<'a>, AllocError>
     text_command(alloc, "replay", "CASE")
 }
 
-/// Its options, the names of the files of a case.
+/// The options of `replay`: the names of the files of a design and of a case on it.
 pub fn options<'a>(matches: &ArgMatches<'a>) -> TextFiles<'a>
     ensures { replay_of result ≡ replay_question (rows_of (found_of matches.now)) }
 {
@@ -84,7 +84,7 @@ fn judged_bytes(alloc: Global, bytes: &TextBytes) -> Result<Answer, Fault>
     judged(alloc, &design, bytes.text.as_slice())
 }
 
-/// Its answer.
+/// The answer to `replay`.
 pub fn answer<F: Files>(
     alloc: Global,
     files: &mut F,

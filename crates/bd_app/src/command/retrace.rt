@@ -23,7 +23,7 @@ use bd_typer::{Premise, Text};
 use clap::{ArgMatches, Command};
 use std::alloc::{AllocError, Global};
 
-/// Its words.
+/// The words that `retrace` takes.
 pub fn command<'a>(alloc: Global) -> Result<Command<'a>, AllocError>
     ensures shape { IfOk result (λ c. shape_of c ≡ retrace_command) }
     ensures local { IfOk result (λ c. (fields_of c).has_globals ≡ false) }
@@ -33,7 +33,7 @@ pub fn command<'a>(alloc: Global) -> Result<Command<'a>, AllocError>
     with(command, required(alloc, "START"))
 }
 
-/// Its options, the names of the files of a trail.
+/// The options of `retrace`: the names of the files of a design and of a trail on it.
 pub fn options<'a>(matches: &ArgMatches<'a>) -> TextFiles<'a>
     ensures { retrace_of result ≡ retrace_question (rows_of (found_of matches.now)) }
 {
@@ -104,7 +104,7 @@ fn judged_bytes(alloc: Global, bytes: &TextBytes) -> Result<Answer, Fault>
     judged(alloc, &design, bytes.text.as_slice())
 }
 
-/// Its answer.
+/// The answer to `retrace`.
 pub fn answer<F: Files>(
     alloc: Global,
     files: &mut F,

@@ -25,7 +25,7 @@ use clap::{Arg, ArgMatches, Command, value_parser};
 use itoa::Buffer;
 use std::alloc::{AllocError, Global};
 
-/// Its options.
+/// The options of `run`.
 #[derive(Clone, Copy)]
 pub struct RunOptions<'a> {
     pub pipe: &'a str,
@@ -44,7 +44,7 @@ fn cycles<'a>(alloc: Global) -> Arg<'a>
         .value_parser(value_parser!(u32).range(0..=1_000))
 }
 
-/// Its words.
+/// The words that `run` takes.
 pub fn command<'a>(alloc: Global) -> Result<Command<'a>, AllocError>
     ensures shape { IfOk result (λ c. shape_of c ≡ run_command) }
     ensures local { IfOk result (λ c. (fields_of c).has_globals ≡ false) }
@@ -54,7 +54,7 @@ pub fn command<'a>(alloc: Global) -> Result<Command<'a>, AllocError>
     with(command, cycles(alloc))
 }
 
-/// The options that its words give.
+/// The options that the words of `run` give.
 pub fn options<'a>(matches: &ArgMatches<'a>) -> RunOptions<'a>
     ensures { run_of result ≡ run_question (rows_of (found_of matches.now)) }
 {
@@ -131,7 +131,7 @@ fn ran_bytes(alloc: Global, bytes: &TextBytes, cycles: u32) -> Result<Answer, Fa
     ran(alloc, &design, bytes.text.as_slice(), cycles)
 }
 
-/// Its answer.
+/// The answer to `run`.
 pub fn answer<F: Files>(
     alloc: Global,
     files: &mut F,

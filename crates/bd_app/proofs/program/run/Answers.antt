@@ -4,6 +4,7 @@ use Rattle.bd_app.specs.Program.{sink_seen}
 use Rattle.bd_app.specs.Words.{texts_of}
 use Rattle.bd_app.specs.declared.answer.Ended.TheVariants.{Usage}
 use Rattle.bd_app.proofs.Answered.{answered, before_out, headline, out_rises, put_once, silent, untaken}
+use Rattle.bd_app.proofs.Pieces.{in_pieces_seen}
 use Rattle.bd_app.proofs.program.run.Goals as goal
 
 pub returns-clause-correct : goal.returns-clause-correct
@@ -112,6 +113,7 @@ returns-clause-run g c =
       out_rose = λ is. out_rises _ _ _ r.result put.result _ _ put.ensures.fault put.ensures.report r.ensures.report is;
       silent = λ quiet other. ap (sink_seen g.O.Sink.written g.O.Sink.faults g.O.Sink.puts) (silent _ _ r.result put.result _ _ put.ensures.fault put.ensures.report r.ensures.report quiet other);
       line = c.put_line.ensures.line;
+      line_puts = in_pieces_seen g.E.Sink.written g.E.Sink.faults g.E.Sink.puts c.put_line.ensures.pieces;
       no_line = λ reported. ap (sink_seen g.E.Sink.written g.E.Sink.faults g.E.Sink.puts) (c.put_line.ensures.no_line reported);
       files_never_fall = r.ensures.never_falls;
       out_never_falls = put.ensures.never_falls;
