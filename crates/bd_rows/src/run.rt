@@ -143,7 +143,7 @@ impl Runs<'_, '_> {
         Ok(Watched::new(alloc, Shelf::new(alloc, held, fails)?))
     }
 
-    /// Its runs, one after another.
+    /// The runs of the row, one after another.
     fn steps(
         self,
         twist: Twist<'_>,

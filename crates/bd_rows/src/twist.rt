@@ -113,7 +113,7 @@ impl<'a> Twist<'a> {
         }
     }
 
-    /// The same where the error output takes nothing.
+    /// The twist on an error output that takes nothing.
     pub fn silent(self) -> Twist<'a> {
         Twist {
             is_silent: true,

@@ -1,12 +1,12 @@
 -- From what is said of texts to the answer to a question.
-use Rattle.std.proofs.Common.{◌≡◌, ◌≤◌, ◌∙◌, ℕ, List, refl, sym, subst, inl, inr, arith}
-use Rattle.std.specs.Prelude.{Option, Some, None, Result, Ok, Err, IfSome, IfOk, MatchOption, Vec, is_some}
+use Rattle.std.proofs.Common.{◌≡◌, ◌≤◌, true, false, ◌∙◌, ℕ, List, [], ◌∷◌, ◌++◌, refl, sym, subst, inl, inr, append-nil, arith}
+use Rattle.std.specs.Prelude.{◌⊎◌, Option, Some, None, Result, Ok, Err, IfSome, IfOk, MatchOption, Vec, is_some}
 use Rattle.std.specs.declared.alloc.AllocError.{AllocError}
 use Rattle.std.specs.declared.alloc.Global.{Global}
-use Rattle.bd_files.specs.Devices.{Held}
-use Rattle.bd_app.specs.Files.{KeepsAllBut}
-use Rattle.bd_app.specs.Loading.{Leaves, bytes_of}
-use Rattle.bd_app.specs.Meaning.{FilesSeen}
+use Rattle.bd_files.specs.Devices.{Call, Held, saving}
+use Rattle.bd_app.specs.Files.{KeepsAllBut, loads, save_if}
+use Rattle.bd_app.specs.Loading.{bytes_of}
+use Rattle.bd_app.specs.Meaning.{Called, CalledFirst, FilesSeen}
 use Rattle.bd_app.specs.Words.{Name}
 use Rattle.bd_app.specs.declared.loading.LoadFault.{LoadFault}
 use Rattle.bd_app.specs.declared.loading.LoadFault.TheVariants.{Failed, TooLong, Memory}
@@ -16,33 +16,43 @@ use Rattle.bd_model.specs.declared.case.Judged.TheVariants.{Broken}
 use Rattle.bd_model.specs.declared.case.TrailJudged.TheVariants as trail
 use Rattle.bd_picture.specs.Page.{IsPage}
 use Rattle.bd_picture.specs.Sentence.{compared_sentence, completed_sentence, sentence}
+use Rattle.bd_app.proofs.Calls.{called_then, called_whole}
 use Rattle.bd_app.proofs.Results.{IfSome-weaker, rose_after}
 use Rattle.bd_app.proofs.Saves.{keeps_same}
-use Rattle.bd_show.specs.Files.{AreDesign, AreStarted, HoldTexts, Names, Texts}
-use Rattle.bd_show.specs.Meaning.{AreJoinedDesign, Blames, HoldsPage, MayHaveSaved, Means, Question, Saves, Says, SaysHeld, Show, asked_names, asked_page, show}
+use Rattle.bd_show.specs.Files.{AreDesign, AreStarted, HoldTexts, Names, Texts, files_of}
+use Rattle.bd_show.specs.Meaning.{AreJoinedDesign, AreLoaded, Blames, HasPage, HoldsPage, IsCalled, IsCalledForPage, IsCalledWithPage, IsPageOf, IsPageOn, MayHaveSaved, Means, Question, Saves, Says, SaysHeld, Show, asked_names, asked_page, show}
 use Rattle.bd_show.specs.declared.answer.Answer.{Answer}
 use Rattle.bd_show.specs.declared.answer.Ended.{Ended}
 use Rattle.bd_show.specs.declared.answer.Ended.TheVariants as ended
-use Rattle.bd_show.specs.inner.Answered.{HoldsDrawn, IsDoneOn, IsDrawn, IsKept, IsSaved, IsUnloaded}
-use Rattle.bd_show.specs.inner.Loaded.{IsFault}
+use Rattle.bd_show.specs.inner.Answered.{HoldsDrawn, IsDoneOn, IsDrawn, IsKept, IsSaved, IsUnloaded, drawn_saves}
+use Rattle.bd_show.specs.inner.Loaded.{IsFault, IsLoad}
+use Rattle.bd_show.proofs.Loads.{fault_first}
 
 -- bytes are given where a file is
 pub bytes_given : (bytes : Option (Vec ℕ Global)) → is_some (bytes_of bytes) ≡ is_some bytes
 bytes_given None = refl
 bytes_given (Some bytes) = refl
 
--- what files left is the same but for the count of faults
-pub record Stands (a b : FilesSeen) : Type 0 where
+-- the files were loaded, and what they left is the same but for the count of faults
+pub record Stands (names : Names) (a b : FilesSeen) : Type 0 where
   pub blame : b.blame ≡ a.blame
   pub held : b.held ≡ a.held
   pub never_falls : a.faults ≤ b.faults
+  pub called : AreLoaded names a b
 
-pub loaded_stands : {T : Type 0} {a b : FilesSeen} {x : T} → Leaves a b (Ok x) → Stands a b
-loaded_stands l = record { blame = l.blame; held = l.held; never_falls = l.never_falls }
+pub loaded_stands : {T : Type 0} {names : Names} {a b : FilesSeen} {x : T} → IsLoad names a b (Ok x) → Stands names a b
+loaded_stands l = record { blame = l.leaves.blame; held = l.leaves.held; never_falls = l.leaves.never_falls; called = l.called }
 
--- where memory ran out after files were loaded
-pub no_memory : (q : Question) (a b : FilesSeen) (e : AllocError) → b.held ≡ a.held → a.faults ≤ b.faults → IsDoneOn q a b (Err e)
-no_memory q a b e held rises = record { means = refl; blames = tt; saves = inl held; others = keeps_same a.held b.held (λ name. asked_page q ≡ Some name) held; never_falls = rises }
+-- where memory ran out while files were loaded, or after that
+no_memory : (q : Question) (a b : FilesSeen) (e : AllocError) → b.held ≡ a.held → a.faults ≤ b.faults → CalledFirst a b (loads (files_of (asked_names q))) → IsDoneOn q a b (Err e)
+no_memory q a b e held rises first = record {
+  means = refl;
+  blames = tt;
+  saves = inl held;
+  others = keeps_same a.held b.held (λ name. asked_page q ≡ Some name) held;
+  called = inl first;
+  never_falls = rises;
+}
 
 -- ---- what is said of texts that are held
 
@@ -118,140 +128,207 @@ stands_saves q a b ended.Unsaved none held = inl held
 stands_saves q a b ended.Unwritten none held = held
 stands_saves q a b ended.Memory none held = inl held
 
+-- where no page is asked for, the calls are the loads
+none_asked : (q : Question) (a b : FilesSeen) (e : Ended) → asked_page q ≡ None → AreLoaded (asked_names q) a b → IsCalledWithPage q a b e
+none_asked q a b e none called = subst (λ (page : Option Name). MatchOption page (AreLoaded (asked_names q) a b) (λ name. (bytes : List ℕ) × IsPageOf (asked_names q) a.held e bytes
+    × Called a b (loads (files_of (asked_names q)) ++ saving name bytes ∷ []))) (sym none) called
+
+said_called : (q : Question) (a b : FilesSeen) (t : Texts) (e : Ended) (text : List ℕ) → asked_page q ≡ None → AreLoaded (asked_names q) a b → Says q t e text → IsCalled q a b e
+said_called q a b t (ended.Shown j) text none called says = none_asked q a b (ended.Shown j) none called
+said_called q a b t (ended.Completed j) text none called says = none_asked q a b (ended.Completed j) none called
+said_called q a b t (ended.Compared same) text none called says = none_asked q a b (ended.Compared same) none called
+said_called q a b t (ended.Traced (trail.Broken cycle)) text none called says = none_asked q a b (ended.Traced (trail.Broken cycle)) none called
+said_called q a b t (ended.Traced trail.Holds) text none called says = called
+said_called q a b t (ended.Traced trail.Outside) text none called says = called
+said_called q a b t (ended.TooLong file) text none called says = absurd says
+said_called q a b t (ended.Unread file) text none called says = absurd says
+said_called q a b t ended.Unsaved text none called says = absurd says
+said_called q a b t ended.Memory text none called says = absurd says
+said_called q a b t _ text none called says = called
+
 -- after a question on texts without a page nothing else is done
-pub said_done : (q : Question) (a b : FilesSeen) (t : Texts) (r : Result Answer AllocError) → asked_page q ≡ None → Stands a b → IfSome a.held (λ h. HoldTexts h (asked_names q) t) → IfOk r (λ x. Says q t x.ended x.text.items) → IsDoneOn q a b r
-said_done q a b t (Err e) none s texts says = no_memory q a b e s.held s.never_falls
+pub said_done : (q : Question) (a b : FilesSeen) (t : Texts) (r : Result Answer AllocError) → asked_page q ≡ None → Stands (asked_names q) a b → IfSome a.held (λ h. HoldTexts h (asked_names q) t) → IfOk r (λ x. Says q t x.ended x.text.items) → IsDoneOn q a b r
+said_done q a b t (Err e) none s texts says = no_memory q a b e s.held s.never_falls (called_whole a b (loads (files_of (asked_names q))) s.called)
 said_done q a b t (Ok x) none s texts says = record {
   means = said_means q a.held t x.ended x.text.items texts says;
   blames = said_blames q a b t x.ended x.text.items s.blame says;
   saves = stands_saves q a b x.ended none s.held;
   others = keeps_same a.held b.held (λ name. asked_page q ≡ Some name) s.held;
+  called = said_called q a b t x.ended x.text.items none s.called says;
   never_falls = s.never_falls;
 }
 
 -- ---- files that gave no bytes
 
 unloaded_with : (q : Question) (a b : FilesSeen) (fault : LoadFault) (e : Ended) (text : List ℕ) → b.held ≡ a.held → IsFault (asked_names q) a b fault → IsUnloaded (asked_names q) fault e text
-    → Means q a.held e text × Blames q a b e × Saves q a b e
-unloaded_with q a b (Failed file) e text held fault (is, line) =
-    (subst (λ x. Means q a.held x text) (sym is) line, subst (λ x. Blames q a b x) (sym is) fault, subst (λ x. Saves q a b x) (sym is) held)
-unloaded_with q a b (TooLong file) e text held fault (is, line) =
-    (subst (λ x. Means q a.held x text) (sym is) (fault.0, line), subst (λ x. Blames q a b x) (sym is) fault.1, subst (λ x. Saves q a b x) (sym is) held)
+    → Means q a.held e text × Blames q a b e × Saves q a b e × IsCalled q a b e
+unloaded_with q a b (Failed file) e text held (rose, blamed, up) (is, line) = (
+  subst (λ x. Means q a.held x text) (sym is) line,
+  subst (λ x. Blames q a b x) (sym is) (rose, blamed),
+  subst (λ x. Saves q a b x) (sym is) held,
+  subst (λ x. IsCalled q a b x) (sym is) up,
+)
+unloaded_with q a b (TooLong file) e text held (long, blame, up) (is, line) = (
+  subst (λ x. Means q a.held x text) (sym is) (long, line),
+  subst (λ x. Blames q a b x) (sym is) blame,
+  subst (λ x. Saves q a b x) (sym is) held,
+  subst (λ x. IsCalled q a b x) (sym is) up,
+)
 unloaded_with q a b Memory e text held fault never = absurd never
 
 pub unloaded_done : (q : Question) (a b : FilesSeen) (fault : LoadFault) (r : Result Answer AllocError) → b.held ≡ a.held → a.faults ≤ b.faults → IsFault (asked_names q) a b fault
     → IfOk r (λ x. IsUnloaded (asked_names q) fault x.ended x.text.items) → IsDoneOn q a b r
-unloaded_done q a b fault (Err e) held rises is unloaded = no_memory q a b e held rises
+unloaded_done q a b fault (Err e) held rises is unloaded = no_memory q a b e held rises (fault_first (asked_names q) a b fault is)
 unloaded_done q a b fault (Ok x) held rises is unloaded =
     let all = unloaded_with q a b fault x.ended x.text.items held is unloaded in
-    record { means = all.0; blames = all.1; saves = all.2; others = keeps_same a.held b.held (λ name. asked_page q ≡ Some name) held; never_falls = rises }
+    record { means = all.0; blames = all.1; saves = all.2; others = keeps_same a.held b.held (λ name. asked_page q ≡ Some name) held; called = all.3; never_falls = rises }
 
 -- ---- the page
+
+-- a page that was drawn is that of the design
+page_of : (AreRead : Texts → DesignView → Type 0) (names : Names) (a : Option Held) (t : Texts) (d : DesignView) (title : DesignView → List ℕ) (page : Option (List ℕ)) → IfSome a (λ h. HoldTexts h names t) → AreRead t d
+    → MatchOption page ⊥ (IsPage (title d)) → (bytes : List ℕ) × (page ≡ Some bytes) × IsPageOn AreRead names a title bytes
+page_of AreRead names a t d title None texts is drawn = absurd drawn
+page_of AreRead names a t d title (Some bytes) texts is drawn = (bytes, refl, record { design = d; is_design = IfSome-weaker _ _ a (λ h holds. (t, holds, is)) texts; page = drawn })
+
+-- an answer with a page has one that was drawn
+page_drawn : (names : Names) (a : Option Held) (t : Texts) (e : Ended) (page : Option (List ℕ)) → HasPage e → IfSome a (λ h. HoldTexts h names t) → IsDrawn t e page → (bytes : List ℕ) × (page ≡ Some bytes) × IsPageOf names a e bytes
+page_drawn names a t (ended.Shown j) page has texts (d, read, drawn) = page_of (λ t d. AreDesign t (Ok d)) names a t d (λ d. sentence d j) page texts read drawn
+page_drawn names a t (ended.Completed j) page has texts (d, read, drawn) = page_of AreJoinedDesign names a t d (λ d. completed_sentence d j) page texts read drawn
+page_drawn names a t (ended.Compared same) page has texts (d, read, drawn) = page_of AreJoinedDesign names a t d (λ d. compared_sentence same) page texts read drawn
+page_drawn names a t (ended.Traced (trail.Broken cycle)) page has texts (d, read, drawn) = page_of (λ t d. AreStarted t (Ok d)) names a t d (λ d. sentence d (Broken Commute)) page texts read drawn
+page_drawn names a t _ page has texts drawn = absurd has
+
+-- another has none
+drawn_none : (t : Texts) (e : Ended) (page : Option (List ℕ)) → IsDrawn t e page → HasPage e ⊎ (page ≡ None)
+drawn_none t (ended.Shown j) page drawn = inl tt
+drawn_none t (ended.Completed j) page drawn = inl tt
+drawn_none t (ended.Compared same) page drawn = inl tt
+drawn_none t (ended.Traced (trail.Broken cycle)) page drawn = inl tt
+drawn_none t (ended.Traced trail.Holds) page (d, read, none) = inr none
+drawn_none t (ended.Traced trail.Outside) page (d, read, none) = inr none
+drawn_none t _ page drawn = inr drawn
 
 -- where a page was drawn, there is an answer that shows a case; else the files stand
 may_have_saved : (q : Show) (a c : FilesSeen) (t : Texts) (e : Ended) (text : List ℕ) (page : Option (List ℕ)) → IfSome a.held (λ h. HoldTexts h q.names t) → Says (show q) t e text → IsDrawn t e page
     → (page ≡ None → c.held ≡ a.held) → MayHaveSaved (show q) a c
-may_have_saved q a c t (ended.Refused file offset code) text page texts says drawn stands = inl (stands drawn)
-may_have_saved q a c t (ended.Checked found) text page texts says drawn stands = inl (stands drawn)
-may_have_saved q a c t (ended.Shown j) text page texts says drawn stands = inr (ended.Shown j, text, tt, said_means (show q) a.held t (ended.Shown j) text texts says)
-may_have_saved q a c t (ended.Completed j) text page texts says drawn stands = inr (ended.Completed j, text, tt, said_means (show q) a.held t (ended.Completed j) text texts says)
-may_have_saved q a c t (ended.Compared same) text page texts says drawn stands = inr (ended.Compared same, text, tt, said_means (show q) a.held t (ended.Compared same) text texts says)
-may_have_saved q a c t (ended.Traced (trail.Broken cycle)) text page texts says drawn stands = inr (ended.Traced (trail.Broken cycle), text, tt, said_means (show q) a.held t (ended.Traced (trail.Broken cycle)) text texts says)
-may_have_saved q a c t (ended.Traced trail.Holds) text page texts says (d, is, none) stands = inl (stands none)
-may_have_saved q a c t (ended.Traced trail.Outside) text page texts says (d, is, none) stands = inl (stands none)
-may_have_saved q a c t (ended.Shrunk k) text page texts says drawn stands = inl (stands drawn)
-may_have_saved q a c t (ended.Explained j) text page texts says drawn stands = inl (stands drawn)
-may_have_saved q a c t ended.Unknown text page texts says drawn stands = inl (stands drawn)
-may_have_saved q a c t (ended.Unbroken j) text page texts says drawn stands = inl (stands drawn)
-may_have_saved q a c t (ended.Described found) text page texts says drawn stands = inl (stands drawn)
-may_have_saved q a c t ended.Proved text page texts says drawn stands = inl (stands drawn)
-may_have_saved q a c t (ended.BadProof line column why) text page texts says drawn stands = inl (stands drawn)
-may_have_saved q a c t ended.Told text page texts says drawn stands = inl (stands drawn)
-may_have_saved q a c t ended.Usage text page texts says drawn stands = inl (stands drawn)
-may_have_saved q a c t (ended.TooLong file) text page texts says drawn stands = inl (stands drawn)
-may_have_saved q a c t (ended.Unread file) text page texts says drawn stands = inl (stands drawn)
-may_have_saved q a c t ended.Unsaved text page texts says drawn stands = inl (stands drawn)
-may_have_saved q a c t ended.Unwritten text page texts says drawn stands = inl (stands drawn)
-may_have_saved q a c t ended.Memory text page texts says drawn stands = inl (stands drawn)
+may_have_saved q a c t e text page texts says drawn stands = elim (drawn_none t e page drawn) [
+  | inl has ↦ inr (e, text, has, said_means (show q) a.held t e text texts says)
+  | inr none ↦ inl (stands none)
+]
 
--- a page that was drawn and saved is that of the design
-page_held : (AreRead : Texts → DesignView → Type 0) (names : Names) (a c : Option Held) (t : Texts) (d : DesignView) (title : DesignView → List ℕ) (name : Name) (page : Option (List ℕ)) → IfSome a (λ h. HoldTexts h names t) → AreRead t d
-    → MatchOption page ⊥ (IsPage (title d)) → HoldsDrawn c (Some name) page → HoldsPage AreRead names a c title name
-page_held AreRead names a c t d title name None texts is drawn held = absurd drawn
-page_held AreRead names a c t d title name (Some bytes) texts is drawn held = record {
-  design = d;
-  is_design = IfSome-weaker _ _ a (λ h holds. (t, holds, is)) texts;
-  bytes = bytes;
-  page = drawn;
-  held = held;
-}
+page_kept : (q : Show) (a c : FilesSeen) (t : Texts) (e : Ended) (page : Option (List ℕ)) → HasPage e → IfSome a.held (λ h. HoldTexts h q.names t) → IsDrawn t e page → HoldsDrawn c.held q.page page → HoldsPage (show q) a c e
+page_kept q a c t e page has texts drawn held = λ name is.
+    let of = page_drawn q.names a.held t e page has texts drawn in
+    (of.0, of.2, subst (λ (p : Option (List ℕ)). HoldsDrawn c.held (Some name) p) of.1 (subst (λ (n : Option Name). HoldsDrawn c.held n page) is held))
 
 -- what is saved where the answer stands
 kept_saves : (q : Show) (a c : FilesSeen) (t : Texts) (e : Ended) (page : Option (List ℕ)) → IfSome a.held (λ h. HoldTexts h q.names t) → IsDrawn t e page
     → (page ≡ None → c.held ≡ a.held) → HoldsDrawn c.held q.page page → Saves (show q) a c e
-kept_saves q a c t (ended.Refused file offset code) page texts drawn stands held = stands drawn
-kept_saves q a c t (ended.Checked found) page texts drawn stands held = stands drawn
-kept_saves q a c t (ended.Shown j) page texts (d, read, drawn) stands held = λ name is.
-    page_held (λ t d. AreDesign t (Ok d)) q.names a.held c.held t d (λ d. sentence d j) name page texts read drawn (subst (λ n. HoldsDrawn c.held n page) is held)
-kept_saves q a c t (ended.Completed j) page texts (d, read, drawn) stands held = λ name is.
-    page_held AreJoinedDesign q.names a.held c.held t d (λ d. completed_sentence d j) name page texts read drawn (subst (λ n. HoldsDrawn c.held n page) is held)
-kept_saves q a c t (ended.Compared same) page texts (d, read, drawn) stands held = λ name is.
-    page_held AreJoinedDesign q.names a.held c.held t d (λ d. compared_sentence same) name page texts read drawn (subst (λ n. HoldsDrawn c.held n page) is held)
-kept_saves q a c t (ended.Traced (trail.Broken cycle)) page texts (d, read, drawn) stands held = λ name is.
-    page_held (λ t d. AreStarted t (Ok d)) q.names a.held c.held t d (λ d. sentence d (Broken Commute)) name page texts read drawn (subst (λ n. HoldsDrawn c.held n page) is held)
+kept_saves q a c t (ended.Shown j) page texts drawn stands held = page_kept q a c t (ended.Shown j) page tt texts drawn held
+kept_saves q a c t (ended.Completed j) page texts drawn stands held = page_kept q a c t (ended.Completed j) page tt texts drawn held
+kept_saves q a c t (ended.Compared same) page texts drawn stands held = page_kept q a c t (ended.Compared same) page tt texts drawn held
+kept_saves q a c t (ended.Traced (trail.Broken cycle)) page texts drawn stands held = page_kept q a c t (ended.Traced (trail.Broken cycle)) page tt texts drawn held
 kept_saves q a c t (ended.Traced trail.Holds) page texts (d, read, none) stands held = stands none
 kept_saves q a c t (ended.Traced trail.Outside) page texts (d, read, none) stands held = stands none
-kept_saves q a c t (ended.Shrunk k) page texts drawn stands held = stands drawn
-kept_saves q a c t (ended.Explained j) page texts drawn stands held = stands drawn
-kept_saves q a c t ended.Unknown page texts drawn stands held = stands drawn
-kept_saves q a c t (ended.Unbroken j) page texts drawn stands held = stands drawn
-kept_saves q a c t (ended.Described found) page texts drawn stands held = stands drawn
-kept_saves q a c t ended.Proved page texts drawn stands held = stands drawn
-kept_saves q a c t (ended.BadProof line column why) page texts drawn stands held = stands drawn
-kept_saves q a c t ended.Told page texts drawn stands held = stands drawn
-kept_saves q a c t ended.Usage page texts drawn stands held = stands drawn
-kept_saves q a c t (ended.TooLong file) page texts drawn stands held = stands drawn
-kept_saves q a c t (ended.Unread file) page texts drawn stands held = stands drawn
 kept_saves q a c t ended.Unsaved page texts drawn stands held = inl (stands drawn)
-kept_saves q a c t ended.Unwritten page texts drawn stands held = stands drawn
 kept_saves q a c t ended.Memory page texts drawn stands held = inl (stands drawn)
+kept_saves q a c t _ page texts drawn stands held = stands drawn
+
+-- all files were loaded, and then a page that was drawn was saved, where a name is given for it
+abbrev IsDrawnCalled : Show → Option (List ℕ) → FilesSeen → FilesSeen → Type 0
+IsDrawnCalled q page a c = Called a c (loads (files_of q.names) ++ drawn_saves q.page page)
+
+page_called_by : (page : Option Name) (a c : FilesSeen) (before : List Call) (bytes : List ℕ) (P : List ℕ → Type 0) → P bytes → Called a c (before ++ save_if page bytes)
+    → MatchOption page (Called a c before) (λ name. (x : List ℕ) × P x × Called a c (before ++ saving name x ∷ []))
+page_called_by None a c before bytes P of called = subst (λ cs. Called a c cs) (append-nil before) called
+page_called_by (Some name) a c before bytes P of called = (bytes, of, called)
+
+-- the calls of an answer with a page
+page_called : (q : Show) (a c : FilesSeen) (t : Texts) (e : Ended) (page : Option (List ℕ)) → HasPage e → IfSome a.held (λ h. HoldTexts h q.names t) → IsDrawn t e page → IsDrawnCalled q page a c → IsCalledWithPage (show q) a c e
+page_called q a c t e page has texts drawn called =
+    let of = page_drawn q.names a.held t e page has texts drawn in
+    page_called_by q.page a c (loads (files_of q.names)) of.0 (λ x. IsPageOf q.names a.held e x) of.2 (subst (λ (p : Option (List ℕ)). IsDrawnCalled q p a c) of.1 called)
+
+-- and of one without
+none_called : (q : Show) (a c : FilesSeen) (page : Option (List ℕ)) → page ≡ None → IsDrawnCalled q page a c → AreLoaded q.names a c
+none_called q a c page none called =
+    subst (λ cs. Called a c cs) (append-nil (loads (files_of q.names))) (subst (λ (p : Option (List ℕ)). IsDrawnCalled q p a c) none called)
+
+kept_called : (q : Show) (a c : FilesSeen) (t : Texts) (e : Ended) (text : List ℕ) (page : Option (List ℕ)) → IfSome a.held (λ h. HoldTexts h q.names t) → Says (show q) t e text → IsDrawn t e page → IsDrawnCalled q page a c → IsCalled (show q) a c e
+kept_called q a c t (ended.Shown j) text page texts says drawn called = page_called q a c t (ended.Shown j) page tt texts drawn called
+kept_called q a c t (ended.Completed j) text page texts says drawn called = page_called q a c t (ended.Completed j) page tt texts drawn called
+kept_called q a c t (ended.Compared same) text page texts says drawn called = page_called q a c t (ended.Compared same) page tt texts drawn called
+kept_called q a c t (ended.Traced (trail.Broken cycle)) text page texts says drawn called = page_called q a c t (ended.Traced (trail.Broken cycle)) page tt texts drawn called
+kept_called q a c t (ended.Traced trail.Holds) text page texts says (d, read, none) called = none_called q a c page none called
+kept_called q a c t (ended.Traced trail.Outside) text page texts says (d, read, none) called = none_called q a c page none called
+kept_called q a c t (ended.TooLong file) text page texts says drawn called = absurd says
+kept_called q a c t (ended.Unread file) text page texts says drawn called = absurd says
+kept_called q a c t ended.Unsaved text page texts says drawn called = absurd says
+kept_called q a c t ended.Memory text page texts says drawn called = absurd says
+kept_called q a c t _ text page texts says drawn called = none_called q a c page drawn called
+
+-- the calls of an answer that the run doesn't end with, where it has a page
+called_for_page : (q : Show) (a c : FilesSeen) (t : Texts) (e : Ended) (text : List ℕ) (page : Option (List ℕ)) → IfSome a.held (λ h. HoldTexts h q.names t) → Says (show q) t e text → IsDrawn t e page → IsDrawnCalled q page a c
+    → IsCalledForPage (show q) a c ⊎ (page ≡ None)
+called_for_page q a c t e text page texts says drawn called = elim (drawn_none t e page drawn) [
+  | inl has ↦ inl (e, text, has, said_means (show q) a.held t e text texts says, page_called q a c t e page has texts drawn called)
+  | inr none ↦ inr none
+]
+
+unsaved_called : (q : Show) (a c : FilesSeen) (page : Option (List ℕ)) → is_some page ≡ true → IsCalledForPage (show q) a c ⊎ (page ≡ None) → IsCalledForPage (show q) a c
+unsaved_called q a c page some (inl made) = made
+unsaved_called q a c page some (inr none) =
+    let clash : false ≡ true = subst (λ (p : Option (List ℕ)). is_some p ≡ true) none some in absurd (cc clash)
+
+memory_called : (q : Show) (a c : FilesSeen) (page : Option (List ℕ)) → IsDrawnCalled q page a c → IsCalledForPage (show q) a c ⊎ (page ≡ None) → IsCalled (show q) a c ended.Memory
+memory_called q a c page called (inl made) = inr made
+memory_called q a c page called (inr none) = inl (called_whole a c (loads (files_of q.names)) (none_called q a c page none called))
 
 -- what files hold after a save is the same as before the loads where it is the same as after them
-drawn_stands : (a b c : FilesSeen) (page : Option (List ℕ)) → Stands a b → (page ≡ None → c.held ≡ b.held) → page ≡ None → c.held ≡ a.held
-drawn_stands a b c page s undrawn none = undrawn none ∙ s.held
+drawn_stands : {names : Names} (a b c : FilesSeen) (page : Option (List ℕ)) → Stands names a b → (page ≡ None → c.held ≡ b.held) → page ≡ None → c.held ≡ a.held
+drawn_stands {names} a b c page s undrawn none = undrawn none ∙ s.held
 
-saved_with : (q : Show) (a b c : FilesSeen) (t : Texts) (e : Ended) (text : List ℕ) (page : Option (List ℕ)) (x : Answer) → Stands a b → b.faults ≤ c.faults → IfSome a.held (λ h. HoldTexts h q.names t)
-    → Says (show q) t e text → IsDrawn t e page → (page ≡ None → c.held ≡ b.held) → IsKept q.page page e text b c x
-    → Means (show q) a.held x.ended x.text.items × Blames (show q) a c x.ended × Saves (show q) a c x.ended
-saved_with q a b c t e text page x s rises texts says drawn undrawn kept = elim kept [
+-- the calls after a page was saved
+saved_calls : (q : Show) (a b c : FilesSeen) (page : Option (List ℕ)) → Stands q.names a b → Called b c (drawn_saves q.page page) → IsDrawnCalled q page a c
+saved_calls q a b c page s called = called_then a b c (loads (files_of q.names)) (drawn_saves q.page page) s.called called
+
+saved_with : (q : Show) (a b c : FilesSeen) (t : Texts) (e : Ended) (text : List ℕ) (page : Option (List ℕ)) (x : Answer) → Stands q.names a b → b.faults ≤ c.faults → IfSome a.held (λ h. HoldTexts h q.names t)
+    → Says (show q) t e text → IsDrawn t e page → (page ≡ None → c.held ≡ b.held) → Called b c (drawn_saves q.page page) → IsKept q.page page e text b c x
+    → Means (show q) a.held x.ended x.text.items × Blames (show q) a c x.ended × Saves (show q) a c x.ended × IsCalled (show q) a c x.ended
+saved_with q a b c t e text page x s rises texts says drawn undrawn called kept = elim kept [
   | inl stays ↦
       let still : Says (show q) t x.ended x.text.items = subst (λ y. Says (show q) t y x.text.items) (sym stays.0) (subst (λ y. Says (show q) t e y) (sym stays.1) says) in (
         said_means (show q) a.held t x.ended x.text.items texts still,
         said_blames (show q) a c t x.ended x.text.items (stays.2 ∙ s.blame) still,
         subst (λ y. Saves (show q) a c y) (sym stays.0) (kept_saves q a c t e page texts drawn (drawn_stands a b c page s undrawn) stays.3),
+        subst (λ y. IsCalled (show q) a c y) (sym stays.0) (kept_called q a c t e text page texts says drawn (saved_calls q a b c page s called)),
       )
   | inr fails ↦ (
     subst (λ y. Means (show q) a.held y x.text.items) (sym fails.0) fails.1,
     subst (λ y. Blames (show q) a c y) (sym fails.0) (rose_after a.faults b.faults c.faults s.never_falls rises fails.2, fails.3),
     subst (λ y. Saves (show q) a c y) (sym fails.0) (may_have_saved q a c t e text page texts says drawn (drawn_stands a b c page s undrawn)),
+    subst (λ y. IsCalled (show q) a c y) (sym fails.0) (unsaved_called q a c page fails.4 (called_for_page q a c t e text page texts says drawn (saved_calls q a b c page s called))),
   )
 ]
 
-pub saved_done : (q : Show) (a b c : FilesSeen) (t : Texts) (e : Ended) (text : List ℕ) (page : Option (List ℕ)) (r : Result Answer AllocError) → Stands a b → IfSome a.held (λ h. HoldTexts h q.names t)
-    → Says (show q) t e text → IsDrawn t e page → IsSaved q.page page e text b c r → IsDoneOn (show q) a c r
-saved_done q a b c t e text page (Err x) s texts says drawn saved = record {
+pub saved_done : (q : Show) (a b c : FilesSeen) (t : Texts) (e : Ended) (text : List ℕ) (page : Option (List ℕ)) (r : Result Answer AllocError) → Stands q.names a b → IfSome a.held (λ h. HoldTexts h q.names t)
+    → Says (show q) t e text → IsDrawn t e page → IsSaved q.page page e text b c r → Called b c (drawn_saves q.page page) → IsDoneOn (show q) a c r
+saved_done q a b c t e text page (Err x) s texts says drawn saved called = record {
   means = refl;
   blames = tt;
   saves = may_have_saved q a c t e text page texts says drawn (drawn_stands a b c page s saved.undrawn);
   others = subst (λ h. KeepsAllBut h c.held (λ name. q.page ≡ Some name)) s.held saved.others;
+  called = memory_called q a c page (saved_calls q a b c page s called) (called_for_page q a c t e text page texts says drawn (saved_calls q a b c page s called));
   never_falls = omega (arith, s.never_falls, saved.never_falls);
 }
-saved_done q a b c t e text page (Ok x) s texts says drawn saved =
-    let all = saved_with q a b c t e text page x s saved.never_falls texts says drawn saved.undrawn saved.kept in
+saved_done q a b c t e text page (Ok x) s texts says drawn saved called =
+    let all = saved_with q a b c t e text page x s saved.never_falls texts says drawn saved.undrawn called saved.kept in
     record {
       means = all.0;
       blames = all.1;
       saves = all.2;
       others = subst (λ h. KeepsAllBut h c.held (λ name. q.page ≡ Some name)) s.held saved.others;
+      called = all.3;
       never_falls = omega (arith, s.never_falls, saved.never_falls);
     }

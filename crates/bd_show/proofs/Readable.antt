@@ -95,6 +95,10 @@ pub started_result : (t : Texts) (p s : List ℕ) (i : Option (List ℕ)) (r : R
 started_result t p s i (Ok d) on pipe = subst (λ b. IsMachineText Pipeline b) pipe (pipe_readable Start p s i (design_view d) on)
 started_result t p s i (Err e) on pipe = tt
 
+pub started_spec : (t : Texts) (p s : List ℕ) (i : Option (List ℕ)) (r : Result Design TypeFault) → OnDesign r (DenotesWith Start p s i) → s ≡ t.spec → IfOk r (λ x. IsMachineText Specification t.spec)
+started_spec t p s i (Ok d) on spec = subst (λ b. IsMachineText Specification b) spec (spec_readable Start p s i (design_view d) on)
+started_spec t p s i (Err e) on spec = tt
+
 -- ---- with a completion function
 
 first_part : {A : Type 0} (a : Result AstView Fault) (F : AstView → Result A FileFault) (x : A) → Ok x ≡ (in_file Pipe a >>= F) → IsOk a

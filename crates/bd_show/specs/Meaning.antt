@@ -1,5 +1,5 @@
 -- What the answers to a question say of its texts, and what is left of the files.
-use Rattle.std.specs.Prelude.{◌≡◌, ◌↔◌, ◌⊎◌, ◌≤◌, ◌+◌, ◌++◌, ℕ, Bool, true, false, IsTrue, List, [], ◌∷◌, codes, Option, None, Some, IfSome, is_some, Ok}
+use Rattle.std.specs.Prelude.{◌≡◌, ◌↔◌, ◌⊎◌, ◌≤◌, ◌+◌, ◌++◌, ℕ, Bool, true, false, IsTrue, List, [], ◌∷◌, codes, Option, None, Some, IfSome, MatchOption, is_some, Ok}
 use Rattle.bd_model.specs.DesignView.{DesignView}
 use Rattle.bd_cnf.specs.Problem.{Problem}
 use Rattle.bd_lrat.specs.Log.{IsRefutation}
@@ -35,15 +35,15 @@ use Rattle.bd_about.specs.declared.asking.Findings.{Findings}
 use Rattle.bd_about.specs.declared.counting.Applications.{Applications}
 use Rattle.bd_about.specs.declared.unread.Unread.{Unread as AllUnread}
 use Rattle.bd_about.specs.declared.unread_lines.LetNames.{LetNames}
-use Rattle.bd_case.specs.Text as case
-use Rattle.bd_files.specs.Devices.{Held, Holds as IsHeld, Rose}
+use Rattle.bd_files.specs.Devices.{Held, Holds as IsHeld, Rose, saving}
 use Rattle.bd_picture.specs.Page.{IsPage}
 use Rattle.bd_picture.specs.Sentence.{compared_sentence, completed_sentence, sentence}
 use Rattle.bd_app.specs.Completions.{abstraction_by}
-use Rattle.bd_app.specs.Files.{IsFirstLong, KeepsAllBut}
-use Rattle.bd_app.specs.Meaning.{FilesSeen}
+use Rattle.bd_app.specs.Files.{IsFirstLong, KeepsAllBut, loads}
+use Rattle.bd_app.specs.Meaning.{Called, CalledFirst, FilesSeen, LoadedUpTo}
 use Rattle.bd_app.specs.ProofFaults.{cause_text}
 use Rattle.bd_app.specs.Retrace.{retraced_words}
+use Rattle.bd_app.specs.Texts.{IsTextOf, case_kind}
 use Rattle.bd_app.specs.Verdicts.{IsVerdict, verdict_words}
 use Rattle.bd_app.specs.Words.{Name}
 use Rattle.bd_app.specs.declared.verdict.Asked.{Asked}
@@ -198,12 +198,12 @@ pub record IsChecked (asked : Asked) (d : DesignView) (found : Finding) (text : 
   pub is_shown : IsShownOf d verdict shown
   pub lines : text ≡ (verdict_words asked.budget verdict ++ 10 ∷ []) ++ shown
 
--- the text is a small case that breaks the same condition
+-- the text is a small case that breaks the same condition, and reads back as that case
 pub record IsSmaller (d : DesignView) (c : Case) (k : Condition) (text : List ℕ) : Type 0 where
   pub is_judged : IsJudged d c (Broken k)
   pub left : Case
   pub shrunk : IsShrunk d c k left
-  pub printed : text ≡ case.text_of d left
+  pub printed : IsTextOf case_kind d left text
 
 abbrev pub nothing_to_shrink : Judged → List ℕ
 nothing_to_shrink Holds = codes "nothing to shrink: the case holds\n"
@@ -354,16 +354,25 @@ Blames q before after e = after.blame ≡ before.blame
 abbrev pub AreJoinedDesign : Texts → DesignView → Type 0
 AreJoinedDesign texts d = (j : JoinedView) × AreJoined texts (Ok j) × (d ≡ j.design)
 
--- the page of what is shown is held under this name: its title is the sentence of what is found of a case, on a design as
--- which the texts are read
-pub record HoldsPage (AreRead : Texts → DesignView → Type 0) (names : Names)
-    (before after : Option Held) (title : DesignView → List ℕ) (name : Name) : Type 0 where
+-- these bytes are a page whose title is the sentence of what is found, on a design as which the texts are read
+pub record IsPageOn (AreRead : Texts → DesignView → Type 0) (names : Names) (held : Option Held)
+    (title : DesignView → List ℕ) (bytes : List ℕ) : Type 0 where
   pub design : DesignView
-  pub is_design : IfSome before (λ h. (texts : Texts) × HoldTexts h names texts
+  pub is_design : IfSome held (λ h. (texts : Texts) × HoldTexts h names texts
       × AreRead texts design)
-  pub bytes : List ℕ
   pub page : IsPage (title design) bytes
-  pub held : IsHeld after name bytes
+
+-- these bytes are the page of an answer
+abbrev pub IsPageOf : Names → Option Held → Ended → List ℕ → Type 0
+IsPageOf names held (Shown j) bytes =
+    IsPageOn (λ t d. AreDesign t (Ok d)) names held (λ d. sentence d j) bytes
+IsPageOf names held (Completed j) bytes =
+    IsPageOn AreJoinedDesign names held (λ d. completed_sentence d j) bytes
+IsPageOf names held (Compared same) bytes =
+    IsPageOn AreJoinedDesign names held (λ d. compared_sentence same) bytes
+IsPageOf names held (Traced (trail.Broken cycle)) bytes =
+    IsPageOn (λ t d. AreStarted t (Ok d)) names held (λ d. sentence d (Broken Commute)) bytes
+IsPageOf names held e bytes = ⊥
 
 -- an answer with a page: a case is shown, by flushing or by a completion function, or a trail with the cycle that breaks
 abbrev pub HasPage : Ended → Type 0
@@ -379,28 +388,61 @@ MayHaveSaved q before after =
     (after.held ≡ before.held)
     ⊎ ((e : Ended) × (text : List ℕ) × HasPage e × Means q before.held e text)
 
+-- the page of an answer is held under its name, where one is asked for
+abbrev pub HoldsPage : Question → FilesSeen → FilesSeen → Ended → Type 0
+HoldsPage q before after e =
+    (name : Name) → asked_page q ≡ Some name →
+    (bytes : List ℕ) × IsPageOf (asked_names q) before.held e bytes × IsHeld after.held name bytes
+
 -- what is saved: the page of what is shown, where one is asked for; nothing before another answer, unless the save of
 -- such a page failed or wanted memory
 abbrev pub Saves : Question → FilesSeen → FilesSeen → Ended → Type 0
-Saves q before after (Shown j) =
-    (name : Name) → asked_page q ≡ Some name →
-    HoldsPage (λ t d. AreDesign t (Ok d)) (asked_names q) before.held after.held
-    (λ d. sentence d j) name
-Saves q before after (Completed j) =
-    (name : Name) → asked_page q ≡ Some name →
-    HoldsPage AreJoinedDesign (asked_names q) before.held after.held
-    (λ d. completed_sentence d j) name
-Saves q before after (Compared same) =
-    (name : Name) → asked_page q ≡ Some name →
-    HoldsPage AreJoinedDesign (asked_names q) before.held after.held
-    (λ d. compared_sentence same) name
+Saves q before after (Shown j) = HoldsPage q before after (Shown j)
+Saves q before after (Completed j) = HoldsPage q before after (Completed j)
+Saves q before after (Compared same) = HoldsPage q before after (Compared same)
 Saves q before after (Traced (trail.Broken cycle)) =
-    (name : Name) → asked_page q ≡ Some name →
-    HoldsPage (λ t d. AreStarted t (Ok d)) (asked_names q) before.held after.held
-    (λ d. sentence d (Broken Commute)) name
+    HoldsPage q before after (Traced (trail.Broken cycle))
 Saves q before after Unsaved = MayHaveSaved q before after
 Saves q before after Memory = MayHaveSaved q before after
 Saves q before after e = after.held ≡ before.held
+
+-- ---- the calls on the files
+
+-- each file was loaded once, in the order of the words
+abbrev pub AreLoaded : Names → FilesSeen → FilesSeen → Type 0
+AreLoaded names before after = Called before after (loads (files_of names))
+
+-- the files up to this one were: those before it are held, and aren't too long
+abbrev pub AreLoadedUpTo : Names → FilesSeen → FilesSeen → Text → Type 0
+AreLoadedUpTo names before after file =
+    LoadedUpTo before after (files_of names) (file, name_in names file)
+
+-- each file was loaded once, and then the page of an answer was saved once, where one is asked for
+abbrev pub IsCalledWithPage : Question → FilesSeen → FilesSeen → Ended → Type 0
+IsCalledWithPage q before after e =
+    MatchOption (asked_page q) (AreLoaded (asked_names q) before after) (λ name. (bytes : List ℕ)
+    × IsPageOf (asked_names q) before.held e bytes
+    × Called before after (loads (files_of (asked_names q)) ++ saving name bytes ∷ []))
+
+-- there was an answer with a page, and these are its calls
+abbrev pub IsCalledForPage : Question → FilesSeen → FilesSeen → Type 0
+IsCalledForPage q before after =
+    (e : Ended) × (text : List ℕ) × HasPage e × Means q before.held e text
+    × IsCalledWithPage q before after e
+
+-- the calls before an answer: the loads, all of them or up to the file that gives no bytes, and then the save of its page
+abbrev pub IsCalled : Question → FilesSeen → FilesSeen → Ended → Type 0
+IsCalled q before after (TooLong file) = AreLoadedUpTo (asked_names q) before after file
+IsCalled q before after (Unread file) = AreLoadedUpTo (asked_names q) before after file
+IsCalled q before after (Shown j) = IsCalledWithPage q before after (Shown j)
+IsCalled q before after (Completed j) = IsCalledWithPage q before after (Completed j)
+IsCalled q before after (Compared same) = IsCalledWithPage q before after (Compared same)
+IsCalled q before after (Traced (trail.Broken cycle)) =
+    IsCalledWithPage q before after (Traced (trail.Broken cycle))
+IsCalled q before after Unsaved = IsCalledForPage q before after
+IsCalled q before after Memory =
+    CalledFirst before after (loads (files_of (asked_names q))) ⊎ IsCalledForPage q before after
+IsCalled q before after e = AreLoaded (asked_names q) before after
 
 -- the answer to a question, with its text
 pub record IsAnswered (q : Question) (before after : FilesSeen) (e : Ended) (text : List ℕ) :
@@ -410,4 +452,6 @@ pub record IsAnswered (q : Question) (before after : FilesSeen) (e : Ended) (tex
   pub saves : Saves q before after e
   -- nothing is saved under another name than the page's
   pub others : KeepsAllBut before.held after.held (λ name. asked_page q ≡ Some name)
+  -- each file is loaded once, and then the page is saved once
+  pub called : IsCalled q before after e
   pub never_falls : before.faults ≤ after.faults

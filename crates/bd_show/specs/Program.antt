@@ -1,6 +1,6 @@
 -- What a run of the program does with the words of its command line, its files and its two streams.
 use Rattle.std.specs.Prelude.{◌≡◌, ◌⊎◌, ℕ, List, codes, Some, None}
-use Rattle.bd_files.specs.Devices.{Appends, AppendsPrefix, PutsOrFaults, Rose}
+use Rattle.bd_files.specs.Devices.{Appends, AppendsPrefix, Counts, PutsOrFaults, Rose}
 use Rattle.bd_app.specs.Meaning.{FilesSeen}
 use Rattle.bd_app.specs.Program.{SinkSeen}
 use Rattle.bd_show.specs.Answer.{HasReport}
@@ -37,6 +37,8 @@ pub record IsPut (e : Ended) (text : List ℕ) (ended : Ended) (out out' err err
       ((ended ≡ e) × Appends out.written out'.written text × (err' ≡ err))
       ⊎ ((ended ≡ Unwritten) × Rose out.faults out'.faults
       × AppendsPrefix out.written out'.written text × PutsLine err err' (codes "cannot write\n"))
+  -- it is put at once
+  pub one_put : HasReport e → Counts out.puts out'.puts 1
   -- any other text is the error output's, and the output is left alone
   pub no_report : ¬ HasReport e → (ended ≡ e) × (out' ≡ out) × PutsLine err err' text
 

@@ -66,7 +66,7 @@ fn on_texts(alloc: Global, names: FileNames<'_>, texts: &Texts) -> Result<Answer
     }
 }
 
-/// Its answer.
+/// The answer of `about` on the files of these names.
 pub fn answer<F: Files>(
     alloc: Global,
     files: &mut F,

@@ -10,17 +10,17 @@ ghost use Rattle.bd_show.specs.inner.Answered.{IsDoneOn, IsOfVerdict, check_of};
 ghost use Rattle.bd_show.specs.inner.Loaded.{AreFew, texts_view};
 
 use crate::answer::{Answer, Ended};
-use crate::claim_names::{claim_names, let_names};
+use crate::claim_names::claim_names;
 use crate::fault::{refused, unloaded};
 use crate::load::{FileNames, Texts, load_texts};
 use crate::names::machine_lets;
 use crate::read::design;
-use crate::show::pictured;
+use crate::show::pictured_text;
 use bd_about::finding_of;
 use bd_app::{Asked, decide, verdict_report};
 use bd_files::Files;
 use bd_model::{Design, Judged};
-use bd_picture::{ShownNames, text_of};
+use bd_picture::ShownNames;
 use bd_syntax::Kind;
 use bd_verify::{Mode, Verdict};
 use std::alloc::{AllocError, Global};
@@ -60,7 +60,7 @@ fn shown_case(
     match verdict {
         Verdict::Wrong(condition, case, _) => {
             let lets = machine_lets(alloc, texts.pipe.as_slice(), Kind::Pipeline)?;
-            let steps = let_names(alloc, texts.spec.as_slice())?;
+            let steps = machine_lets(alloc, texts.spec.as_slice(), Kind::Specification)?;
             let claims = claim_names(alloc, &texts.inv)?;
             let names = ShownNames {
                 lets: lets.as_slice(),
@@ -68,8 +68,7 @@ fn shown_case(
                 claims: claims.as_slice(),
             };
             let judged = Judged::Broken(*condition);
-            let picture = pictured(alloc, design, case, judged, false, names)?;
-            text_of(alloc, &picture)
+            pictured_text(alloc, design, case, judged, names)
         }
         _ => Ok(Vec::new(alloc)),
     }
@@ -124,7 +123,7 @@ fn on_texts(alloc: Global, options: CheckOptions<'_>, texts: &Texts) -> Result<A
     }
 }
 
-/// Its answer.
+/// The answer of `check` on the files of these names.
 pub fn answer<F: Files>(
     alloc: Global,
     files: &mut F,

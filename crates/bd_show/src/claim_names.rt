@@ -1,7 +1,9 @@
-//! What the lets of a machine, and the lets and conjuncts of an invariant, are called where their values are shown. Of an
-//! invariant it's the line of each, with the let's name or the conjunct's text.
+//! What the lets and conjuncts of an invariant are called where their values are shown: the line of each, with the let's
+//! name or the conjunct's text.
 
-use bd_text::{TextFault, Tree, Trees, read_trees};
+use bd_outline::{atom_at, is_headed, parts_of, trees_of};
+use bd_syntax::lists::offset_of;
+use bd_text::Tree;
 use itoa::Buffer;
 use std::alloc::{AllocError, Global};
 
@@ -29,27 +31,14 @@ impl Cursor<'_> {
     }
 }
 
-/// Where a tree begins.
-fn offset_of(tree: &Tree) -> usize {
-    match tree {
-        Tree::Atom { offset, .. } | Tree::List { offset, .. } => *offset,
-    }
-}
-
 /// The parts of a list; an atom has none.
-fn parts_of(tree: &Tree) -> &[Tree] {
-    match tree {
-        Tree::Atom { .. } => &[],
-        Tree::List { parts, .. } => parts.as_slice(),
-    }
+fn inside(tree: &Tree) -> &[Tree] {
+    parts_of(tree).unwrap_or(&[])
 }
 
-/// The atom at a place of a list, empty where there is none.
-fn atom_at(tree: &Tree, place: usize) -> &[u8] {
-    match parts_of(tree).get(place) {
-        Some(Tree::Atom { text, .. }) => text.as_slice(),
-        _ => &[],
-    }
+/// The word that stands second in a list, empty where there is none.
+fn word_after_head(tree: &Tree) -> &[u8] {
+    atom_at(inside(tree), 1).unwrap_or(&[])
 }
 
 /// The text of a tree as far as it is shown, and whether that is all of it.
@@ -110,7 +99,7 @@ fn numbered(alloc: Global, cursor: &mut Cursor<'_>, tree: &Tree) -> Result<Vec<u
 fn let_name(alloc: Global, cursor: &mut Cursor<'_>, tree: &Tree) -> Result<Vec<u8>, AllocError> {
     let mut name = numbered(alloc, cursor, tree)?;
     name.extend_from_slice(b"let ")?;
-    name.extend_from_slice(atom_at(tree, 1))?;
+    name.extend_from_slice(word_after_head(tree))?;
     Ok(name)
 }
 
@@ -132,11 +121,11 @@ fn push_conjuncts(
     cursor: &mut Cursor<'_>,
     whole: &Tree,
 ) -> Result<(), AllocError> {
-    if atom_at(whole, 0) != b"and".as_slice() {
+    if !is_headed(whole, b"and") {
         names.push(conjunct_name(alloc, cursor, whole)?)?;
         return Ok(());
     }
-    for part in parts_of(whole).get(1..).unwrap_or(&[]) {
+    for part in inside(whole).get(1..).unwrap_or(&[]) {
         names.push(conjunct_name(alloc, cursor, part)?)?;
     }
     Ok(())
@@ -150,36 +139,13 @@ fn names_in(alloc: Global, text: &[u8], invariant: &Tree) -> Result<Vec<Vec<u8>>
         at: 0,
         line: 1,
     };
-    for part in parts_of(invariant) {
-        if atom_at(part, 0) == b"let".as_slice() {
+    for part in inside(invariant) {
+        if is_headed(part, b"let") {
             names.push(let_name(alloc, &mut cursor, part)?)?;
         }
     }
-    if let Some(whole) = parts_of(invariant).last() {
+    if let Some(whole) = inside(invariant).last() {
         push_conjuncts(alloc, &mut names, &mut cursor, whole)?;
-    }
-    Ok(names)
-}
-
-/// The trees of a text, none where it has a fault.
-fn trees_of(alloc: Global, text: &[u8]) -> Result<Trees, AllocError> {
-    match read_trees(alloc, text) {
-        Ok(trees) => Ok(trees),
-        Err(TextFault::Bad { .. }) => Ok(Trees::from_vec(Vec::new(alloc))),
-        Err(TextFault::Memory) => Err(AllocError),
-    }
-}
-
-/// The names of the lets of a machine's text, in their order.
-pub fn let_names(alloc: Global, text: &[u8]) -> Result<Vec<Vec<u8>>, AllocError> {
-    let trees = trees_of(alloc, text)?;
-    let mut names = Vec::new(alloc);
-    if let Some(machine) = trees.get(0) {
-        for part in parts_of(machine) {
-            if atom_at(part, 0) == b"let".as_slice() {
-                names.push(Vec::from_slice(alloc, atom_at(part, 1))?)?;
-            }
-        }
     }
     Ok(names)
 }

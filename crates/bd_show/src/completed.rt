@@ -15,9 +15,8 @@ ghost use Rattle.bd_typer.specs.Joined.{joined_view};
 ghost use Rattle.bd_show.specs.Claims.{claim_in};
 ghost use Rattle.bd_show.specs.Files.{AreJoined};
 ghost use Rattle.bd_show.specs.LetNames.{IsMachineText};
-ghost use Rattle.bd_show.specs.Meaning.{Question, Says};
 ghost use Rattle.bd_show.specs.declared.claim.Claim.TheVariants.{Differ};
-ghost use Rattle.bd_show.specs.inner.Answered.{IsDrawn, IsOfJoined, show_of};
+ghost use Rattle.bd_show.specs.inner.Answered.{HasAnswer, HasDrawn, IsOfJoined};
 ghost use Rattle.bd_show.specs.inner.Loaded.{AreFew, texts_view};
 
 use crate::answer::{Answer, Ended};
@@ -226,10 +225,8 @@ fn on_design(
     requires given { is_some (texts_view texts.now).comp ≡ true }
     requires lawful { IsLawful (design_view joined.now.design) }
     requires readable { IsMachineText Pipeline (texts_view texts.now).pipe }
-    ensures says { IfOk result (λ r. Says (Question.show (show_of options.entry))
-        (texts_view texts.now) r.answer.ended r.answer.text.items) }
-    ensures drawn { IfOk result (λ r.
-        IsDrawn (texts_view texts.now) r.answer.ended (bytes_of r.page)) }
+    ensures says { IfOk result (HasAnswer options.entry (texts_view texts.now)) }
+    ensures drawn { IfOk result (HasDrawn (texts_view texts.now)) }
 {
     let lets = machine_lets(alloc, texts.pipe.as_slice(), Kind::Pipeline)?;
     let claims = claim_names(alloc, &texts.inv)?;
@@ -258,10 +255,8 @@ pub fn on_joined(
 ) -> Result<Showing, AllocError>
     requires few { AreFew (texts_view texts.now) }
     requires comp { (texts_view texts.now).comp ≡ Some comp.now }
-    ensures says { IfOk result (λ r. Says (Question.show (show_of options.entry))
-        (texts_view texts.now) r.answer.ended r.answer.text.items) }
-    ensures drawn { IfOk result (λ r.
-        IsDrawn (texts_view texts.now) r.answer.ended (bytes_of r.page)) }
+    ensures says { IfOk result (HasAnswer options.entry (texts_view texts.now)) }
+    ensures drawn { IfOk result (HasDrawn (texts_view texts.now)) }
 {
     match joined(alloc, texts, comp) {
         Ok(joined) => on_design(alloc, options, texts, &joined),

@@ -36,7 +36,8 @@ pub fn load_texts<F: Files>(files: &mut F, names: FileNames<'_>) -> Result<Texts
     ensures held { IfOk result (λ texts. IfSome (F.held files.old) (λ held.
         HoldTexts held (names_of names.entry) (texts_view texts))) }
     ensures few { IfOk result (λ texts. AreFew (texts_view texts)) }
-    ensures left { IsLoad (names_of names.entry) (files_seen F.held F.faults F.blame F.calls files.old)
+    ensures left { IsLoad (names_of names.entry)
+        (files_seen F.held F.faults F.blame F.calls files.old)
         (files_seen F.held F.faults F.blame F.calls files.new) result }
 {
     let pipe = load(files, Text::Pipe, names.pipe)?;

@@ -46,8 +46,10 @@ pub fn put_text<E: Sink>(err: &mut E, text: &[u8])
 /// Puts an answer on its stream. Where the output fails, or memory ran out, that is the answer.
 fn put<O: Sink, E: Sink>(answer: Result<Answer, AllocError>, out: &mut O, err: &mut E) -> Ended
     ensures { IsPut (ended_of answer) (text_of answer) result
-        (sink_seen O.written O.faults O.puts out.old) (sink_seen O.written O.faults O.puts out.new)
-        (sink_seen E.written E.faults E.puts err.old) (sink_seen E.written E.faults E.puts err.new) }
+        (sink_seen O.written O.faults O.puts out.old)
+        (sink_seen O.written O.faults O.puts out.new)
+        (sink_seen E.written E.faults E.puts err.old)
+        (sink_seen E.written E.faults E.puts err.new) }
 {
     let Ok(Answer { ended, text }) = answer else {
         put_text(err, b"out of memory\n");
@@ -79,8 +81,10 @@ pub fn run<F: Files, O: Sink, E: Sink>(
     ensures { IsRun (texts_of words.now) result
         (files_seen F.held F.faults F.blame F.calls files.old)
         (files_seen F.held F.faults F.blame F.calls files.new)
-        (sink_seen O.written O.faults O.puts out.old) (sink_seen O.written O.faults O.puts out.new)
-        (sink_seen E.written E.faults E.puts err.old) (sink_seen E.written E.faults E.puts err.new) }
+        (sink_seen O.written O.faults O.puts out.old)
+        (sink_seen O.written O.faults O.puts out.new)
+        (sink_seen E.written E.faults E.puts err.old)
+        (sink_seen E.written E.faults E.puts err.new) }
 {
     let answer = answer_of(alloc, words, files);
     put(answer, out, err)

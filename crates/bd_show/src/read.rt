@@ -7,7 +7,7 @@ ghost use Rattle.bd_app.specs.Loading.{bytes_of};
 ghost use Rattle.bd_model.specs.Fits.{Fits};
 ghost use Rattle.bd_model.specs.Lawful.{IsLawful};
 ghost use Rattle.bd_model.specs.Limits.{most_cycles};
-ghost use Rattle.bd_syntax.specs.declared.ast.Kind.TheVariants.{Pipeline};
+ghost use Rattle.bd_syntax.specs.declared.ast.Kind.TheVariants.{Pipeline, Specification};
 ghost use Rattle.bd_typer.specs.Joined.{joined_view};
 ghost use Rattle.bd_show.specs.Files.{AreCase, AreDesign, AreJoined, AreJoinedCase, AreStarted, AreTrail, IsCaseOf, IsJoinedFault, IsStartedFault, begins_trail, commented, has_trail};
 ghost use Rattle.bd_show.specs.LetNames.{AreReadable, IsMachineText};
@@ -43,6 +43,8 @@ pub fn started(alloc: Global, texts: &Texts) -> Result<Design, DesignFault>
     ensures read { IfOk result (λ d. AreStarted (texts_view texts.now) (Ok (design_view d))) }
     ensures lawful { IfOk result (λ d. IsLawful (design_view d)) }
     ensures readable { IfOk result (λ _. IsMachineText Pipeline (texts_view texts.now).pipe) }
+    ensures spec_readable { IfOk result (λ _.
+        IsMachineText Specification (texts_view texts.now).spec) }
     ensures refused { IfErr result (IsRefusedBy (IsStartedFault (texts_view texts.now))) }
 {
     let start = match &texts.inv {

@@ -99,7 +99,7 @@ fn on_texts(alloc: Global, options: RecheckOptions<'_>, texts: &Texts) -> Result
     }
 }
 
-/// Its answer.
+/// The answer of `recheck` on the files of these names.
 pub fn answer<F: Files>(
     alloc: Global,
     files: &mut F,

@@ -4,6 +4,7 @@ ghost use Rattle.bd_model.specs.Conditions.{IsJudged};
 ghost use Rattle.bd_model.specs.DesignView.{design_view};
 ghost use Rattle.bd_model.specs.Fits.{Fits};
 ghost use Rattle.bd_model.specs.Lawful.{IsLawful};
+ghost use Rattle.bd_files.specs.Devices.{Makes};
 ghost use Rattle.bd_app.specs.Loading.{bytes_of};
 ghost use Rattle.bd_app.specs.Meaning.{files_seen};
 ghost use Rattle.bd_app.specs.Words.{given};
@@ -12,13 +13,13 @@ ghost use Rattle.bd_picture.specs.Sentence.{sentence};
 ghost use Rattle.bd_show.specs.Files.{AreDesign, has_trail, names_of};
 ghost use Rattle.bd_show.specs.LetNames.{AreReadable};
 ghost use Rattle.bd_show.specs.Claims.{claim_in, claim_note};
-ghost use Rattle.bd_show.specs.Meaning.{IsLeft, IsShown, IsShownOfText, Question, Says};
-ghost use Rattle.bd_show.specs.inner.Answered.{IsDoneOn, IsDrawn, IsSaved, show_of};
+ghost use Rattle.bd_show.specs.Meaning.{IsLeft, IsShown, IsShownOfText, Question};
+ghost use Rattle.bd_show.specs.inner.Answered.{HasAnswer, HasDrawn, IsDoneOn, IsSaved, drawn_saves, show_of};
 ghost use Rattle.bd_show.specs.inner.Loaded.{AreFew, texts_view};
 
 use crate::answer::{Answer, Ended};
 use crate::claim::push_note;
-use crate::claim_names::{claim_names, let_names};
+use crate::claim_names::claim_names;
 use crate::completed::on_joined;
 use crate::fault::{joined, refused, unloaded};
 use crate::load::{FileNames, Texts, load_texts};
@@ -103,13 +104,31 @@ pub fn pictured(
 ) -> Result<Picture, AllocError>
     requires fits { Fits (design_view design.now) case.now }
     requires judged { IsJudged (design_view design.now) case.now judged }
-    ensures left { IfOk result (λ p. (s : Case) × IsLeft whole (design_view design.now) case.now judged s
+    ensures left { IfOk result (λ p. (s : Case)
+        × IsLeft whole (design_view design.now) case.now judged s
         × IsJudged (design_view design.now) s judged) }
     ensures sentence { IfOk result (λ p.
         p.sentence.items ≡ sentence (design_view design.now) judged) }
 {
     let left = left(alloc, design, case, judged, whole)?;
     drawn(alloc, design, &left, judged, whole, names)
+}
+
+/// The text of the picture of what is left of a case that is judged so.
+pub fn pictured_text(
+    alloc: Global,
+    design: &Design,
+    case: &Case,
+    judged: Judged,
+    names: ShownNames<'_>,
+) -> Result<Vec<u8>, AllocError>
+    requires fits { Fits (design_view design.now) case.now }
+    requires judged { IsJudged (design_view design.now) case.now judged }
+    ensures { IfOk result (λ text.
+        IsShown false (design_view design.now) case.now judged text.items) }
+{
+    let picture = pictured(alloc, design, case, judged, false, names)?;
+    text_of(alloc, &picture)
 }
 
 /// The answer on a case that is judged so.
@@ -195,13 +214,11 @@ fn on_design(
     requires alone { (texts_view texts.now).comp ≡ None }
     requires case { has_trail (texts_view texts.now) ≡ false }
     requires readable { AreReadable (texts_view texts.now) }
-    ensures says { IfOk result (λ r. Says (Question.show (show_of options.entry))
-        (texts_view texts.now) r.answer.ended r.answer.text.items) }
-    ensures drawn { IfOk result (λ r.
-        IsDrawn (texts_view texts.now) r.answer.ended (bytes_of r.page)) }
+    ensures says { IfOk result (HasAnswer options.entry (texts_view texts.now)) }
+    ensures drawn { IfOk result (HasDrawn (texts_view texts.now)) }
 {
     let lets = machine_lets(alloc, texts.pipe.as_slice(), Kind::Pipeline)?;
-    let steps = let_names(alloc, texts.spec.as_slice())?;
+    let steps = machine_lets(alloc, texts.spec.as_slice(), Kind::Specification)?;
     let claims = claim_names(alloc, &texts.inv)?;
     match case(alloc, design, texts) {
         Ok(case) => {
@@ -225,10 +242,8 @@ fn on_no_trail(
     requires few { AreFew (texts_view texts.now) }
     requires alone { (texts_view texts.now).comp ≡ None }
     requires case { has_trail (texts_view texts.now) ≡ false }
-    ensures says { IfOk result (λ r. Says (Question.show (show_of options.entry))
-        (texts_view texts.now) r.answer.ended r.answer.text.items) }
-    ensures drawn { IfOk result (λ r.
-        IsDrawn (texts_view texts.now) r.answer.ended (bytes_of r.page)) }
+    ensures says { IfOk result (HasAnswer options.entry (texts_view texts.now)) }
+    ensures drawn { IfOk result (HasDrawn (texts_view texts.now)) }
 {
     match design(alloc, texts) {
         Ok(design) => on_design(alloc, options, texts, &design),
@@ -240,10 +255,8 @@ fn on_no_trail(
 fn on_alone(alloc: Global, options: ShowOptions<'_>, texts: &Texts) -> Result<Showing, AllocError>
     requires few { AreFew (texts_view texts.now) }
     requires alone { (texts_view texts.now).comp ≡ None }
-    ensures says { IfOk result (λ r. Says (Question.show (show_of options.entry))
-        (texts_view texts.now) r.answer.ended r.answer.text.items) }
-    ensures drawn { IfOk result (λ r.
-        IsDrawn (texts_view texts.now) r.answer.ended (bytes_of r.page)) }
+    ensures says { IfOk result (HasAnswer options.entry (texts_view texts.now)) }
+    ensures drawn { IfOk result (HasDrawn (texts_view texts.now)) }
 {
     if has_trail(alloc, texts)? {
         on_trail(alloc, options, texts)
@@ -255,10 +268,8 @@ fn on_alone(alloc: Global, options: ShowOptions<'_>, texts: &Texts) -> Result<Sh
 /// The answer on texts.
 fn on_texts(alloc: Global, options: ShowOptions<'_>, texts: &Texts) -> Result<Showing, AllocError>
     requires { AreFew (texts_view texts.now) }
-    ensures says { IfOk result (λ r. Says (Question.show (show_of options.entry))
-        (texts_view texts.now) r.answer.ended r.answer.text.items) }
-    ensures drawn { IfOk result (λ r.
-        IsDrawn (texts_view texts.now) r.answer.ended (bytes_of r.page)) }
+    ensures says { IfOk result (HasAnswer options.entry (texts_view texts.now)) }
+    ensures drawn { IfOk result (HasDrawn (texts_view texts.now)) }
 {
     match &texts.comp {
         Some(comp) => on_joined(alloc, options, texts, comp.as_slice()),
@@ -273,10 +284,12 @@ fn saved<F: Files>(
     page: Option<&str>,
     drawn: Showing,
 ) -> Result<Answer, AllocError>
-    ensures { IsSaved (given page.entry) (bytes_of drawn.page)
+    ensures saved { IsSaved (given page.entry) (bytes_of drawn.page)
         drawn.answer.ended drawn.answer.text.items
         (files_seen F.held F.faults F.blame F.calls files.old)
         (files_seen F.held F.faults F.blame F.calls files.new) result }
+    ensures called { Makes (F.calls files.old) (F.calls files.new)
+        (drawn_saves (given page.entry) (bytes_of drawn.page)) }
 {
     let Showing {
         answer,
@@ -298,7 +311,7 @@ fn saved<F: Files>(
     }
 }
 
-/// Its answer.
+/// The answer of `show` on the files of these names, with its page saved where one is asked for.
 pub fn answer<F: Files>(
     alloc: Global,
     files: &mut F,

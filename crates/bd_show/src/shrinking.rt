@@ -5,6 +5,7 @@ ghost use Rattle.bd_model.specs.DesignView.{design_view};
 ghost use Rattle.bd_model.specs.Fits.{Fits};
 ghost use Rattle.bd_model.specs.Lawful.{IsLawful};
 ghost use Rattle.bd_app.specs.Meaning.{files_seen};
+ghost use Rattle.bd_app.specs.Texts.{IsTextOf, case_kind};
 ghost use Rattle.bd_show.specs.Files.{AreDesign, names_of};
 ghost use Rattle.bd_show.specs.Meaning.{IsSmaller, Question, Says};
 ghost use Rattle.bd_show.specs.inner.Answered.{IsDoneOn, IsOfCase};
@@ -31,6 +32,16 @@ pub fn unbroken(alloc: Global, judged: Judged, line: &str) -> Result<Answer, All
     })
 }
 
+/// The text of a case, which reads back as that case.
+fn printed(alloc: Global, design: &Design, case: &Case) -> Result<Vec<u8>, AllocError>
+    requires lawful { IsLawful (design_view design.now) }
+    requires fits { Fits (design_view design.now) case.now }
+    ensures { IfOk result (λ text.
+        IsTextOf case_kind (design_view design.now) case.now text.items) }
+{
+    case_text(alloc, design, case)
+}
+
 /// The text of what is left of a case.
 fn shrunk(
     alloc: Global,
@@ -38,21 +49,24 @@ fn shrunk(
     case: &Case,
     which: Condition,
 ) -> Result<Answer, AllocError>
+    requires lawful { IsLawful (design_view design.now) }
     requires fits { Fits (design_view design.now) case.now }
     requires broken { IsJudged (design_view design.now) case.now (Judged.Broken which) }
     ensures ended { IfOk result (λ a. a.ended ≡ Ended.Shrunk which) }
-    ensures text { IfOk result (λ a. IsSmaller (design_view design.now) case.now which a.text.items) }
+    ensures text { IfOk result (λ a.
+        IsSmaller (design_view design.now) case.now which a.text.items) }
 {
     let left = shrink(alloc, design, case, which)?;
     Ok(Answer {
         ended: Ended::Shrunk(which),
-        text: case_text(alloc, design, &left)?,
+        text: printed(alloc, design, &left)?,
     })
 }
 
 /// The answer on a case.
 fn on_case(alloc: Global, design: &Design, case: &Case) -> Result<Answer, AllocError>
-    requires { Fits (design_view design.now) case.now }
+    requires lawful { IsLawful (design_view design.now) }
+    requires fits { Fits (design_view design.now) case.now }
     ensures { IfOk result (λ a. IsOfCase (design_view design.now) case.now a.ended a.text.items) }
 {
     match judge(alloc, design, case)? {
@@ -97,7 +111,7 @@ fn on_design(
     }
 }
 
-/// Its answer.
+/// The answer of `shrink` on the files of these names.
 pub fn answer<F: Files>(
     alloc: Global,
     files: &mut F,

@@ -7,18 +7,16 @@ ghost use Rattle.bd_model.specs.Lawful.{IsLawful};
 ghost use Rattle.bd_model.specs.Limits.{most_cycles};
 ghost use Rattle.bd_model.specs.TrailJudged.{IsTrailJudged};
 ghost use Rattle.bd_picture.specs.Sentence.{sentence};
-ghost use Rattle.bd_syntax.specs.declared.ast.Kind.TheVariants.{Pipeline};
+ghost use Rattle.bd_syntax.specs.declared.ast.Kind.TheVariants.{Pipeline, Specification};
 ghost use Rattle.bd_show.specs.Files.{AreStarted, AreTrail, IsStartedFault, has_trail};
 ghost use Rattle.bd_show.specs.LetNames.{IsMachineText};
-ghost use Rattle.bd_show.specs.Meaning.{Question, Says};
 ghost use Rattle.bd_show.specs.Trails.{cycle_case, cycle_text, cycles_text, input_text, inputs_text, unstarted};
-ghost use Rattle.bd_show.specs.inner.Answered.{IsBreaking, IsBreakingIf, IsDrawn, IsTrailSeen, show_of};
+ghost use Rattle.bd_show.specs.inner.Answered.{HasAnswer, HasDrawn, IsBreaking, IsBreakingIf, IsTrailSeen};
 ghost use Rattle.bd_app.specs.Loading.{bytes_of};
 ghost use Rattle.bd_show.specs.inner.Loaded.{AreFew, texts_view};
 ghost use Rattle.bd_show.specs.inner.Read.{IsRefusedBy};
 
 use crate::answer::{Answer, Ended};
-use crate::claim_names::let_names;
 use crate::fault::refused_trail;
 use crate::load::Texts;
 use crate::names::machine_lets;
@@ -170,13 +168,14 @@ fn on_break(
 ) -> Result<Showing, AllocError>
     requires few { length judging.now.trail.inputs ≤ most_cycles }
     requires readable { IsMachineText Pipeline (texts_view texts.now).pipe }
+    requires spec_readable { IsMachineText Specification (texts_view texts.now).spec }
     requires broken { judging.now.judged ≡ TrailJudged.Broken cycle }
     requires breaking { IsBreaking (design_view design.now) judging.now.trail cycle }
     ensures { IfOk result (λ r. IsTrailSeen (design_view design.now) judging.now.trail
         judging.now.judged r.answer.ended r.answer.text.items (bytes_of r.page)) }
 {
     let lets = machine_lets(alloc, texts.pipe.as_slice(), Kind::Pipeline)?;
-    let steps = let_names(alloc, texts.spec.as_slice())?;
+    let steps = machine_lets(alloc, texts.spec.as_slice(), Kind::Specification)?;
     let names = ShownNames {
         lets: lets.as_slice(),
         steps: steps.as_slice(),
@@ -222,6 +221,7 @@ fn on_judged(
 ) -> Result<Showing, AllocError>
     requires few { length judging.now.trail.inputs ≤ most_cycles }
     requires readable { IsMachineText Pipeline (texts_view texts.now).pipe }
+    requires spec_readable { IsMachineText Specification (texts_view texts.now).spec }
     requires breaking { IsBreakingIf (design_view design.now) judging.now.trail
         judging.now.judged }
     ensures { IfOk result (λ r. IsTrailSeen (design_view design.now) judging.now.trail
@@ -275,10 +275,9 @@ fn on_design(
     requires alone { (texts_view texts.now).comp ≡ None }
     requires trail { has_trail (texts_view texts.now) ≡ true }
     requires readable { IsMachineText Pipeline (texts_view texts.now).pipe }
-    ensures says { IfOk result (λ r. Says (Question.show (show_of options.entry))
-        (texts_view texts.now) r.answer.ended r.answer.text.items) }
-    ensures drawn { IfOk result (λ r.
-        IsDrawn (texts_view texts.now) r.answer.ended (bytes_of r.page)) }
+    requires spec_readable { IsMachineText Specification (texts_view texts.now).spec }
+    ensures says { IfOk result (HasAnswer options.entry (texts_view texts.now)) }
+    ensures drawn { IfOk result (HasDrawn (texts_view texts.now)) }
 {
     match judged_trail(alloc, &design, texts) {
         Ok(judging) => {
@@ -298,10 +297,8 @@ pub fn on_trail(
     requires few { AreFew (texts_view texts.now) }
     requires alone { (texts_view texts.now).comp ≡ None }
     requires trail { has_trail (texts_view texts.now) ≡ true }
-    ensures says { IfOk result (λ r. Says (Question.show (show_of options.entry))
-        (texts_view texts.now) r.answer.ended r.answer.text.items) }
-    ensures drawn { IfOk result (λ r.
-        IsDrawn (texts_view texts.now) r.answer.ended (bytes_of r.page)) }
+    ensures says { IfOk result (HasAnswer options.entry (texts_view texts.now)) }
+    ensures drawn { IfOk result (HasDrawn (texts_view texts.now)) }
 {
     match started(alloc, texts) {
         Ok(design) => on_design(alloc, options, texts, design),

@@ -157,8 +157,8 @@ const OUTSIDE: &str = "nothing to explain: the case is outside the invariant\n";
 /// The answer on texts.
 fn on_texts(alloc: Global, options: WhyOptions<'_>, texts: &Texts) -> Result<Answer, AllocError>
     requires { AreFew (texts_view texts.now) }
-    ensures { IfOk result (λ a. Says (Question.explain (why_of options.entry)) (texts_view texts.now)
-        a.ended a.text.items) }
+    ensures { IfOk result (λ a. Says (Question.explain (why_of options.entry))
+        (texts_view texts.now) a.ended a.text.items) }
 {
     let design = match design(alloc, texts) {
         Ok(design) => design,
@@ -176,8 +176,8 @@ fn on_design(
 ) -> Result<Answer, AllocError>
     requires design { AreDesign (texts_view texts.now) (Ok (design_view design.now)) }
     requires lawful { IsLawful (design_view design.now) }
-    ensures { IfOk result (λ a. Says (Question.explain (why_of options.entry)) (texts_view texts.now)
-        a.ended a.text.items) }
+    ensures { IfOk result (λ a. Says (Question.explain (why_of options.entry))
+        (texts_view texts.now) a.ended a.text.items) }
 {
     match case(alloc, design, texts) {
         Ok(case) => on_case(alloc, options, texts, design, &case),
@@ -185,7 +185,7 @@ fn on_design(
     }
 }
 
-/// Its answer.
+/// The answer of `why` on the files of these names.
 pub fn answer<F: Files>(
     alloc: Global,
     files: &mut F,

@@ -1,5 +1,5 @@
 -- What the parts of a run say.
-use Rattle.std.specs.Prelude.{◌≡◌, ◌⊎◌, ◌≤◌, ◌<◌, ◌+◌, ◌++◌, ℕ, List, length, codes, true, false, is_some, Option, Some, None, Result, Ok, Err, IfOk, MatchOption}
+use Rattle.std.specs.Prelude.{◌≡◌, ◌⊎◌, ◌≤◌, ◌<◌, ◌+◌, ◌++◌, ℕ, List, [], length, codes, true, false, is_some, Option, Some, None, Result, Ok, Err, IfOk, MatchOption}
 use Rattle.std.specs.declared.alloc.AllocError.{AllocError}
 use Rattle.bd_text.specs.declared.code.Code.{Code}
 use Rattle.bd_typer.specs.declared.fault.Text.{Text}
@@ -11,8 +11,9 @@ use Rattle.bd_model.specs.declared.case.Judged.TheVariants.{Broken}
 use Rattle.bd_model.specs.declared.case.Trail.{Trail}
 use Rattle.bd_model.specs.declared.case.TrailJudged.{TrailJudged}
 use Rattle.bd_model.specs.declared.case.TrailJudged.TheVariants as trail
-use Rattle.bd_files.specs.Devices.{Held, Holds, Rose}
-use Rattle.bd_app.specs.Files.{KeepsAllBut}
+use Rattle.bd_files.specs.Devices.{Call, Held, Holds, Rose}
+use Rattle.bd_app.specs.Files.{KeepsAllBut, save_if}
+use Rattle.bd_app.specs.Loading.{bytes_of}
 use Rattle.bd_app.specs.Meaning.{FilesSeen}
 use Rattle.bd_app.specs.Words.{Name, given}
 use Rattle.bd_app.specs.declared.loading.LoadFault.{LoadFault}
@@ -20,7 +21,7 @@ use Rattle.bd_app.specs.declared.loading.LoadFault.TheVariants.{Failed, TooLong,
 use Rattle.bd_picture.specs.Page.{IsPage}
 use Rattle.bd_picture.specs.Sentence.{compared_sentence, completed_sentence, sentence}
 use Rattle.bd_show.specs.Files.{AreStarted, BlamesSave, Names, Texts, has_trail, name_in, names_of, or_none}
-use Rattle.bd_show.specs.Meaning.{AreJoinedDesign, Check, Explain, IsAnswered, IsChecked, IsCompared, IsCompleted, IsBadProof, IsDescribed, IsProved, IsShown, IsSmaller, IsTrailShown, IsUnbroken, OfDesign, Question, Recheck, Show, asked_of, nothing_to_explain, nothing_to_shrink, show}
+use Rattle.bd_show.specs.Meaning.{AreJoinedDesign, Check, Explain, IsAnswered, IsChecked, IsCompared, IsCompleted, IsBadProof, IsDescribed, IsProved, IsShown, IsSmaller, IsTrailShown, IsUnbroken, OfDesign, Question, Recheck, Says, Show, asked_of, nothing_to_explain, nothing_to_shrink, show}
 use Rattle.bd_show.specs.Trails.{cycle_case}
 use Rattle.bd_show.specs.declared.answer.Answer.{Answer}
 use Rattle.bd_show.specs.declared.answer.Ended.{Ended}
@@ -28,6 +29,7 @@ use Rattle.bd_show.specs.declared.answer.Ended.TheVariants as ended
 use Rattle.bd_show.specs.declared.checking.CheckOptions.{CheckOptions}
 use Rattle.bd_show.specs.declared.rechecking.RecheckOptions.{RecheckOptions}
 use Rattle.bd_show.specs.declared.show.ShowOptions.{ShowOptions}
+use Rattle.bd_show.specs.declared.show.Showing.{Showing}
 use Rattle.bd_show.specs.declared.why.WhyOptions.{WhyOptions}
 
 -- the question of these options
@@ -165,10 +167,24 @@ IsDrawn texts (ended.Traced j) page =
     OfStarted texts (λ d. IsTrailPage d j page)
 IsDrawn texts e page = page ≡ None
 
+-- what is shown has the answer and the text that `show` gives on the texts
+abbrev pub HasAnswer : ShowOptions → Texts → Showing → Type 0
+HasAnswer options texts r =
+    Says (show (show_of options)) texts r.answer.ended r.answer.text.items
+
+-- and its page is that of the answer
+abbrev pub HasDrawn : Texts → Showing → Type 0
+HasDrawn texts r = IsDrawn texts r.answer.ended (bytes_of r.page)
+
 -- a page that was drawn is held under the name that is given for it
 abbrev pub HoldsDrawn : Option Held → Option Name → Option (List ℕ) → Type 0
 HoldsDrawn held (Some name) (Some bytes) = Holds held name bytes
 HoldsDrawn held _ _ = Unit {0}
+
+-- the save of a page that was drawn, where a name is given for it
+abbrev pub drawn_saves : Option Name → Option (List ℕ) → List Call
+drawn_saves name None = []
+drawn_saves name (Some bytes) = save_if name bytes
 
 -- an answer after its page was saved, where one was asked for: it stands, or the save failed
 abbrev pub IsKept : Option Name → Option (List ℕ) → Ended → List ℕ → FilesSeen → FilesSeen → Answer
@@ -178,7 +194,7 @@ IsKept name page e text a b answer =
     × HoldsDrawn b.held name page)
     ⊎ ((answer.ended ≡ ended.Unsaved)
     × (answer.text.items ≡ codes "cannot save " ++ or_none name ++ codes "\n")
-    × Rose a.faults b.faults × BlamesSave b.blame name)
+    × Rose a.faults b.faults × BlamesSave b.blame name × (is_some page ≡ true))
 
 pub record IsSaved (name : Option Name) (page : Option (List ℕ)) (e : Ended) (text : List ℕ)
     (a b : FilesSeen) (r : Result Answer AllocError) : Type 0 where

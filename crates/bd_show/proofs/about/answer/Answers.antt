@@ -7,7 +7,7 @@ use Rattle.bd_show.proofs.about.answer.Goals as goal
 
 pub returns-in-Ok : goal.returns-in-Ok
 returns-in-Ok g c =
-    said_done (about (names_of c.args.names)) _ _ (texts_view c.in-Ok.texts) c.on_texts.result refl (loaded_stands c.in-Ok.ensures.left.leaves) c.in-Ok.ensures.held c.on_texts.ensures
+    said_done (about (names_of c.args.names)) _ _ (texts_view c.in-Ok.texts) c.on_texts.result refl (loaded_stands c.in-Ok.ensures.left) c.in-Ok.ensures.held c.on_texts.ensures
 
 pub returns-in-Err : goal.returns-in-Err
 returns-in-Err g c =

@@ -2,7 +2,7 @@ use Rattle.std.proofs.Common.{◌≡◌, ◌∙◌, ap, sym, Some}
 use Rattle.std.specs.Prelude.{option_map}
 use Rattle.bd_app.specs.Loading.{bytes_of}
 use Rattle.bd_show.specs.inner.Loaded.{texts_view}
-use Rattle.bd_show.proofs.Readable.{started_result}
+use Rattle.bd_show.proofs.Readable.{started_result, started_spec}
 use Rattle.bd_show.proofs.Refusals.{refused_start}
 use Rattle.bd_show.proofs.read.started.Goals as goal
 use Rattle.bd_show.proofs.read.started.Goals.{in-Some, in-None}
@@ -18,3 +18,7 @@ returns-clause-refused c =
 pub returns-clause-readable : goal.returns-clause-readable
 returns-clause-readable c =
     started_result (texts_view c.args.texts.now) _ _ _ c.design_with.result c.design_with.ensures.exact c.as_slice-pipe.ensures.value
+
+pub returns-clause-spec_readable : goal.returns-clause-spec_readable
+returns-clause-spec_readable c =
+    started_spec (texts_view c.args.texts.now) _ _ _ c.design_with.result c.design_with.ensures.exact c.as_slice-spec.ensures.value
