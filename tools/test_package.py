@@ -73,8 +73,13 @@ class Wheel(unittest.TestCase):
 class Package(unittest.TestCase):
     def test_one_version(self) -> None:
         self.assertRegex(VERSION, r"^\d+\.\d+\.\d+$")
-        for document, words in (("README.md", "Version {} "), ("CHANGELOG.md", "## {}")):
-            self.assertIn(words.format(VERSION).strip(), (ROOT / document).read_text(encoding="utf-8"))
+        places = (
+            ("README.md", "Version {} "),
+            ("CHANGELOG.md", "## {}"),
+            ("crates/bd_show/src/command.rt", '.version("{}")'),
+        )
+        for place, words in places:
+            self.assertIn(words.format(VERSION).strip(), (ROOT / place).read_text(encoding="utf-8"))
 
     def test_what_is_public_has_docstrings(self) -> None:
         for path in (ROOT / "tools" / "burch_dill").glob("*.py"):
