@@ -215,8 +215,18 @@ def cited_by_contracts():
             for said in said_in_public(file, given) if names else []:
                 words = set(re.findall(r"[^\s()\[\]{},;]+", said))
                 words |= {word.split(".")[0] for word in words}
-                found |= {names[word] for word in words if word in names}
+                found |= {passed_on(*names[word]) for word in words if word in names}
     return found
+
+
+def passed_on(crate, module, name):
+    """Where a definition stands that a module may only pass on by `pub use`, as crate, module and name."""
+    file = ROOT / "crates" / crate / "specs" / (module.replace(".", "/") + ".antt")
+    for line in file.read_text().splitlines() if file.exists() else []:
+        there = USE.match(line) if line.startswith("pub use ") else None
+        if there and name in re.split(r",\s*", there.group(3) or ""):
+            return passed_on(there.group(1), there.group(2), name)
+    return crate, module, name
 
 
 def owner_of(lines, name):
