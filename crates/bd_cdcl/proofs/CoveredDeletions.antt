@@ -85,10 +85,6 @@ may_delete_given clauses trail id may = up_to_formula (problem 0 clauses) id (so
     some None so = absurd so
     some (Some c) so = refl
 
--- nothing is missing where nothing was deleted
-pub none_covered : (clauses : List (List Literal)) (ids : List ℕ) → ids ≡ [] → AreCovered clauses (standing_of clauses ids)
-none_covered clauses ids empty = subst (λ is. AreCovered clauses (standing_of clauses is)) (sym empty) (λ id none. subst (λ o. IfSome o (IsCovered (numbered clauses))) (sym none) tt)
-
 -- deletions one after another
 pub remove_all-append : (standing : Standing) (xs ys : List ℕ) → remove_all (remove_all standing xs) ys ≡ remove_all standing (xs ++ ys)
 remove_all-append standing [] ys = refl

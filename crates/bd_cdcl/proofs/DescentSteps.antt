@@ -145,13 +145,6 @@ descent_complete p d log is = is.searching.complete
 pub descent_covered : (p : Problem) (d : Search) (log : List Line) → IsDescending p d log → AreCovered d.watch.clauses (standing_in d)
 descent_covered p d log is = reduced_covered d.watch.clauses d.watch.trail.entries (standing_in d) is.searching.complete is.reduced
 
--- as it is before anything is assigned, and where a clause is false then
-pub begun_complete : (p : Problem) (d : Search) → IsBegun p d → IsComplete (standing_in d) d.watch.trail.entries
-begun_complete p d begun = subst (λ (t : LeveledTrail). IsComplete (standing_in d) t.entries) (sym begun.loaded.trail) tt
-
-pub started_complete : (d : Search) (w : Watch) (o : Option ℕ) → d.deletion.deleted.items ≡ [] → Starts d.watch w o → IsComplete (standing_of w.clauses d.deletion.deleted.items) w.trail.entries
-started_complete d w o none starts = subst (λ ids. IsComplete (standing_of w.clauses ids) w.trail.entries) (sym none) starts.complete
-
 -- the place of the last decision, as the parts of the trail
 pub last_parts : (trail : List Assigned) (start : ℕ) (d : Assigned) → IsLastStart trail start → IsLastDecision trail (take start trail) (get_or trail start d).literal (drop (start + 1) trail)
 last_parts trail start d last = record {

@@ -1,6 +1,6 @@
 -- Steps of the truth graph: each keeps its atoms, and gives a node that has the value of its connective.
-use Rattle.std.proofs.Common.{◌≡◌, ℕ, ◌<◌, inl, inr, ◌==◌, ◌||◌, Bool, true, false, List, [], ◌∷◌, ◌++◌, Option, length, refl, ap, sym, ◌∙◌, subst, arith, length-append, eq-eqb, eqb-true}
-use Rattle.std.proofs.lemmas.Bool.{true≢false}
+use Rattle.std.proofs.Common.{◌≡◌, ℕ, ◌<◌, inl, inr, ◌==◌, ◌||◌, Bool, true, false, List, [], ◌∷◌, ◌++◌, Option, length, refl, ap, sym, ◌∙◌, subst, arith, length-append}
+use Rattle.std.proofs.lemmas.Cmp.{nat_eq_equiv}
 use Rattle.bd_model.specs.declared.design.Sort.TheVariants as sort
 use Rattle.bd_model.specs.declared.table.Scalar.{Scalar}
 use Rattle.bd_terms.specs.declared.node.Node.{Node}
@@ -73,19 +73,11 @@ module _ (nodes : List Node) (marked : Option (List ℕ)) where
     made = Made-Extends nodes marked p p' e subject id m.made;
   }
 
-  eqb_comm : (m n : ℕ) → (m == n) ≡ (n == m)
-  eqb_comm m n = by (m == n) (n == m) refl refl
-    where
-      by : (b c : Bool) → (m == n) ≡ b → (n == m) ≡ c → (m == n) ≡ (n == m)
-      by true c p q = p ∙ sym (eq-eqb n m (sym (eqb-true m n p)))
-      by false true p q = absurd (true≢false (sym (eq-eqb m n (sym (eqb-true n m q))) ∙ p))
-      by false false p q = p ∙ sym q
-
   -- and stands for the equation of the same words the other way round
   pub Means-turned : (p : List PropNode) (a b id : ℕ) → Means nodes marked p id (Words b a) → Means nodes marked p id (Words a b)
   Means-turned p a b id m = record {
     inside = m.inside;
-    is = λ v k. m.is v k ∙ eqb_comm _ _;
+    is = λ v k. m.is v k ∙ nat_eq_equiv.symm _ _;
     made = Turned a b id m.made;
   }
 

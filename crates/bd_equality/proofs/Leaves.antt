@@ -1,6 +1,7 @@
 -- Equations of variables.
 use Rattle.std.proofs.Common.{◌≡◌, ◌≢◌, ℕ, ◌<◌, ◌≤◌, inl, inr, ◌==◌, ◌||◌, not, min, max, Bool, true, false, List, [], ◌∷◌, Option, None, Some, Result, Ok, Err, IfOk, slice_get, refl, ap, sym, ◌∙◌, subst, arith, eq-eqb, eqb-true, length}
 use Rattle.std.proofs.lemmas.Bool.{false≢true, true≢false, or_parts, cases_lt}
+use Rattle.std.proofs.lemmas.Cmp.{nat_eq_equiv}
 use Rattle.std.proofs.lemmas.Option.{slice_get_within}
 use Rattle.bd_model.specs.declared.design.Sort.TheVariants as sort
 use Rattle.bd_model.specs.declared.table.Scalar.{Scalar}
@@ -57,14 +58,6 @@ pub whole_apart : (nodes : List Node) (a b : ℕ) → IsWhole nodes a b → (a =
 whole_apart nodes a b (inl same) other = absurd (true≢false (sym (eq-eqb a b same) ∙ other))
 whole_apart nodes a b (inr plain) other = plain
 
-eqb_comm : (m n : ℕ) → (m == n) ≡ (n == m)
-eqb_comm m n = by (m == n) (n == m) refl refl
-  where
-    by : (b c : Bool) → (m == n) ≡ b → (n == m) ≡ c → (m == n) ≡ (n == m)
-    by true c p q = p ∙ sym (eq-eqb n m (sym (eqb-true m n p)))
-    by false true p q = absurd (true≢false (sym (eq-eqb m n (sym (eqb-true n m q))) ∙ p))
-    by false false p q = p ∙ sym q
-
 unequal : (m n : ℕ) → m ≢ n → (m == n) ≡ false
 unequal m n ne = by (m == n) refl
   where
@@ -112,7 +105,7 @@ module _ (nodes : List Node) (marked : Option (List ℕ)) (a b x y : ℕ) (la : 
   ordered : (v : ℕ → Scalar) → (scalar_word (v (min x y)) == scalar_word (v (max x y))) ≡ (scalar_word (v x) == scalar_word (v y))
   ordered v = elim (cases_lt x y) [
     | inl lt ↦ let p : min x y ≡ x = omega arith in let q : max x y ≡ y = omega arith in (λ i. scalar_word (v (p i)) == scalar_word (v (q i)))
-    | inr le ↦ let p : min x y ≡ y = omega arith in let q : max x y ≡ x = omega arith in (λ i. scalar_word (v (p i)) == scalar_word (v (q i))) ∙ eqb_comm (scalar_word (v y)) (scalar_word (v x))
+    | inr le ↦ let p : min x y ≡ y = omega arith in let q : max x y ≡ x = omega arith in (λ i. scalar_word (v (p i)) == scalar_word (v (q i))) ∙ nat_eq_equiv.symm (scalar_word (v y)) (scalar_word (v x))
   ]
 
   above : (m n : ℕ) → n ≤ m → m ≢ n → n < m

@@ -8,7 +8,7 @@ use Rattle.bd_transitive.specs.declared.graph.Edge.{Edge}
 use Rattle.bd_equality.specs.contracts.pairs.VariablePairPartialEq.TheImpl.{eq-value}
 use Rattle.bd_equality.specs.declared.pairs.VariablePair.{VariablePair}
 use Rattle.bd_equality.specs.inner.Sets.{edge_of}
-use Rattle.bd_list.proofs.Membership.{Contains-cons}
+use Rattle.bd_list.proofs.Membership.{Contains-cons, first}
 
 -- the derived `==`
 abbrev pub pair_eq : VariablePair → VariablePair → Bool
@@ -26,21 +26,18 @@ pair_same s t h = let p = and_parts (eqb s.from t.from) (eqb s.to t.to) h in (λ
 pair_itself : (s : VariablePair) → pair_eq s s ≡ true
 pair_itself s = and_from (eqb s.from s.from) (eqb s.to s.to) (eq-eqb s.from s.from refl) (eq-eqb s.to s.to refl)
 
-Contains-first : {X : Type 0} (x : X) (xs : List X) → Contains (x ∷ xs) x
-Contains-first x xs = (0, omega arith, refl)
-
 -- the edges of pairs are those of the pairs
 pub edge_pair : (ks : List VariablePair) (e : Edge) → Contains (map edge_of ks) e → Contains ks (pair_of e)
 edge_pair [] e (k, lt, is) = absurd (omega arith)
 edge_pair (x ∷ xs) e h = elim (Contains-cons (edge_of x) (map edge_of xs) e h) [
-  | inl q ↦ subst (Contains (x ∷ xs)) (ap pair_of q) (Contains-first x xs)
+  | inl q ↦ subst (Contains (x ∷ xs)) (ap pair_of q) (first x xs)
   | inr q ↦ Contains-append_right (x ∷ []) xs (pair_of e) (edge_pair xs e q)
 ]
 
 pub pair_edge : (ks : List VariablePair) (e : Edge) → Contains ks (pair_of e) → Contains (map edge_of ks) e
 pair_edge [] e (k, lt, is) = absurd (omega arith)
 pair_edge (x ∷ xs) e h = elim (Contains-cons x xs (pair_of e) h) [
-  | inl q ↦ subst (Contains (map edge_of (x ∷ xs))) (ap edge_of q) (Contains-first (edge_of x) (map edge_of xs))
+  | inl q ↦ subst (Contains (map edge_of (x ∷ xs))) (ap edge_of q) (first (edge_of x) (map edge_of xs))
   | inr q ↦ Contains-append_right (edge_of x ∷ []) (map edge_of xs) e (pair_edge xs e q)
 ]
 

@@ -73,7 +73,8 @@ impl Encoding {
         requires inside { id < length flat.now.graph }
         requires reached { (k : ℕ) → IsTrue (slice_index_or marks.now k false)
             ↔ Reaches flat.now.graph flat.now.root k }
-        requires encoding { IsEncoding flat.now.graph flat.now.root (option_copied marked) self.old }
+        requires encoding { IsEncoding flat.now.graph flat.now.root
+            (option_copied marked) self.old }
         ensures { IfOk result (λ node. Follows flat.now.graph flat.now.root
             (option_copied marked.entry) self.old self.new node) }
     {
@@ -97,7 +98,8 @@ impl Encoding {
         requires next { id ≡ length self.old.truths.items }
         requires sorted { HasSort flat.now.graph id sort.Bool }
         requires reached { Reaches flat.now.graph flat.now.root id }
-        requires encoding { IsEncoding flat.now.graph flat.now.root (option_copied marked) self.old }
+        requires encoding { IsEncoding flat.now.graph flat.now.root
+            (option_copied marked) self.old }
         ensures { IfOk result (λ node. Passes flat.now.graph flat.now.root
             (option_copied marked.entry) self.old self.new node (Term id)) }
     {
@@ -136,8 +138,10 @@ impl Encoding {
         trees: &mut Trees,
         equation: &Equation,
     ) -> Result<usize, AllocError>
-        requires pair { IsPair flat.now.graph flat.now.root (length self.old.truths.items) equation.now }
-        requires encoding { IsEncoding flat.now.graph flat.now.root (option_copied marked) self.old }
+        requires pair { IsPair flat.now.graph flat.now.root
+            (length self.old.truths.items) equation.now }
+        requires encoding { IsEncoding flat.now.graph flat.now.root
+            (option_copied marked) self.old }
         ensures { IfOk result (λ node. Passes flat.now.graph flat.now.root
             (option_copied marked.entry) self.old self.new node
             (Words equation.now.left equation.now.right)) }
@@ -153,9 +157,11 @@ impl Encoding {
         marked: Option<&Marked>,
         equation: &Equation,
     ) -> Result<usize, AllocError>
-        requires pair { IsPair flat.now.graph flat.now.root (length self.old.truths.items) equation.now }
+        requires pair { IsPair flat.now.graph flat.now.root
+            (length self.old.truths.items) equation.now }
         requires settled { IsSettled flat.now.graph self.old equation.now }
-        requires encoding { IsEncoding flat.now.graph flat.now.root (option_copied marked) self.old }
+        requires encoding { IsEncoding flat.now.graph flat.now.root
+            (option_copied marked) self.old }
         ensures { IfOk result (λ node. Adds flat.now.graph flat.now.root
             (option_copied marked.entry) self.old self.new node
             (Words equation.now.left equation.now.right)) }
@@ -174,8 +180,10 @@ impl Encoding {
         trees: &mut Trees,
         equation: &Equation,
     ) -> Result<(), AllocError>
-        requires pair { IsPair flat.now.graph flat.now.root (length self.old.truths.items) equation.now }
-        requires encoding { IsEncoding flat.now.graph flat.now.root (option_copied marked) self.old }
+        requires pair { IsPair flat.now.graph flat.now.root
+            (length self.old.truths.items) equation.now }
+        requires encoding { IsEncoding flat.now.graph flat.now.root
+            (option_copied marked) self.old }
         ensures { OnOk result (Settles flat.now.graph flat.now.root
             (option_copied marked.entry) self.old self.new equation.now) }
     {
@@ -223,13 +231,15 @@ impl Encoding {
         equation: &Equation,
         control: Id,
     ) -> Result<(), AllocError>
-        requires pair { IsPair flat.now.graph flat.now.root (length self.old.truths.items) equation.now }
+        requires pair { IsPair flat.now.graph flat.now.root
+            (length self.old.truths.items) equation.now }
         requires control { IsControl flat.now.graph equation.now.left equation.now.right control }
         requires yes { IsSettled flat.now.graph self.old
             (part flat.now.graph true control equation.now) }
         requires no { IsSettled flat.now.graph self.old
             (part flat.now.graph false control equation.now) }
-        requires encoding { IsEncoding flat.now.graph flat.now.root (option_copied marked) self.old }
+        requires encoding { IsEncoding flat.now.graph flat.now.root
+            (option_copied marked) self.old }
         ensures { OnOk result (Settles flat.now.graph flat.now.root
             (option_copied marked.entry) self.old self.new equation.now) }
     {

@@ -18,7 +18,8 @@ pub(crate) fn equal(graph: &mut Graph, left: &[Id], right: &[Id]) -> Result<Id, 
     requires right { All (λ a. HasSort graph.old a sort.Word) right.now }
     requires alike { length left.now ≡ length right.now }
     ensures denotes { IfOk result (λ id. Denotes graph.new id
-        (λ w. Truth (pointwise nat_eq (words w graph.old left.now) (words w graph.old right.now)))) }
+        (λ w. Truth (pointwise nat_eq
+        (words w graph.old left.now) (words w graph.old right.now)))) }
     ensures made { IfOk result (IsEquality graph.new left.now right.now) }
     ensures sorted { IfOk result (λ id. HasSort graph.new id sort.Bool) }
     ensures extends { OnOk result (Extends graph.old graph.new) }

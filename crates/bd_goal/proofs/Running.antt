@@ -23,7 +23,7 @@ use Rattle.bd_symbolic.specs.States.{DenotesEntries, DenotesInputs, DenotesState
 use Rattle.bd_symbolic.specs.Widened.{case_of_trail, widened}
 use Rattle.bd_symbolic.proofs.Widening.{widened-declared, widened-once}
 use Rattle.bd_symbolic.proofs.Worlds.{IsWorldOf-world_of}
-use Rattle.bd_goal.specs.Bounded.{ClaimsRuns, CycleCommutesAt, RunCommutes, trail_world}
+use Rattle.bd_goal.specs.Bounded.{ClaimsRuns, CycleCommutesAt, trail_world}
 use Rattle.bd_goal.specs.declared.bounded.Run.{Run}
 use Rattle.bd_goal.specs.Formula.{CommutesAt, address_count, memory_count}
 use Rattle.std.proofs.lemmas.Result.{IfOk-weaker}
@@ -188,12 +188,6 @@ pub running-made : (d : DesignView) (cycles : ℕ) (old cur new : List Node) (in
     → IfOk r (IsImplication new inside run.commutes) → IfOk r (IsBoundedRoot new d cycles)
 running-made d cycles old cur new inside run n r some all h e m =
     IfOk-weaker r (IsImplication new inside run.commutes) (IsBoundedRoot new d cycles) (λ id k. bounded-root new d cycles inside run.commutes id some (h.made new 0 run.commutes e (omega (arith, all)) refl) k) m
-
--- of no cycle nothing is claimed
-pub none-claims : (d : DesignView) (nodes : List Node) (id : ℕ) → Denotes nodes id (λ w. Truth true) → ClaimsRuns d 0 nodes id
-none-claims d nodes id is = record {
-  means = λ t q over. Says-true (trail_world t q) nodes id (RunCommutes d t q) is (λ inside m h. absurd (omega (arith, h, over.counted)));
-}
 
 -- the addresses of a run of some cycles are among those of more
 pub addresses-fewer : (d : DesignView) (n m : ℕ) → n ≤ m → n * address_count d ≤ m * address_count d

@@ -11,7 +11,7 @@ ghost use Rattle.bd_symbolic.specs.Symbolic.{DenoteValues, HaveSorts};
 ghost use Rattle.bd_goal.specs.Formula.{is_memory, memory_count};
 ghost use Rattle.bd_goal.specs.Made.{AreEqual};
 ghost use Rattle.bd_goal.specs.Symbols.{GrowsKnown, KeepsAddresses};
-ghost use Rattle.bd_goal.specs.inner.Shown.{EqualIn, EqualTerms, Says};
+ghost use Rattle.bd_goal.specs.inner.Shown.{EqualIn, EqualTerms, most_compared_address, Says};
 ghost use Rattle.bd_model.specs.Limits.{most_items};
 
 use bd_model::{Design, Sort};
@@ -46,7 +46,7 @@ pub(crate) fn equal(
     requires addresses { KeepsAddresses graph.old }
     requires ours { HaveSorts graph.old ours.now (entry_sorts (design_view design.now).spec) }
     requires theirs { HaveSorts graph.old theirs.now (entry_sorts (design_view design.now).spec) }
-    requires start { first ≤ 400000000 }
+    requires start { first ≤ most_compared_address }
     requires few { stride ≤ 9 }
     ensures sorted { IfOk result (λ id. HasSort graph.new id sort.Bool) }
     ensures says { IfOk result (λ id. (w : World) (a b : List Value)

@@ -12,6 +12,7 @@ use Rattle.bd_cnf.proofs.Closed.{has_variable_of, consistent_from, consistent_pu
 use Rattle.bd_lrat.specs.declared.line.Hint.{Hint}
 use Rattle.bd_lrat.specs.declared.line.Hint.TheVariants as hint
 use Rattle.bd_lrat.specs.Propagation.{Outcome, Conflict, Reached, and_then, assign, unit_outcome, clause_outcome, propagate, reaches}
+use Rattle.bd_lrat.specs.declared.line.Line.{Line}
 use Rattle.bd_lrat.specs.declared.line.Line.TheVariants.{Delete}
 use Rattle.bd_lrat.specs.Database.{numbered, database_of}
 use Rattle.bd_lrat.specs.Log.{includes, IsFreshClause, IsFresh, HaveDifferentVariables, IsUnsettled}
@@ -171,8 +172,8 @@ three_hints : (standing : Standing) (trail : List Literal) (a b c : ℕ) (x y z 
 three_hints standing trail a b c x y z e f g i = and_then (clause_outcome a trail (e i)) (λ more. and_then (clause_outcome b more (f i)) (λ most. and_then (clause_outcome c most (g i)) (λ last. Reached last)))
 
 -- nor may it be deleted, whatever was added last: propagation from nothing ends in a conflict already
-pub needed_deletion_refused : (added : Option ℕ) (id : ℕ) → DeletesCovered (database_of (problem 2 square_and_unit)) added (Delete id (5 ∷ []) ∷ []) → ⊥
-needed_deletion_refused added id so =
+pub needed_deletion_refused : (added : Option ℕ) (id : ℕ) (lines : List Line) → DeletesCovered (database_of (problem 2 square_and_unit)) added (Delete id (5 ∷ []) ∷ lines) → ⊥
+needed_deletion_refused added id lines so =
     so.0.no_conflict (hint.Unit 5 ∷ hint.Unit 3 ∷ hint.Unit 4 ∷ [])
     (three_hints (numbered square_and_unit) [] 5 3 4 (Some (yes 1 ∷ [])) (Some (no 1 ∷ yes 2 ∷ [])) (Some (no 1 ∷ no 2 ∷ [])) (get-numbered square_and_unit 5) (get-numbered square_and_unit 3) (get-numbered square_and_unit 4))
 

@@ -56,9 +56,10 @@ pub fn needed_clause_is_not_covered()
     ensures { ¬ IsCovered (numbered square) (yes 1 ∷ []) }
 {}
 
-/// A log over the square and a unit clause that begins by deleting that clause isn't a solver's, under any id.
+/// A log over the square and a unit clause that begins by deleting that clause isn't a solver's, under any id and
+/// whatever lines follow.
 pub fn needed_clause_is_not_deleted()
-    ensures { (added : Option ℕ) (id : ℕ) →
+    ensures { (added : Option ℕ) (id : ℕ) (lines : List Line) →
         ¬ DeletesCovered (database_of (problem 2 square_and_unit)) added
-        (Delete id (5 ∷ []) ∷ []) }
+        (Delete id (5 ∷ []) ∷ lines) }
 {}

@@ -75,7 +75,8 @@ impl Reader {
 
     /// Reads the line of those tokens, and takes it where it is accepted.
     fn take(&mut self, tokens: &mut Tokens<'_>) -> Result<bool, ReadFault>
-        ensures ok { IfOk result (Takes (tokens_step self.old.checker tokens.old) self.old self.new) }
+        ensures ok { IfOk result
+            (Takes (tokens_step self.old.checker tokens.old) self.old self.new) }
         ensures err { IfErr result (Refuses (tokens_step self.old.checker tokens.old)) }
     {
         let Some(first) = tokens.next_token() else {
@@ -91,7 +92,8 @@ impl Reader {
     fn add(&mut self, first: Place, line: Line) -> Result<(), ReadFault>
         ensures accepted { OnOk result (IsAccepted self.old.checker line) }
         ensures ok { OnOk result (Adds line self.old self.new) }
-        ensures err { IfErr result (Refuses (answered first line (line_answer self.old.checker line))) }
+        ensures err { IfErr result
+            (Refuses (answered first line (line_answer self.old.checker line))) }
     {
         match self.checker.add_line(&line) {
             Ok(()) => {}

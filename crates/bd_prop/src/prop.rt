@@ -25,9 +25,11 @@ impl Model for Prop {
 }
 
 impl Prop {
-    ghost use Rattle.std.specs.Prelude.{◌≡◌, ◌==◌, ◌<◌, Bool, ℕ, [], length, Some, slice_get, IfOk, OnErr, not, ◌&&◌, ◌||◌, true, if◌then◌else◌};
+    ghost use Rattle.std.specs.Prelude.{◌≡◌, ◌==◌, ◌<◌, Bool, ℕ, [], length, Some, slice_get};
+    ghost use Rattle.std.specs.Prelude.{IfOk, OnErr, not, ◌&&◌, ◌||◌, true, if◌then◌else◌};
     ghost use Rattle.bd_prop.specs.Graph.{IsGraph, HasOneId, Extends};
-    ghost use Rattle.bd_prop.specs.Form.{HasForm, IsFormBelow, form_truth, not_form, and_form, or_form, ite_form};
+    ghost use Rattle.bd_prop.specs.Form.{HasForm, IsFormBelow, form_truth};
+    ghost use Rattle.bd_prop.specs.Form.{not_form, and_form, or_form, ite_form};
     ghost use Rattle.bd_prop.specs.Truth.{truth_at};
     ghost use Rattle.bd_prop.specs.declared.atom.Atom.{Atom};
 
@@ -86,7 +88,8 @@ impl Prop {
     pub fn mk_atom(&mut self, atom: Atom) -> Result<usize, AllocError>
         ensures grows { Extends self.old self.new }
         ensures within { IfOk result (λ id. id < length self.new) }
-        ensures form { IfOk result (HasForm self.old (Rewrite.Fresh (PropNode.Atom atom)) self.new) }
+        ensures form { IfOk result (HasForm self.old
+            (Rewrite.Fresh (PropNode.Atom atom)) self.new) }
         ensures truth { IfOk result (λ id. (v : Atom → Bool) → truth_at v self.new id ≡ v atom) }
         ensures err { OnErr result (self.new ≡ self.old) }
     {

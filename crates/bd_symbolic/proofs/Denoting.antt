@@ -1,7 +1,8 @@
 -- Values and their denotations, and terms of expressions where the graph grows.
-use Rattle.std.proofs.Common.{◌≡◌, ℕ, List, refl, ap, sym, ◌∙◌, subst, true, false, Bool, eqb-true, eq-eqb}
-use Rattle.std.specs.Prelude.{if◌then◌else◌, ◌==◌}
+use Rattle.std.proofs.Common.{◌≡◌, ℕ, List, refl, ap, sym, ◌∙◌, subst, true, false, Bool}
+use Rattle.std.specs.Prelude.{if◌then◌else◌}
 use Rattle.std.proofs.Math.Path.{fun_ext}
+use Rattle.std.proofs.lemmas.Cmp.{nat_eq_equiv}
 use Rattle.bd_model.specs.Table.{read, write}
 use Rattle.bd_model.specs.ExprView.{ExprView}
 use Rattle.bd_model.specs.Value.{is_true, memory_of}
@@ -36,17 +37,9 @@ contents_of-value (value.Scalar (scalar.Bool b)) = refl
 contents_of-value (value.Scalar (scalar.Word n)) = refl
 contents_of-value (value.Memory m) = refl
 
-same_bool : (x y : Bool) → (x ≡ true → y ≡ true) → (y ≡ true → x ≡ true) → x ≡ y
-same_bool true y h k = sym (h refl)
-same_bool false true h k = k refl
-same_bool false false h k = refl
-
-swap_eq : (a b : ℕ) → (a == b) ≡ (b == a)
-swap_eq a b = same_bool (a == b) (b == a) (λ h. eq-eqb b a (sym (eqb-true a b h))) (λ h. eq-eqb a b (sym (eqb-true b a h)))
-
 -- a memory with a word written reads as what it read with the word written
 pub written-read : (m : Memory) (a d : ℕ) → written (read m) a d ≡ read (write m a d)
-written-read m a d = fun_ext (λ b. ap (λ t. if t then d else read m b) (swap_eq b a))
+written-read m a d = fun_ext (λ b. ap (λ t. if t then d else read m b) (nat_eq_equiv.symm b a))
 
 pub denotes-if : (b : Bool) (v w : Value) → (if b then denotes_value v else denotes_value w) ≡ denotes_value (if b then v else w)
 denotes-if true v w = refl

@@ -24,11 +24,6 @@ use Rattle.bd_model.specs.Limits.{longest_text}
 abbrev pub IsOther : Tree → Type 0
 IsOther t = is_abstract (node_of t) ≡ false
 
-pub others_more : (ts : List Tree) (i : ℕ) (d : Tree) → AllByRecursion IsOther (take i ts) → IsOther (get_or ts i d) → AllByRecursion IsOther (take (suc i) ts)
-others_more [] i d h is = tt
-others_more (t ∷ ts) zero d h is = (is, tt)
-others_more (t ∷ ts) (suc i) d h is = (h.0, others_more ts i d h.1 is)
-
 module _ (d : Tree) where
   pub before-first : (ts : List Tree) (i : ℕ) → i < length ts → AllByRecursion IsOther (take i ts) → is_abstract (node_of (get_or ts i d)) ≡ true → before_abstracts (nodes_of_all ts) ≡ nodes_of_all (take i ts)
   before-first [] i lt h is = absurd (omega arith)

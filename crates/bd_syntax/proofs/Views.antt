@@ -4,7 +4,7 @@ use Rattle.bd_text.specs.Nodes.{node_count, Node, node, no_nodes, add_node, Node
 use Rattle.bd_text.specs.View.{node_of, nodes_of_all}
 use Rattle.bd_text.specs.declared.tree.Tree.{Tree}
 use Rattle.bd_text.proofs.Views.{node_count-nodes_of_all, nodes_of_all-push}
-use Rattle.bd_syntax.specs.Forms.{Expression, application, expression_count, expressions_from, expression_of, expressions_of, expressions_of_all}
+use Rattle.bd_syntax.specs.Forms.{application, expression_count, expression_of, expressions_of, expressions_of_all}
 use Rattle.bd_syntax.specs.Reading.{before_last, last_node}
 use Rattle.bd_syntax.specs.declared.form.Spot.{Spot}
 use Rattle.bd_syntax.specs.declared.form.Form.{Form}
@@ -21,10 +21,6 @@ expressions_of-items es = search (rules, the_lemmas)
 pub expression_count-expressions_of_all : (es : List Form) → expression_count (expressions_of_all es) ≡ length es
 expression_count-expressions_of_all [] = refl
 expression_count-expressions_of_all (e ∷ es) = omega (arith, expression_count-expressions_of_all es)
-
-pub expression_count-expressions_from : (es : List Expression) → expression_count (expressions_from es) ≡ length es
-expression_count-expressions_from [] = refl
-expression_count-expressions_from (e ∷ es) = omega (arith, expression_count-expressions_from es)
 
 -- so many trees are seen as so many nodes
 pub node_counts : (ts : List Tree) → node_count (nodes_of_all ts) ≡ length ts

@@ -45,7 +45,7 @@ const HEADS: [Head; 11] = [
 ];
 
 impl Head {
-    /// Its text.
+    /// The word that items with this head begin with.
     fn text(self) -> &'static [u8]
         ensures { result.now ≡ head_text self }
     {
@@ -72,7 +72,7 @@ impl Head {
         HEADS.iter().copied().find(|head| text == head.text())
     }
 
-    /// Whether it has so many parts after it.
+    /// Whether an item may have so many parts after this head.
     pub fn takes(self, parts: usize) -> bool
         ensures { result ≡ head_takes self parts }
     {

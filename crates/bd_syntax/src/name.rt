@@ -28,7 +28,7 @@ fn continues(byte: u8) -> bool
     begins(byte) || byte.is_ascii_digit() || byte == b'.' || byte == b'-'
 }
 
-/// Whether it's one of these texts.
+/// Whether a text is one of some texts.
 fn is_among(text: &[u8], texts: &[&[u8]]) -> bool
     ensures { result ≡ list_any (λ t. pointwise nat_eq text.now t.now) texts.now }
 {
@@ -42,7 +42,7 @@ fn all_continue(text: &[u8]) -> bool
     text.iter().all(|byte| continues(*byte))
 }
 
-/// Whether it begins and goes on as a name does.
+/// Whether a text begins and goes on as a name does.
 fn spells(text: &[u8]) -> bool
     ensures { result ≡ spells_name text.now }
 {

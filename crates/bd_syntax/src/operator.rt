@@ -30,7 +30,7 @@ const OPERATORS: [Operator; 9] = [
 ];
 
 impl Operator {
-    /// Its text.
+    /// The word that applications of this operator begin with.
     fn text(self) -> &'static [u8]
         ensures { result.now ≡ operator_text self }
     {
@@ -58,7 +58,7 @@ impl Operator {
             .find(|operator| text == operator.text())
     }
 
-    /// Whether it may have so many parts.
+    /// Whether this operator may have so many parts.
     pub fn takes(self, parts: usize) -> bool
         ensures { result ≡ operator_takes self parts }
     {

@@ -3,9 +3,9 @@ use Rattle.std.proofs.Common.{◌≡◌, ℕ, zero, suc, ◌<◌, ◌≤◌, Lis
 use Rattle.std.specs.Option.{option_copied}
 use Rattle.std.specs.Slice.{IsItemAt}
 use Rattle.std.proofs.lemmas.Option.{slice_get_past, slice_get-get_or}
-use Rattle.bd_text.specs.Nodes.{Node, atom, list, node, node_count, node_at, add_node}
+use Rattle.bd_text.specs.Nodes.{atom, list, node, node_count, node_at, add_node}
 use Rattle.bd_text.specs.Written.{nesting, nesting_inside}
-use Rattle.bd_text.specs.View.{nodes_from, node_of, nodes_of, nodes_of_all}
+use Rattle.bd_text.specs.View.{node_of, nodes_of, nodes_of_all}
 use Rattle.bd_text.specs.declared.tree.Tree.{Tree}
 use Rattle.bd_text.specs.declared.tree.Tree.TheVariants.{Atom, List as ListOf}
 use Rattle.bd_text.specs.declared.tree.Tree.{the_lemmas}
@@ -16,10 +16,6 @@ node_of-Atom offset text = search (rules, the_lemmas)
 
 pub node_of-List : (offset : ℕ) (parts : Trees) → node_of (ListOf offset parts) ≡ list offset (nodes_of parts)
 node_of-List offset parts = search (rules, the_lemmas)
-
-nodes_from-push : (ts : List Node) (t : Node) → nodes_from (ts ++ t ∷ []) ≡ add_node (nodes_from ts) t
-nodes_from-push [] t = refl
-nodes_from-push (u ∷ us) t = ap (node u) (nodes_from-push us t)
 
 pub nodes_of_all-push : (ts : List Tree) (t : Tree) → nodes_of_all (ts ++ t ∷ []) ≡ add_node (nodes_of_all ts) (node_of t)
 nodes_of_all-push [] t = refl

@@ -4,7 +4,7 @@ use Rattle.std.specs.Prelude.{count_by}
 use Rattle.std.specs.List.{IsDistinct, filter}
 use Rattle.std.specs.Set.{is_member}
 use Rattle.std.proofs.Math.Bool.{and_comm}
-use Rattle.std.proofs.lemmas.Bool.{and_left, and_parts, and_right, cases_Bool, eq-eqb, eqb-false, eqb-true, false_from_ne_true, false≢true, ne_eqb, not_from_true, or_cases, or_from, or_left, or_right, true≢false}
+use Rattle.std.proofs.lemmas.Bool.{and_left, and_parts, and_right, cases_Bool, eq-eqb, eqb-false, eqb-true, false_from_ne_true, false≢true, not_from_true, or_cases, or_from, or_left, or_right, true≢false}
 use Rattle.std.proofs.lemmas.Bool.Decides.{Decides-eqb}
 use Rattle.std.proofs.lemmas.Cmp.{nat_eq_equiv}
 use Rattle.std.proofs.lemmas.List.{get_or-take, get_or_default, length-take-le}
@@ -23,12 +23,6 @@ use Rattle.bd_transitive.specs.Edges.{AreEdges, IsEnd, JoinsAt}
 use Rattle.bd_transitive.specs.Elimination.{degree, joined_by, joined_without, HasLeastDegree, IsByLeastDegree}
 use Rattle.bd_transitive.specs.inner.Left.{is_end, is_left, is_neighbour, neighbours, rejoined, IsSound}
 use Rattle.bd_transitive.proofs.Queues.{distinct-nil}
-
-pub eqb-comm : (a b : ℕ) → nat_eq a b ≡ nat_eq b a
-eqb-comm a b = ⊎_elim
-    (λ yes. yes ∙ sym (eq-eqb b a (sym (eqb-true a b yes))))
-    (λ no. no ∙ sym (ne_eqb b a (λ e. eqb-false a b no (sym e))))
-    (cases_Bool (nat_eq a b))
 
 pub or-false : (a b : Bool) → b ≡ false → (a || b) ≡ true → a ≡ true
 or-false true b e h = refl
@@ -59,7 +53,7 @@ degree-is vs row p apart own is =
 -- what stands nowhere in a list may come before it
 pub distinct-cons : (v : ℕ) (vs : List ℕ) → IsDistinct nat_eq vs → is_member nat_eq vs v ≡ false → IsDistinct nat_eq (v ∷ vs)
 distinct-cons v vs apart none =
-    IsDistinct-IsPermutation nat_eq eqb-comm (vs ++ v ∷ []) (v ∷ vs) (IsPermutation-to_front vs v) (IsDistinct-push nat_eq_equiv vs v apart none)
+    IsDistinct-IsPermutation nat_eq nat_eq_equiv.symm (vs ++ v ∷ []) (v ∷ vs) (IsPermutation-to_front vs v) (IsDistinct-push nat_eq_equiv vs v apart none)
 
 -- the ends of edges in an order by least degree
 pub record IsOrdered (edges : List Edge) (vs : List ℕ) : Type 0 where
@@ -148,8 +142,8 @@ module _ (edges : List Edge) (l n : Left) (taken own : List ℕ) (v : ℕ) (f : 
       let gone : is_member nat_eq vs v ≡ false = members v ∙ left_is v ∙ and_right (is_left l v) (not (v == v)) (not_from_true (v == v) (eq-eqb v v refl)) in
       let whole : IsDistinct nat_eq (v ∷ vs) = distinct-cons v vs apart gone in
       let among : (q : ℕ) → is_member nat_eq (v ∷ vs) q ≡ is_left l q = λ q. ⊎_elim
-      (λ yes. ap (λ b. b || is_member nat_eq vs q) (eqb-comm q v ∙ yes) ∙ sym left ∙ ap (is_left l) (eqb-true v q yes))
-      (λ no. ap (λ b. b || is_member nat_eq vs q) (eqb-comm q v ∙ no) ∙ members q ∙ left_is q ∙ ap (λ b. is_left l q && not b) no ∙ and_true (is_left l q))
+      (λ yes. ap (λ b. b || is_member nat_eq vs q) (nat_eq_equiv.symm q v ∙ yes) ∙ sym left ∙ ap (is_left l) (eqb-true v q yes))
+      (λ no. ap (λ b. b || is_member nat_eq vs q) (nat_eq_equiv.symm q v ∙ no) ∙ members q ∙ left_is q ∙ ap (λ b. is_left l q && not b) no ∙ and_true (is_left l q))
       (cases_Bool (v == q)) in
       subst (IsOrdered edges) (sym (append_assoc taken (v ∷ []) vs)) (f.rest (v ∷ vs) whole among (first vs whole among, by))
 
@@ -159,7 +153,7 @@ module _ (edges : List Edge) (l n : Left) (taken own : List ℕ) (v : ℕ) (f : 
     symmetric = λ x y.
         ap (λ b. b || ((f.joined v x && f.joined v y) && not (x == y))) (f.symmetric x y)
         ∙ ap (λ b. f.joined y x || (b && not (x == y))) (and_comm (f.joined v x) (f.joined v y))
-        ∙ ap (λ b. f.joined y x || ((f.joined v y && f.joined v x) && not b)) (eqb-comm x y);
+        ∙ ap (λ b. f.joined y x || ((f.joined v y && f.joined v x) && not b)) (nat_eq_equiv.symm x y);
     apart = λ x.
         ap (λ b. b || ((f.joined v x && f.joined v x) && not (x == x))) (f.apart x)
         ∙ and_right (f.joined v x && f.joined v x) (not (x == x)) (not_from_true (x == x) (eq-eqb x x refl));

@@ -2,10 +2,10 @@
 use Rattle.std.proofs.Common.{◌≡◌, ◌⊎◌, ℕ, zero, suc, ◌+◌, ◌<◌, ◌≤◌, List, [], ◌++◌, All, Contains, get_or, set, inl, inr, sym, ap, subst, ◌∙◌, ⊎_elim, arith}
 use Rattle.std.proofs.lemmas.List.{append-nil, append_assoc, get_or-set_other}
 use Rattle.std.proofs.lemmas.List.Elements.{All-contains, All-from_get_or, Contains-get_or, Contains-append_left, Contains-append_cases}
+use Rattle.bd_list.proofs.Membership.{Contains-none}
 use Rattle.bd_transitive.specs.declared.span.Span.{Span}
 use Rattle.bd_transitive.specs.inner.Spans.{span, IsSpan, IsClosed, IsFilled}
 use Rattle.bd_transitive.specs.inner.Rows.{row, HaveEnds, JoinedToAll}
-use Rattle.bd_transitive.proofs.Pushed.{Contains-nil}
 
 -- some later place is joined to each other end of the spans from p, and none of these stands before it
 pub record IsSettled (spans : List Span) (p : ℕ) : Type 0 where
@@ -56,12 +56,12 @@ pub settled_alone : (spans : List Span) (rows : List (List ℕ)) (low : ℕ) →
 settled_alone spans rows low h none = record {
   parent = low + 1;
   later = omega arith;
-  joined = λ q at. absurd (Contains-nil q (subst (λ l. Contains l q) none (h.complete low q (omega arith) at)));
+  joined = λ q at. absurd (Contains-none q (subst (λ l. Contains l q) none (h.complete low q (omega arith) at)));
 }
 
 -- spans at the start of which nothing was added
 pub filled_none : (spans : List Span) → IsFilled spans spans
-filled_none spans = record { added = []; grown = sym (append-nil spans); fill_in = λ a b at. absurd (Contains-nil _ at) }
+filled_none spans = record { added = []; grown = sym (append-nil spans); fill_in = λ a b at. absurd (Contains-none _ at) }
 
 -- the first end of a row is a later place
 pub first_later : (count low parent : ℕ) (spans : List Span) (rows : List (List ℕ)) → HaveEnds spans rows low → All (IsSpan count) spans

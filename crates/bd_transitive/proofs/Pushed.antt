@@ -3,18 +3,15 @@ use Rattle.std.proofs.Common.{◌≡◌, ◌≢◌, ◌⊎◌, ℕ, zero, suc, �
 use Rattle.std.proofs.lemmas.Bool.{cases_eq, eq-eqb, ne_eqb}
 use Rattle.std.proofs.lemmas.List.{get_or-set_same, get_or-set_other, append-nil, append_assoc, length-set, length_push, get_or_read}
 use Rattle.std.proofs.lemmas.List.Elements.{Contains-push, Contains-push_cases, Contains-append_left}
+use Rattle.bd_list.proofs.Membership.{Contains-none}
 use Rattle.bd_transitive.specs.declared.span.Span.{Span}
 use Rattle.bd_transitive.specs.inner.Spans.{span}
 use Rattle.bd_transitive.specs.inner.Rows.{row, HaveEnds, JoinedToAll}
 
--- nothing is in an empty list
-pub Contains-nil : {X : Type 0} (x : X) → Contains [] x → ⊥
-Contains-nil x at = omega (arith, at.1)
-
 -- an empty row has nothing
 pub row-empty : (count p q : ℕ) → Contains (row (replicate count []) p) q → ⊥
-row-empty zero p q at = Contains-nil q at
-row-empty (suc n) zero q at = Contains-nil q at
+row-empty zero p q at = Contains-none q at
+row-empty (suc n) zero q at = Contains-none q at
 row-empty (suc n) (suc p) q at = row-empty n p q at
 
 pub length-row_empty : (count p : ℕ) → length (row (replicate count []) p) ≡ 0
@@ -91,7 +88,7 @@ HaveEnds-pushed spans rows from s lt h = record {
 pub HaveEnds-empty : (count from : ℕ) → HaveEnds [] (replicate count []) from
 HaveEnds-empty count from = record {
   sound = λ p q _ at. absurd (row-empty count p q at);
-  complete = λ p q _ at. absurd (Contains-nil _ at);
+  complete = λ p q _ at. absurd (Contains-none _ at);
 }
 
 module _ (old new : List Span) (low : ℕ) (ends : List ℕ) (x : ℕ) (h : JoinedToAll old new low ends) where
@@ -124,6 +121,6 @@ pub joined_none : (spans : List Span) (low : ℕ) → JoinedToAll spans spans lo
 joined_none spans low = record {
   added = [];
   grown = sym (append-nil spans);
-  from_low = λ a b at. absurd (Contains-nil _ at);
-  all = λ b at. absurd (Contains-nil _ at);
+  from_low = λ a b at. absurd (Contains-none _ at);
+  all = λ b at. absurd (Contains-none _ at);
 }

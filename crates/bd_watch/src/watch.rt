@@ -124,7 +124,8 @@ impl Watch {
         requires watching { IsWatching self.now }
         requires watcher { IsWatcher self.now.clauses (literal_index lit) watcher.now }
         requires falsified { is_false (literals self.now.trail.entries) lit ≡ true }
-        requires blocker { has_literal (literals self.now.trail.entries) watcher.now.blocker ≡ false }
+        requires blocker { has_literal (literals self.now.trail.entries)
+            watcher.now.blocker ≡ false }
         requires rest { has_literal (literals self.now.trail.entries) watcher.now.rest ≡ false }
         ensures { IfSome result (IsLeft self.now watcher.now.clause) }
     {

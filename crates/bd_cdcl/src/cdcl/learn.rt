@@ -39,7 +39,7 @@ pub(crate) struct Lesson {
     pub(crate) lbd: u64,
 }
 
-/// Of some literals the one that became false last, or the first where there is none.
+/// The literal of the rest that became false last, or the first literal where there is no rest.
 fn last_falsified(watch: &Watch, first: PackedLit, rest: &[PackedLit]) -> Second
     requires watching { IsWatching watch.now }
     requires falsified { (l : Literal) → has_literal rest.now l ≡ true →

@@ -42,7 +42,8 @@ fn level_zero(watch: &Watch) -> usize
     }
 }
 
-/// Whether a literal in front of that place makes the clause true, whose reason it isn't.
+/// Whether a literal that stands before that place on the trail makes the clause true, and the
+/// clause isn't the reason of that literal.
 fn is_satisfied(watch: &Watch, clause: &[PackedLit], id: u64, zero: usize) -> bool
     requires watching { IsWatching watch.now }
     requires below { IsBelow watch.now.trail.limit clause.now }

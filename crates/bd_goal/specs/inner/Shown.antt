@@ -28,6 +28,10 @@ use Rattle.bd_goal.specs.Symbols.{address_use}
 abbrev pub most_first_address : ℕ
 most_first_address = 300000000
 
+-- the most that the number of the first address of a comparison may be: with those after it, it has 32 bits
+abbrev pub most_compared_address : ℕ
+most_compared_address = 400000000
+
 -- in the world the term is true exactly where this holds
 abbrev pub Says : World → List Node → ℕ → Type 0 → Type 0
 Says w nodes id claim = IsTrue (truth w nodes id) ↔ claim
