@@ -7,7 +7,7 @@ use Rattle.std.proofs.lemmas.List.{length-map, length-append, append_assoc}
 use Rattle.std.proofs.Math.Seq.{take-append_seam, drop-append_seam}
 use Rattle.std.proofs.lemmas.Slice.Zip.{AllZip-long}
 use Rattle.bd_model.specs.DesignView.{DesignView, PortView}
-use Rattle.bd_model.specs.Value.{table_of}
+use Rattle.bd_model.specs.Value.{slot_of, table_of}
 use Rattle.bd_model.specs.Fits.{scalar_sort, value_sort, RowFits, TableFits, KeepsApart, TrailFits}
 use Rattle.bd_model.specs.declared.table.Scalar.{Scalar}
 use Rattle.bd_model.specs.declared.table.Scalar.TheVariants as scalar
@@ -23,7 +23,7 @@ use Rattle.bd_model.specs.declared.design.Symbol.{Symbol}
 use Rattle.bd_model.specs.declared.design.Entry.{Entry}
 use Rattle.bd_model.specs.declared.case.Trail.{Trail}
 use Rattle.bd_case.specs.Kinds.{head_text, head_of, head_takes, is_input, is_apart, symbol_head, symbol_kind, symbol_kinds, sort_kind, entry_kind, input_kind, kinds}
-use Rattle.bd_case.specs.Content.{column, constant_table, row_of, table_of_value, values_table, input_tables, tables_of, slot_of, value_of_table, trail_from}
+use Rattle.bd_case.specs.Content.{column, constant_table, row_of, table_of_value, values_table, input_tables, tables_of, value_of_table, trail_from}
 use Rattle.bd_case.specs.declared.kind.Version.{Version}
 use Rattle.bd_case.specs.declared.kind.Version.TheVariants.{One, Two}
 use Rattle.bd_case.specs.declared.kind.EntryHead.TheVariants as heads

@@ -3,7 +3,7 @@
 use Rattle.std.specs.Prelude.{ℕ, zero, suc, ◌+◌, ◌^◌, ◌<◌, false, List, [], ◌∷◌, ◌++◌, map, length, take, drop, slice_index_or}
 use Rattle.std.specs.List.{AllByRecursion, zip}
 use Rattle.bd_model.specs.DesignView.{DesignView, PortView}
-use Rattle.bd_model.specs.Value.{scalar_word}
+use Rattle.bd_model.specs.Value.{scalar_word, slot_of}
 use Rattle.bd_model.specs.Cycle.{inputs_at}
 use Rattle.bd_model.specs.declared.table.Scalar.{Scalar}
 use Rattle.bd_model.specs.declared.table.Scalar.TheVariants as scalar
@@ -63,9 +63,6 @@ abbrev pub tables_of : DesignView → Trail → List Table
 tables_of d t = (t.interp ++ map table_of_value t.state) ++ input_tables 0 d.pipe.ports t.inputs
 
 -- ---- from tables
-
-abbrev pub slot_of : Row → Slot
-slot_of row = record { address = slice_index_or row.args 0 0; value = scalar_word row.value }
 
 abbrev pub value_of_table : Sort → Table → Value
 value_of_table sort.Memory t =

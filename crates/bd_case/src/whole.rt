@@ -4,16 +4,16 @@ ghost use Rattle.std.specs.Prelude.{◌≡◌, ◌≤◌, ◌+◌, ℕ, [], map,
 ghost use Rattle.std.specs.List.{list_any, zip};
 ghost use Rattle.bd_syntax.specs.Reading.{Gives};
 ghost use Rattle.bd_model.specs.DesignView.{design_view};
-ghost use Rattle.bd_model.specs.Value.{scalar_word, table_of};
+ghost use Rattle.bd_model.specs.Value.{scalar_word, slot_of, table_of};
 ghost use Rattle.bd_case.specs.Kinds.{kinds};
-ghost use Rattle.bd_case.specs.Content.{case_of, inputs_from, slot_of, trail_from, value_in, value_of_table};
+ghost use Rattle.bd_case.specs.Content.{case_of, inputs_from, trail_from, value_in, value_of_table};
 ghost use Rattle.bd_case.specs.Reading.{constants, distinct_form, given_or, repeats, whole_form};
 
 use crate::kind::EntryKind;
 use crate::value::default_of;
 use bd_model::{
-    Case, Design, Entry, InputLists, Inputs, Interp, Memory, Places, Row, Rows, Scalar, Slot,
-    Slots, Sort, State, Table, Trail, Value,
+    Case, Design, Entry, InputLists, Inputs, Interp, Memory, Places, Rows, Scalar, Slots, Sort,
+    State, Table, Trail, Value,
 };
 use bd_syntax::{FormFault, bad};
 use bd_text::Code;
@@ -58,23 +58,13 @@ pub fn whole(
     Ok(tables)
 }
 
-/// The row of a memory that a table's row is.
-fn slot_of(row: &Row) -> Slot
-    ensures { result ≡ slot_of row.now }
-{
-    Slot {
-        address: row.args.as_slice().first().copied().unwrap_or(0),
-        value: row.value.word(),
-    }
-}
-
 /// Each row as a memory's.
 fn slots(alloc: Global, rows: &Rows) -> Result<Slots, AllocError>
     ensures { IfOk result (λ slots. slots ≡ map slot_of rows.now) }
 {
     let mut slots = Vec::with_capacity(alloc, rows.len())?;
     for row in rows.as_slice() {
-        slots.push(slot_of(row))?;
+        slots.push(row.slot())?;
     }
     Ok(Slots::from_vec(slots))
 }

@@ -18,6 +18,6 @@ mod pieces;
 
 pub use devices::{FileCall, Files, LoadError, PutError, SaveError, Sink};
 pub use fault_log::FaultLog;
-pub use memory_files::Shelf;
+pub use memory_files::{Shelf, first_bytes};
 pub use memory_sink::Page;
 pub use pieces::put_pieces;

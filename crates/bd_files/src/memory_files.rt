@@ -145,7 +145,7 @@ fn is_due_now(fails: &[u64], next: &mut Option<u64>) -> bool
 
 /// The bytes of the first file with that name, of more than `most` the first `most + 1`.
 #[tactic(auto, using(crate::proofs::Lookups::lookups))]
-fn first_bytes<'a>(held: &'a [(String, Vec<u8>)], name: &str, most: usize) -> Option<&'a [u8]>
+pub fn first_bytes<'a>(held: &'a [(String, Vec<u8>)], name: &str, most: usize) -> Option<&'a [u8]>
     ensures { option_copied result
         ≡ option_map (take (most + 1)) (bytes_of (files_of held.now) name.now) }
 {

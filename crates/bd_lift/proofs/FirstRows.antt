@@ -17,7 +17,7 @@ use Rattle.bd_model.specs.declared.table.Slot.{Slot}
 use Rattle.bd_model.specs.declared.table.Table.{Table}
 use Rattle.bd_model.specs.Fits.{result_sort}
 use Rattle.bd_model.specs.Table.{at, row_value}
-use Rattle.bd_model.specs.Value.{no_table, scalar_word}
+use Rattle.bd_model.specs.Value.{no_table, scalar_word, slot_of}
 use Rattle.bd_symbolic.specs.World.{value_table}
 use Rattle.bd_terms.specs.declared.node.Sym.{Sym}
 use Rattle.bd_function.specs.declared.symbol_tables.SymTable.{SymTable}
@@ -25,7 +25,7 @@ use Rattle.bd_function.specs.Tables.{is_symbol, world_of_tables}
 use Rattle.bd_function.proofs.Applying.{pointwise-same}
 use Rattle.bd_function.proofs.LaterVariables.{pointwise-equal}
 use Rattle.bd_lift.specs.Counting.{AddressesDiffer, ArgumentsDiffer, ValueCounts}
-use Rattle.bd_lift.specs.inner.Built.{entry_value, function_default, function_table, has_no_row, scalar_as, slot_of}
+use Rattle.bd_lift.specs.inner.Built.{entry_value, function_default, function_table, has_no_row, scalar_as}
 use Rattle.bd_lift.specs.inner.First.{AreAlike, AreEnough, HaveSameValues, RowsDiffer, entry_row}
 use Rattle.bd_lift.proofs.Tables.{AreRowsOf, IsRowOf, one-argument, slots-rows, sort_arity, sort_result}
 use Rattle.bd_list.proofs.Membership.{Contains-none}

@@ -13,12 +13,12 @@ use Rattle.bd_model.specs.declared.table.Row.{Row}
 use Rattle.bd_model.specs.declared.table.Table.{Table}
 use Rattle.bd_model.specs.Fits.{RowFits, TableFits, result_sort, scalar_sort, value_sort}
 use Rattle.bd_model.specs.Table.{at, row_value}
-use Rattle.bd_model.specs.Value.{scalar_word}
+use Rattle.bd_model.specs.Value.{scalar_word, slot_of}
 use Rattle.bd_symbolic.specs.DesignSymbols.{sort_use}
 use Rattle.bd_symbolic.specs.World.{constant, slot_row, value_table}
 use Rattle.bd_terms.specs.declared.node.Sym.{Sym}
 use Rattle.bd_function.specs.Tables.{default_by, default_of, table_with, zero_like}
-use Rattle.bd_lift.specs.inner.Built.{entry_value, function_default, function_table, has_no_row, scalar_as, slot_of}
+use Rattle.bd_lift.specs.inner.Built.{entry_value, function_default, function_table, has_no_row, scalar_as}
 
 -- a row of so many arguments, with a value of the sort
 pub record IsRowOf (arity : ℕ) (s : Sort) (r : Row) : Type 0 where

@@ -3,7 +3,7 @@
 ghost use Rattle.std.specs.Prelude.{◌≡◌, ◌≤◌, ◌<◌, ◌+◌, ◌*◌, ◌^◌, ℕ, false, List, [], map, length, slice_get, slice_set, IfOk, OnOk, Some};
 ghost use Rattle.bd_model.specs.DesignView.{design_view};
 ghost use Rattle.bd_model.specs.Fits.{result_sort};
-ghost use Rattle.bd_model.specs.Value.{no_table};
+ghost use Rattle.bd_model.specs.Value.{no_table, slot_of};
 ghost use Rattle.bd_model.specs.declared.design.Symbol.{Symbol as TheSymbol};
 ghost use Rattle.bd_model.specs.declared.design.Entry.{Entry as TheEntry};
 ghost use Rattle.bd_model.specs.declared.design.Port.{Port as ThePort};
@@ -13,13 +13,13 @@ ghost use Rattle.bd_symbolic.specs.States.{port_sorts};
 ghost use Rattle.bd_symbolic.specs.Widened.{repeated, widened};
 ghost use Rattle.bd_terms.specs.Denotation.{World};
 ghost use Rattle.bd_function.specs.Tables.{world_of_tables};
-ghost use Rattle.bd_lift.specs.inner.Built.{IsBuilt, entry_value, function_table, functions_of, scalar_as, slot_of, state_of, with_table};
+ghost use Rattle.bd_lift.specs.inner.Built.{IsBuilt, entry_value, function_table, functions_of, scalar_as, state_of, with_table};
 
 use crate::decode::own_number;
 use bd_function::{FlatTables, SymTable};
 use bd_model::{
-    Case, Design, Entry, Inputs, Interp, Memory, Port, Row, Rows, Scalar, Slot, Slots, Sort, State,
-    Symbol, Table, Value,
+    Case, Design, Entry, Inputs, Interp, Memory, Port, Rows, Scalar, Slots, Sort, State, Symbol,
+    Table, Value,
 };
 use bd_terms::Sym;
 use std::alloc::{AllocError, Global};
@@ -300,7 +300,7 @@ fn entry_value(alloc: Global, sort: Sort, table: &Table) -> Result<Value, AllocE
         Sort::Memory => {
             let mut slots = Vec::with_capacity(alloc, table.rows.len())?;
             for row in table.rows.as_slice() {
-                slots.push(slot_of(row))?;
+                slots.push(row.slot())?;
             }
             Ok(Value::Memory(Memory {
                 default: table.default.word(),
@@ -308,16 +308,6 @@ fn entry_value(alloc: Global, sort: Sort, table: &Table) -> Result<Value, AllocE
             }))
         }
         _ => Ok(Value::Scalar(scalar_as(sort, table.default))),
-    }
-}
-
-/// The row of a memory that a table's row stands for: its first argument is the address.
-fn slot_of(row: &Row) -> Slot
-    ensures { result ≡ slot_of row.now }
-{
-    Slot {
-        address: row.args.as_slice().first().copied().unwrap_or(0),
-        value: row.value.word(),
     }
 }
 

@@ -10,6 +10,8 @@ use Rattle.bd_model.specs.Table.{at, read, write}
 use Rattle.bd_model.specs.DesignView.{LocalView}
 use Rattle.bd_model.specs.declared.table.Scalar.{Scalar}
 use Rattle.bd_model.specs.declared.table.Scalar.TheVariants as scalar
+use Rattle.bd_model.specs.declared.table.Row.{Row}
+use Rattle.bd_model.specs.declared.table.Slot.{Slot}
 use Rattle.bd_model.specs.declared.table.Table.{Table}
 use Rattle.bd_model.specs.declared.table.Memory.{Memory}
 use Rattle.bd_model.specs.declared.table.Value.{Value}
@@ -39,6 +41,10 @@ scalar_truth (scalar.Word n) = false
 abbrev pub scalar_word : Scalar → ℕ
 scalar_word (scalar.Bool b) = 0
 scalar_word (scalar.Word n) = n
+
+-- the row of a memory that a table's row stands for: its first argument is the address
+abbrev pub slot_of : Row → Slot
+slot_of row = record { address = slice_index_or row.args 0 0; value = scalar_word row.value }
 
 abbrev pub is_true : Value → Bool
 is_true v = scalar_truth (scalar_of v)

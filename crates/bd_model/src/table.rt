@@ -77,6 +77,21 @@ impl Clone for Row {
     }
 }
 
+impl Row {
+    ghost use Rattle.std.specs.Prelude.{◌≡◌};
+    ghost use Rattle.bd_model.specs.Value.{slot_of};
+
+    /// The row of a memory that a table's row stands for: its first argument is the address.
+    pub fn slot(&self) -> Slot
+        ensures { result ≡ slot_of self.now }
+    {
+        Slot {
+            address: self.args.as_slice().first().copied().unwrap_or(0),
+            value: self.value.word(),
+        }
+    }
+}
+
 /// A list of rows.
 pub type Rows = Sequence<Row>;
 

@@ -13,4 +13,4 @@ pub use cycle::{flush, flushed, idle_inputs, let_values, look, spec_step, step, 
 pub use judgement::{exact_counts, judge, meets_invariant, same, steps_join};
 pub use run::{trace, trace_is_run};
 pub use trail::judge_trail;
-pub use value::eval;
+pub use value::{eval, table_at};

@@ -367,7 +367,7 @@ fn input_at(inputs: &[Scalar], i: u32) -> Scalar
 }
 
 /// What the symbol of a number has at arguments, false past the last symbol.
-fn table_at(interp: &[Table], f: u32, args: &[u64]) -> Scalar
+pub fn table_at(interp: &[Table], f: u32, args: &[u64]) -> Scalar
     ensures { result ≡ at (table_of interp.now f) args.now }
 {
     match interp.get(f as usize) {

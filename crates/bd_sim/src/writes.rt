@@ -78,7 +78,8 @@ impl<'a> Memories<'a> {
     fn last_write(&self, count: usize, chain: Chain) -> Option<LastWrite>
         requires { count ≤ length self.now.writes.items }
         ensures made { IfSome result (λ w. memory_after self.now count chain
-            ≡ write (memory_after self.now w.place w.write.below) w.write.slot.address w.write.slot.value) }
+            ≡ write (memory_after self.now w.place w.write.below)
+            w.write.slot.address w.write.slot.value) }
         ensures fewer { IfSome result (λ w. w.place < count) }
         ensures none { IsNone result → memory_after self.now count chain
             ≡ memory_after self.now 0 chain }

@@ -14,7 +14,8 @@ ghost use Rattle.bd_slice.specs.inner.Env.{InOthers, Traces, TracesScalar};
 use crate::graph::SupportGraph;
 use crate::kept::{Kept, Traced, kept_at, traced_at};
 use crate::place::CasePlace;
-use bd_model::{Case, Expr, Exprs, Local, Scalar, Sequence, Table, Words};
+use bd_model::{Case, Expr, Exprs, Local, Scalar, Sequence, Words};
+use bd_sim::table_at;
 use std::alloc::{AllocError, Global};
 
 /// What names stand for where an expression is valued.
@@ -98,16 +99,6 @@ impl SupportGraph {
             value,
             node: self.both(args.node, row)?,
         })
-    }
-}
-
-/// What a symbol's table has at arguments.
-fn table_at(interp: &[Table], f: u32, args: &[u64]) -> Scalar
-    ensures { result ≡ at (table_of interp.now f) args.now }
-{
-    match interp.get(f as usize) {
-        Some(table) => table.at(args),
-        None => Scalar::Bool(false),
     }
 }
 

@@ -6,6 +6,7 @@ use crate::moment::Moment;
 use crate::place::Column;
 use crate::subject::{Cycle, Fact, Finding, Subject};
 use bd_model::{Case, Expr, Exprs, Scalar, Sequence, Value};
+use bd_sim::table_at;
 use std::alloc::{AllocError, Global};
 
 /// Where an expression is valued: the column in which its cycle begins, and that cycle.
@@ -179,14 +180,6 @@ impl Here<'_> {
         let value = word_of(self.moment.lets.as_slice().get(number as usize), address);
         self.rests(path, Subject::LetCell(self.cycle, number, address), value)
     }
-
-    /// What a symbol's table has at arguments.
-    fn table_at(self, symbol: u32, args: &[u64]) -> Scalar {
-        match self.case.interp.as_slice().get(symbol as usize) {
-            Some(table) => table.at(args),
-            None => Scalar::Bool(false),
-        }
-    }
 }
 
 /// What the value of an expression comes from.
@@ -341,7 +334,7 @@ fn find_applied(
         all = all.then(found)?;
         number = number.checked_add(1).ok_or(AllocError)?;
     }
-    let value = here.table_at(symbol, words.as_slice());
+    let value = table_at(here.case.interp.as_slice(), symbol, words.as_slice());
     let row = Finding::Applied(symbol, Sequence::from_vec(words), value);
     here.told(path, value, row)?.then(all.valued(value))
 }

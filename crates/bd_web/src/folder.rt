@@ -1,12 +1,9 @@
 //! Files in memory, which can be taken out again.
-ghost use Rattle.std.specs.Prelude.{◌≡◌, ◌+◌, [], Some, None, OnOk, OnErr, IfOk, IsErrOf, find, take, option_map};
-ghost use Rattle.std.specs.Option.{option_copied};
-ghost use Rattle.std.specs.String.{string_bytes};
-ghost use Rattle.std.specs.Str.{bytes_eq};
+ghost use Rattle.std.specs.Prelude.{◌≡◌, ◌+◌, [], Some, None, OnOk, OnErr, IfOk, IsErrOf, take, option_map};
 ghost use Rattle.bd_files.specs.Shelf.{files_of, bytes_of};
 ghost use Rattle.bd_web.specs.Folder.{failed, saved};
 
-use bd_files::{FaultLog, FileCall, Files, LoadError, SaveError};
+use bd_files::{FaultLog, FileCall, Files, LoadError, SaveError, first_bytes};
 use std::alloc::Global;
 use std::marker::Model;
 
@@ -24,7 +21,10 @@ impl Model for Folder {
 
     ghost Value = { FolderState };
 
-    ghost view = { λ folder. record { files = files_of folder.files.items; faults = folder.faults } };
+    ghost view = { λ folder. record {
+      files = files_of folder.files.items;
+      faults = folder.faults;
+    } };
 }
 
 impl Folder {
@@ -92,27 +92,4 @@ impl Files for Folder {
             .insert(0, (name, bytes))
             .map_err(|_| SaveError::Memory)
     }
-}
-
-/// The bytes of the first file with that name, of more than `most` the first `most + 1`.
-#[tactic(auto, using(bd_files::proofs::Lookups::lookups))]
-fn first_bytes<'a>(files: &'a [(String, Vec<u8>)], name: &str, most: usize) -> Option<&'a [u8]>
-    ensures { option_copied result
-        ≡ option_map (take (most + 1)) (bytes_of (files_of files.now) name.now) }
-{
-    let file = file_under(files, name)?;
-    let bytes = file.1.as_slice();
-    if most < bytes.len() {
-        Some(&bytes[..most + 1])
-    } else {
-        Some(bytes)
-    }
-}
-
-/// The first file with that name.
-fn file_under<'a>(files: &'a [(String, Vec<u8>)], name: &str) -> Option<&'a (String, Vec<u8>)>
-    ensures { option_copied result
-        ≡ find (λ file. bytes_eq (string_bytes file.0) name.now) files.now }
-{
-    files.iter().find(|file| file.0.as_str() == name)
 }

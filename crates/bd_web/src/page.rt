@@ -81,7 +81,8 @@ fn run_handed(alloc: Global, handed: Handed) -> Result<Came, Fault>
 fn run_bytes(alloc: Global, bytes: &[u8], lengths: &[usize], words: usize) -> Result<Came, Fault>
     ensures ran { IfOk result (λ came. HasCome bytes.now lengths.now words came.status
         came.back.bytes.items came.back.lengths.items) }
-    ensures not_parts { IsErrOf result Fault.NotParts → (texts : List (List ℕ)) (files : List File) →
+    ensures not_parts { IsErrOf result Fault.NotParts →
+        (texts : List (List ℕ)) (files : List File) →
         ¬ AreHanded bytes.now lengths.now words texts files }
     ensures not_text { IsErrOf result Fault.NotText → HasNoText bytes.now lengths.now words }
     ensures no_cut { ¬ IsErrOf result Fault.CutOff }

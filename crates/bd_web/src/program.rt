@@ -30,7 +30,8 @@ fn run_program<F: Files, O: Sink, E: Sink>(
         (files_seen F.held F.faults F.blame F.calls files.old)
         (files_seen F.held F.faults F.blame F.calls files.new)
         (sink_seen O.written O.faults O.puts out.old) (sink_seen O.written O.faults O.puts out.new)
-        (sink_seen E.written E.faults E.puts err.old) (sink_seen E.written E.faults E.puts err.new) }
+        (sink_seen E.written E.faults E.puts err.old)
+        (sink_seen E.written E.faults E.puts err.new) }
 {
     bd_app::run(alloc, words, files, out, err).status()
 }
@@ -47,7 +48,8 @@ fn run_companion<F: Files, O: Sink, E: Sink>(
         (files_seen F.held F.faults F.blame F.calls files.old)
         (files_seen F.held F.faults F.blame F.calls files.new)
         (sink_seen O.written O.faults O.puts out.old) (sink_seen O.written O.faults O.puts out.new)
-        (sink_seen E.written E.faults E.puts err.old) (sink_seen E.written E.faults E.puts err.new) }
+        (sink_seen E.written E.faults E.puts err.old)
+        (sink_seen E.written E.faults E.puts err.new) }
 {
     bd_show::run(alloc, words, files, out, err).status()
 }
@@ -64,7 +66,8 @@ pub fn run<F: Files, O: Sink, E: Sink>(
         (files_seen F.held F.faults F.blame F.calls files.old)
         (files_seen F.held F.faults F.blame F.calls files.new)
         (sink_seen O.written O.faults O.puts out.old) (sink_seen O.written O.faults O.puts out.new)
-        (sink_seen E.written E.faults E.puts err.old) (sink_seen E.written E.faults E.puts err.new) }
+        (sink_seen E.written E.faults E.puts err.old)
+        (sink_seen E.written E.faults E.puts err.new) }
 {
     if asks_companion(words) {
         run_companion(alloc, words, files, out, err)

@@ -2,7 +2,7 @@
 use Rattle.std.specs.Prelude.{◌≡◌, ◌+◌, ◌*◌, ◌==◌, ◌&&◌, not, ℕ, Bool, true, false, suc, List, [], ◌∷◌, map, slice_index_or, if◌then◌else◌}
 use Rattle.bd_model.specs.DesignView.{DesignView, PortView}
 use Rattle.bd_model.specs.Fits.{result_sort}
-use Rattle.bd_model.specs.Value.{scalar_truth, scalar_word}
+use Rattle.bd_model.specs.Value.{scalar_truth, scalar_word, slot_of}
 use Rattle.bd_model.specs.declared.design.Sort.{Sort}
 use Rattle.bd_model.specs.declared.design.Sort.TheVariants as sort
 use Rattle.bd_model.specs.declared.design.Symbol.{Symbol}
@@ -10,7 +10,6 @@ use Rattle.bd_model.specs.declared.design.Entry as entry
 use Rattle.bd_model.specs.declared.table.Scalar.{Scalar}
 use Rattle.bd_model.specs.declared.table.Scalar.TheVariants as scalar
 use Rattle.bd_model.specs.declared.table.Row.{Row}
-use Rattle.bd_model.specs.declared.table.Slot.{Slot}
 use Rattle.bd_model.specs.declared.table.Table.{Table}
 use Rattle.bd_model.specs.declared.table.Value.{Value}
 use Rattle.bd_model.specs.declared.table.Value.TheVariants as value
@@ -44,9 +43,6 @@ function_default classes f y t =
 abbrev pub function_table : ℕ → ℕ → Symbol → Table → Table
 function_table classes f y t =
     record { default = function_default classes f y t; rows = if y.arity == 0 then [] else t.rows }
-
-abbrev pub slot_of : Row → Slot
-slot_of r = record { address = slice_index_or r.args 0 0; value = scalar_word r.value }
 
 abbrev pub entry_value : Sort → Table → Value
 entry_value sort.Bool t = value.Scalar (scalar_as sort.Bool t.default)

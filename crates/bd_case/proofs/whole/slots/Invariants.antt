@@ -1,5 +1,5 @@
 use Rattle.std.proofs.Common.{◌≡◌, ◌++◌, map, drop}
-use Rattle.bd_case.specs.Content.{slot_of}
+use Rattle.bd_model.specs.Value.{slot_of}
 use Rattle.bd_case.proofs.whole.slots.Given as goal
 
 abbrev pub invariant-loop-row : goal.invariant-loop-row

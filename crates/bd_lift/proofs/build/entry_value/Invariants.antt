@@ -1,5 +1,5 @@
 use Rattle.std.proofs.Common.{◌≡◌, map, take}
-use Rattle.bd_lift.specs.inner.Built.{slot_of}
+use Rattle.bd_model.specs.Value.{slot_of}
 use Rattle.bd_lift.proofs.build.entry_value.Given as goal
 
 abbrev pub invariant-loop-row : goal.invariant-loop-row
