@@ -11,7 +11,7 @@ use Rattle.bd_model.specs.declared.design.Sort.TheVariants as sort
 use Rattle.bd_about.specs.Named.{any_names, names}
 use Rattle.bd_about.specs.inner.Marking.{UseEarlier}
 use Rattle.bd_about.specs.declared.named.Named.TheVariants as named
-use Rattle.bd_about.proofs.Passing.{or_cases}
+use Rattle.bd_list.proofs.Truths.{or_cases}
 
 either : {A : Type 0} (a b : Bool) → (a || b) ≡ true → (a ≡ true → A) → (b ≡ true → A) → A
 either a b h f g = elim (or_cases a b h) [ inl p ↦ f p | inr p ↦ g p ]

@@ -1,11 +1,14 @@
 -- The places that no test passes.
-use Rattle.std.proofs.Common.{◌≡◌, ◌⊎◌, ◌<◌, ◌≤◌, ◌+◌, ℕ, zero, suc, Bool, true, false, List, [], ◌∷◌, ◌++◌, length, get_or, refl, sym, ◌∙◌, ap, subst, inl, inr, arith, length-append}
+use Rattle.std.proofs.Common.{◌≡◌, ◌⊎◌, ◌<◌, ◌+◌, ℕ, zero, suc, Bool, true, false, List, [], ◌∷◌, ◌++◌, length, get_or, refl, sym, ◌∙◌, ap, subst, inl, inr, arith, length-append}
 use Rattle.std.specs.Prelude.{◌||◌, ◌↔◌, Contains, if◌then◌else◌}
 use Rattle.std.specs.List.Sorted.{IsStrictlyIncreasing}
 use Rattle.std.proofs.lemmas.List.{get_or_append_left, get_or-append-add}
 use Rattle.std.proofs.lemmas.List.Elements.{Contains-append_left, Contains-push, Contains-push_cases}
+use Rattle.bd_about.proofs.Marking.{or_false}
 use Rattle.bd_about.specs.Unread.{AreUnread}
 use Rattle.bd_about.specs.inner.Marking.{unset_below}
+use Rattle.bd_list.proofs.Numbers.{le-cases}
+use Rattle.bd_list.proofs.Truths.{or_cases, or_left, or_right}
 
 true_or_false : (b : Bool) → (b ≡ true → ⊥) → b ≡ false
 true_or_false true h = absurd (h refl)
@@ -15,14 +18,8 @@ not_both : (b : Bool) → b ≡ true → b ≡ false → ⊥
 not_both true h k = cc k
 not_both false h k = cc h
 
-pub le_cases : (a b : ℕ) → a ≤ b → (a ≡ b) ⊎ (a < b)
-le_cases zero zero h = inl refl
-le_cases zero (suc b) h = inr (omega arith)
-le_cases (suc a) zero h = absurd (omega (arith, h))
-le_cases (suc a) (suc b) h = elim (le_cases a b (omega (arith, h))) [ inl e ↦ inl (ap suc e) | inr p ↦ inr (omega (arith, p)) ]
-
 below_suc : (i n : ℕ) → i < suc n → (i ≡ n) ⊎ (i < n)
-below_suc i n h = le_cases i n (omega (arith, h))
+below_suc i n h = elim (le-cases i n (omega (arith, h))) [ inl p ↦ inr (omega (arith, p)) | inr e ↦ inl e ]
 
 listed_step : (p : ℕ → Bool) (n i : ℕ) → (i < n → Contains (unset_below p n) i) → p i ≡ false → (i ≡ n) ⊎ (i < n) → (b : Bool) → p n ≡ b
     → Contains (if b then unset_below p n else unset_below p n ++ n ∷ []) i
@@ -66,7 +63,7 @@ rising_at xs n k rising below (inr h) =
     omega (arith, a, b, r)
 
 inner_or_last : (xs : List ℕ) (n k : ℕ) → k + 1 < length (xs ++ n ∷ []) → (k + 1 < length xs) ⊎ (k + 1 ≡ length xs)
-inner_or_last xs n k h = elim (le_cases (k + 1) (length xs) (omega (arith, h, length-append xs (n ∷ [])))) [ inl e ↦ inr e | inr p ↦ inl p ]
+inner_or_last xs n k h = elim (le-cases (k + 1) (length xs) (omega (arith, h, length-append xs (n ∷ [])))) [ inl p ↦ inl (omega (arith, p)) | inr e ↦ inr e ]
 
 rising_push : (xs : List ℕ) (n : ℕ) → IsStrictlyIncreasing xs → ((k : ℕ) → k < length xs → get_or xs k 0 < n) → IsStrictlyIncreasing (xs ++ n ∷ [])
 rising_push xs n rising below k inside = rising_at xs n k rising below (inner_or_last xs n k inside)
@@ -97,27 +94,11 @@ are_unread p R n places h same = subst (λ xs. AreUnread R n xs) (sym same) (rec
 })
 
 -- flags that say what is reached
-either_of : (a b : Bool) → (a || b) ≡ true → (a ≡ true) ⊎ (b ≡ true)
-either_of true b h = inl refl
-either_of false b h = inr h
-
-or_first : (a b : Bool) → a ≡ true → (a || b) ≡ true
-or_first true b h = refl
-or_first false b h = absurd (cc h)
-
-or_second : (a b : Bool) → b ≡ true → (a || b) ≡ true
-or_second true b h = refl
-or_second false b h = h
-
 pub reads_either : (a b : ℕ → Bool) (R S : ℕ → Type 0) → ((i : ℕ) → (a i ≡ true) ↔ R i) → ((i : ℕ) → (b i ≡ true) ↔ S i) → (i : ℕ) → ((a i || b i) ≡ true) ↔ (R i ⊎ S i)
 reads_either a b R S h k i = (
-  (λ on. elim (either_of (a i) (b i) on) [ inl p ↦ inl ((h i).0 p) | inr q ↦ inr ((k i).0 q) ]),
-  (λ r. elim r [ inl p ↦ or_first (a i) (b i) ((h i).1 p) | inr q ↦ or_second (a i) (b i) ((k i).1 q) ]),
+  (λ on. elim (or_cases (a i) (b i) on) [ inl p ↦ inl ((h i).0 p) | inr q ↦ inr ((k i).0 q) ]),
+  (λ r. elim r [ inl p ↦ or_left (a i) (b i) ((h i).1 p) | inr q ↦ or_right (a i) (b i) ((k i).1 q) ]),
 )
 
-or_nothing : (a : Bool) → (a || false) ≡ a
-or_nothing true = refl
-or_nothing false = refl
-
 pub reads_no_more : (a : ℕ → Bool) (R : ℕ → Type 0) → ((i : ℕ) → (a i ≡ true) ↔ R i) → (i : ℕ) → ((a i || false) ≡ true) ↔ R i
-reads_no_more a R h i = ((λ on. (h i).0 (sym (or_nothing (a i)) ∙ on)), (λ r. or_nothing (a i) ∙ (h i).1 r))
+reads_no_more a R h i = ((λ on. (h i).0 (sym (or_false (a i)) ∙ on)), (λ r. or_false (a i) ∙ (h i).1 r))

@@ -1,5 +1,5 @@
 -- What is marked after one thing more, and after parts.
-use Rattle.std.proofs.Common.{◌≡◌, ℕ, zero, suc, Bool, true, false, List, [], ◌∷◌, ◌++◌, get_or, refl, sym, ◌∙◌, ap}
+use Rattle.std.proofs.Common.{◌≡◌, Bool, true, false, List, [], ◌∷◌, ◌++◌, refl, sym, ◌∙◌, ap}
 use Rattle.std.specs.Prelude.{◌||◌, Result, OnOk}
 use Rattle.std.proofs.lemmas.Result.{on_ok_weaker}
 use Rattle.bd_model.specs.ExprView.{ExprView, ExprViews, no_exprs, expr, expr_view, list_of_views}
@@ -14,13 +14,6 @@ use Rattle.bd_list.proofs.Truths.{or_assoc}
 pub or_false : (b : Bool) → (b || false) ≡ b
 or_false true = refl
 or_false false = refl
-
--- a flag that isn't set at the end changes nothing
-pub get_or-push_false : (xs : List Bool) (k : ℕ) → get_or (xs ++ false ∷ []) k false ≡ get_or xs k false
-get_or-push_false [] zero = refl
-get_or-push_false [] (suc k) = refl
-get_or-push_false (x ∷ xs) zero = refl
-get_or-push_false (x ∷ xs) (suc k) = get_or-push_false xs k
 
 pub adds_both : (a b c : NameMarks) (p q : Named → Bool) → Adds a b p → Adds b c q → Adds a c (λ x. p x || q x)
 adds_both a b c p q h k = record { each = λ x. k.each x ∙ ap (λ y. y || q x) (h.each x) ∙ or_assoc (is_marked a x) (p x) (q x) }

@@ -1,5 +1,5 @@
 -- The last row that passes a test decides, where all that pass have one value.
-use Rattle.std.proofs.Common.{◌≡◌, ℕ, Bool, true, false, List, [], ◌∷◌, Contains, None, Some, refl, sym, ◌∙◌, ap, arith, slice_get}
+use Rattle.std.proofs.Common.{◌≡◌, ℕ, Bool, true, false, List, [], ◌∷◌, Contains, None, Some, refl, sym, ◌∙◌, ap, slice_get}
 use Rattle.std.specs.Prelude.{◌&&◌, ◌||◌, ◌==◌, if◌then◌else◌}
 use Rattle.std.specs.List.{list_any}
 use Rattle.std.proofs.lemmas.Bool.{eqb-true}
@@ -13,6 +13,7 @@ use Rattle.bd_tseitin.specs.declared.row.AtomVar.{AtomVar}
 use Rattle.bd_tseitin.specs.Rows.{AreRows}
 use Rattle.bd_about.specs.Equations.{has_row}
 use Rattle.bd_about.specs.inner.Owned.{is_found, last_by}
+use Rattle.bd_list.proofs.Membership.{first}
 
 -- all that pass have one value
 pub record HaveOneValue {X Y : Type 0} (test : X → Bool) (value : X → Y) (xs : List X) : Type 0 where
@@ -21,9 +22,6 @@ pub record HaveOneValue {X Y : Type 0} (test : X → Bool) (value : X → Y) (xs
 -- all that pass have this value
 pub record HaveThisValue {X Y : Type 0} (test : X → Bool) (value : X → Y) (v : Y) (xs : List X) : Type 0 where
   pub same : (a : X) → Contains xs a → test a ≡ true → value a ≡ v
-
-first : {X : Type 0} (x : X) (xs : List X) → Contains (x ∷ xs) x
-first x xs = (0, omega arith, refl)
 
 later : {X : Type 0} (x : X) (xs : List X) (a : X) → Contains xs a → Contains (x ∷ xs) a
 later x xs a h = Contains-append_right (x ∷ []) xs a h

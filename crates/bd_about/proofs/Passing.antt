@@ -1,10 +1,9 @@
 -- A pass over lets, the last one first, marks what is reached.
 use Rattle.std.proofs.Common.{◌≡◌, ◌⊎◌, ◌≤◌, ℕ, suc, Bool, true, false, List, length, refl, sym, ◌∙◌, subst, inl, inr, Some, arith}
-use Rattle.std.specs.Prelude.{◌||◌, ◌&&◌, slice_get}
+use Rattle.std.specs.Prelude.{◌&&◌, slice_get}
 use Rattle.std.proofs.lemmas.Option.{slice_get_within}
 use Rattle.bd_model.specs.DesignView.{LocalView}
 use Rattle.bd_model.specs.ExprView.{ExprView}
-use Rattle.bd_about.proofs.Listing.{le_cases}
 use Rattle.bd_about.specs.Named.{names}
 use Rattle.bd_about.specs.Marked.{Adds, is_marked}
 use Rattle.bd_about.specs.Reached.{IsReached, by_root, by_let}
@@ -12,11 +11,8 @@ use Rattle.bd_about.specs.inner.Marking.{AreMarked, LeadsOn, UseEarlier}
 use Rattle.bd_about.specs.declared.named.Named.{Named}
 use Rattle.bd_about.specs.declared.named.Named.TheVariants as named
 use Rattle.bd_about.specs.declared.marks.NameMarks.{NameMarks}
-use Rattle.bd_list.proofs.Truths.{or_left, or_right}
-
-pub or_cases : (a b : Bool) → (a || b) ≡ true → (a ≡ true) ⊎ (b ≡ true)
-or_cases true b h = inl refl
-or_cases false b h = inr h
+use Rattle.bd_list.proofs.Numbers.{le-cases}
+use Rattle.bd_list.proofs.Truths.{or_cases, or_left, or_right}
 
 -- the lets from the i-th on were passed
 pub record Passed (lets : List LocalView) (first now : NameMarks) (i : ℕ) : Type 0 where
@@ -40,7 +36,7 @@ both_and true b h k = k
 both_and false b h k = absurd (cc h)
 
 here_or_later : (i j : ℕ) → i ≤ j → (j ≡ i) ⊎ (suc i ≤ j)
-here_or_later i j h = elim (le_cases i j h) [ inl e ↦ inl (sym e) | inr p ↦ inr (omega (arith, p)) ]
+here_or_later i j h = elim (le-cases i j h) [ inl p ↦ inr p | inr e ↦ inl (sym e) ]
 
 was_marked : (lets : List LocalView) (first now next : NameMarks) (i : ℕ) (l : LocalView) → Passed lets first now (suc i) → slice_get lets i ≡ Some l
     → Adds now next (λ x. is_marked now (named.Local i) && names x l.value) → (j : ℕ) (m : LocalView) (x : Named) → slice_get lets j ≡ Some m → is_marked now (named.Local j) ≡ true → names x m.value ≡ true

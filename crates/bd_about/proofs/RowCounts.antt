@@ -1,5 +1,5 @@
 -- Counts of rows, set entry by entry, are those of the symbols.
-use Rattle.std.proofs.Common.{◌≡◌, ◌≢◌, ◌<◌, ◌∙◌, ℕ, zero, suc, Bool, true, false, List, [], ◌∷◌, ◌++◌, Contains, Some, if◌then◌else◌, length, slice_get, refl, sym, ap, subst, arith}
+use Rattle.std.proofs.Common.{◌≡◌, ◌≢◌, ◌<◌, ◌∙◌, ℕ, zero, suc, Bool, true, false, List, [], ◌∷◌, Contains, Some, if◌then◌else◌, length, slice_get, refl, sym, ap, subst, arith}
 use Rattle.std.specs.Prelude.{◌↔◌, slice_index_or}
 use Rattle.std.proofs.lemmas.Option.{get_or_from_slice_get, same_Some, slice_get-get_or, slice_get_within}
 use Rattle.bd_terms.specs.declared.node.Sym.{Sym}
@@ -55,14 +55,6 @@ has_rows syms once f = record {
   listed = λ s has same. entry-counted f 0 syms once has.0 s (slice_get-get_or syms has.0 s has.1 ∙ ap Some has.2) same;
   unlisted = λ none. none-counted f 0 syms (λ i s at. none s (Contains-at syms i s at));
 }
-
--- what holds of the items at their places holds of one more
-pub each-more : {X : Type 0} (P : ℕ → X → Type 0) (xs : List X) (x : X) → ((k : ℕ) (y : X) → slice_get xs k ≡ Some y → P k y) → P (length xs) x
-    → (k : ℕ) (y : X) → slice_get (xs ++ x ∷ []) k ≡ Some y → P k y
-each-more P [] x old new zero y at = subst (P 0) (same_Some x y at) new
-each-more P [] x old new (suc k) y at = absurd (cc at)
-each-more P (z ∷ xs) x old new zero y at = old 0 y at
-each-more P (z ∷ xs) x old new (suc k) y at = each-more (λ j. P (suc j)) xs x (λ j. old (suc j)) new k y at
 
 -- the counts in lists are those of the formula
 pub are-counts : (count : ℕ) (syms : List FlatSym) (edges : List Edge) (clauses : List (List Literal)) (atoms : List AtomVar) (is : Sym → ℕ → Bool) → is ≡ is_variable_of syms → AreOnce syms

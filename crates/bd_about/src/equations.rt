@@ -1,11 +1,11 @@
 //! How many equations each function and predicate has, and in how many clauses one stands: one pass over the edges, and
 //! one over Tseitin's clauses (Bryant, German and Velev 2001; Tseitin 1968). The clauses of the edges' triangles aren't
 //! counted.
-ghost use Rattle.std.specs.Prelude.{◌≡◌, ◌<◌, ℕ, count_by, length, slice_index_or, IfOk, OnOk};
+ghost use Rattle.std.specs.Prelude.{◌≡◌, ◌<◌, ℕ, All, count_by, length, slice_index_or, IfOk};
 ghost use Rattle.bd_terms.specs.declared.node.Sym.TheVariants.{Function};
 ghost use Rattle.bd_about.specs.Equations.{clauses_of, equations_of};
 ghost use Rattle.bd_about.specs.inner.Owned.{is_held_for, is_noted, is_owned};
-ghost use Rattle.bd_about.specs.inner.Tallied.{named, no_tally};
+ghost use Rattle.bd_about.specs.inner.Tallied.{IsUpTo, named, no_tally};
 
 use crate::owners::{Atoms, Owners};
 use crate::tallying::{Tally, note_both};
@@ -29,7 +29,7 @@ pub(crate) fn equation_counts(
 {
     let mut tallies = vec![in alloc; Tally { count: 0, last: 0 }; functions]?;
     for (place, edge) in edges.iter().enumerate() {
-        note_both(&mut tallies, owners, edge.from, edge.to, place + 1)?;
+        note_both(&mut tallies, owners, edge.from, edge.to, place + 1);
     }
     Ok(tallies)
 }
@@ -41,16 +41,17 @@ fn note_literal(
     atoms: &Atoms,
     literal: Lit,
     clause: usize,
-) -> Result<(), AllocError>
-    ensures size { OnOk result (length tallies.new.items ≡ length tallies.old.items) }
-    ensures tallies { OnOk result ((f : ℕ) → f < length tallies.old.items →
+)
+    requires { All (IsUpTo clause) tallies.old.items }
+    ensures size { length tallies.new.items ≡ length tallies.old.items }
+    ensures up_to { All (IsUpTo clause) tallies.new.items }
+    ensures tallies { (f : ℕ) → f < length tallies.old.items →
         slice_index_or tallies.new.items f no_tally
         ≡ named (is_held_for owners.now atoms.now (Function f) literal.var) clause
-        (slice_index_or tallies.old.items f no_tally)) }
+        (slice_index_or tallies.old.items f no_tally) }
 {
-    match atoms.get(literal.var()) {
-        Some(Atom::Edge(from, to)) => note_both(tallies, owners, from, to, clause),
-        _ => Ok(()),
+    if let Some(Atom::Edge(from, to)) = atoms.get(literal.var()) {
+        note_both(tallies, owners, from, to, clause);
     }
 }
 
@@ -61,17 +62,18 @@ fn note_clause(
     atoms: &Atoms,
     literals: &[Lit],
     clause: usize,
-) -> Result<(), AllocError>
-    ensures size { OnOk result (length tallies.new.items ≡ length tallies.old.items) }
-    ensures tallies { OnOk result ((f : ℕ) → f < length tallies.old.items →
+)
+    requires { All (IsUpTo clause) tallies.old.items }
+    ensures size { length tallies.new.items ≡ length tallies.old.items }
+    ensures up_to { All (IsUpTo clause) tallies.new.items }
+    ensures tallies { (f : ℕ) → f < length tallies.old.items →
         slice_index_or tallies.new.items f no_tally
         ≡ named (is_noted owners.now atoms.now (Function f) literals.now) clause
-        (slice_index_or tallies.old.items f no_tally)) }
+        (slice_index_or tallies.old.items f no_tally) }
 {
     for literal in literals {
-        note_literal(tallies, owners, atoms, *literal, clause)?;
+        note_literal(tallies, owners, atoms, *literal, clause);
     }
-    Ok(())
 }
 
 /// In how many of some clauses an equation of each of so many functions and predicates stands, where the atoms of
@@ -90,7 +92,7 @@ fn clause_tallies(
 {
     let mut tallies = vec![in alloc; Tally { count: 0, last: 0 }; functions]?;
     for (place, clause) in clauses.iter().enumerate() {
-        note_clause(&mut tallies, owners, atoms, clause.lits(), place + 1)?;
+        note_clause(&mut tallies, owners, atoms, clause.lits(), place + 1);
     }
     Ok(tallies)
 }

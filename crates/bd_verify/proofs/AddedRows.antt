@@ -35,6 +35,10 @@ AddsRows-one edge vars rows are new = record {
   are = AreRows-push vars rows (atom.Edge edge.from edge.to) are new;
 }
 
+-- a variable and a row more keep the variables few
+pub few-more : (most vars : ℕ) (rows : List AtomVar) (row : AtomVar) → vars < most + length rows → vars + 1 < most + length (rows ++ row ∷ [])
+few-more most vars rows row few = let size = length_push rows row in omega (arith, few, size)
+
 has-more : (rows more : List AtomVar) (a : Atom) → HasAtom rows a → HasAtom (rows ++ more) a
 has-more rows more a (r, has, same) = (r, Contains-append_left rows more r has, same)
 

@@ -1,6 +1,6 @@
 -- The map of atoms to the variables of their rows.
-use Rattle.std.proofs.Common.{◌≡◌, ℕ, Bool, true, false, cond, List, [], ◌∷◌, ◌++◌, Contains, Option, None, Some, refl, ap, sym, ◌∙◌, subst, inl, inr}
-use Rattle.std.specs.Prelude.{if◌then◌else◌, SomeIff}
+use Rattle.std.proofs.Common.{◌≡◌, ℕ, Bool, true, false, cond, List, [], ◌∷◌, ◌++◌, Contains, None, Some, refl, ap, sym, ◌∙◌, subst, inl, inr}
+use Rattle.std.specs.Prelude.{if◌then◌else◌}
 use Rattle.std.specs.Map.{lookup}
 use Rattle.std.proofs.lemmas.Bool.{false≢true}
 use Rattle.std.proofs.lemmas.List.Elements.{Contains-append_left, Contains-push, Contains-push_cases}
@@ -23,10 +23,6 @@ lookup-atom (e ∷ es) q =
 
 same_atom : (a b : Atom) → is_atom a b ≡ true → a ≡ b
 same_atom a b e = atom_same a b (atom_eq-is a b ∙ e)
-
--- the sum that is there
-pub checked : (o : Option ℕ) (P : Type 0) (v x : ℕ) → SomeIff o P v → o ≡ Some x → v ≡ x
-checked o P v x h e = sym (subst (λ r. SomeIff r P v) e h).1
 
 abbrev row : Atom → ℕ → AtomVar
 row atom var = record { atom = atom; var = var }

@@ -8,6 +8,7 @@ pub mod CaseExists
 pub mod RootDecides
 pub mod MarkedApart
 pub mod FlatDecides
+pub mod FewVariables
 pub mod FormulaDecides
 pub mod KeptDecides
 pub mod RootAnswers

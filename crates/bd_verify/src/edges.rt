@@ -3,6 +3,7 @@ ghost use Rattle.std.specs.Prelude.{◌≡◌, ◌<◌, ◌++◌, All, Contains,
 ghost use Rattle.bd_transitive.specs.Orders.{IsOrder};
 ghost use Rattle.bd_transitive.specs.declared.graph.Edge.{Edge as AnyEdge};
 ghost use Rattle.bd_verify.specs.Kept.{AddsEdges, denial};
+ghost use Rattle.bd_verify.specs.inner.Numbers.{most_variables};
 
 use crate::numbers::Numbers;
 use bd_cnf::{Clause, Clauses, Cnf, Lit};
@@ -18,6 +19,7 @@ pub(crate) fn with_edges(
     order: &Order,
     apart: &[Edge],
 ) -> Result<Formula, AllocError>
+    requires few { formula.cnf.vars < most_variables }
     requires order { IsOrder order.now }
     requires apart { (edge : AnyEdge) → Contains apart.now edge → Contains order.now.edges edge }
     ensures { IfOk result (λ new. AddsEdges order.now apart.now

@@ -1,8 +1,8 @@
 //! Which variable stands for which atom, as a list of rows that grows, and a map to find them by.
-ghost use Rattle.std.specs.Prelude.{◌≡◌, ◌∷◌, [], Contains, IfOk, OnOk};
+ghost use Rattle.std.specs.Prelude.{◌≡◌, ◌<◌, ◌∷◌, [], Contains, IfOk, OnOk};
 ghost use Rattle.bd_tseitin.specs.Rows.{AreRows};
 ghost use Rattle.bd_verify.specs.Kept.{AddsRows, AreVariables, edge_row};
-ghost use Rattle.bd_verify.specs.inner.Numbers.{Finds, IsNumbered};
+ghost use Rattle.bd_verify.specs.inner.Numbers.{Finds, IsNumbered, most_variables};
 
 use bd_prop::Atom;
 use bd_transitive::Edge;
@@ -21,7 +21,8 @@ pub(crate) struct Numbers {
 impl Numbers {
     /// The numbers of the atoms of these rows, where variables up to `vars` are taken.
     pub(crate) fn of(alloc: Global, vars: u64, atoms: AtomVars) -> Result<Numbers, AllocError>
-        requires { AreRows vars atoms }
+        requires rows { AreRows vars atoms }
+        requires few { vars < most_variables }
         ensures vars { IfOk result (λ n. n.vars ≡ vars) }
         ensures atoms { IfOk result (λ n. n.atoms ≡ atoms) }
         ensures numbered { IfOk result IsNumbered }
@@ -49,7 +50,7 @@ impl Numbers {
         Ok(variables)
     }
 
-    /// The variable of an edge. One without a row gets a new variable; a number past 64 bits ends as want of memory.
+    /// The variable of an edge. One without a row gets a new variable.
     fn variable(&mut self, edge: &Edge) -> Result<u64, AllocError>
         requires { IsNumbered self.old }
         ensures row { IfOk result (λ var. Contains self.new.atoms (edge_row edge.now var)) }
@@ -61,7 +62,9 @@ impl Numbers {
         if let Some(var) = self.found.get(&atom) {
             return Ok(*var);
         }
-        let var = self.vars.checked_add(1).ok_or(AllocError)?;
+        let rows = self.atoms.as_slice();
+        prove!(rows.len() < 1 << 60);
+        let var = self.vars + 1;
         self.atoms.push(AtomVar { atom, var })?;
         self.found.insert(atom, var)?;
         self.vars = var;

@@ -69,6 +69,8 @@ fn formula_of(
     let encoded = encode(alloc, flat, &design.distinct, marked)?;
     let mut prop = encoded.prop;
     let denied = prop.mk_not(encoded.root)?;
+    let nodes = prop.nodes();
+    prove!(nodes.len() < 1 << 60);
     let formula = clauses(alloc, &prop, denied)?;
     let order = order(alloc, &encoded.edges)?;
     let formula = with_edges(alloc, formula, &order, encoded.apart.as_slice())?;

@@ -1,5 +1,5 @@
 -- Rows of atoms that grow, each with a variable of its own.
-use Rattle.std.specs.Prelude.{◌≡◌, ℕ, List, Contains, None, Some}
+use Rattle.std.specs.Prelude.{◌≡◌, ◌<◌, ◌+◌, ◌^◌, ℕ, List, Contains, None, Some, length}
 use Rattle.std.specs.Map.{lookup}
 use Rattle.bd_prop.specs.declared.atom.Atom.{Atom}
 use Rattle.bd_prop.specs.Values.{is_atom}
@@ -12,6 +12,12 @@ pub record Finds (entries : List (Atom × ℕ)) (rows : List AtomVar) : Type 0 w
   pub found : (q : Atom) (x : ℕ) → lookup (is_atom q) entries ≡ Some x → Contains rows (record { atom = q; var = x })
   pub missing : (q : Atom) → lookup (is_atom q) entries ≡ None → ¬ HasAtom rows q
 
+-- a formula has fewer variables than this before edges get rows, as each is that of a node in memory
+abbrev pub most_variables : ℕ
+most_variables = 2 ^ 60
+
+-- rows over the variables, which the map finds. A variable that comes has a row, so there are few.
 pub record IsNumbered (n : Numbers) : Type 0 where
   pub rows : AreRows n.vars n.atoms
   pub finds : Finds n.found.entries n.atoms
+  pub few : n.vars < most_variables + length n.atoms

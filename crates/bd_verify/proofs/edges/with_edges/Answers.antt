@@ -3,12 +3,16 @@ use Rattle.bd_cnf.specs.Problem.{AreWithin}
 use Rattle.bd_transitive.specs.Clauses.{AreTriangleClauses}
 use Rattle.bd_tseitin.specs.Rows.{AreRows}
 use Rattle.bd_verify.specs.Kept.{AddsEdges, AddsRows, AreVariables, denial}
+use Rattle.bd_verify.specs.inner.Numbers.{most_variables}
 use Rattle.bd_verify.proofs.AddedRows.{AddsRows-among, AddsRows-keeps, AddsRows-trans, AreVariables-all, AreVariables-different, AreVariables-grown, among-both}
 use Rattle.bd_verify.proofs.EdgesWithin.{edges-within}
 use Rattle.bd_verify.proofs.edges.with_edges.Goals as goal
 
-pub of-requires : goal.of-requires
-of-requires c = subst (λ n. AreRows n c.args.formula.atoms) (sym c.vars.ensures) c.args.formula.rows
+pub of-requires-clause-rows : goal.of-requires-clause-rows
+of-requires-clause-rows c = subst (λ n. AreRows n c.args.formula.atoms) (sym c.vars.ensures) c.args.formula.rows
+
+pub of-requires-clause-few : goal.of-requires-clause-few
+of-requires-clause-few c = subst (λ n. n < most_variables) (sym c.vars.ensures) c.requires.few
 
 pub triangles-requires-clause-counted : goal.triangles-requires-clause-counted
 triangles-requires-clause-counted c = ap length c.deref.ensures.value ∙ c.in_ok-variables.ensures.variables.counted ∙ ap length c.as_slice.ensures

@@ -1,7 +1,15 @@
-use Rattle.std.proofs.Common.{Contains, inr, subst}
+use Rattle.std.proofs.Common.{◌<◌, Contains, inr, length, subst}
 use Rattle.bd_verify.specs.Kept.{AddsEdges}
 use Rattle.bd_verify.proofs.FormulaDecides.{ordered-by}
+use Rattle.bd_verify.specs.inner.Numbers.{most_variables}
+use Rattle.bd_verify.proofs.FewVariables.{few-variables}
 use Rattle.bd_verify.proofs.reduction.formula_of.Goals as goal
+
+pub with_edges-requires-clause-few : goal.with_edges-requires-clause-few
+with_edges-requires-clause-few c =
+    let first = c.in_ok-formula.formula in
+    few-variables c.mk_not.new.self c.in_ok-denied.denied first.cnf.vars first.cnf.clauses first.atoms most_variables c.in_ok-formula.ensures.form.0
+    (subst (λ l. length l < most_variables) c.nodes-nodes.ensures.value c.if-prove.false)
 
 pub with_edges-requires-clause-apart : goal.with_edges-requires-clause-apart
 with_edges-requires-clause-apart c = λ edge has.

@@ -1,4 +1,4 @@
-use Rattle.std.proofs.Common.{◌≡◌, ◌+◌, cond, None, Some, sym, ◌∙◌, subst, ◌++◌, ◌∷◌, []}
+use Rattle.std.proofs.Common.{◌≡◌, ◌<◌, ◌+◌, cond, None, Some, sym, ◌∙◌, subst, ◌∷◌, [], length}
 use Rattle.std.specs.Map.{lookup}
 use Rattle.bd_prop.specs.declared.atom.Atom.{Atom}
 use Rattle.bd_prop.specs.declared.atom.Atom.TheVariants as atom
@@ -7,9 +7,9 @@ use Rattle.bd_prop.proofs.Values.{atom_eq-is}
 use Rattle.bd_tseitin.specs.Rows.{AreRows}
 use Rattle.bd_tseitin.proofs.Further.{AreRows-push}
 use Rattle.bd_verify.specs.Kept.{AddsRows, edge_row}
-use Rattle.bd_verify.specs.inner.Numbers.{Finds}
-use Rattle.bd_verify.proofs.AddedRows.{AddsRows-none, AddsRows-one}
-use Rattle.bd_verify.proofs.AtomMap.{Finds-more, checked, lookup-atom}
+use Rattle.bd_verify.specs.inner.Numbers.{Finds, most_variables}
+use Rattle.bd_verify.proofs.AddedRows.{AddsRows-none, AddsRows-one, few-more}
+use Rattle.bd_verify.proofs.AtomMap.{Finds-more, lookup-atom}
 use Rattle.bd_verify.proofs.numbers.Numbers.variable.Goals as goal
 
 pub returns-in-Some-clause-row : goal.returns-in-Some-clause-row
@@ -28,25 +28,22 @@ returns-clause-rows c =
     let edge = c.args.edge.now in
     let a : Atom = atom.Edge edge.from edge.to in
     let none : lookup (atom_eq a) n.found.entries ≡ None = sym c.in_default.ensures.value in
-    let is : n.vars + 1 ≡ c.in_ok-var.var = checked c.checked_add.result _ (n.vars + 1) c.in_ok-var.var c.checked_add.ensures c.in_ok-var.ensures.ok_part in
-    subst (AddsRows (edge ∷ []) n.vars n.atoms c.in_ok-var.var) (sym c.in_ok-push.ensures.ok)
-    (subst (λ v. AddsRows (edge ∷ []) n.vars n.atoms v (n.atoms ++ edge_row edge v ∷ [])) is
-    (AddsRows-one edge n.vars n.atoms c.requires.rows (c.requires.finds.missing a (sym (lookup-atom n.found.entries a) ∙ none))))
+    subst (AddsRows (edge ∷ []) n.vars n.atoms (n.vars + 1)) (sym c.in_ok-push.ensures.ok)
+    (AddsRows-one edge n.vars n.atoms c.requires.rows (c.requires.finds.missing a (sym (lookup-atom n.found.entries a) ∙ none)))
 
 pub returns-clause-numbered : goal.returns-clause-numbered
 returns-clause-numbered c =
     let n = c.args.self.now in
-    let var = c.in_ok-var.var in
+    let var = n.vars + 1 in
     let edge = c.args.edge.now in
     let a : Atom = atom.Edge edge.from edge.to in
-    let is : n.vars + 1 ≡ var = checked c.checked_add.result _ (n.vars + 1) c.in_ok-var.var c.checked_add.ensures c.in_ok-var.ensures.ok_part in
     let old = n.found.entries in
     let new = c.insert.new.self.entries in
     let none : lookup (atom_eq a) old ≡ None = sym c.in_default.ensures.value in
     record {
-      rows = subst (AreRows var) (sym c.in_ok-push.ensures.ok)
-          (subst (λ v. AreRows v (n.atoms ++ edge_row edge v ∷ [])) is (AreRows-push n.vars n.atoms a c.requires.rows (c.requires.finds.missing a (sym (lookup-atom old a) ∙ none))));
+      rows = subst (AreRows var) (sym c.in_ok-push.ensures.ok) (AreRows-push n.vars n.atoms a c.requires.rows (c.requires.finds.missing a (sym (lookup-atom old a) ∙ none)));
       finds = subst (Finds new) (sym c.in_ok-push.ensures.ok)
           (Finds-more old new n.atoms a var c.requires.finds (λ q.
           sym (lookup-atom new q) ∙ c.in_ok-insert.ensures.updates.0 q ∙ (λ j. cond (atom_eq-is a q j) (Some var) (lookup-atom old q j))));
+      few = subst (λ l. var < most_variables + length l) (sym c.in_ok-push.ensures.ok) (few-more most_variables n.vars n.atoms (edge_row edge var) c.requires.few);
     }
