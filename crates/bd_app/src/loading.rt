@@ -1,5 +1,5 @@
 //! Loading one file.
-ghost use Rattle.std.specs.Prelude.{◌≡◌, ◌≤◌, length, IfSome, IfOk};
+ghost use Rattle.std.specs.Prelude.{◌≡◌, ◌≤◌, is_some, length, IfSome, IfOk};
 ghost use Rattle.std.specs.Option.{option_map};
 ghost use Rattle.bd_app.specs.Files.{HoldsShort, most_bytes};
 ghost use Rattle.bd_app.specs.Loading.{IsOneLoad, IsOneLoadIf, bytes_of};
@@ -70,6 +70,7 @@ pub fn load_if<F: Files>(
         HoldsShortIf held file (given name.entry) (bytes_of bytes))) }
     ensures few { IfOk result (λ bytes.
         IfSome (bytes_of bytes) (λ b. length b ≤ most_bytes file)) }
+    ensures named { IfOk result (λ bytes. is_some (bytes_of bytes) ≡ is_some (given name.entry)) }
     ensures left { IsOneLoadIf file (given name.entry)
         (files_seen F.held F.faults F.blame F.calls files.old)
         (files_seen F.held F.faults F.blame F.calls files.new) result }

@@ -2,6 +2,7 @@
 use Rattle.std.proofs.Common.{◌≡◌, ℕ, List, true, refl, sym, subst, inl, inr}
 use Rattle.std.specs.Prelude.{Option, Some, None, is_some, Result, Ok, Err, IfOk, IfErr, MatchResult}
 use Rattle.std.specs.declared.alloc.AllocError.{AllocError}
+use Rattle.std.proofs.lemmas.Result.{IfOk-weaker}
 use Rattle.bd_case.specs.Reads.{IsTrailReading}
 use Rattle.bd_model.specs.DesignView.{DesignView}
 use Rattle.bd_model.specs.Fits.{Fits}
@@ -103,33 +104,46 @@ asked_fault (explain q) t file offset code takes fault = fault
 asked_fault (about names) t file offset code takes fault = fault
 asked_fault (recheck q) t file offset code takes fault = fault
 
+-- and so of what is told of it
+asked_fault_by : (q : Question) (t : Texts) (fault : TypeFault) → TakesCase q t → AreRefused t fault → IsRefusedBy (IsAskedFault q t) fault
+asked_fault_by q t (Bad file offset code) takes fault = asked_fault q t file offset code takes fault
+asked_fault_by q t Memory takes fault = tt
+
+trail_fault_by : (q : Show) (t : Texts) (fault : TypeFault) → t.comp ≡ None → has_trail t ≡ true → IsRefusedBy (IsStartedFault t) fault → IsRefusedBy (IsAskedFault (show q) t) fault
+trail_fault_by q t (Bad file offset code) none trail fault = subst (λ comp. IsShownFault comp t file offset code) (sym none) (inl (trail, fault))
+trail_fault_by q t Memory none trail fault = tt
+
+shown_joined : (t : Texts) (x : Option (List ℕ)) (file : Text) (offset : ℕ) (code : Code) → is_some x ≡ true → IsJoinedFault t file offset code → IsShownFault x t file offset code
+shown_joined t None file offset code is fault = absurd (cc is)
+shown_joined t (Some comp) file offset code is fault = fault
+
+joined_fault_by : (q : Show) (t : Texts) (fault : TypeFault) → is_some t.comp ≡ true → IsRefusedBy (IsJoinedFault t) fault → IsRefusedBy (IsAskedFault (show q) t) fault
+joined_fault_by q t (Bad file offset code) joined fault = shown_joined t t.comp file offset code joined fault
+joined_fault_by q t Memory joined fault = tt
+
 -- what is told of a fault that is asked about
 told : (q : Question) (t : Texts) (names : Names) (e : Ended) (text : List ℕ) (file : Text) (offset : ℕ) (code : Code) → asked_names q ≡ names → e ≡ Refused file offset code → IsAskedFault q t file offset code
     → IsRefusedText names t file offset code text → Says q t e text
 told q t names e text file offset code same is fault line =
     subst (λ x. Says q t x text) (sym is) (fault, subst (λ n. IsRefusedText n t file offset code text) (sym same) line)
 
-pub text_told : (t : Texts) (names : Names) (file : Text) (offset : ℕ) (code : Code) (r : Result Answer AllocError) → IsTextFault t file offset code → IfOk r (λ a. a.ended ≡ Refused file offset code)
-    → IfOk r (λ a. IsRefusedText names t file offset code a.text.items) → IfOk r (λ a. (q : Question) → asked_names q ≡ names → TakesCase q t → Says q t a.ended a.text.items)
-text_told t names file offset code (Ok a) fault is line = λ q same takes. told q t names a.ended a.text.items file offset code same is (asked_fault q t file offset code takes fault) line
-text_told t names file offset code (Err e) fault is line = tt
+pub fault_told : (t : Texts) (names : Names) (fault : TypeFault) (file : Text) (offset : ℕ) (code : Code) (r : Result Answer AllocError) → fault ≡ Bad file offset code → IfOk r (λ a. a.ended ≡ Refused file offset code)
+    → IfOk r (λ a. IsRefusedText names t file offset code a.text.items) → IfOk r (λ a. (q : Question) → asked_names q ≡ names → IsRefusedBy (IsAskedFault q t) fault → Says q t a.ended a.text.items)
+fault_told t names fault file offset code (Ok a) bad is line = λ q same asked. told q t names a.ended a.text.items file offset code same is (subst (IsRefusedBy (IsAskedFault q t)) bad asked) line
+fault_told t names fault file offset code (Err e) bad is line = tt
 
-pub trail_told : (t : Texts) (names : Names) (file : Text) (offset : ℕ) (code : Code) (r : Result Answer AllocError) → t.comp ≡ None → has_trail t ≡ true → IsStartedFault t file offset code → IfOk r (λ a. a.ended ≡ Refused file offset code)
-    → IfOk r (λ a. IsRefusedText names t file offset code a.text.items) → IfOk r (λ a. (q : Show) → q.names ≡ names → Says (show q) t a.ended a.text.items)
-trail_told t names file offset code (Ok a) none trail fault is line = λ q same.
-    let asked = subst (λ comp. IsShownFault comp t file offset code) (sym none) (inl (trail, fault)) in
-    told (show q) t names a.ended a.text.items file offset code same is asked line
-trail_told t names file offset code (Err e) none trail fault is line = tt
+-- and so to a question that asks about faults of this kind
+pub text_told : (t : Texts) (names : Names) (fault : TypeFault) (r : Result Answer AllocError) → AreRefused t fault → IfOk r (λ a. (q : Question) → asked_names q ≡ names → IsRefusedBy (IsAskedFault q t) fault → Says q t a.ended a.text.items)
+    → IfOk r (λ a. (q : Question) → asked_names q ≡ names → TakesCase q t → Says q t a.ended a.text.items)
+text_told t names fault r are says = IfOk-weaker r _ _ (λ a said q same takes. said q same (asked_fault_by q t fault takes are)) says
 
-shown_joined : (t : Texts) (x : Option (List ℕ)) (file : Text) (offset : ℕ) (code : Code) → is_some x ≡ true → IsJoinedFault t file offset code → IsShownFault x t file offset code
-shown_joined t None file offset code is fault = absurd (cc is)
-shown_joined t (Some comp) file offset code is fault = fault
+pub trail_told : (t : Texts) (names : Names) (fault : TypeFault) (r : Result Answer AllocError) → t.comp ≡ None → has_trail t ≡ true → IsRefusedBy (IsStartedFault t) fault
+    → IfOk r (λ a. (q : Question) → asked_names q ≡ names → IsRefusedBy (IsAskedFault q t) fault → Says q t a.ended a.text.items) → IfOk r (λ a. (q : Show) → q.names ≡ names → Says (show q) t a.ended a.text.items)
+trail_told t names fault r none trail is says = IfOk-weaker r _ _ (λ a said q same. said (show q) same (trail_fault_by q t fault none trail is)) says
 
-pub joined_told : (t : Texts) (names : Names) (file : Text) (offset : ℕ) (code : Code) (r : Result Answer AllocError) → is_some t.comp ≡ true → IsJoinedFault t file offset code → IfOk r (λ a. a.ended ≡ Refused file offset code)
-    → IfOk r (λ a. IsRefusedText names t file offset code a.text.items) → IfOk r (λ a. (q : Show) → q.names ≡ names → Says (show q) t a.ended a.text.items)
-joined_told t names file offset code (Ok a) joined fault is line = λ q same.
-    told (show q) t names a.ended a.text.items file offset code same is (shown_joined t t.comp file offset code joined fault) line
-joined_told t names file offset code (Err e) joined fault is line = tt
+pub joined_told : (t : Texts) (names : Names) (fault : TypeFault) (r : Result Answer AllocError) → is_some t.comp ≡ true → IsRefusedBy (IsJoinedFault t) fault
+    → IfOk r (λ a. (q : Question) → asked_names q ≡ names → IsRefusedBy (IsAskedFault q t) fault → Says q t a.ended a.text.items) → IfOk r (λ a. (q : Show) → q.names ≡ names → Says (show q) t a.ended a.text.items)
+joined_told t names fault r joined is says = IfOk-weaker r _ _ (λ a said q same. said (show q) same (joined_fault_by q t fault joined is)) says
 
 pub match_ok : {T E : Type 0} (r : Result T E) (P Q : T → Type 0) (R : E → Type 0) → ((x : T) → P x → Q x) → MatchResult r P R → IfOk r Q
 match_ok (Ok x) P Q R weaker h = weaker x h

@@ -9,9 +9,9 @@ use Rattle.clap.specs.Walk.{Row, Rule, first_of}
 use Rattle.clap.specs.declared.error.kind.ErrorKind.{ErrorKind}
 use Rattle.clap.specs.declared.error.kind.ErrorKind.TheVariants.{DisplayHelp, DisplayVersion}
 use Rattle.bd_app.specs.Commands.{if_faultless}
-use Rattle.bd_app.specs.Words.{budget_option, flag, flag_at, machines_command, mode_at, number_of, option, text_command, ◌>>=◌}
+use Rattle.bd_app.specs.Words.{budget_option, flag, flag_at, machines_command, mode_at, number_of, option, text_command, text_of_required, ◌>>=◌}
 use Rattle.bd_show.specs.Files.{Names}
-use Rattle.bd_show.specs.Meaning.{Question, check, show, shrink, explain, about, recheck}
+use Rattle.bd_show.specs.Meaning.{Check, Explain, Question, Recheck, Show, check, show, shrink, explain, about, recheck}
 
 -- check PIPE SPEC [INV] [--diverse] [--budget N]
 abbrev pub check_command : Shape
@@ -44,74 +44,50 @@ recheck_command =
     text_command (codes "recheck") (codes "PROOF") (flag (codes "diverse") ∷ [])
 
 -- the files of a design
-unfoldable pub design_names : List Row → Option Names
-design_names rows = do
-  pipe ← first_of (codes "PIPE") rows
-  spec ← first_of (codes "SPEC") rows
-  Some (record {
-    pipe = pipe;
-    spec = spec;
-    case = None;
-    proof = None;
-    inv = first_of (codes "INV") rows;
-    comp = None;
-  })
+abbrev pub design_names : List Row → Names
+design_names rows = record {
+  pipe = text_of_required (codes "PIPE") rows;
+  spec = text_of_required (codes "SPEC") rows;
+  case = None;
+  proof = None;
+  inv = first_of (codes "INV") rows;
+  comp = None;
+}
 
 -- the files of a case
-unfoldable pub case_names : List Row → Option Names
-case_names rows = do
-  names ← design_names rows
-  case ← first_of (codes "CASE") rows
-  Some (record names { case = Some case })
+abbrev pub case_names : List Row → Names
+case_names rows =
+    record (design_names rows) { case = Some (text_of_required (codes "CASE") rows) }
 
 -- the files of a proof
-unfoldable pub proof_names : List Row → Option Names
-proof_names rows = do
-  names ← design_names rows
-  proof ← first_of (codes "PROOF") rows
-  Some (record names { proof = Some proof })
+abbrev pub proof_names : List Row → Names
+proof_names rows =
+    record (design_names rows) { proof = Some (text_of_required (codes "PROOF") rows) }
 
-unfoldable pub check_question : List Row → Option Question
-check_question rows = do
-  names ← design_names rows
-  Some (check (record {
-    names = names;
-    mode = mode_at (codes "diverse") rows;
-    budget = number_of (codes "budget") rows;
-  }))
+abbrev pub check_question : List Row → Check
+check_question rows = record {
+  names = design_names rows;
+  mode = mode_at (codes "diverse") rows;
+  budget = number_of (codes "budget") rows;
+}
 
-unfoldable pub show_question : List Row → Option Question
-show_question rows = do
-  names ← case_names rows
-  Some (show (record {
-    names = record names { comp = first_of (codes "comp") rows };
-    whole = flag_at (codes "whole") rows;
-    page = first_of (codes "html") rows;
-  }))
+abbrev pub show_question : List Row → Show
+show_question rows = record {
+  names = record (case_names rows) { comp = first_of (codes "comp") rows };
+  whole = flag_at (codes "whole") rows;
+  page = first_of (codes "html") rows;
+}
 
-unfoldable pub shrink_question : List Row → Option Question
-shrink_question rows = do
-  names ← case_names rows
-  Some (shrink names)
+abbrev pub why_question : List Row → Explain
+why_question rows = record {
+  names = case_names rows;
+  whole = flag_at (codes "whole") rows;
+  value = first_of (codes "of") rows;
+}
 
-unfoldable pub why_question : List Row → Option Question
-why_question rows = do
-  names ← case_names rows
-  Some (explain (record {
-    names = names;
-    whole = flag_at (codes "whole") rows;
-    value = first_of (codes "of") rows;
-  }))
-
-unfoldable pub about_question : List Row → Option Question
-about_question rows = do
-  names ← design_names rows
-  Some (about names)
-
-unfoldable pub recheck_question : List Row → Option Question
-recheck_question rows = do
-  names ← proof_names rows
-  Some (recheck (record { names = names; mode = mode_at (codes "diverse") rows }))
+abbrev pub recheck_question : List Row → Recheck
+recheck_question rows =
+    record { names = proof_names rows; mode = mode_at (codes "diverse") rows }
 
 unfoldable pub command_line : App
 command_line = record {
@@ -122,12 +98,13 @@ command_line = record {
 -- what the command of this name asks
 unfoldable pub question_of : List ℕ → List Row → Option Question
 question_of name rows =
-    if bytes_eq name (codes "check") then check_question rows
-    else (if bytes_eq name (codes "show") then show_question rows
-    else (if bytes_eq name (codes "shrink") then shrink_question rows
-    else (if bytes_eq name (codes "why") then why_question rows
-    else (if bytes_eq name (codes "about") then about_question rows
-    else (if bytes_eq name (codes "recheck") then recheck_question rows else None)))))
+    if bytes_eq name (codes "check") then Some (check (check_question rows))
+    else (if bytes_eq name (codes "show") then Some (show (show_question rows))
+    else (if bytes_eq name (codes "shrink") then Some (shrink (case_names rows))
+    else (if bytes_eq name (codes "why") then Some (explain (why_question rows))
+    else (if bytes_eq name (codes "about") then Some (about (design_names rows))
+    else (if bytes_eq name (codes "recheck") then Some (recheck (recheck_question rows))
+    else None)))))
 
 -- what the words ask for, where they are taken: clap finds no fault in them, and they name a command
 unfoldable pub taken : List (List ℕ) → Option Question

@@ -1,13 +1,13 @@
 //! The command line, read with `clap`.
-ghost use Rattle.std.specs.Prelude.{◌≡◌, [], false, None, Some, IfOk, IfErr};
+ghost use Rattle.std.specs.Prelude.{◌≡◌, [], false, is_some, true, None, Some, IfOk, IfErr, IfSome};
 ghost use Rattle.std.specs.Option.{option_map};
 ghost use Rattle.clap.specs.Values.{kind_of};
 ghost use Rattle.clap.specs.Words.{app_of, found_of, rows_of, rule_of, shape_of, with_subcommand};
 ghost use Rattle.clap.specs.declared.builder.command.Command.TheViews.{out-Command as fields_of};
 ghost use Rattle.bd_app.specs.Words.{texts_of};
 ghost use Rattle.bd_show.specs.Files.{names_of};
-ghost use Rattle.bd_show.specs.Commands.{about_command, about_question, case_names, check_command, check_question, command_line, design_names, proof_names, question_of, recheck_command, recheck_question, show_command, show_question, shrink_command, shrink_question, taken, why_command, why_question};
-ghost use Rattle.bd_show.specs.inner.Asked.{IsParsed, IsToldBy, IsWordsFault, asked, first_commands};
+ghost use Rattle.bd_show.specs.Commands.{about_command, case_names, check_command, command_line, design_names, proof_names, question_of, recheck_command, show_command, shrink_command, taken, why_command};
+ghost use Rattle.bd_show.specs.inner.Asked.{IsParsed, IsToldBy, IsWordsFault, NamesCase, asked, first_commands};
 
 use crate::checking::CheckOptions;
 use crate::load::FileNames;
@@ -15,8 +15,8 @@ use crate::rechecking::RecheckOptions;
 use crate::show::ShowOptions;
 use crate::why::WhyOptions;
 use bd_app::words::{
-    budget, flag, flag_at, machines_command, mode_at, option, required_number, text_command, with,
-    word_at,
+    budget, flag, flag_at, machines_command, mode_at, option, required_number, required_word,
+    text_command, with, word_at,
 };
 use clap::error::ErrorKind;
 use clap::{Arg, ArgMatches};
@@ -212,52 +212,50 @@ const LEGEND: &str = "The tables:
   functions   values of functions and predicates, by the cycles that apply them";
 
 /// The names of the files of a design.
-#[tactic(auto, unfolding(crate::specs::Commands::design_names))]
-fn design_names<'a>(matches: &ArgMatches<'a>) -> Option<FileNames<'a>>
-    ensures { option_map names_of result ≡ design_names (rows_of (found_of matches.now)) }
+fn design_names<'a>(matches: &ArgMatches<'a>) -> FileNames<'a>
+    ensures { names_of result ≡ design_names (rows_of (found_of matches.now)) }
 {
-    Some(FileNames {
-        pipe: word_at(matches, "PIPE")?,
-        spec: word_at(matches, "SPEC")?,
+    FileNames {
+        pipe: required_word(matches, "PIPE"),
+        spec: required_word(matches, "SPEC"),
         case: None,
         proof: None,
         inv: word_at(matches, "INV"),
         comp: None,
-    })
+    }
 }
 
 /// The names of the files of a case.
-#[tactic(auto, unfolding(crate::specs::Commands::case_names))]
-fn case_names<'a>(matches: &ArgMatches<'a>) -> Option<FileNames<'a>>
-    ensures { option_map names_of result ≡ case_names (rows_of (found_of matches.now)) }
+fn case_names<'a>(matches: &ArgMatches<'a>) -> FileNames<'a>
+    ensures names { names_of result ≡ case_names (rows_of (found_of matches.now)) }
+    ensures named { is_some (names_of result).case ≡ true }
 {
-    let names = design_names(matches)?;
-    Some(FileNames {
-        case: Some(word_at(matches, "CASE")?),
-        ..names
-    })
+    FileNames {
+        case: Some(required_word(matches, "CASE")),
+        ..design_names(matches)
+    }
 }
 
 /// The names of the files of a proof.
-#[tactic(auto, unfolding(crate::specs::Commands::proof_names))]
-fn proof_names<'a>(matches: &ArgMatches<'a>) -> Option<FileNames<'a>>
-    ensures { option_map names_of result ≡ proof_names (rows_of (found_of matches.now)) }
+fn proof_names<'a>(matches: &ArgMatches<'a>) -> FileNames<'a>
+    ensures { names_of result ≡ proof_names (rows_of (found_of matches.now)) }
 {
-    let names = design_names(matches)?;
-    Some(FileNames {
-        proof: Some(word_at(matches, "PROOF")?),
-        ..names
-    })
+    FileNames {
+        proof: Some(required_word(matches, "PROOF")),
+        ..design_names(matches)
+    }
 }
 
 /// What the command of this name with these arguments asks for.
-#[tactic(auto, unfolding(crate::specs::Commands::question_of, crate::specs::Commands::check_question, crate::specs::Commands::show_question, crate::specs::Commands::shrink_question, crate::specs::Commands::why_question, crate::specs::Commands::about_question, crate::specs::Commands::recheck_question))]
+#[tactic(auto, unfolding(crate::specs::Commands::question_of))]
 fn question<'a>(name: &str, matches: &ArgMatches<'a>) -> Option<Command<'a>>
-    ensures { option_map asked result ≡ question_of name.now (rows_of (found_of matches.now)) }
+    ensures asked { option_map asked result
+        ≡ question_of name.now (rows_of (found_of matches.now)) }
+    ensures named { IfSome result NamesCase }
 {
     if name == "check" {
         Some(Command::Check(CheckOptions {
-            names: design_names(matches)?,
+            names: design_names(matches),
             mode: mode_at(matches, "diverse"),
             budget: required_number(matches, "budget"),
         }))
@@ -265,24 +263,24 @@ fn question<'a>(name: &str, matches: &ArgMatches<'a>) -> Option<Command<'a>>
         Some(Command::Show(ShowOptions {
             names: FileNames {
                 comp: word_at(matches, "comp"),
-                ..case_names(matches)?
+                ..case_names(matches)
             },
             whole: flag_at(matches, "whole"),
             page: word_at(matches, "html"),
         }))
     } else if name == "shrink" {
-        Some(Command::Shrink(case_names(matches)?))
+        Some(Command::Shrink(case_names(matches)))
     } else if name == "why" {
         Some(Command::Why(WhyOptions {
-            names: case_names(matches)?,
+            names: case_names(matches),
             whole: flag_at(matches, "whole"),
             value: word_at(matches, "of"),
         }))
     } else if name == "about" {
-        Some(Command::About(design_names(matches)?))
+        Some(Command::About(design_names(matches)))
     } else if name == "recheck" {
         Some(Command::Recheck(RecheckOptions {
-            names: proof_names(matches)?,
+            names: proof_names(matches),
             mode: mode_at(matches, "diverse"),
         }))
     } else {
@@ -316,6 +314,7 @@ fn parsed<'a>(alloc: Global, words: &'a [String]) -> Result<ArgMatches<'a>, Word
 /// What the words ask for, the program's name first.
 pub fn command_of<'a>(alloc: Global, words: &'a [String]) -> Result<Command<'a>, WordsFault>
     ensures asked { IfOk result (λ c. taken (texts_of words.entry.now) ≡ Some (asked c)) }
+    ensures named { IfOk result NamesCase }
     ensures fault { IfErr result (IsWordsFault (texts_of words.entry.now)) }
 {
     let matches = parsed(alloc, words)?;

@@ -223,6 +223,7 @@ fn on_design(
 ) -> Result<Showing, AllocError>
     requires joined { AreJoined (texts_view texts.now) (Ok (joined_view joined.now)) }
     requires given { is_some (texts_view texts.now).comp ≡ true }
+    requires text { is_some (texts_view texts.now).case ≡ true }
     requires lawful { IsLawful (design_view joined.now.design) }
     requires readable { IsMachineText Pipeline (texts_view texts.now).pipe }
     ensures says { IfOk result (HasAnswer options.entry (texts_view texts.now)) }
@@ -255,6 +256,7 @@ pub fn on_joined(
 ) -> Result<Showing, AllocError>
     requires few { AreFew (texts_view texts.now) }
     requires comp { (texts_view texts.now).comp ≡ Some comp.now }
+    requires text { is_some (texts_view texts.now).case ≡ true }
     ensures says { IfOk result (HasAnswer options.entry (texts_view texts.now)) }
     ensures drawn { IfOk result (HasDrawn (texts_view texts.now)) }
 {

@@ -2,7 +2,7 @@
 ghost use Rattle.std.specs.Prelude.{◌≡◌, ◌++◌, None, codes, is_some, true, IfOk};
 ghost use Rattle.bd_app.specs.Loading.{bytes_of};
 ghost use Rattle.bd_show.specs.Files.{IsJoinedFault, IsStartedFault, bytes_in, has_trail, name_in, names_of, or_none};
-ghost use Rattle.bd_show.specs.Meaning.{IsRefusedText, Question, Says, Show, asked_names};
+ghost use Rattle.bd_show.specs.Meaning.{IsAskedFault, IsRefusedText, Question, Says, Show, asked_names};
 ghost use Rattle.bd_show.specs.inner.Loaded.{texts_view};
 ghost use Rattle.bd_show.specs.inner.Read.{AreRefused, IsRefusedBy};
 ghost use Rattle.bd_show.specs.inner.Answered.{IsRefusal, IsUnloaded, TakesCase};
@@ -129,6 +129,26 @@ fn refusal(
     Ok(Answer { ended, text })
 }
 
+/// The answer that texts are refused for a fault, to each question that asks about it.
+fn fault_answer(
+    alloc: Global,
+    names: FileNames<'_>,
+    texts: &Texts,
+    fault: DesignFault,
+) -> Result<Answer, AllocError>
+    ensures ended { IfOk result (λ a. IsRefusal a.ended) }
+    ensures says { IfOk result (λ a. (q : Question) → asked_names q ≡ names_of names.entry →
+        IsRefusedBy (IsAskedFault q (texts_view texts.now)) fault →
+        Says q (texts_view texts.now) a.ended a.text.items) }
+{
+    match fault {
+        DesignFault::Bad { file, offset, code } => {
+            refusal(alloc, names, texts, FaultPlace { file, offset, code })
+        }
+        DesignFault::Memory => Err(AllocError),
+    }
+}
+
 /// The answer that texts are refused.
 pub fn refused(
     alloc: Global,
@@ -141,12 +161,7 @@ pub fn refused(
     ensures says { IfOk result (λ a. (q : Question) → asked_names q ≡ names_of names.entry →
         TakesCase q (texts_view texts.now) → Says q (texts_view texts.now) a.ended a.text.items) }
 {
-    match fault {
-        DesignFault::Bad { file, offset, code } => {
-            refusal(alloc, names, texts, FaultPlace { file, offset, code })
-        }
-        DesignFault::Memory => Err(AllocError),
-    }
+    fault_answer(alloc, names, texts, fault)
 }
 
 /// The answer that texts with a trail are refused.
@@ -163,12 +178,7 @@ pub fn refused_trail(
     ensures says { IfOk result (λ a. (q : Show) → q.names ≡ names_of names.entry →
         Says (Question.show q) (texts_view texts.now) a.ended a.text.items) }
 {
-    match fault {
-        DesignFault::Bad { file, offset, code } => {
-            refusal(alloc, names, texts, FaultPlace { file, offset, code })
-        }
-        DesignFault::Memory => Err(AllocError),
-    }
+    fault_answer(alloc, names, texts, fault)
 }
 
 /// The answer that texts with a completion function are refused.
@@ -184,12 +194,7 @@ pub fn refused_joined(
     ensures says { IfOk result (λ a. (q : Show) → q.names ≡ names_of names.entry →
         Says (Question.show q) (texts_view texts.now) a.ended a.text.items) }
 {
-    match fault {
-        DesignFault::Bad { file, offset, code } => {
-            refusal(alloc, names, texts, FaultPlace { file, offset, code })
-        }
-        DesignFault::Memory => Err(AllocError),
-    }
+    fault_answer(alloc, names, texts, fault)
 }
 
 /// A text in three parts.

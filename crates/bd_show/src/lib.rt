@@ -22,4 +22,4 @@ mod trail;
 mod why;
 
 pub use answer::Ended;
-pub use program::{put_text, run};
+pub use program::{put_ignoring_fault, run};

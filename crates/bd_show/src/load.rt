@@ -1,5 +1,5 @@
 //! Loading the files that the words name.
-ghost use Rattle.std.specs.Prelude.{IfSome, IfOk};
+ghost use Rattle.std.specs.Prelude.{◌≡◌, is_some, IfSome, IfOk};
 ghost use Rattle.bd_app.specs.Meaning.{files_seen};
 ghost use Rattle.bd_show.specs.Files.{HoldTexts, names_of};
 ghost use Rattle.bd_show.specs.inner.Loaded.{AreFew, IsLoad, texts_view};
@@ -36,6 +36,8 @@ pub fn load_texts<F: Files>(files: &mut F, names: FileNames<'_>) -> Result<Texts
     ensures held { IfOk result (λ texts. IfSome (F.held files.old) (λ held.
         HoldTexts held (names_of names.entry) (texts_view texts))) }
     ensures few { IfOk result (λ texts. AreFew (texts_view texts)) }
+    ensures named { IfOk result (λ texts.
+        is_some (texts_view texts).case ≡ is_some (names_of names.entry).case) }
     ensures left { IsLoad (names_of names.entry)
         (files_seen F.held F.faults F.blame F.calls files.old)
         (files_seen F.held F.faults F.blame F.calls files.new) result }

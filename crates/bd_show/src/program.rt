@@ -36,8 +36,8 @@ fn answer_of<F: Files>(alloc: Global, words: &[String], files: &mut F) -> Result
     }
 }
 
-/// Puts a text, as far as it goes.
-pub fn put_text<E: Sink>(err: &mut E, text: &[u8])
+/// Puts a text, as far as it goes: that a put fails is passed over.
+pub fn put_ignoring_fault<E: Sink>(err: &mut E, text: &[u8])
     ensures { PutsOrFaults E.written E.faults err.old err.new text.now }
 {
     let _ = err.put(text);
@@ -52,17 +52,17 @@ fn put<O: Sink, E: Sink>(answer: Result<Answer, AllocError>, out: &mut O, err: &
         (sink_seen E.written E.faults E.puts err.new) }
 {
     let Ok(Answer { ended, text }) = answer else {
-        put_text(err, b"out of memory\n");
+        put_ignoring_fault(err, b"out of memory\n");
         return Ended::Memory;
     };
     if !ended.has_report() {
-        put_text(err, text.as_slice());
+        put_ignoring_fault(err, text.as_slice());
         return ended;
     }
     match out.put(text.as_slice()) {
         Ok(()) => ended,
         Err(_) => {
-            put_text(err, b"cannot write\n");
+            put_ignoring_fault(err, b"cannot write\n");
             Ended::Unwritten
         }
     }

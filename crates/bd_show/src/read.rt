@@ -1,7 +1,7 @@
 //! Reading the texts of files.
 //!
 //! All files are loaded before the first is read, and a design is read before its case or its trail.
-ghost use Rattle.std.specs.Prelude.{◌≡◌, ◌≤◌, ◌==◌, ◌||◌, if◌then◌else◌, false, length, true, Some, Ok, IfOk, IfErr};
+ghost use Rattle.std.specs.Prelude.{◌≡◌, ◌≤◌, ◌==◌, ◌||◌, if◌then◌else◌, false, is_some, length, true, Some, Ok, IfOk, IfErr};
 ghost use Rattle.bd_model.specs.DesignView.{design_view};
 ghost use Rattle.bd_app.specs.Loading.{bytes_of};
 ghost use Rattle.bd_model.specs.Fits.{Fits};
@@ -79,18 +79,17 @@ fn commented(alloc: Global, bytes: &[u8]) -> Result<Vec<u8>, AllocError>
     Ok(text)
 }
 
-/// The case of a text, of which this is the design. Without a text there is want of memory.
+/// The case of a text, of which this is the design.
 fn case_of(alloc: Global, design: &Design, text: &Option<Vec<u8>>) -> Result<Case, DesignFault>
-    requires { IsLawful (design_view design.now) }
+    requires lawful { IsLawful (design_view design.now) }
+    requires text { is_some (bytes_of text.now) ≡ true }
     ensures read { IfOk result (λ c.
         IsCaseOf (design_view design.now) (bytes_of text.now) (Ok c)) }
     ensures fits { IfOk result (Fits (design_view design.now)) }
     ensures refused { IfErr result (IsRefusedBy (IsCaseFault (design_view design.now)
         (bytes_of text.now))) }
 {
-    let Some(bytes) = text else {
-        return Err(DesignFault::Memory);
-    };
+    let Some(bytes) = text else { unreachable!() };
     let text = commented(alloc, bytes.as_slice())?;
     match read_case(alloc, design, text.as_slice()) {
         Ok(case) => Ok(case),
@@ -107,6 +106,7 @@ fn case_of(alloc: Global, design: &Design, text: &Option<Vec<u8>>) -> Result<Cas
 pub fn case(alloc: Global, design: &Design, texts: &Texts) -> Result<Case, DesignFault>
     requires design { AreDesign (texts_view texts.now) (Ok (design_view design.now)) }
     requires lawful { IsLawful (design_view design.now) }
+    requires text { is_some (texts_view texts.now).case ≡ true }
     ensures read { IfOk result (AreCase (texts_view texts.now) (design_view design.now)) }
     ensures refused { IfErr result (AreRefused (texts_view texts.now)) }
 {
@@ -135,6 +135,7 @@ pub fn joined(alloc: Global, texts: &Texts, comp: &[u8]) -> Result<Joined, Desig
 pub fn joined_case(alloc: Global, joined: &Joined, texts: &Texts) -> Result<Case, DesignFault>
     requires joined { AreJoined (texts_view texts.now) (Ok (joined_view joined.now)) }
     requires lawful { IsLawful (design_view joined.now.design) }
+    requires text { is_some (texts_view texts.now).case ≡ true }
     ensures read { IfOk result (AreJoinedCase (texts_view texts.now) (joined_view joined.now)) }
     ensures refused { IfErr result (IsRefusedBy (IsJoinedFault (texts_view texts.now))) }
 {

@@ -1,5 +1,5 @@
 //! `show`: what a case or a trail shows, as tables, and as a page.
-ghost use Rattle.std.specs.Prelude.{◌≡◌, ◌++◌, false, Ok, IfOk, MatchOption, None};
+ghost use Rattle.std.specs.Prelude.{◌≡◌, ◌++◌, false, is_some, true, Ok, IfOk, MatchOption, None};
 ghost use Rattle.bd_model.specs.Conditions.{IsJudged};
 ghost use Rattle.bd_model.specs.DesignView.{design_view};
 ghost use Rattle.bd_model.specs.Fits.{Fits};
@@ -212,6 +212,7 @@ fn on_design(
     requires design { AreDesign (texts_view texts.now) (Ok (design_view design.now)) }
     requires lawful { IsLawful (design_view design.now) }
     requires alone { (texts_view texts.now).comp ≡ None }
+    requires text { is_some (texts_view texts.now).case ≡ true }
     requires case { has_trail (texts_view texts.now) ≡ false }
     requires readable { AreReadable (texts_view texts.now) }
     ensures says { IfOk result (HasAnswer options.entry (texts_view texts.now)) }
@@ -241,6 +242,7 @@ fn on_no_trail(
 ) -> Result<Showing, AllocError>
     requires few { AreFew (texts_view texts.now) }
     requires alone { (texts_view texts.now).comp ≡ None }
+    requires text { is_some (texts_view texts.now).case ≡ true }
     requires case { has_trail (texts_view texts.now) ≡ false }
     ensures says { IfOk result (HasAnswer options.entry (texts_view texts.now)) }
     ensures drawn { IfOk result (HasDrawn (texts_view texts.now)) }
@@ -255,6 +257,7 @@ fn on_no_trail(
 fn on_alone(alloc: Global, options: ShowOptions<'_>, texts: &Texts) -> Result<Showing, AllocError>
     requires few { AreFew (texts_view texts.now) }
     requires alone { (texts_view texts.now).comp ≡ None }
+    requires text { is_some (texts_view texts.now).case ≡ true }
     ensures says { IfOk result (HasAnswer options.entry (texts_view texts.now)) }
     ensures drawn { IfOk result (HasDrawn (texts_view texts.now)) }
 {
@@ -267,7 +270,8 @@ fn on_alone(alloc: Global, options: ShowOptions<'_>, texts: &Texts) -> Result<Sh
 
 /// The answer on texts.
 fn on_texts(alloc: Global, options: ShowOptions<'_>, texts: &Texts) -> Result<Showing, AllocError>
-    requires { AreFew (texts_view texts.now) }
+    requires few { AreFew (texts_view texts.now) }
+    requires text { is_some (texts_view texts.now).case ≡ true }
     ensures says { IfOk result (HasAnswer options.entry (texts_view texts.now)) }
     ensures drawn { IfOk result (HasDrawn (texts_view texts.now)) }
 {
@@ -317,6 +321,7 @@ pub fn answer<F: Files>(
     files: &mut F,
     options: ShowOptions<'_>,
 ) -> Result<Answer, AllocError>
+    requires { is_some (names_of options.names).case ≡ true }
     ensures { IsDoneOn (Question.show (show_of options.entry))
         (files_seen F.held F.faults F.blame F.calls files.old)
         (files_seen F.held F.faults F.blame F.calls files.new) result }

@@ -1,5 +1,5 @@
 //! `shrink`: a small case that breaks the same condition.
-ghost use Rattle.std.specs.Prelude.{◌≡◌, Ok, IfOk};
+ghost use Rattle.std.specs.Prelude.{◌≡◌, is_some, true, Ok, IfOk};
 ghost use Rattle.bd_model.specs.Conditions.{IsJudged};
 ghost use Rattle.bd_model.specs.DesignView.{design_view};
 ghost use Rattle.bd_model.specs.Fits.{Fits};
@@ -82,7 +82,8 @@ const OUTSIDE: &str = "nothing to shrink: the case is outside the invariant\n";
 
 /// The answer on texts.
 fn on_texts(alloc: Global, names: FileNames<'_>, texts: &Texts) -> Result<Answer, AllocError>
-    requires { AreFew (texts_view texts.now) }
+    requires few { AreFew (texts_view texts.now) }
+    requires text { is_some (texts_view texts.now).case ≡ true }
     ensures { IfOk result (λ a.
         Says (Question.shrink (names_of names.entry)) (texts_view texts.now) a.ended a.text.items) }
 {
@@ -102,6 +103,7 @@ fn on_design(
 ) -> Result<Answer, AllocError>
     requires design { AreDesign (texts_view texts.now) (Ok (design_view design.now)) }
     requires lawful { IsLawful (design_view design.now) }
+    requires text { is_some (texts_view texts.now).case ≡ true }
     ensures { IfOk result (λ a.
         Says (Question.shrink (names_of names.entry)) (texts_view texts.now) a.ended a.text.items) }
 {
@@ -117,6 +119,7 @@ pub fn answer<F: Files>(
     files: &mut F,
     names: FileNames<'_>,
 ) -> Result<Answer, AllocError>
+    requires { is_some (names_of names).case ≡ true }
     ensures { IsDoneOn (Question.shrink (names_of names.entry))
         (files_seen F.held F.faults F.blame F.calls files.old)
         (files_seen F.held F.faults F.blame F.calls files.new) result }

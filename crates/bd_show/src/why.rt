@@ -1,12 +1,12 @@
 //! `why`: why a value of a case is what it is.
-ghost use Rattle.std.specs.Prelude.{◌≡◌, ◌++◌, ℕ, List, None, Ok, IfOk};
+ghost use Rattle.std.specs.Prelude.{◌≡◌, ◌++◌, ℕ, List, is_some, true, None, Ok, IfOk};
 ghost use Rattle.bd_model.specs.Conditions.{IsJudged};
 ghost use Rattle.bd_model.specs.DesignView.{design_view};
 ghost use Rattle.bd_model.specs.Fits.{Fits};
 ghost use Rattle.bd_model.specs.Lawful.{IsLawful};
 ghost use Rattle.bd_app.specs.Meaning.{files_seen};
 ghost use Rattle.bd_picture.specs.Sentence.{sentence};
-ghost use Rattle.bd_show.specs.Files.{AreDesign};
+ghost use Rattle.bd_show.specs.Files.{AreDesign, names_of};
 ghost use Rattle.bd_show.specs.Meaning.{Question, Says};
 ghost use Rattle.bd_show.specs.inner.Answered.{IsDoneOn, IsOfValue, why_of};
 ghost use Rattle.bd_show.specs.inner.Loaded.{AreFew, texts_view};
@@ -156,7 +156,8 @@ const OUTSIDE: &str = "nothing to explain: the case is outside the invariant\n";
 
 /// The answer on texts.
 fn on_texts(alloc: Global, options: WhyOptions<'_>, texts: &Texts) -> Result<Answer, AllocError>
-    requires { AreFew (texts_view texts.now) }
+    requires few { AreFew (texts_view texts.now) }
+    requires text { is_some (texts_view texts.now).case ≡ true }
     ensures { IfOk result (λ a. Says (Question.explain (why_of options.entry))
         (texts_view texts.now) a.ended a.text.items) }
 {
@@ -176,6 +177,7 @@ fn on_design(
 ) -> Result<Answer, AllocError>
     requires design { AreDesign (texts_view texts.now) (Ok (design_view design.now)) }
     requires lawful { IsLawful (design_view design.now) }
+    requires text { is_some (texts_view texts.now).case ≡ true }
     ensures { IfOk result (λ a. Says (Question.explain (why_of options.entry))
         (texts_view texts.now) a.ended a.text.items) }
 {
@@ -191,6 +193,7 @@ pub fn answer<F: Files>(
     files: &mut F,
     options: WhyOptions<'_>,
 ) -> Result<Answer, AllocError>
+    requires { is_some (names_of options.names).case ≡ true }
     ensures { IsDoneOn (Question.explain (why_of options.entry))
         (files_seen F.held F.faults F.blame F.calls files.old)
         (files_seen F.held F.faults F.blame F.calls files.new) result }

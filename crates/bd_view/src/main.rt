@@ -15,7 +15,7 @@ ghost use Rattle.bd_view.specs.Program.{EndsWith};
 
 use bd_files::{Files, Sink};
 use bd_host::{RealFiles, Stream, WordsError, command_line};
-use bd_show::{Ended, put_text, run};
+use bd_show::{Ended, put_ignoring_fault, run};
 use std::alloc::Global;
 use std::process::ExitCode;
 
@@ -39,16 +39,19 @@ fn program<F: Files, O: Sink, E: Sink>(
         (files_seen F.held F.faults F.blame F.calls files.old)
         (files_seen F.held F.faults F.blame F.calls files.new)
         (sink_seen O.written O.faults O.puts out.old) (sink_seen O.written O.faults O.puts out.new)
-        (sink_seen E.written E.faults E.puts err.old) (sink_seen E.written E.faults E.puts err.new)) }
+        (sink_seen E.written E.faults E.puts err.old)
+        (sink_seen E.written E.faults E.puts err.new)) }
 
     ensures not_text { IsErrOf words WordsError.NotText → EndsWith [] (exit_status result)
         (files_seen F.held F.faults F.blame F.calls files.old)
         (files_seen F.held F.faults F.blame F.calls files.new)
         (sink_seen O.written O.faults O.puts out.old) (sink_seen O.written O.faults O.puts out.new)
-        (sink_seen E.written E.faults E.puts err.old) (sink_seen E.written E.faults E.puts err.new) }
+        (sink_seen E.written E.faults E.puts err.old)
+        (sink_seen E.written E.faults E.puts err.new) }
 
     // Where there is no memory for the words, only the line of that is put.
-    ensures no_words { IsErrOf words WordsError.Memory → exit_status result ≡ status_of Ended.Memory }
+    ensures no_words { IsErrOf words WordsError.Memory →
+        exit_status result ≡ status_of Ended.Memory }
     ensures no_words_line { IsErrOf words WordsError.Memory →
         PutsOrFaults E.written E.faults err.old err.new (codes "out of memory\n") }
     ensures no_words_files { IsErrOf words WordsError.Memory → files.new ≡ files.old }
@@ -58,7 +61,7 @@ fn program<F: Files, O: Sink, E: Sink>(
         Ok(words) => exit_code(run(alloc, words.as_slice(), files, out, err)),
         Err(WordsError::NotText) => exit_code(run(alloc, &[], files, out, err)),
         Err(WordsError::Memory) => {
-            put_text(err, b"out of memory\n");
+            put_ignoring_fault(err, b"out of memory\n");
             exit_code(Ended::Memory)
         }
     }

@@ -40,7 +40,8 @@ fn run_on<F: Files, O: Sink, E: Sink>(
         (files_seen F.held F.faults F.blame F.calls files.old)
         (files_seen F.held F.faults F.blame F.calls files.new)
         (sink_seen O.written O.faults O.puts out.old) (sink_seen O.written O.faults O.puts out.new)
-        (sink_seen E.written E.faults E.puts err.old) (sink_seen E.written E.faults E.puts err.new) }
+        (sink_seen E.written E.faults E.puts err.old)
+        (sink_seen E.written E.faults E.puts err.new) }
 {
     exit_code(&run(alloc, words, files, out, err))
 }
@@ -78,7 +79,8 @@ fn program<F: Files, O: Sink, E: Sink>(
         (files_seen F.held F.faults F.blame F.calls files.old)
         (files_seen F.held F.faults F.blame F.calls files.new)
         (sink_seen O.written O.faults O.puts out.old) (sink_seen O.written O.faults O.puts out.new)
-        (sink_seen E.written E.faults E.puts err.old) (sink_seen E.written E.faults E.puts err.new)) }
+        (sink_seen E.written E.faults E.puts err.old)
+        (sink_seen E.written E.faults E.puts err.new)) }
 
     // Where there are no words, only the line of that is put.
     ensures no_words { IfErr words (λ fault. exit_status result ≡ status_of (ended_without fault)) }

@@ -1,5 +1,5 @@
 -- The commands as the definitions see them, and why words ask nothing.
-use Rattle.std.specs.Prelude.{◌≡◌, ◌≢◌, ◌⊎◌, ℕ, true, false, List, [], ◌∷◌, None, codes}
+use Rattle.std.specs.Prelude.{◌≡◌, ◌≢◌, ◌⊎◌, ℕ, true, false, List, [], ◌∷◌, None, is_some, codes}
 use Rattle.clap.specs.Faults.{fault_of}
 use Rattle.clap.specs.Simple.{App, new_shape, subcommand_of, subcommand_rows_of}
 use Rattle.clap.specs.declared.error.kind.ErrorKind.{ErrorKind}
@@ -22,6 +22,13 @@ asked (Shrink names) = shrink (names_of names)
 asked (Why options) = explain (why_of options)
 asked (About names) = about (names_of names)
 asked (Recheck options) = recheck (recheck_of options)
+
+-- a command on a case names its file
+abbrev pub NamesCase : Command → Type 0
+NamesCase (Show options) = is_some (names_of options.names).case ≡ true
+NamesCase (Shrink names) = is_some (names_of names).case ≡ true
+NamesCase (Why options) = is_some (names_of options.names).case ≡ true
+NamesCase _ = Unit {0}
 
 -- the command line with its first three commands
 abbrev pub first_commands : App

@@ -17,13 +17,13 @@ returns-in-Some-question-clause-asked c =
     let parsed = c.in_ok-matches.ensures.parsed in
     let rows = rows_met _ c.subcommand.result c.subcommand.ensures.name c.subcommand.ensures.rows in
     met (texts_of c.args.words.now) _ parsed.no_fault (sym parsed.met ∙ rows ∙ ap (option_map seen) c.in-Some.is)
-    ∙ sym c.question.ensures ∙ ap (option_map asked) c.in-Some-question.is
+    ∙ sym c.question.ensures.asked ∙ ap (option_map asked) c.in-Some-question.is
 
 pub returns-clause-fault : goal.returns-clause-fault
 returns-clause-fault c =
     let parsed = c.in_ok-matches.ensures.parsed in
     let rows = rows_met _ c.subcommand.result c.subcommand.ensures.name c.subcommand.ensures.rows in (
       met (texts_of c.args.words.now) _ parsed.no_fault (sym parsed.met ∙ rows ∙ ap (option_map seen) c.in-Some.is)
-          ∙ sym c.question.ensures ∙ ap (option_map asked) c.in-None.is,
+          ∙ sym c.question.ensures.asked ∙ ap (option_map asked) c.in-None.is,
       inl parsed.no_fault,
     )
