@@ -1,6 +1,6 @@
 //! Formulas encoded by hand.
 use crate::graphs::{build_all, has, has_no_memory};
-use crate::numbers::numbers;
+use crate::numbers::{field, number, numbers};
 use crate::truths::are_shown;
 use bd_equality::{Encoded, encode};
 use bd_function::{Flat, Marked, flatten};
@@ -8,195 +8,135 @@ use bd_list::Sequence;
 use bd_model::{Distinct, Sort};
 use bd_terms::Graph;
 use bd_transitive::Edge;
-use std::alloc::{AllocError, Global};
+use std::alloc::AllocError;
 use std::process::Abort;
-use std::test::Fail;
 
-/// Terms, of which the last is the root, a group of constants that are kept apart, marked variables if any are, and the
-/// truth graph with its edges and those of the constants. Variables are numbered as constants come.
-struct EqualityCase {
-    terms: &'static str,
-    group: &'static str,
-    marked: &'static str,
-    nodes: &'static str,
-    edges: &'static str,
-    apart: &'static str,
-}
+/// Formulas, each a row: terms, of which the last is the root, a group of constants that are kept apart, marked
+/// variables if any are, and the truth graph with its edges and those of the constants. Variables are numbered as
+/// constants come.
+const ROWS: &str = "# two variables
+terms F 0, F 1, = 0 1
+nodes = 0 1
+edges 0 1
 
-static CASES: [EqualityCase; 9] = [
-    // two variables
-    EqualityCase {
-        terms: "F 0, F 1, = 0 1",
-        group: "",
-        marked: "",
-        nodes: "= 0 1",
-        edges: "0 1 ",
-        apart: "",
-    },
-    // one word and itself
-    EqualityCase {
-        terms: "F 0, = 0 0",
-        group: "",
-        marked: "",
-        nodes: "true",
-        edges: "",
-        apart: "",
-    },
-    // the constant true
-    EqualityCase {
-        terms: "true",
-        group: "",
-        marked: "",
-        nodes: "true",
-        edges: "",
-        apart: "",
-    },
-    // an ite against one of its branches
-    EqualityCase {
-        terms: "F? 0, F 1, F 2, ite 0 1 2, = 3 1",
-        group: "",
-        marked: "",
-        nodes: "T 0, true, = 1 2, ite 0 1 2",
-        edges: "1 2 ",
-        apart: "",
-    },
-    // an ite against an ite
-    EqualityCase {
-        terms: "F? 0, F? 1, F 2, F 3, ite 0 2 3, ite 1 2 3, = 4 5",
-        group: "",
-        marked: "",
-        nodes: "T 0, T 1, true, = 2 3, ite 0 2 3, ite 0 3 2, ite 1 4 5",
-        edges: "2 3 ",
-        apart: "",
-    },
-    // a marked variable
-    EqualityCase {
-        terms: "F 0, F 1, = 0 1",
-        group: "0 1",
-        marked: "1",
-        nodes: "true, not 0",
-        edges: "",
-        apart: "",
-    },
-    // two constants that are compared, and one without a variable
-    EqualityCase {
-        terms: "F 0, F 1, = 0 1",
-        group: "1 5 0",
-        marked: "",
-        nodes: "= 0 1",
-        edges: "0 1 ",
-        apart: "0 1 ",
-    },
-    // two constants that are not compared with each other
-    EqualityCase {
-        terms: "F? 3, F 0, F 1, ite 0 1 2, F 2, = 3 4",
-        group: "0 1",
-        marked: "",
-        nodes: "T 0, = 1 3, = 2 3, ite 0 1 2",
-        edges: "1 2 1 3 2 3 ",
-        apart: "1 2 ",
-    },
-    // connectives
-    EqualityCase {
-        terms: "F 0, F 1, = 0 1, F? 2, not 2, and 4 3, or 5 3, ite 3 6 2",
-        group: "",
-        marked: "",
-        nodes: "= 0 1, T 2, not 0, and 2 1, or 3 1, ite 1 4 0",
-        edges: "0 1 ",
-        apart: "",
-    },
-];
+# one word and itself
+terms F 0, = 0 0
+nodes true
 
-/// The set of these variables, to be marked.
-fn marked_of(alloc: Global, vars: &[u32]) -> Result<Marked, AllocError> {
-    let mut marked = Marked::new(alloc);
-    for var in vars {
-        marked.insert(u64::from(*var))?;
+# the constant true
+terms true
+nodes true
+
+# an ite against one of its branches
+terms F? 0, F 1, F 2, ite 0 1 2, = 3 1
+nodes T 0, true, = 1 2, ite 0 1 2
+edges 1 2
+
+# an ite against an ite
+terms F? 0, F? 1, F 2, F 3, ite 0 2 3, ite 1 2 3, = 4 5
+nodes T 0, T 1, true, = 2 3, ite 0 2 3, ite 0 3 2, ite 1 4 5
+edges 2 3
+
+# a marked variable
+terms F 0, F 1, = 0 1
+group 0 1
+marked 1
+nodes true, not 0
+
+# two constants that are compared, and one without a variable
+terms F 0, F 1, = 0 1
+group 1 5 0
+nodes = 0 1
+edges 0 1
+apart 0 1
+
+# two constants that are not compared with each other
+terms F? 3, F 0, F 1, ite 0 1 2, F 2, = 3 4
+group 0 1
+nodes T 0, = 1 3, = 2 3, ite 0 1 2
+edges 1 2 1 3 2 3
+apart 1 2
+
+# connectives
+terms F 0, F 1, = 0 1, F? 2, not 2, and 4 3, or 5 3, ite 3 6 2
+nodes = 0 1, T 2, not 0, and 2 1, or 3 1, ite 1 4 0
+edges 0 1";
+
+/// The set of the variables of a text, to be marked.
+fn marked_of(rt: &(impl Abort + AllocGlobal), vars: &str) -> Marked {
+    let mut marked = Marked::new(rt.alloc());
+    for var in vars.split_whitespace() {
+        marked.insert(u64::from(number(var))).expect(rt, "memory");
     }
-    Ok(marked)
+    marked
 }
 
 /// The list of one group of constants that are kept apart, read from their numbers.
-fn group_of(alloc: Global, group: &str) -> Result<Distinct, AllocError> {
-    let places = Sequence::from_vec(numbers(alloc, group)?);
-    let mut groups = Distinct::new(alloc);
-    groups.push(places)?;
-    Ok(groups)
+fn group_of(rt: &(impl Abort + AllocGlobal), group: &str) -> Distinct {
+    let mut groups = Distinct::new(rt.alloc());
+    let places = Sequence::from_vec(numbers(rt, group));
+    groups.push(places).expect(rt, "memory");
+    groups
 }
 
-/// The ends of the edges.
-fn ends(alloc: Global, edges: &[Edge]) -> Result<String, AllocError> {
-    let mut text = String::new(alloc);
+/// Adds the ends of edges, each after a space.
+fn push_ends(text: &mut String, edges: &[Edge]) -> Result<(), AllocError> {
     for edge in edges {
         let (from, to) = (edge.from, edge.to);
-        write!(text, "{from} {to} ")?;
+        write!(text, " {from} {to}")?;
     }
-    Ok(text)
+    Ok(())
 }
 
 /// Whether the ends of the edges, in order, have this text.
-fn are_edges(alloc: Global, edges: &[Edge], want: &str) -> Result<bool, AllocError> {
-    let text = ends(alloc, edges)?;
-    Ok(text.as_str() == want)
+fn are_edges(rt: &(impl Abort + AllocGlobal), edges: &[Edge], want: &str) -> bool {
+    let mut text = String::new(rt.alloc());
+    push_ends(&mut text, edges).expect(rt, "memory");
+    text.as_str() == want
 }
 
-/// Whether an encoded formula has the nodes and the edges of a case, and its last node as its root.
-fn is_as_told(alloc: Global, encoded: &Encoded, case: &EqualityCase) -> Result<bool, AllocError> {
-    Ok(
-        encoded.root.saturating_add(1) == encoded.prop.len()
-            && are_shown(alloc, encoded.prop.nodes(), case.nodes)?
-            && are_edges(alloc, encoded.edges.as_slice(), case.edges)?
-            && are_edges(alloc, encoded.apart.as_slice(), case.apart)?,
-    )
+/// Checks that an encoded formula has the nodes and the edges of a row, and its last node as its root.
+fn check_told(rt: &(impl Abort + AllocGlobal), encoded: &Encoded, row: &str) {
+    let (edges, apart) = (encoded.edges.as_slice(), encoded.apart.as_slice());
+    assert!(rt; encoded.root.saturating_add(1) == encoded.prop.len());
+    assert!(rt;
+        are_shown(rt, encoded.prop.nodes(), field(row, "nodes ")),
+        "{row}"
+    );
+    assert!(rt; are_edges(rt, edges, field(row, "edges")), "{row}");
+    assert!(rt; are_edges(rt, apart, field(row, "apart")), "{row}");
 }
 
-/// Whether a flat formula is encoded as a case tells, with the marked variables or with none.
-fn check_encoded(
-    alloc: Global,
-    flat: &Flat,
-    marked: Option<&Marked>,
-    case: &EqualityCase,
-) -> Result<bool, AllocError> {
-    let distinct = group_of(alloc, case.group)?;
-    let encoded = encode(alloc, flat, &distinct, marked)?;
-    is_as_told(alloc, &encoded, case)
+/// Checks that a flat formula is encoded as a row tells, with these marked variables or with none.
+fn check_encoded(rt: &(impl Abort + AllocGlobal), flat: &Flat, marked: Option<&Marked>, row: &str) {
+    let distinct = group_of(rt, field(row, "group"));
+    let encoded = encode(rt.alloc(), flat, &distinct, marked).expect(rt, "memory");
+    check_told(rt, &encoded, row);
 }
 
-/// Whether a flat formula is encoded as a case tells with the variables that the case marks.
-fn check_marked(alloc: Global, flat: &Flat, case: &EqualityCase) -> Result<bool, AllocError> {
-    let vars = numbers(alloc, case.marked)?;
-    let marked = marked_of(alloc, &vars)?;
-    check_encoded(alloc, flat, Some(&marked), case)
-}
-
-/// Whether a flat formula is encoded as a case tells, whether the case marks variables or not.
-fn check_flat(alloc: Global, flat: &Flat, case: &EqualityCase) -> Result<bool, AllocError> {
-    if case.marked.is_empty() {
-        check_encoded(alloc, flat, None, case)
+/// Checks that a flat formula is encoded as a row tells, whether it marks variables or not.
+fn check_flat(rt: &(impl Abort + AllocGlobal), flat: &Flat, row: &str) {
+    let vars = field(row, "marked");
+    if vars.is_empty() {
+        check_encoded(rt, flat, None, row);
     } else {
-        check_marked(alloc, flat, case)
+        check_encoded(rt, flat, Some(&marked_of(rt, vars)), row);
     }
 }
 
-/// Builds and flattens the terms of a case, and checks how they are encoded.
-fn check(
-    rt: &(impl Abort + AllocGlobal),
-    graph: &mut Graph,
-    case: &EqualityCase,
-) -> Result<(), AllocError> {
-    let root = build_all(rt, graph, case.terms)?;
+/// Builds and flattens the terms of a row, and checks how they are encoded.
+fn check(rt: &(impl Abort + AllocGlobal), graph: &mut Graph, row: &str) {
+    let root = build_all(rt, graph, field(row, "terms "));
     assert!(rt; has(graph, root, Sort::Bool) && has_no_memory(graph, root));
-    let flat = flatten(rt.alloc(), graph, root)?;
-    assert!(rt; check_flat(rt.alloc(), &flat, case)?, "{}", case.terms);
-    Ok(())
+    let flat = flatten(rt.alloc(), graph, root).expect(rt, "memory");
+    check_flat(rt, &flat, row);
 }
 
-/// Each case is encoded as the truth graph and the edges written by hand.
+/// Each formula is encoded as the truth graph and the edges written by hand.
 #[test]
-fn formulas_are_encoded(rt: HostRuntime) -> Result<(), Fail> {
-    for case in &CASES {
+fn formulas_are_encoded(rt: HostRuntime) {
+    for row in ROWS.split("\n\n") {
         let mut graph = Graph::new(rt.alloc());
-        check(&rt, &mut graph, case)?;
+        check(&rt, &mut graph, row);
     }
-    Ok(())
 }

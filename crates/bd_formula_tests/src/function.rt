@@ -3,9 +3,7 @@ use crate::graphs::{build_all, has, has_no_memory, is_shown};
 use bd_function::{Flat, Marked, SymTable, Values, flatten, tables};
 use bd_model::{Scalar, Sort};
 use bd_terms::{Graph, Sym};
-use std::alloc::{AllocError, Global};
 use std::process::Abort;
-use std::test::Fail;
 
 /// p(g(x, f(x))) or f(x) = f(y), with x = y = 5: the first application of f counts.
 const TERMS: &str = "E 0, E 1, F 0 0, F 0 1, F 1 0 2, F? 2 4, = 2 3, or 5 6";
@@ -23,13 +21,13 @@ pub(crate) fn value_at(tables: &[SymTable], sym: Sym, args: &[u64]) -> Scalar {
 }
 
 /// The values of the variables.
-fn values(alloc: Global) -> Result<Values, AllocError> {
-    let mut values = Values::new(alloc);
+fn values(rt: &(impl Abort + AllocGlobal)) -> Values {
+    let mut values = Values::new(rt.alloc());
     for (var, word) in [(0, 5), (1, 5), (2, 7), (3, 9), (4, 8)] {
-        values.set(var, Scalar::Word(word))?;
+        values.set(var, Scalar::Word(word)).expect(rt, "memory");
     }
-    values.set(5, Scalar::Bool(true))?;
-    Ok(values)
+    values.set(5, Scalar::Bool(true)).expect(rt, "memory");
+    values
 }
 
 /// Whether the tables have what was worked out by hand at arguments.
@@ -42,33 +40,31 @@ fn are_tables(tables: &[SymTable]) -> bool {
 }
 
 /// Whether the values of the variables make the tables written by hand.
-fn has_tables(alloc: Global, flat: &Flat) -> Result<bool, AllocError> {
-    let values = values(alloc)?;
-    let tables = tables(alloc, flat, &values)?;
-    Ok(are_tables(tables.as_slice()))
+fn has_tables(rt: &(impl Abort + AllocGlobal), flat: &Flat) -> bool {
+    let values = values(rt);
+    let tables = tables(rt.alloc(), flat, &values).expect(rt, "memory");
+    are_tables(tables.as_slice())
 }
 
 /// Builds and flattens the terms, and checks the flat form and the tables that values of its variables make.
-fn check(rt: &(impl Abort + AllocGlobal), graph: &mut Graph) -> Result<(), AllocError> {
-    let root = build_all(rt, graph, TERMS)?;
+fn check(rt: &(impl Abort + AllocGlobal), graph: &mut Graph) {
+    let root = build_all(rt, graph, TERMS);
     assert!(rt; has(graph, root, Sort::Bool) && has_no_memory(graph, root));
-    let flat = flatten(rt.alloc(), graph, root)?;
-    assert!(rt; is_shown(rt.alloc(), &flat.graph, FLAT)? && has_tables(rt.alloc(), &flat)?);
-    Ok(())
+    let flat = flatten(rt.alloc(), graph, root).expect(rt, "memory");
+    assert!(rt; is_shown(rt, &flat.graph, FLAT) && has_tables(rt, &flat));
 }
 
 /// The flat form is the one written by hand, and its tables give each application its value.
 #[test]
-fn tables_show_the_applications(rt: HostRuntime) -> Result<(), Fail> {
+fn tables_show_the_applications(rt: HostRuntime) {
     let mut graph = Graph::new(rt.alloc());
-    Ok(check(&rt, &mut graph)?)
+    check(&rt, &mut graph);
 }
 
 /// A set of marked variables has the one that was put in, and no other.
 #[test]
-fn sets_hold_what_was_put_in(rt: HostRuntime) -> Result<(), Fail> {
+fn sets_hold_what_was_put_in(rt: HostRuntime) {
     let mut marked = Marked::new(rt.alloc());
-    marked.insert(3)?;
-    assert!(&rt; marked.has(3) && !marked.has(4));
-    Ok(())
+    marked.insert(3).expect(&rt, "memory");
+    assert!(rt; marked.has(3) && !marked.has(4));
 }

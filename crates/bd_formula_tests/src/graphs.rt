@@ -1,9 +1,6 @@
 //! Graphs of terms as texts. The terms are parted by commas, and each names its parts by their places: `F 0 1` is the
 //! first function of the second term, `F? 0 1` that predicate of it; `E`, `I`, `A` and `V` are entries, inputs,
 //! addresses and variables.
-//!
-//! What a function owns is dropped at each of its ways out, and each drop is proved: so a function of these tests owns
-//! little, and hands the rest on by reference.
 ghost use Rattle.std.specs.Prelude.{◌<◌, IsTrue, length};
 ghost use Rattle.std.specs.List.{All};
 ghost use Rattle.bd_model.specs.declared.design.Sort.TheVariants as sort;
@@ -13,7 +10,7 @@ ghost use Rattle.bd_function.specs.Flat.{ReachesNoMemory};
 use crate::numbers::{number, numbers};
 use bd_model::Sort;
 use bd_terms::{Graph, Id, Node, Sym};
-use std::alloc::{AllocError, Global};
+use std::alloc::AllocError;
 use std::process::Abort;
 
 /// Whether the graph has a term of this name and sort.
@@ -54,18 +51,14 @@ fn part(rt: &impl Abort, graph: &Graph, ids: &[Id], place: usize, sort: Sort) ->
 }
 
 /// The terms that stand at these places.
-fn parts(
-    rt: &(impl Abort + AllocGlobal),
-    ids: &[Id],
-    places: &[u32],
-) -> Result<Vec<Id>, AllocError> {
+fn parts(rt: &(impl Abort + AllocGlobal), ids: &[Id], places: &[u32]) -> Vec<Id> {
     let mut found = Vec::new(rt.alloc());
     for place in places {
         let place = *place as usize;
         assert!(rt; place < ids.len());
-        found.push(ids[place])?;
+        found.push(ids[place]).expect(rt, "memory");
     }
-    Ok(found)
+    found
 }
 
 /// The symbol of a letter and a number.
@@ -79,13 +72,19 @@ fn symbol(letter: u8, number: u32) -> Sym {
     }
 }
 
+/// The symbol of a text, as `F 0`.
+pub(crate) fn symbol_of(text: &str) -> Sym {
+    let (letter, rest) = text.split_once(' ').unwrap_or((text, ""));
+    symbol(first_byte(letter), number(rest))
+}
+
+/// The first byte of a text, and a space where there is none.
+fn first_byte(text: &str) -> u8 {
+    text.as_bytes().first().copied().unwrap_or(b' ')
+}
+
 /// An application as a word.
-pub(crate) fn build_app(
-    rt: &impl Abort,
-    graph: &mut Graph,
-    sym: Sym,
-    args: &[Id],
-) -> Result<Id, AllocError> {
+fn build_app(rt: &impl Abort, graph: &mut Graph, sym: Sym, args: &[Id]) -> Result<Id, AllocError> {
     assert!(rt; are_words(graph, args) && graph.keeps_symbol(sym, args.len(), Sort::Word));
     graph.mk_app(sym, args)
 }
@@ -97,7 +96,7 @@ fn build_pred(rt: &impl Abort, graph: &mut Graph, sym: Sym, args: &[Id]) -> Resu
 }
 
 /// The first contents of an entry.
-pub(crate) fn build_init(rt: &impl Abort, graph: &mut Graph, entry: u32) -> Result<Id, AllocError> {
+fn build_init(rt: &impl Abort, graph: &mut Graph, entry: u32) -> Result<Id, AllocError> {
     assert!(rt; graph.keeps_symbol(Sym::Entry(entry), 1, Sort::Word));
     graph.mk_init(entry)
 }
@@ -161,7 +160,7 @@ fn build_use(
         Some((number, places)) => (*number, places),
         None => (0, numbers),
     };
-    let args = parts(rt, ids, places)?;
+    let args = parts(rt, ids, places);
     let sym = symbol(letter, number);
     if op.ends_with('?') {
         build_pred(rt, graph, sym, &args)
@@ -170,55 +169,70 @@ fn build_use(
     }
 }
 
-/// The term of a text, over those so far.
-fn build(
+/// A term that names its parts by these numbers.
+fn build_of(
     rt: &(impl Abort + AllocGlobal),
     graph: &mut Graph,
     ids: &[Id],
-    term: &str,
+    op: &str,
+    numbers: &[u32],
 ) -> Result<Id, AllocError> {
-    let (op, rest) = term.split_once(' ').unwrap_or((term, ""));
-    let letter = op.as_bytes().first().copied().unwrap_or(b' ');
-    let numbers = numbers(rt.alloc(), rest)?;
+    let parts = parts(rt, ids, numbers);
+    build_over(rt, graph, op, &parts)
+}
+
+/// The term of an operation and its numbers, over the terms so far.
+fn build_with(
+    rt: &(impl Abort + AllocGlobal),
+    graph: &mut Graph,
+    ids: &[Id],
+    op: &str,
+    numbers: &[u32],
+) -> Result<Id, AllocError> {
+    let letter = first_byte(op);
     if letter.is_ascii_uppercase() {
-        build_use(rt, graph, op, letter, ids, &numbers)
+        build_use(rt, graph, op, letter, ids, numbers)
     } else if op == "true" {
         graph.mk_true()
     } else if op == "init" {
-        build_init(rt, graph, number(rest))
+        build_init(rt, graph, numbers.first().copied().unwrap_or(0))
     } else {
-        build_over(rt, graph, op, &parts(rt, ids, &numbers)?)
+        build_of(rt, graph, ids, op, numbers)
     }
+}
+
+/// The term of a text, over those so far.
+fn build(rt: &(impl Abort + AllocGlobal), graph: &mut Graph, ids: &[Id], term: &str) -> Id {
+    let (op, rest) = term.split_once(' ').unwrap_or((term, ""));
+    let numbers = numbers(rt, rest);
+    build_with(rt, graph, ids, op, &numbers).expect(rt, "memory")
 }
 
 /// Builds the terms of the text in order, and answers with the last.
-pub(crate) fn build_all(
-    rt: &(impl Abort + AllocGlobal),
-    graph: &mut Graph,
-    text: &str,
-) -> Result<Id, AllocError> {
+pub(crate) fn build_all(rt: &(impl Abort + AllocGlobal), graph: &mut Graph, text: &str) -> Id {
     let mut ids = Vec::new(rt.alloc());
     let mut last = Id::default();
     for term in text.split(", ") {
-        last = build(rt, graph, &ids, term)?;
-        ids.push(last)?;
+        last = build(rt, graph, &ids, term);
+        ids.push(last).expect(rt, "memory");
     }
-    Ok(last)
+    last
 }
 
-/// Adds a symbol.
-fn push_symbol(text: &mut String, sym: Sym, mark: &str) -> Result<(), AllocError> {
+/// The letter and the number of a symbol.
+fn letter_of(sym: Sym) -> (&'static str, u64) {
     match sym {
-        Sym::Function(n) => write!(text, "F{mark} {n}"),
-        Sym::Entry(n) => write!(text, "E{mark} {n}"),
-        Sym::Input(n) => write!(text, "I{mark} {n}"),
-        Sym::Address(n) => write!(text, "A{mark} {n}"),
-        Sym::Var(n) => write!(text, "V{mark} {n}"),
+        Sym::Function(n) => ("F", u64::from(n)),
+        Sym::Entry(n) => ("E", u64::from(n)),
+        Sym::Input(n) => ("I", u64::from(n)),
+        Sym::Address(n) => ("A", u64::from(n)),
+        Sym::Var(n) => ("V", n),
     }
 }
 
-/// Adds the places of terms.
-fn push_places(text: &mut String, ids: &[Id]) -> Result<(), AllocError> {
+/// Adds a term of an operation and its parts.
+fn push_over(text: &mut String, op: &str, ids: &[Id]) -> Result<(), AllocError> {
+    text.push_str(op)?;
     for id in ids {
         let place = id.index();
         write!(text, " {place}")?;
@@ -226,64 +240,42 @@ fn push_places(text: &mut String, ids: &[Id]) -> Result<(), AllocError> {
     Ok(())
 }
 
+/// Adds an application of a symbol, with this mark after its letter.
+fn push_use(text: &mut String, sym: Sym, mark: &str, args: &[Id]) -> Result<(), AllocError> {
+    let (letter, number) = letter_of(sym);
+    write!(text, "{letter}{mark} {number}")?;
+    push_over(text, "", args)
+}
+
 /// Adds a term.
 fn push_node(text: &mut String, node: &Node) -> Result<(), AllocError> {
     match node {
         Node::True => text.push_str("true"),
-        Node::Not(a) => {
-            text.push_str("not")?;
-            push_places(text, &[*a])
-        }
-        Node::And(a, b) => {
-            text.push_str("and")?;
-            push_places(text, &[*a, *b])
-        }
-        Node::Or(a, b) => {
-            text.push_str("or")?;
-            push_places(text, &[*a, *b])
-        }
-        Node::Ite(c, a, b) => {
-            text.push_str("ite")?;
-            push_places(text, &[*c, *a, *b])
-        }
-        Node::Eq(a, b) => {
-            text.push_str("=")?;
-            push_places(text, &[*a, *b])
-        }
-        Node::App(sym, args) => {
-            push_symbol(text, *sym, "")?;
-            push_places(text, args.as_slice())
-        }
-        Node::Pred(sym, args) => {
-            push_symbol(text, *sym, "?")?;
-            push_places(text, args.as_slice())
-        }
-        Node::Read(m, a) => {
-            text.push_str("read")?;
-            push_places(text, &[*m, *a])
-        }
-        Node::Write(m, a, d) => {
-            text.push_str("write")?;
-            push_places(text, &[*m, *a, *d])
-        }
+        Node::Not(a) => push_over(text, "not", &[*a]),
+        Node::And(a, b) => push_over(text, "and", &[*a, *b]),
+        Node::Or(a, b) => push_over(text, "or", &[*a, *b]),
+        Node::Ite(c, a, b) => push_over(text, "ite", &[*c, *a, *b]),
+        Node::Eq(a, b) => push_over(text, "=", &[*a, *b]),
+        Node::App(sym, args) => push_use(text, *sym, "", args.as_slice()),
+        Node::Pred(sym, args) => push_use(text, *sym, "?", args.as_slice()),
+        Node::Read(m, a) => push_over(text, "read", &[*m, *a]),
+        Node::Write(m, a, d) => push_over(text, "write", &[*m, *a, *d]),
         Node::Init(entry) => write!(text, "init {entry}"),
     }
 }
 
-/// The terms of the graph, as `build_all` reads them.
-fn shown(alloc: Global, graph: &Graph) -> Result<String, AllocError> {
-    let mut text = String::new(alloc);
+/// Adds the terms of the graph, as `build_all` reads them, and a comma and a space after each.
+fn push_graph(text: &mut String, graph: &Graph) -> Result<(), AllocError> {
     for index in 0..graph.len() {
-        if index > 0 {
-            text.push_str(", ")?;
-        }
-        push_node(&mut text, graph.node(graph.id(index)))?;
+        push_node(text, graph.node(graph.id(index)))?;
+        text.push_str(", ")?;
     }
-    Ok(text)
+    Ok(())
 }
 
 /// Whether the terms of the graph have this text.
-pub(crate) fn is_shown(alloc: Global, graph: &Graph, want: &str) -> Result<bool, AllocError> {
-    let text = shown(alloc, graph)?;
-    Ok(text.as_str() == want)
+pub(crate) fn is_shown(rt: &(impl Abort + AllocGlobal), graph: &Graph, want: &str) -> bool {
+    let mut text = String::new(rt.alloc());
+    push_graph(&mut text, graph).expect(rt, "memory");
+    text.as_str().strip_suffix(", ").unwrap_or("") == want
 }

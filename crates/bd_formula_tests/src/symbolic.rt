@@ -87,7 +87,7 @@ fn runs_alone(rt: &(impl Abort + AllocGlobal), design: &Design) -> Result<(), Al
 {
     let mut graph = Graph::new(rt.alloc());
     runs(rt, &mut graph, design)?;
-    assert!(rt; is_shown(rt.alloc(), &graph, TERMS)?);
+    assert!(rt; is_shown(rt, &graph, TERMS));
     Ok(())
 }
 

@@ -2,9 +2,7 @@
 use crate::graphs::{build_all, has, is_shown};
 use bd_model::Sort;
 use bd_terms::{Graph, reached};
-use std::alloc::AllocError;
 use std::process::Abort;
-use std::test::Fail;
 
 /// Each form, an application twice, a read at a written address, and truth values that come to others: a double
 /// negation, a constant part, equal parts, a constant control and equal branches.
@@ -19,33 +17,31 @@ const KEPT: &str =
 ite 4 7 6, read 10 0, not 4, and 4 5, or 12 5, not 2, V 7";
 
 /// Builds terms of each form, and checks what they are kept as.
-fn keeps_all(rt: &(impl Abort + AllocGlobal), graph: &mut Graph) -> Result<(), AllocError> {
-    build_all(rt, graph, TERMS)?;
-    assert!(rt; is_shown(rt.alloc(), graph, KEPT)?);
-    Ok(())
+fn keeps_all(rt: &(impl Abort + AllocGlobal), graph: &mut Graph) {
+    build_all(rt, graph, TERMS);
+    assert!(rt; is_shown(rt, graph, KEPT));
 }
 
 /// Terms that come to others aren't kept, and an application made twice is kept once.
 #[test]
-fn each_term_is_simplified_and_kept_once(rt: HostRuntime) -> Result<(), Fail> {
+fn each_term_is_simplified_and_kept_once(rt: HostRuntime) {
     let mut graph = Graph::new(rt.alloc());
-    Ok(keeps_all(&rt, &mut graph)?)
+    keeps_all(&rt, &mut graph);
 }
 
 /// Checks that of four terms the root reaches two, and that these are marked.
-fn marks(rt: &(impl Abort + AllocGlobal), graph: &mut Graph) -> Result<(), AllocError> {
-    let root = build_all(rt, graph, "I? 0, I? 1, not 1, not 0")?;
+fn marks(rt: &(impl Abort + AllocGlobal), graph: &mut Graph) {
+    let root = build_all(rt, graph, "I? 0, I? 1, not 1, not 0");
     assert!(rt; has(graph, root, Sort::Bool));
     assert!(rt; graph.len() == 4);
-    let marks = reached(graph, root)?;
+    let marks = reached(graph, root).expect(rt, "memory");
     assert!(rt; marks.has(graph.id(0)) && marks.has(root));
     assert!(rt; !marks.has(graph.id(1)) && !marks.has(graph.id(2)));
-    Ok(())
 }
 
 /// Exactly the terms that the root reaches are marked.
 #[test]
-fn what_is_reached_is_marked(rt: HostRuntime) -> Result<(), Fail> {
+fn what_is_reached_is_marked(rt: HostRuntime) {
     let mut graph = Graph::new(rt.alloc());
-    Ok(marks(&rt, &mut graph)?)
+    marks(&rt, &mut graph);
 }

@@ -2,9 +2,8 @@
 //! edge, and the others name their parts by their places.
 use crate::numbers::numbers;
 use bd_prop::{Atom, AtomValues, Prop, PropNode, reached};
-use std::alloc::{AllocError, Global};
+use std::alloc::AllocError;
 use std::process::Abort;
-use std::test::Fail;
 
 /// The number at the place, and 0 past the end.
 fn at(numbers: &[u32], place: usize) -> u32 {
@@ -33,11 +32,14 @@ fn make_over(
     }
 }
 
-/// The node of a text, made in the graph; it may be rewritten.
-fn make(rt: &(impl Abort + AllocGlobal), prop: &mut Prop, node: &str) -> Result<usize, AllocError> {
-    let (op, rest) = node.split_once(' ').unwrap_or((node, ""));
-    let numbers = numbers(rt.alloc(), rest)?;
-    let (a, b, c) = (at(&numbers, 0), at(&numbers, 1), at(&numbers, 2));
+/// The node of an operation and its numbers, made in the graph; it may be rewritten.
+fn make_with(
+    rt: &impl Abort,
+    prop: &mut Prop,
+    op: &str,
+    numbers: &[u32],
+) -> Result<usize, AllocError> {
+    let (a, b, c) = (at(numbers, 0), at(numbers, 1), at(numbers, 2));
     if op == "true" {
         prop.mk_true()
     } else if op == "T" {
@@ -49,18 +51,21 @@ fn make(rt: &(impl Abort + AllocGlobal), prop: &mut Prop, node: &str) -> Result<
     }
 }
 
+/// The node of a text, made in the graph; it may be rewritten.
+fn make(rt: &(impl Abort + AllocGlobal), prop: &mut Prop, node: &str) -> usize {
+    let (op, rest) = node.split_once(' ').unwrap_or((node, ""));
+    let numbers = numbers(rt, rest);
+    make_with(rt, prop, op, &numbers).expect(rt, "memory")
+}
+
 /// Makes the nodes of the text in order, and answers with the last.
-pub(crate) fn make_all(
-    rt: &(impl Abort + AllocGlobal),
-    prop: &mut Prop,
-    text: &str,
-) -> Result<usize, AllocError> {
+pub(crate) fn make_all(rt: &(impl Abort + AllocGlobal), prop: &mut Prop, text: &str) -> usize {
     let mut last = 0;
     for node in text.split(", ") {
-        last = make(rt, prop, node)?;
+        last = make(rt, prop, node);
     }
     assert!(rt; last < prop.len());
-    Ok(last)
+    last
 }
 
 /// Adds an atom.
@@ -83,22 +88,20 @@ fn push_node(text: &mut String, node: &PropNode) -> Result<(), AllocError> {
     }
 }
 
-/// The nodes, as `make_all` reads them.
-fn shown(alloc: Global, nodes: &[PropNode]) -> Result<String, AllocError> {
-    let mut text = String::new(alloc);
-    for (index, node) in nodes.iter().enumerate() {
-        if index > 0 {
-            text.push_str(", ")?;
-        }
-        push_node(&mut text, node)?;
+/// Adds the nodes, as `make_all` reads them, and a comma and a space after each.
+fn push_nodes(text: &mut String, nodes: &[PropNode]) -> Result<(), AllocError> {
+    for node in nodes {
+        push_node(text, node)?;
+        text.push_str(", ")?;
     }
-    Ok(text)
+    Ok(())
 }
 
 /// Whether the nodes have this text.
-pub(crate) fn are_shown(alloc: Global, nodes: &[PropNode], want: &str) -> Result<bool, AllocError> {
-    let text = shown(alloc, nodes)?;
-    Ok(text.as_str() == want)
+pub(crate) fn are_shown(rt: &(impl Abort + AllocGlobal), nodes: &[PropNode], want: &str) -> bool {
+    let mut text = String::new(rt.alloc());
+    push_nodes(&mut text, nodes).expect(rt, "memory");
+    text.as_str().strip_suffix(", ").unwrap_or("") == want
 }
 
 /// Equal nodes, a double negation, constant and equal parts, a constant control, equal branches, and nodes of each form
@@ -110,34 +113,28 @@ ite 2 3 5";
 
 const KEPT: &str = "true, not 0, T 7, = 1 7, not 2, and 2 3, or 2 3, and 3 2, ite 2 3 5";
 
-/// Whether the root reaches just the nodes that are true in the list.
-fn reaches(alloc: Global, prop: &Prop, root: usize, want: &[bool]) -> Result<bool, AllocError> {
-    if root >= prop.len() {
-        return Ok(false);
-    }
-    let marks = reached(alloc, prop, root)?;
-    Ok(marks.as_slice() == want)
+/// Checks that the root reaches just the nodes that are true in the list.
+fn check_reached(rt: &(impl Abort + AllocGlobal), prop: &Prop, root: usize, want: &[bool]) {
+    assert!(rt; root < prop.len());
+    let marks = reached(rt.alloc(), prop, root).expect(rt, "memory");
+    assert!(rt; marks.as_slice() == want);
 }
 
 /// Nodes that come to others aren't kept, and the root reaches those that it is made of.
 #[test]
-fn constructors_rewrite(rt: HostRuntime) -> Result<(), Fail> {
+fn constructors_rewrite(rt: HostRuntime) {
     let mut prop = Prop::new(rt.alloc());
-    let root = make_all(&rt, &mut prop, MADE)?;
-    assert!(&rt; are_shown(rt.alloc(), prop.nodes(), KEPT)?);
+    let root = make_all(&rt, &mut prop, MADE);
+    assert!(rt; are_shown(&rt, prop.nodes(), KEPT));
     let want = [false, false, true, true, false, true, false, false, true];
-    assert!(rt; reaches(rt.alloc(), &prop, root, want.as_slice())?);
-    Ok(())
+    check_reached(&rt, &prop, root, want.as_slice());
 }
 
 /// An atom has the value that was set, another has none, and where none is set its value is false.
 #[test]
-fn values_are_kept(rt: HostRuntime) -> Result<(), Fail> {
+fn values_are_kept(rt: HostRuntime) {
     let mut values = AtomValues::new(rt.alloc());
-    values.set(Atom::Edge(3, 4), true)?;
-    assert!(&rt;
-        values.get(Atom::Edge(3, 4)) == Some(true) && values.get(Atom::Truth(3)).is_none()
-    );
-    assert!(rt; !values.value(Atom::Edge(4, 3)));
-    Ok(())
+    values.set(Atom::Edge(3, 4), true).expect(&rt, "memory");
+    assert!(rt; values.get(Atom::Edge(3, 4)) == Some(true));
+    assert!(rt; values.get(Atom::Truth(3)).is_none() && !values.value(Atom::Edge(4, 3)));
 }

@@ -1,6 +1,6 @@
 //! Generated pipelines against texts by hand.
 use bd_gen::design_text;
-use std::test::Fail;
+use std::process::Abort;
 
 const DEPTH_2: &str = "(pipeline
  (function inc 1)
@@ -72,15 +72,25 @@ const SPECIFICATION: &str = "(specification
  (next rf (write rf (dst pc) (alu (op pc) (read rf (src pc))))))
 ";
 
-/// The generated pipeline and its specification are the texts written by hand, with all paths and with one left out.
+/// The generated pipeline of a depth from 2 to 12 with a path left out. Its specification is the text written by hand.
+fn pipeline(rt: &(impl Abort + AllocGlobal), depth: u32, drop: u32) -> Vec<u8> {
+    assert!(rt; 2 <= depth && depth <= 12);
+    let (pipeline, specification) = design_text(rt.alloc(), depth, drop).expect(rt, "memory");
+    assert!(rt; specification.as_slice() == SPECIFICATION.as_bytes());
+    pipeline
+}
+
+/// Checks that the generated pipeline is the text written by hand.
+fn check_text(rt: &(impl Abort + AllocGlobal), depth: u32, drop: u32, want: &str) {
+    let text = pipeline(rt, depth, drop);
+    assert!(rt; text.as_slice() == want.as_bytes());
+}
+
+/// The generated pipelines and their specification are the texts written by hand, with all paths and with one left out.
 #[test]
-fn both_texts_are_those_written_by_hand(rt: HostRuntime) -> Result<(), Fail> {
-    for (depth, drop, want) in [(2, 0, DEPTH_2), (3, 2, DEPTH_3_DROP_2)] {
-        let (pipeline, specification) = design_text(rt.alloc(), depth, drop)?;
-        assert_eq!(rt; pipeline.as_slice(), want.as_bytes());
-        assert_eq!(rt; specification.as_slice(), SPECIFICATION.as_bytes());
-    }
-    Ok(())
+fn both_texts_are_those_written_by_hand(rt: HostRuntime) {
+    check_text(&rt, 2, 0, DEPTH_2);
+    check_text(&rt, 3, 2, DEPTH_3_DROP_2);
 }
 
 /// The lines of a text, counted by their ends.
@@ -88,29 +98,33 @@ fn lines(text: &[u8]) -> usize {
     text.iter().filter(|byte| **byte == b'\n').count()
 }
 
+/// Checks how many lines the generated pipeline has.
+fn check_lines(rt: &(impl Abort + AllocGlobal), depth: u32, drop: u32, want: usize) {
+    let text = pipeline(rt, depth, drop);
+    assert!(rt; lines(text.as_slice()) == want);
+}
+
 /// 22 lines at any depth, 3 for each stage after the fetch, 5 more for each after stage 2.
 #[test]
-fn depth_decides_how_many_lines_there_are(rt: HostRuntime) -> Result<(), Fail> {
-    for (depth, drop, want) in [(2, 1, 25), (3, 0, 33), (12, 0, 105), (12, 11, 105)] {
-        let (pipeline, _specification) = design_text(rt.alloc(), depth, drop)?;
-        assert_eq!(rt; lines(pipeline.as_slice()), want);
-    }
-    Ok(())
+fn depth_decides_how_many_lines_there_are(rt: HostRuntime) {
+    check_lines(&rt, 2, 1, 25);
+    check_lines(&rt, 3, 0, 33);
+    check_lines(&rt, 12, 0, 105);
+    check_lines(&rt, 12, 11, 105);
+}
+
+/// Whether the pipeline of depth 4 with a path left out is this text.
+fn is_text(rt: &(impl Abort + AllocGlobal), drop: u32, text: &[u8]) -> bool {
+    let made = pipeline(rt, 4, drop);
+    made.as_slice() == text
 }
 
 /// Leaving out path 0, or one past the last, changes nothing; leaving out any other changes the pipeline.
 #[test]
-fn no_path_is_left_out_at_0_or_above_the_last(rt: HostRuntime) -> Result<(), Fail> {
-    let (whole, _specification) = design_text(rt.alloc(), 4, 0)?;
-    for (drop, same) in [
-        (1, false),
-        (2, false),
-        (3, false),
-        (4, true),
-        (u32::MAX, true),
-    ] {
-        let (pipeline, _specification) = design_text(rt.alloc(), 4, drop)?;
-        assert_eq!(rt; pipeline.as_slice() == whole.as_slice(), same);
+fn no_path_is_left_out_at_0_or_above_the_last(rt: HostRuntime) {
+    let whole = pipeline(&rt, 4, 0);
+    for drop in 1..4 {
+        assert!(rt; !is_text(&rt, drop, whole.as_slice()), "{drop}");
     }
-    Ok(())
+    assert!(rt; is_text(&rt, 4, whole.as_slice()) && is_text(&rt, u32::MAX, whole.as_slice()));
 }

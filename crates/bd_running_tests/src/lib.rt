@@ -1,21 +1,16 @@
-//! Tests of values, of the simulator, of files in memory and of generated texts, over public calls alone.
+//! Tests of values, of the simulator, of slices, of files in memory and of generated texts, over public calls that no
+//! words reach. What a case or a trail shows, its diagram and what is left of it are tested by rows.
 #![tactic(auto)]
 
+#[cfg(test)]
+mod checks;
 #[cfg(test)]
 mod cycles;
 #[cfg(test)]
 mod devices;
 #[cfg(test)]
-mod diagrams;
-#[cfg(test)]
 mod generated;
 #[cfg(test)]
-mod judgements;
-#[cfg(test)]
-mod shrinking;
-#[cfg(test)]
 mod slices;
-#[cfg(test)]
-mod trails;
 #[cfg(test)]
 mod values;

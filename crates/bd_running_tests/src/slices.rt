@@ -1,263 +1,187 @@
 //! The places of a case that decide a value of its diagram.
-use Held::{Bit, Memory, Word};
-use TableDraft::Words;
-use bd_examples::build::{case, design};
-use bd_examples::cases::PENDING;
-use bd_examples::designs::{STALE_OPERAND, TWO_STAGE};
-use bd_examples::draft::{CaseDraft, DesignDraft, Held, NO_CASE, TableDraft};
-use bd_model::{Scalar, State, Value};
+use crate::checks::{Check, ONE_STAGE, PENDING, TWO_STAGE, changed, check_texts};
+use bd_model::{Case, Design, State, Value};
 use bd_sim::{flush, step};
 use bd_slice::{CasePlace, Column, Location, slice_of};
-use std::alloc::{AllocError, Global};
-use std::test::Fail;
+use std::alloc::AllocError;
+use std::process::Abort;
 
-/// A place of a case.
-#[derive(Clone, Copy)]
-enum Where {
-    Latch(usize),
-    Cell(usize, u64),
-    Input(usize),
-    Row(u32, &'static [u64]),
-}
-
-impl Where {
-    /// Whether this place, written by hand, is one that was found.
-    fn is(self, place: &CasePlace) -> bool {
-        match (self, place) {
-            (Where::Latch(entry), CasePlace::Latch(other)) => entry == *other,
-            (Where::Cell(entry, at), CasePlace::Cell(other, address)) => {
-                entry == *other && at == *address
-            }
-            (Where::Input(input), CasePlace::Input(other)) => input == *other,
-            (Where::Row(symbol, args), CasePlace::Row(other, words)) => {
-                symbol == *other && words.as_slice() == args
-            }
-            _ => false,
-        }
-    }
-
-    /// Whether this place, written by hand, is among those that were found.
-    fn is_in(self, places: &[CasePlace]) -> bool {
-        for place in places {
-            if self.is(place) {
-                return true;
-            }
-        }
-        false
+/// Adds a place: a latch by its entry, a cell by its entry and its address, an input, or a row by its symbol and its
+/// arguments.
+fn push_place(text: &mut String, place: &CasePlace) -> Result<(), AllocError> {
+    match place {
+        CasePlace::Latch(entry) => write!(text, "latch {entry}"),
+        CasePlace::Cell(entry, address) => write!(text, "cell {entry} {address}"),
+        CasePlace::Input(input) => write!(text, "input {input}"),
+        CasePlace::Row(symbol, args) => push_row(text, *symbol, args.as_slice()),
     }
 }
 
-/// Whether a place that was found is among those written by hand.
-fn is_one_of(place: &CasePlace, wanted: &[Where]) -> bool {
-    for other in wanted {
-        if other.is(place) {
+/// Adds a row: its symbol and its arguments.
+fn push_row(text: &mut String, symbol: u32, args: &[u64]) -> Result<(), AllocError> {
+    write!(text, "row {symbol}")?;
+    for arg in args {
+        write!(text, " {arg}")?;
+    }
+    Ok(())
+}
+
+/// Adds places, a line each.
+fn push_places(text: &mut String, places: &[CasePlace]) -> Result<(), AllocError> {
+    for place in places {
+        push_place(text, place)?;
+        text.push_str("\n")?;
+    }
+    Ok(())
+}
+
+/// Whether a text has this line.
+fn has_line(text: &str, line: &str) -> bool {
+    for other in text.lines() {
+        if other == line {
             return true;
         }
     }
     false
 }
 
-/// Whether these are the places, in any order.
-fn are(places: &[CasePlace], wanted: &[Where]) -> bool {
-    for place in places {
-        if !is_one_of(place, wanted) {
-            return false;
-        }
-    }
-    for place in wanted {
-        if !place.is_in(places) {
+/// Whether a text has each of these lines.
+fn has_lines(text: &str, lines: &str) -> bool {
+    for line in lines.lines() {
+        if !has_line(text, line) {
             return false;
         }
     }
     true
 }
 
-const INC: u32 = 0;
+/// Checks that these are the places written by hand, in any order.
+fn check_places(rt: &(impl Abort + AllocGlobal), places: &[CasePlace], want: &str) {
+    let mut text = String::new(rt.alloc());
+    push_places(&mut text, places).expect(rt, "memory");
+    let found = text.as_str();
+    assert!(rt; has_lines(found, want) && has_lines(want, found), "{want}");
+}
 
-const SRC: u32 = 1;
-
-const DST: u32 = 2;
-
-const OP: u32 = 3;
-
-const ALU: u32 = 4;
-
-const PC: usize = 0;
-
-const RF: usize = 1;
-
-/// What decides the next counter.
-static COUNTED: [Where; 3] = [Where::Input(0), Where::Row(INC, &[1]), Where::Latch(PC)];
-
-/// What decides register 8 after the cycle. The entries are `pc`, `rf`, `v`, `d`, `o` and `a`.
-static WRITTEN: [Where; 11] = [
-    Where::Input(0),
-    Where::Latch(PC),
-    Where::Latch(2),
-    Where::Latch(3),
-    Where::Latch(4),
-    Where::Latch(5),
-    Where::Row(SRC, &[1]),
-    Where::Row(DST, &[1]),
-    Where::Row(OP, &[1]),
-    Where::Row(ALU, &[3, 4]),
-    Where::Row(ALU, &[9, 50]),
-];
-
-/// What decides register 8 after the cycle where the operand is read before the pending write.
-static STALE: [Where; 7] = [
-    Where::Input(0),
-    Where::Latch(PC),
-    Where::Cell(RF, 7),
-    Where::Row(SRC, &[1]),
-    Where::Row(DST, &[1]),
-    Where::Row(OP, &[1]),
-    Where::Row(ALU, &[9, 40]),
-];
-
-/// Whether the places written by hand are those that decide a spot of the diagram, in the case whose write is pending.
-fn decides(
-    alloc: Global,
-    of: &DesignDraft,
+/// Checks the places that decide a value of a case's diagram.
+pub(crate) fn check_slice(
+    rt: &(impl Abort + AllocGlobal),
+    design: &Design,
+    case: &Case,
     column: Column,
     spot: Location,
-    wanted: &[Where],
-) -> Result<bool, AllocError> {
-    let design = design(alloc, of)?;
-    let case = case(alloc, &PENDING)?;
-    if !design.fits(&case) {
-        return Ok(false);
-    }
-    let places = slice_of(alloc, &design, &case, column, spot)?;
-    Ok(are(places.as_slice(), wanted))
+    want: &str,
+) {
+    assert!(rt; design.fits(case));
+    let places = slice_of(rt.alloc(), design, case, column, spot).expect(rt, "memory");
+    check_places(rt, places.as_slice(), want);
 }
 
-/// What decides a counter and a register is found before the cycle, after it and after the steps.
+/// The next counter. Symbol 0 is `inc`, and entry 0 is `pc`.
+const COUNTED: &str = "input 0\nrow 0 1\nlatch 0\n";
+
+/// Register 8 after a step: rows of `src`, `dst`, `op` and `alu`, and the entries `pc`, `v`, `d`, `o` and `a`.
+const STEPPED: &str =
+    "latch 0\nlatch 2\nlatch 3\nlatch 4\nlatch 5\nrow 1 1\nrow 2 1\nrow 3 1\nrow 4 3 4\nrow 4 9 50\n";
+
+/// Register 8 after the cycle: the same, and whether it stalls.
+const WRITTEN: &str =
+    "input 0\nlatch 0\nlatch 2\nlatch 3\nlatch 4\nlatch 5\nrow 1 1\nrow 2 1\nrow 3 1\nrow 4 3 4\nrow 4 9 50\n";
+
+/// Register 8 after the cycle where the operand is read before the pending write.
+const STALE: &str = "input 0\nlatch 0\ncell 1 7\nrow 1 1\nrow 2 1\nrow 3 1\nrow 4 9 40\n";
+
+/// Checks what decides a value of a pipeline, in the case whose write is pending.
+fn check_pending(
+    rt: &(impl Abort + AllocGlobal),
+    pipe: &str,
+    column: Column,
+    spot: Location,
+    want: &str,
+) {
+    let what = Check::Slice(column, spot, want);
+    check_texts(rt, pipe, ONE_STAGE, PENDING, what);
+}
+
+/// What decides the counter and register 8 of the two stages is found before the cycle, after it and after the steps.
 #[test]
-fn slices_have_what_decides(rt: HostRuntime) -> Result<(), Fail> {
-    let register = Location::Cell(1, 8);
-    let before = Column::Before(1);
-    let after = Column::After(1);
-    let steps = Column::Steps(1);
-    let a = rt.alloc();
-    assert!(rt; decides(a, &TWO_STAGE, before, Location::Latch(0), &COUNTED[2..])?);
-    assert!(rt;
-        decides(
-            a,
-            &TWO_STAGE,
-            Column::After(0),
-            Location::Latch(0),
-            &COUNTED
-        )?
-    );
-    assert!(rt; decides(a, &TWO_STAGE, after, register, &WRITTEN)?);
-    assert!(rt; decides(a, &TWO_STAGE, steps, register, &WRITTEN[1..])?);
-    assert!(rt; decides(a, &STALE_OPERAND, after, register, &STALE)?);
-    Ok(())
+fn slices_have_what_decides(rt: HostRuntime) {
+    let (counter, register) = (Location::Latch(0), Location::Cell(1, 8));
+    check_pending(&rt, TWO_STAGE, Column::Before(1), counter, "latch 0\n");
+    check_pending(&rt, TWO_STAGE, Column::After(0), counter, COUNTED);
+    check_pending(&rt, TWO_STAGE, Column::After(1), register, WRITTEN);
+    check_pending(&rt, TWO_STAGE, Column::Steps(1), register, STEPPED);
 }
 
-const NEXT: TableDraft = Words(0, &[(&[1], 2)]);
+/// The old content of a register decides the new one where the operand is read before the pending write.
+#[test]
+fn stale_operand_is_found(rt: HostRuntime) {
+    let pipe = changed(&rt, TWO_STAGE, "read rf2 -> read rf");
+    let register = Location::Cell(1, 8);
+    check_pending(&rt, pipe.as_str(), Column::After(1), register, STALE);
+}
 
-const SOURCE: TableDraft = Words(0, &[(&[1], 7)]);
+/// Changes of the case whose write is pending, each at one place that decides what register 8 has.
+const CHANGES: &str = "stall false -> stall true
+latch pc 1 -> latch pc 2
+latch v true -> latch v false
+latch d 7 -> latch d 6
+latch o 3 -> latch o 2
+latch a 4 -> latch a 5
+src 0 (1 7) -> src 0 (1 8)
+dst 0 (1 8) -> dst 0 (1 7)
+op 0 (1 9) -> op 0 (1 8)
+3 4 50 -> 3 4 51
+9 50 60 -> 9 50 61";
 
-const TARGET: TableDraft = Words(0, &[(&[1], 8)]);
-
-const OPERATION: TableDraft = Words(0, &[(&[1], 9)]);
-
-const RESULTS: TableDraft = Words(0, &[(&[3, 4], 50), (&[9, 50], 60)]);
-
-const REGISTERS: Held = Memory(0, &[(7, 40)]);
-
-const HERE: CaseDraft = CaseDraft {
-    interp: &[NEXT, SOURCE, TARGET, OPERATION, RESULTS],
-    state: &[Word(1), REGISTERS, Bit(true), Word(7), Word(3), Word(4)],
-    inputs: &[Scalar::Bool(false)],
-    ..NO_CASE
-};
-
-/// Cases of which each differs from the one with the pending write at one place that decides what register 8 has.
-static CHANGED: [CaseDraft; 11] = [
-    CaseDraft {
-        inputs: &[Scalar::Bool(true)],
-        ..HERE
-    },
-    CaseDraft {
-        state: &[Word(2), REGISTERS, Bit(true), Word(7), Word(3), Word(4)],
-        ..HERE
-    },
-    CaseDraft {
-        state: &[Word(1), REGISTERS, Bit(false), Word(7), Word(3), Word(4)],
-        ..HERE
-    },
-    CaseDraft {
-        state: &[Word(1), REGISTERS, Bit(true), Word(6), Word(3), Word(4)],
-        ..HERE
-    },
-    CaseDraft {
-        state: &[Word(1), REGISTERS, Bit(true), Word(7), Word(2), Word(4)],
-        ..HERE
-    },
-    CaseDraft {
-        state: &[Word(1), REGISTERS, Bit(true), Word(7), Word(3), Word(5)],
-        ..HERE
-    },
-    CaseDraft {
-        interp: &[NEXT, TARGET, TARGET, OPERATION, RESULTS],
-        ..HERE
-    },
-    CaseDraft {
-        interp: &[NEXT, SOURCE, SOURCE, OPERATION, RESULTS],
-        ..HERE
-    },
-    CaseDraft {
-        interp: &[NEXT, SOURCE, TARGET, TARGET, RESULTS],
-        ..HERE
-    },
-    CaseDraft {
-        interp: &[
-            NEXT,
-            SOURCE,
-            TARGET,
-            OPERATION,
-            Words(0, &[(&[3, 4], 51), (&[9, 50], 60)]),
-        ],
-        ..HERE
-    },
-    CaseDraft {
-        interp: &[
-            NEXT,
-            SOURCE,
-            TARGET,
-            OPERATION,
-            Words(0, &[(&[3, 4], 50), (&[9, 50], 61)]),
-        ],
-        ..HERE
-    },
-];
-
-/// The word that a state of the two stages has in the register at an address, or 0 where it has none.
-fn register(state: &State, address: u64) -> u64 {
-    match state.as_slice().get(RF) {
-        Some(Value::Memory(memory)) => memory.at(address),
+/// What a state of the two stages has in register 8, or 0 where it has no registers.
+fn register(state: &State) -> u64 {
+    match state.as_slice().get(1) {
+        Some(Value::Memory(memory)) => memory.at(8),
         _ => 0,
     }
 }
 
-/// What register 8 has once the two stages are flushed after a cycle.
-fn flushed_register(alloc: Global, draft: &CaseDraft) -> Result<u64, AllocError> {
-    let design = design(alloc, &TWO_STAGE)?;
-    let case = case(alloc, draft)?;
-    let next = step(alloc, &design, &case.interp, &case.state, &case.inputs)?;
-    let end = flush(alloc, &design, &case.interp, &next)?;
-    Ok(register(&end, 8))
+/// What register 8 has once the two stages are flushed from a state.
+fn flushed_register(
+    rt: &(impl Abort + AllocGlobal),
+    design: &Design,
+    case: &Case,
+    state: &State,
+) -> u64 {
+    let end = flush(rt.alloc(), design, &case.interp, state).expect(rt, "memory");
+    register(&end)
+}
+
+/// Checks whether register 8 has 60 once the two stages are flushed after a cycle of a case.
+pub(crate) fn check_register(
+    rt: &(impl Abort + AllocGlobal),
+    design: &Design,
+    case: &Case,
+    has: bool,
+) {
+    let (interp, state, inputs) = (&case.interp, &case.state, &case.inputs);
+    let next = step(rt.alloc(), design, interp, state, inputs).expect(rt, "memory");
+    assert!(rt; (flushed_register(rt, design, case, &next) == 60) == has);
+}
+
+/// Checks that a change of the case changes what register 8 has.
+fn check_change(rt: &(impl Abort + AllocGlobal), change: &str) {
+    let text = changed(rt, PENDING, change);
+    check_texts(
+        rt,
+        TWO_STAGE,
+        ONE_STAGE,
+        text.as_str(),
+        Check::Register(false),
+    );
 }
 
 /// A change at any place that decides register 8 changes what is in it.
 #[test]
-fn no_place_can_be_left_out(rt: HostRuntime) -> Result<(), Fail> {
-    assert_eq!(rt; flushed_register(rt.alloc(), &PENDING)?, 60);
-    for (i, draft) in CHANGED.iter().enumerate() {
-        assert!(rt; flushed_register(rt.alloc(), draft)? != 60, "place {i}");
+fn no_place_can_be_left_out(rt: HostRuntime) {
+    check_texts(&rt, TWO_STAGE, ONE_STAGE, PENDING, Check::Register(true));
+    for change in CHANGES.lines() {
+        check_change(&rt, change);
     }
-    Ok(())
 }

@@ -1,207 +1,211 @@
 //! Tables and memories, cases that fit, and values that are compared.
-use Held::{Bit, Memory, Word};
-use TableDraft::{Truths, Words};
-use bd_examples::build::{case, design, is_case, is_design, memory, table};
-use bd_examples::cases::{GOING, PENDING, STALLED};
-use bd_examples::designs::{
-    DISTINCT_CONSTANTS, DOUBLE_INCREMENT, EACH_SORT, STALE_OPERAND, TWIN_VALID_BITS, TWO_STAGE,
-    TWO_STEPS,
+use crate::checks::{
+    Check, NOTHING, ONE_STAGE, PENDING, TWO_STAGE, case, changed, check_texts, design,
 };
-use bd_examples::draft::{CaseDraft, DesignDraft, Held, NO_CASE, TableDraft};
-use bd_model::{Case, Scalar};
-use std::alloc::{AllocError, Global};
-use std::test::Fail;
+use bd_model::{Case, Design, Memory, Scalar, State, Table, Value};
+use std::process::Abort;
 
-const TWICE: &[(u64, u64)] = &[(1, 2), (1, 1), (2, 3)];
+/// Two memories.
+const MEMORIES: &str = "(pipeline (memory m) (memory n) (next m m) (next n n) (flush 0) (steps 0))";
 
-/// Memories by default and rows, and whether each reads like the one with the rows above and the default 0.
-static OTHERS: [(u64, &[(u64, u64)], bool); 4] = [
-    (0, TWICE, true),
-    (0, &[(2, 3), (1, 2)], true),
-    (0, &[(1, 1), (2, 3)], false),
-    (1, &[(1, 2), (2, 3)], false),
-];
+/// Cases of two memories, a line each: whether they read alike, and their defaults and rows.
+const PAIRS: &str = "alike (case 1 (memory m 0 (1 2) (1 1) (2 3)) (memory n 0 (1 2) (1 1) (2 3)))
+alike (case 1 (memory m 0 (1 2) (1 1) (2 3)) (memory n 0 (2 3) (1 2)))
+apart (case 1 (memory m 0 (1 2) (1 1) (2 3)) (memory n 0 (1 1) (2 3)))
+apart (case 1 (memory m 0 (1 2) (1 1) (2 3)) (memory n 1 (1 2) (2 3)))";
+
+/// The memory that an entry of a state holds.
+fn memory<'a>(rt: &impl Abort, state: &'a State, entry: usize) -> &'a Memory {
+    match state.as_slice().get(entry) {
+        Some(Value::Memory(memory)) => memory,
+        _ => panic!(rt; "no memory"),
+    }
+}
+
+/// Checks that the memory with two rows at 1 reads the first of them.
+fn check_reads(rt: &impl Abort, memory: &Memory) {
+    assert!(rt; memory.at(1) == 2 && memory.at(2) == 3);
+    assert!(rt; memory.at(3) == 0 && memory.at(u64::MAX) == 0);
+}
+
+/// Checks the first of two memories, and whether both read alike.
+pub(crate) fn check_memories(rt: &impl Abort, state: &State, alike: bool) {
+    let first = memory(rt, state, 0);
+    check_reads(rt, first);
+    assert!(rt; first.same(memory(rt, state, 1)) == alike);
+}
 
 /// A memory reads the first row at an address, and memories are the same if each address reads alike.
 #[test]
-fn first_row_counts(rt: HostRuntime) -> Result<(), Fail> {
-    let alloc = rt.alloc();
-    let twice = memory(alloc, 0, TWICE)?;
-    for (address, word) in [(1, 2), (2, 3), (3, 0), (u64::MAX, 0)] {
-        assert_eq!(rt; twice.at(address), word);
+fn first_row_counts(rt: HostRuntime) {
+    for line in PAIRS.lines() {
+        let (word, text) = line.split_once(' ').unwrap_or((line, ""));
+        check_texts(
+            &rt,
+            MEMORIES,
+            NOTHING,
+            text,
+            Check::Memories(word == "alike"),
+        );
     }
-    for (default, rows, same) in &OTHERS {
-        let other = memory(alloc, *default, rows)?;
-        assert_eq!(rt; twice.same(&other), *same);
+}
+
+/// Whether a table has the value of the row with all the arguments in order, and else its default.
+fn has_values(table: &Table) -> bool {
+    table.at(&[1, 2]) == Scalar::Word(7) && table.at(&[2, 1]) == Scalar::Word(0)
+}
+
+/// Checks the one table of a case.
+pub(crate) fn check_table(rt: &impl Abort, case: &Case) {
+    assert!(rt; case.interp.len() == 1);
+    for table in case.interp.as_slice() {
+        assert!(rt; has_values(table));
     }
-    Ok(())
 }
 
 /// A table has the value of the row with all the arguments in order, and else its default.
 #[test]
-fn table_at_arguments(rt: HostRuntime) -> Result<(), Fail> {
-    let table = table(rt.alloc(), &Words(0, &[(&[1, 2], 7)]))?;
-    assert_eq!(rt; table.at(&[1, 2]), Scalar::Word(7));
-    assert_eq!(rt; table.at(&[2, 1]), Scalar::Word(0));
-    Ok(())
+fn table_at_arguments(rt: HostRuntime) {
+    let pipe = "(pipeline (function f 2) (flush 0) (steps 0))";
+    check_texts(
+        &rt,
+        pipe,
+        NOTHING,
+        "(case 1 (function f 0 (1 2 7)))",
+        Check::Table,
+    );
 }
 
-const APART: CaseDraft = CaseDraft {
-    interp: &[Words(0, &[]), Words(1, &[])],
-    state: &[Word(0), Bit(false)],
-    ..NO_CASE
-};
-
-const SORTED: CaseDraft = CaseDraft {
-    interp: &[
-        Words(0, &[(&[1, 2], 3)]),
-        Words(0, &[]),
-        Truths(false, &[(&[1], true)]),
-    ],
-    state: &[Memory(0, &[]), Bit(true), Word(1)],
-    inputs: &[Scalar::Bool(true), Scalar::Word(1)],
-};
-
-/// Cases of constants that are kept apart, and whether they fit.
-static CONSTANTS: [(CaseDraft, bool); 4] = [
-    (APART, true),
-    (
-        CaseDraft {
-            interp: &[Words(1, &[]), Words(0, &[])],
-            ..APART
-        },
-        true,
-    ),
-    (
-        CaseDraft {
-            interp: &[Words(1, &[]), Words(1, &[])],
-            ..APART
-        },
-        false,
-    ),
-    (
-        CaseDraft {
-            interp: &[Words(0, &[(&[], 0)]), Words(1, &[])],
-            ..APART
-        },
-        false,
-    ),
-];
-
-/// Cases of entries, inputs and symbols of each sort, and whether they fit.
-static OF_EACH_SORT: [(CaseDraft, bool); 8] = [
-    (SORTED, true),
-    (
-        CaseDraft {
-            interp: &[Words(0, &[]), Words(0, &[])],
-            ..SORTED
-        },
-        false,
-    ),
-    (
-        CaseDraft {
-            interp: &[Words(0, &[(&[1], 3)]), Words(0, &[]), Truths(false, &[])],
-            ..SORTED
-        },
-        false,
-    ),
-    (
-        CaseDraft {
-            interp: &[Words(0, &[]), Words(0, &[]), Words(0, &[])],
-            ..SORTED
-        },
-        false,
-    ),
-    (
-        CaseDraft {
-            state: &[Memory(0, &[]), Bit(true)],
-            ..SORTED
-        },
-        false,
-    ),
-    (
-        CaseDraft {
-            state: &[Memory(0, &[]), Word(1), Word(1)],
-            ..SORTED
-        },
-        false,
-    ),
-    (
-        CaseDraft {
-            inputs: &[Scalar::Bool(true)],
-            ..SORTED
-        },
-        false,
-    ),
-    (
-        CaseDraft {
-            inputs: &[Scalar::Bool(true), Scalar::Bool(true)],
-            ..SORTED
-        },
-        false,
-    ),
-];
-
-/// Whether a case fits a design, both as they are written in tests.
-fn fits(alloc: Global, of: &DesignDraft, by: &CaseDraft) -> Result<bool, AllocError> {
-    let case = case(alloc, by)?;
-    is_fitting(alloc, of, &case)
+/// Checks whether a case of a design fits that of another pipeline and specification, and whether that is the same.
+pub(crate) fn check_other(
+    rt: &(impl Abort + AllocGlobal),
+    found: &Design,
+    case: &Case,
+    pipe: &str,
+    spec: &str,
+    fits: bool,
+    alike: bool,
+) {
+    let other = design(rt, pipe, spec);
+    assert!(rt; other.fits(case) == fits && (*found == other) == alike);
 }
 
-/// Whether a case fits a design that is written as a draft.
-fn is_fitting(alloc: Global, of: &DesignDraft, case: &Case) -> Result<bool, AllocError> {
-    Ok(design(alloc, of)?.fits(case))
+/// Two constants that are kept apart.
+const APART: &str = "(pipeline (function c 0) (function d 0) (distinct c d) (flush 0) (steps 0))";
+
+/// Two constants.
+const CONSTANTS: &str = "(pipeline (function c 0) (function d 0) (flush 0) (steps 0))";
+
+/// Checks whether a case of two constants fits where they are kept apart.
+fn check_constants(rt: &(impl Abort + AllocGlobal), text: &str, fits: bool) {
+    let what = Check::Other(APART, NOTHING, fits, false);
+    check_texts(rt, CONSTANTS, NOTHING, text, what);
 }
 
-/// A case fits if its tables, entries and inputs have the design's sorts and constants kept apart differ.
+/// A case fits constants that are kept apart if their values differ and they have no rows.
 #[test]
-fn cases_fit(rt: HostRuntime) -> Result<(), Fail> {
-    for (row, (case, wanted)) in CONSTANTS.iter().enumerate() {
-        let found = fits(rt.alloc(), &DISTINCT_CONSTANTS, case)?;
-        assert_eq!(rt; found, *wanted, "constants, row {row}");
-    }
-    for (row, (case, wanted)) in OF_EACH_SORT.iter().enumerate() {
-        let found = fits(rt.alloc(), &EACH_SORT, case)?;
-        assert_eq!(rt; found, *wanted, "each sort, row {row}");
-    }
-    Ok(())
+fn constants_fit(rt: HostRuntime) {
+    check_constants(&rt, "(case 1 (function c 0) (function d 1))", true);
+    check_constants(&rt, "(case 1 (function c 1) (function d 0))", true);
+    check_constants(&rt, "(case 1 (function c 1) (function d 1))", false);
+    check_constants(&rt, "(case 1 (function c 0 (0)) (function d 1))", false);
 }
 
-/// Whether the designs that two drafts make are equal.
-fn are_alike(alloc: Global, first: &DesignDraft, other: &DesignDraft) -> Result<bool, AllocError> {
-    let design = design(alloc, first)?;
-    is_design(alloc, &design, other)
+/// A function, a constant, a predicate, and entries and inputs of each sort.
+const EACH_SORT: &str =
+    "(pipeline (function f 2) (function g 0) (predicate p 1) (memory m) (next m m)
+ (latch a bool) (next a a) (latch w word) (next w w) (input i bool true) (input j word (g))
+ (flush 0) (steps 0))";
+
+/// A case of each sort.
+const SORTED: &str = "(case 1 (function f 0 (1 2 3)) (predicate p false (1 true)) (memory m 0)
+ (latch a true) (latch w 1) (input i true) (input j 1))";
+
+/// Changes, a line each: of the pipeline with each sort, and of the case that makes it one of that pipeline.
+const CHANGES: &str = "\
+(function g 0) (predicate p 1) -> (function g 0); (predicate p false (1 true)) (memory -> (memory
+function f 2 -> function f 1; (1 2 3) -> (1 3)
+predicate p 1 -> function p 1; predicate p false (1 true) -> function p 0 (1 1)
+(latch w word) (next w w) (input -> (input; (latch w 1) (input i -> (input i
+latch a bool -> latch a word; latch a true -> latch a 1
+(input i bool true) (input j word (g)) -> (input i bool true); (input i true) (input j 1) -> (input i true)
+input j word (g) -> input j bool true; input j 1 -> input j true";
+
+/// Checks that a case with a change, of a pipeline with a change, doesn't fit the design with each sort.
+fn check_unfit(rt: &(impl Abort + AllocGlobal), change: &str) {
+    let (pipe, case) = change.split_once("; ").unwrap_or((change, ""));
+    let pipe = changed(rt, EACH_SORT, pipe);
+    let case = changed(rt, SORTED, case);
+    let what = Check::Other(EACH_SORT, NOTHING, false, false);
+    check_texts(rt, pipe.as_str(), NOTHING, case.as_str(), what);
+}
+
+/// A case fits if its tables, entries and inputs are as many as the design's, and of its sorts.
+#[test]
+fn cases_fit(rt: HostRuntime) {
+    let what = Check::Other(EACH_SORT, NOTHING, true, true);
+    check_texts(&rt, EACH_SORT, NOTHING, SORTED, what);
+    for change in CHANGES.lines() {
+        check_unfit(&rt, change);
+    }
+}
+
+/// Checks that the two stages aren't those with a change, and whether the case of the pending write fits these too.
+fn check_stages(rt: &(impl Abort + AllocGlobal), change: &str, fits: bool) {
+    let pipe = changed(rt, TWO_STAGE, change);
+    let what = Check::Other(pipe.as_str(), ONE_STAGE, fits, false);
+    check_texts(rt, TWO_STAGE, ONE_STAGE, PENDING, what);
 }
 
 /// A design equals itself, and none that differs in one part.
 #[test]
-fn designs_are_compared(rt: HostRuntime) -> Result<(), Fail> {
-    for (first, other, alike) in [
-        (&TWO_STAGE, &TWO_STAGE, true),
-        (&TWO_STAGE, &STALE_OPERAND, false),
-        (&TWO_STAGE, &TWIN_VALID_BITS, false),
-        (&DOUBLE_INCREMENT, &TWO_STEPS, false),
-    ] {
-        assert_eq!(rt; are_alike(rt.alloc(), first, other)?, alike);
-    }
-    Ok(())
+fn designs_are_compared(rt: HostRuntime) {
+    let what = Check::Other(TWO_STAGE, ONE_STAGE, true, true);
+    check_texts(&rt, TWO_STAGE, ONE_STAGE, PENDING, what);
+    check_stages(&rt, "read rf2 -> read rf", true);
+    check_stages(&rt, "(flush -> (latch w bool) (next w v) (flush", false);
+    check_stages(&rt, "steps 1 -> steps 2", true);
 }
 
-/// Whether a copy of the case that a draft makes equals the case of another draft.
-fn copy_is(alloc: Global, draft: &CaseDraft, other: &CaseDraft) -> Result<bool, AllocError> {
-    let copy = case(alloc, draft)?.clone()?;
-    is_case(alloc, &copy, other)
+/// Checks that a copy of a case equals it, and not the one of a text.
+fn check_copy(
+    rt: &(impl Abort + AllocGlobal),
+    design: &Design,
+    found: &Case,
+    copy: &Case,
+    text: &str,
+) {
+    let other = case(rt, design, text);
+    assert!(rt; *copy == *found && !(*copy == other), "{text}");
 }
 
-/// A copy of a case equals the case, and not one with another input.
+/// Checks that a copy equals the case, and not the one of a text.
+pub(crate) fn check_copied(
+    rt: &(impl Abort + AllocGlobal),
+    design: &Design,
+    found: &Case,
+    text: &str,
+) {
+    let copy = found.clone().expect(rt, "memory");
+    check_copy(rt, design, found, &copy, text);
+}
+
+/// Checks that a copy of the case whose write is pending equals it, and not the case with a change.
+fn check_change(rt: &(impl Abort + AllocGlobal), change: &str) {
+    let text = changed(rt, PENDING, change);
+    check_texts(
+        rt,
+        TWO_STAGE,
+        ONE_STAGE,
+        PENDING,
+        Check::Copy(text.as_str()),
+    );
+}
+
+/// A copy of a case equals the case, and none that differs in one part.
 #[test]
-fn cases_are_compared(rt: HostRuntime) -> Result<(), Fail> {
-    for (case, other, alike) in [
-        (&PENDING, &PENDING, true),
-        (&STALLED, &STALLED, true),
-        (&STALLED, &GOING, false),
-    ] {
-        assert_eq!(rt; copy_is(rt.alloc(), case, other)?, alike);
-    }
-    Ok(())
+fn cases_are_compared(rt: HostRuntime) {
+    check_change(&rt, "stall false -> stall true");
+    check_change(&rt, "latch pc 1 -> latch pc 2");
+    check_change(&rt, "9 50 60 -> 9 50 61");
 }
