@@ -417,8 +417,6 @@ def exported(crate):
 
 def signatures(crate):
     """The public calls of a crate that take something, and a program's own, each with its name and contract's text."""
-    if crate == "bd_examples":
-        return []
     sources = ROOT / "crates" / crate / "src"
     if not (sources / "lib.rt").exists():
         return [call for call in signatures_of(sources / "main.rt", {"program"}) if call[0] == "program"]
@@ -541,7 +539,7 @@ def printed_calls(wanted):
             for other, name, cells in found
             if other == crate and (whole or name in wanted or name.split("::")[-1] in wanted)
         ]
-        alike = sequences(crate) if whole and crate != "bd_examples" else []
+        alike = sequences(crate) if whole else []
         if alike:
             made.append("| " + ", ".join(f"`{name}`" for name in alike) + " | as `Sequence` | | | |")
         rows += [f"| **{crate}** | | | | |", *made] if made else []
