@@ -239,6 +239,7 @@ fn on_no_invariant(
 
 /// Whether the state of all false and 0 meets the invariant, where one is given.
 fn on_reset(alloc: Global, design: &Design, given: bool) -> Result<Option<bool>, AllocError>
+    requires { IsLawful (design_view design.now) }
     ensures { IfOk result (IsReset (design_view design.now) given) }
 {
     if given {

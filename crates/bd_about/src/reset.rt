@@ -1,6 +1,7 @@
 //! Whether the state in which everything is false or 0 meets the invariant, where functions give 0 everywhere.
 ghost use Rattle.std.specs.Prelude.{◌≡◌, map, IfOk};
 ghost use Rattle.bd_model.specs.DesignView.{design_view};
+ghost use Rattle.bd_model.specs.Lawful.{IsLawful};
 ghost use Rattle.bd_model.specs.declared.design.Entry as entry;
 ghost use Rattle.bd_about.specs.Reset.{reset_meets, zero_table, zero_value};
 
@@ -63,6 +64,7 @@ fn zero_tables(alloc: Global, symbols: &[Symbol]) -> Result<Interp, AllocError>
 
 /// Whether this state meets the invariant under this interpretation.
 pub fn reset_meets(alloc: Global, design: &Design) -> Result<bool, AllocError>
+    requires lawful { IsLawful (design_view design.now) }
     ensures { IfOk result (λ meets. meets ≡ reset_meets (design_view design.now)) }
 {
     let interp = zero_tables(alloc, design.symbols.as_slice())?;

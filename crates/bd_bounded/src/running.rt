@@ -63,6 +63,7 @@ fn run_root(
 
 /// The first cycle that breaks, of a trail of which one does.
 fn broken_cycle(alloc: Global, design: &Design, trail: &Trail) -> Result<u32, AllocError>
+    requires lawful { IsLawful (design_view design.now) }
     requires broken { IsBroken (design_view design.now) trail.now }
     requires short { length trail.now.inputs ≤ most_cycles }
     ensures { IfOk result (λ cycle.

@@ -1,12 +1,12 @@
 -- Clauses learned from a conflict: they follow, they are fresh, and they keep the trail complete that the solver goes back to.
-use Rattle.std.proofs.Common.{◌≡◌, ℕ, true, false, List, [], ◌∷◌, ◌++◌, Option, None, Some, map, sym, ap, ◌∙◌, subst, inl, inr}
+use Rattle.std.proofs.Common.{◌≡◌, ℕ, true, false, List, [], ◌∷◌, ◌++◌, Option, None, Some, map, sym, ap, ◌∙◌, subst}
 use Rattle.std.specs.List.{All, cons_option}
 use Rattle.std.specs.FinMap.{get}
-use Rattle.std.proofs.lemmas.Bool.{or_cases, or_left, or_right, false≢true}
-use Rattle.bd_cnf.specs.Literal.{Literal, negate, literal_eq, has_literal, has_variable}
+use Rattle.std.proofs.lemmas.Bool.{false≢true}
+use Rattle.bd_cnf.specs.Literal.{Literal, negate, has_literal, has_variable}
 use Rattle.bd_cnf.specs.Clause.{IsRising, SameLiterals}
 use Rattle.bd_cnf.specs.Standing.{Standing}
-use Rattle.bd_cnf.specs.Trail.{is_false, open_literals, IsConsistent, IsClosed, AreClosed, IsPartOf}
+use Rattle.bd_cnf.specs.Trail.{is_false, open_literals, IsConsistent, IsClosed, AreClosed}
 use Rattle.bd_cnf.proofs.Closed.{has_variable_of, part_variable}
 use Rattle.bd_lrat.specs.declared.line.Hint.TheVariants as hint
 use Rattle.bd_lrat.specs.Propagation.{Conflict, propagate}
@@ -24,29 +24,6 @@ use Rattle.bd_cnf.proofs.Literals.{negate_twice}
 -- where that end is closed, the clause is fresh
 pub asserting_fresh : (standing : Standing) (front : List Literal) (earlier : List (List Literal)) (clause : List Literal) (u : Literal) → IsConsistent front → AreClosed standing front → All (λ other. IsRising other × IsClosed front other) earlier → IsAsserting front clause u → IsFreshClause standing earlier clause
 asserting_fresh standing front earlier clause u consistent closed known is = fresh_from_closed standing front consistent closed earlier clause u is.here is.free is.others known
-
--- what stands in front of a decision stands in front of the last one
-before_last : (xs : List Assigned) (a : Assigned) (ys front : List Assigned) (d : Literal) (rest : List Assigned) → xs ++ a ∷ ys ≡ front ++ assigned d None ∷ rest → a.reason ≡ None → decisions rest ≡ [] → IsPartOf (literals xs) (literals front)
-before_last [] a ys front d rest e no_reason implied l h = absurd (false≢true h)
-before_last (x ∷ xs) a ys [] d rest e no_reason implied l h = absurd (first a.reason no_reason (subst (λ ds. ds ≡ []) (decisions-append xs (a ∷ ys)) (ap decisions tail ∙ implied)))
-  where
-    tail : xs ++ a ∷ ys ≡ rest
-    tail = cc
-
-    none : (ds es : List Literal) (k : Literal) → ds ++ k ∷ es ≡ [] → ⊥
-    none [] es k h = cc
-    none (m ∷ ds) es k h = cc
-
-    first : (r : Option ℕ) → r ≡ None → decisions xs ++ cons_option (decided a.literal r) (decisions ys) ≡ [] → ⊥
-    first None h k = none (decisions xs) (decisions ys) a.literal k
-    first (Some id) h k = cc
-before_last (x ∷ xs) a ys (y ∷ front) d rest e no_reason implied l h =
-    let same : x ≡ y = cc in
-    let tail : xs ++ a ∷ ys ≡ front ++ assigned d None ∷ rest = cc in
-    elim (or_cases (literal_eq l x.literal) _ h) [
-      | inl here ↦ or_left _ _ (subst (λ (z : Assigned). literal_eq l z.literal ≡ true) same here)
-      | inr there ↦ or_right (literal_eq l y.literal) _ (before_last xs a ys front d rest tail no_reason implied l there)
-    ]
 
 pub decisions_at : (trail front : List Assigned) (d : Literal) (rest : List Assigned) → IsLastDecision trail front d rest → decisions trail ≡ decisions front ++ d ∷ []
 decisions_at trail front d rest is = ap decisions is.whole ∙ decisions-append front (assigned d None ∷ rest) ∙ ap (λ ds. decisions front ++ d ∷ ds) is.implied

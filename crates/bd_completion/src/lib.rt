@@ -12,4 +12,4 @@ pub use bd_model::agreement_keeps_right;
 pub use bd_syntax::{CompAst, read_completion};
 pub use bd_typer::{Joined, join_completion};
 pub use completing::complete;
-pub use judging::judge_by;
+pub use judging::{judge_by, values_given};

@@ -4,6 +4,7 @@ ghost use Rattle.std.specs.Prelude.{◌≡◌, ◌∷◌, [], IfOk};
 ghost use Rattle.bd_model.specs.Conditions.{Abstraction};
 ghost use Rattle.bd_model.specs.DesignView.{design_view};
 ghost use Rattle.bd_diagram.specs.Diagrams.{IsContrast, IsDiagramBy, next_state};
+ghost use Rattle.bd_model.specs.Lawful.{IsLawful};
 
 use crate::comparison::{comparisons_of, other_of};
 use crate::diagram::{Diagram, visible_end};
@@ -42,6 +43,7 @@ pub fn diagram_between(
     first: &State,
     stands: State,
 ) -> Result<Diagram, AllocError>
+    requires lawful { IsLawful (design_view design.now) }
     ensures { IfOk result (λ g. (abs : Abstraction)
         → first.now ≡ abs case.now.interp case.now.state
         → stands ≡ abs case.now.interp (next_state (design_view design.now) case.now)
@@ -67,6 +69,7 @@ pub fn contrast_with(
     case: &Case,
     other: State,
 ) -> Result<Diagram, AllocError>
+    requires lawful { IsLawful (design_view design.now) }
     ensures { IfOk result (λ g. (abs : Abstraction)
         → other ≡ abs case.now.interp case.now.state
         → IsContrast (design_view design.now) abs case.now g) }

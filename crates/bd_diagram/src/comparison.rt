@@ -4,6 +4,7 @@ ghost use Rattle.std.specs.List.{AllByRecursion};
 ghost use Rattle.bd_model.specs.DesignView.{design_view};
 ghost use Rattle.bd_diagram.specs.Diagrams.{AreComparisonsOf, IsOther};
 ghost use Rattle.bd_diagram.specs.inner.Compared.{IsCompared};
+ghost use Rattle.bd_model.specs.Lawful.{IsLawful};
 
 use crate::difference::{Differences, differences_of};
 use bd_model::{Case, Design, Sequence, State};
@@ -32,6 +33,7 @@ pub fn comparisons_of(
     first: &State,
     stands: &State,
 ) -> Result<Comparisons, AllocError>
+    requires lawful { IsLawful (design_view design.now) }
     ensures counts { IfOk result (λ xs. length xs ≡ suc design.now.steps) }
     ensures each { IfOk result
         (AreComparisonsOf (design_view design.now) case.now first.now stands.now) }

@@ -6,6 +6,7 @@ ghost use Rattle.std.specs.Prelude.{◌≡◌, ◌<◌, [], length, slice_index_
 ghost use Rattle.bd_model.specs.DesignView.{design_view};
 ghost use Rattle.bd_model.specs.Cycle.{look};
 ghost use Rattle.bd_diagram.specs.Diagrams.{IsDiagram};
+ghost use Rattle.bd_model.specs.Lawful.{IsLawful};
 
 use crate::comparison::{Comparisons, comparisons_of};
 use crate::flushing::{Flushing, flushing_from};
@@ -27,6 +28,7 @@ pub struct Diagram {
 
 /// The diagram of a case: all that stands behind its judgement.
 pub fn diagram_of(alloc: Global, design: &Design, case: &Case) -> Result<Diagram, AllocError>
+    requires lawful { IsLawful (design_view design.now) }
     ensures { IfOk result (λ g. IsDiagram (design_view design.now) case.now g) }
 {
     let interp = &case.interp;

@@ -2,6 +2,7 @@
 ghost use Rattle.std.specs.Prelude.{IfOk};
 ghost use Rattle.bd_model.specs.DesignView.{design_view};
 ghost use Rattle.bd_diagram.specs.Flushes.{IsFlushing};
+ghost use Rattle.bd_model.specs.Lawful.{IsLawful};
 
 use bd_model::{Design, InputLists, Interp, Sequence, State, States};
 use bd_sim::{idle_inputs, step};
@@ -21,6 +22,7 @@ pub fn flushing_from(
     interp: &Interp,
     state: &State,
 ) -> Result<Flushing, AllocError>
+    requires lawful { IsLawful (design_view design.now) }
     ensures { IfOk result (λ f. IsFlushing (design_view design.now) interp.now state.now f) }
 {
     let mut states = Vec::new(alloc);

@@ -4,6 +4,7 @@ use Rattle.std.specs.List.{list_any}
 use Rattle.std.proofs.lemmas.Option.{same_Some, slice_get_within}
 use Rattle.indexmap.specs.IndexSet.{insert_key}
 use Rattle.indexmap.proofs.CallerLemmas.{Contains-list_any}
+use Rattle.bd_list.proofs.Numbers.{below_last}
 use Rattle.bd_terms.specs.declared.node.Sym.{Sym}
 use Rattle.bd_terms.specs.declared.node.Node.{Node}
 use Rattle.bd_terms.specs.declared.node.Node.TheVariants.{App}
@@ -52,14 +53,8 @@ record AppliesAt (nodes : List Node) (test : ℕ → Bool) (place : ℕ) (s : Sy
   pub there : slice_get nodes place ≡ Some (App s args)
   pub passes : test place ≡ true
 
-lt-cases : (a b : ℕ) → a < b + 1 → (a < b) ⊎ (a ≡ b)
-lt-cases zero zero h = inr refl
-lt-cases zero (suc b) h = inl (omega arith)
-lt-cases (suc a) zero h = absurd (omega arith)
-lt-cases (suc a) (suc b) h = elim (lt-cases a b (omega arith)) [ inl p ↦ inl (omega arith) | inr e ↦ inr (ap suc e) ]
-
 below-cases : (nodes : List Node) (test : ℕ → Bool) (place : ℕ) (s : Sym) → AppliesBelow nodes (place + 1) test s → AppliesBelow nodes place test s ⊎ AppliesAt nodes test place s
-below-cases nodes test place s a = elim (lt-cases a.id place a.below) [
+below-cases nodes test place s a = elim (below_last a.id place a.below) [
   | inl lt ↦ inl (record { id = a.id; args = a.args; below = lt; there = a.there; passes = a.passes })
   | inr e ↦ inr (record { args = a.args; there = ap (slice_get nodes) (sym e) ∙ a.there; passes = ap test (sym e) ∙ a.passes })
 ]

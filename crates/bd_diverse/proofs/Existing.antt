@@ -3,6 +3,7 @@ use Rattle.std.proofs.Common.{◌≡◌, ◌≢◌, ◌⊎◌, ◌↔◌, inl, i
 use Rattle.std.specs.List.{AllByRecursion}
 use Rattle.std.proofs.lemmas.Option.{none-some, same_Some, slice_get-get_or, slice_get_within}
 use Rattle.std.proofs.lemmas.List.Elements.{Contains-append_left, Contains-append_right, Contains-get_or, Contains-push, Contains-push_cases}
+use Rattle.bd_function.proofs.Evaluating.{at_denoted}
 use Rattle.bd_model.specs.declared.table.Scalar.{Scalar}
 use Rattle.bd_model.specs.declared.table.Scalar.TheVariants as scalar
 use Rattle.bd_model.specs.DesignView.{DesignView}
@@ -30,7 +31,7 @@ use Rattle.bd_diverse.proofs.Walking.{any_from, some_way}
 use Rattle.bd_diverse.proofs.Passing.{IsWalked, IsWalked-exact, IsWalked-mark, IsWalked-pass, IsWalked-root, Walks-reaches, has_inside, reached-walked}
 use Rattle.bd_diverse.proofs.Applying.{AppliesSymbol-one, Collects, Collects-more, Collects-none, Collects-passed, positive_exact}
 use Rattle.bd_diverse.proofs.Reading.{spread-apart, spread-diverse, spread-false}
-use Rattle.bd_diverse.proofs.Spreading.{Spreading-other, Spreading-skip, Spreading-start, Spreading-use, at-denoted, lt-cases, row_for}
+use Rattle.bd_diverse.proofs.Spreading.{Spreading-other, Spreading-skip, Spreading-start, Spreading-use, lt-cases, row_for}
 use Rattle.bd_diverse.proofs.Settling.{among-exact, settled-IsSpread}
 use Rattle.bd_list.proofs.Membership.{first, Contains-cons, Contains-none}
 
@@ -172,8 +173,8 @@ plain_scalar w done (Ite c a b) p =
     branch (truth_of (at_place (map as_denoted done) c))
   where
     branch : (t : Bool) → AsScalar (if t then at_place (map as_denoted done) a else at_place (map as_denoted done) b)
-    branch true = record { scalar = scalar_at done a; is = sym (at-denoted done a) }
-    branch false = record { scalar = scalar_at done b; is = sym (at-denoted done b) }
+    branch true = record { scalar = scalar_at done a; is = sym (at_denoted done a) }
+    branch false = record { scalar = scalar_at done b; is = sym (at_denoted done b) }
 plain_scalar w done (Eq a b) p = record { scalar = scalar.Bool _; is = refl }
 plain_scalar w done (App s args) p = record { scalar = scalar.Word _; is = refl }
 plain_scalar w done (Pred s args) p = record { scalar = scalar.Bool _; is = refl }

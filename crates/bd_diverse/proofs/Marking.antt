@@ -1,22 +1,11 @@
 -- Variables of rows, a row and a symbol at a time.
-use Rattle.std.proofs.Common.{◌≡◌, ◌⊎◌, ◌↔◌, inl, inr, ℕ, suc, ◌+◌, ◌<◌, ◌==◌, Bool, true, false, if◌then◌else◌, List, [], ◌∷◌, ◌++◌, length, take, get_or, Contains, refl, ap, sym, ◌∙◌, subst, arith, true≢false, eqb-true, eq-eqb}
+use Rattle.std.proofs.Common.{◌≡◌, ◌⊎◌, ◌↔◌, inl, inr, ℕ, ◌+◌, ◌<◌, true, List, [], ◌∷◌, ◌++◌, length, take, get_or, Contains, refl, sym, subst, arith}
 use Rattle.std.proofs.lemmas.List.{take_more}
 use Rattle.std.proofs.lemmas.List.Elements.{Contains-append_left, Contains-push, Contains-push_cases}
 use Rattle.bd_terms.specs.declared.node.Sym.{Sym}
-use Rattle.bd_function.specs.declared.flat.FlatRow.{FlatRow}
 use Rattle.bd_function.specs.declared.flat.FlatSym.{FlatSym}
 use Rattle.bd_function.specs.Values.{is_marked}
 use Rattle.bd_diverse.specs.Marked.{HasMarkedRow, HasVariable}
-use Rattle.bd_list.proofs.Membership.{Contains-none}
-
-module _ (old new : List ℕ) (var : ℕ) (is : (v : ℕ) → is_marked new v ≡ (if var == v then true else is_marked old v)) where
-  came_by : (x : ℕ) (b : Bool) → (var == x) ≡ b → is_marked new x ≡ true → (is_marked old x ≡ true) ⊎ (var ≡ x)
-  came_by x true e h = inr (eqb-true var x e)
-  came_by x false e h = inl (sym (is x ∙ ap (λ t. if t then true else is_marked old x) e) ∙ h)
-
-  stays_by : (x : ℕ) (b : Bool) → (var == x) ≡ b → is_marked old x ≡ true → is_marked new x ≡ true
-  stays_by x true e h = is x ∙ ap (λ t. if t then true else is_marked old x) e
-  stays_by x false e h = is x ∙ ap (λ t. if t then true else is_marked old x) e ∙ h
 
 -- the set has these variables beside the old ones
 abbrev pub Marks : List ℕ → List ℕ → (ℕ → Type 0) → Type 0

@@ -27,10 +27,10 @@ use Rattle.bd_function.proofs.Tabling.{is_symbol-same, is_symbol-self}
 use Rattle.bd_diverse.specs.Positive.{IsPositive}
 use Rattle.bd_diverse.specs.inner.Spread.{IsUse, OwnRow, Placed, Spreading, is_among, spread_value, symbol_args}
 use Rattle.bd_diverse.proofs.Reading.{FromTruth, FromWord, IsSpread, OwnConstant}
-use Rattle.bd_diverse.proofs.Spreading.{at-denoted, plain_value, use_children}
+use Rattle.bd_diverse.proofs.Spreading.{plain_value, use_children}
 use Rattle.bd_list.proofs.Membership.{first, Contains-cons, Contains-none}
 use Rattle.bd_list.proofs.Truths.{or_left, or_right}
-use Rattle.bd_function.proofs.Evaluating.{word_denoted}
+use Rattle.bd_function.proofs.Evaluating.{word_denoted, at_denoted}
 
 among-Contains : (ks : List Sym) (s : Sym) → Contains ks s → list_any (is_symbol s) ks ≡ true
 among-Contains [] s h = absurd (Contains-none s h)
@@ -107,7 +107,7 @@ module _ (positive : List Sym) (bound : ℕ) (old : World) (nodes : List Node) (
       → as_denoted (scalar_at done k) ≡ node_value new (values new nodes) node
   denoted_other k node at r p none ih =
       h.others k node (slice_get_within nodes k node at) r at none
-      ∙ plain_value old new (map as_denoted done) (values new nodes) node p none (λ c q. at-denoted done c ∙ ih c q)
+      ∙ plain_value old new (map as_denoted done) (values new nodes) node p none (λ c q. at_denoted done c ∙ ih c q)
 
   denoted_node : (k : ℕ) (node : Node) → slice_get nodes k ≡ Some node → Reaches nodes root k → IsPlain node
       → ((c : ℕ) → Contains (children node) c → as_denoted (scalar_at done c) ≡ denoted new nodes c)

@@ -74,9 +74,6 @@ words-stay done x (a ∷ args) h =
 pub denoted-stay : (done : List Scalar) (x : Scalar) (a : ℕ) → a < length done → at_place (map as_denoted (done ++ x ∷ [])) a ≡ at_place (map as_denoted done) a
 denoted-stay done x a h = at_denoted (done ++ x ∷ []) a ∙ ap as_denoted (scalar-stay done x a h) ∙ sym (at_denoted done a)
 
-pub at-denoted : (done : List Scalar) (a : ℕ) → at_place (map as_denoted done) a ≡ as_denoted (scalar_at done a)
-at-denoted = at_denoted
-
 pub row_value-append : (xs ys : List Row) (a : List ℕ) (d : Scalar) → row_value (xs ++ ys) a d ≡ row_value xs a (row_value ys a d)
 row_value-append [] ys a d = refl
 row_value-append (x ∷ xs) ys a d = ap (λ v. if pointwise nat_eq x.args a then x.value else v) (row_value-append xs ys a d)

@@ -25,15 +25,15 @@ use Rattle.bd_diverse.specs.inner.Spread.{Spreading, read_as, symbol_args}
 use Rattle.bd_diverse.specs.inner.Valued.{IsValued, connective, scalar_in}
 use Rattle.bd_diverse.proofs.Reading.{IsSpread}
 use Rattle.bd_diverse.proofs.Settling.{args_denoted, settled-IsSpread}
-use Rattle.bd_diverse.proofs.Spreading.{Spreading-other, Spreading-use, at-denoted, lt-cases, plain_value, row_for, scalar-stay}
+use Rattle.bd_diverse.proofs.Spreading.{Spreading-other, Spreading-use, lt-cases, plain_value, row_for, scalar-stay}
 use Rattle.std.proofs.lemmas.Option.{none-some}
-use Rattle.bd_function.proofs.Evaluating.{truth_denoted, word_denoted, as_denoted-if}
+use Rattle.bd_function.proofs.Evaluating.{truth_denoted, word_denoted, as_denoted-if, at_denoted}
 
 truth_is : (done : List Scalar) (a : ℕ) → truth_of (at_place (map as_denoted done) a) ≡ truth_at done a
-truth_is done a = ap truth_of (at-denoted done a) ∙ truth_denoted (scalar_at done a)
+truth_is done a = ap truth_of (at_denoted done a) ∙ truth_denoted (scalar_at done a)
 
 word_is : (done : List Scalar) (a : ℕ) → word_of (at_place (map as_denoted done) a) ≡ word_at done a
-word_is done a = ap word_of (at-denoted done a) ∙ word_denoted (scalar_at done a)
+word_is done a = ap word_of (at_denoted done a) ∙ word_denoted (scalar_at done a)
 
 connective_denoted : (w : World) (done : List Scalar) (node : Node) → IsPlain node → symbol_args node ≡ None → node_value w (map as_denoted done) node ≡ as_denoted (connective done node)
 connective_denoted w done True p n = refl
@@ -41,7 +41,7 @@ connective_denoted w done (Not a) p n = let x = truth_is done a in λ i. Truth (
 connective_denoted w done (And a b) p n = let x = truth_is done a in let y = truth_is done b in λ i. Truth (x i && y i)
 connective_denoted w done (Or a b) p n = let x = truth_is done a in let y = truth_is done b in λ i. Truth (x i || y i)
 connective_denoted w done (Ite c a b) p n =
-    let t = truth_is done c in let x = at-denoted done a in let y = at-denoted done b in
+    let t = truth_is done c in let x = at_denoted done a in let y = at_denoted done b in
     (λ i. if t i then x i else y i) ∙ sym (as_denoted-if (truth_at done c) (scalar_at done a) (scalar_at done b))
 connective_denoted w done (Eq a b) p n = let x = word_is done a in let y = word_is done b in λ i. Truth (x i == y i)
 connective_denoted w done (App s args) p n = absurd (none-some _ (sym n))
@@ -59,7 +59,7 @@ module _ (w : World) (nodes : List Node) (g : IsGraph nodes) (i : ℕ) (node : N
   other_valued : symbol_args node ≡ None → as_denoted (connective done node) ≡ denoted w nodes i
   other_valued none =
       sym (connective_denoted w done node plain none)
-      ∙ plain_value w w (map as_denoted done) (values w nodes) node plain none (λ c p. at-denoted done c ∙ ih c p)
+      ∙ plain_value w w (map as_denoted done) (values w nodes) node plain none (λ c p. at_denoted done c ∙ ih c p)
       ∙ sym (denoted-get w nodes g i node there)
 
 node_valued : (w : World) (nodes : List Node) → IsGraph nodes → (i : ℕ) (node : Node) → slice_get nodes i ≡ Some node → (done : List Scalar) → IsPlain node

@@ -1,9 +1,9 @@
 -- Edges between the constants of groups.
 use Rattle.std.proofs.Common.{◌≡◌, ℕ, zero, suc, ◌+◌, ◌<◌, ◌≤◌, ◌⊎◌, ◌↔◌, inl, inr, List, [], ◌∷◌, ◌++◌, Option, Some, Contains, slice_index_or, length, refl, ap, sym, ◌∙◌, subst, arith}
-use Rattle.std.proofs.lemmas.Bool.{cases_lt}
 use Rattle.std.proofs.lemmas.List.{get_or_default}
 use Rattle.std.proofs.lemmas.List.Elements.{Contains-append_left, Contains-get_or, Contains-push, Contains-push_cases}
 use Rattle.std.proofs.lemmas.Option.{same_Some}
+use Rattle.bd_list.proofs.Numbers.{below_last}
 use Rattle.bd_terms.specs.declared.node.Node.{Node}
 use Rattle.bd_function.specs.declared.flat.FlatSym.{FlatSym}
 use Rattle.bd_transitive.specs.declared.graph.Edge.{Edge}
@@ -40,10 +40,6 @@ module _ (nodes : List Node) (syms : List FlatSym) (marked : Option (List ℕ)) 
   -- so are those of each group
   pub apart_group : (distinct : List (List ℕ)) (group : List ℕ) (e : Edge) → Contains distinct group → JoinsGroup nodes syms marked group e → IsApart nodes syms distinct marked e
   apart_group distinct group e h j = record { group = group; f = j.f; g = j.g; listed = h; has_f = j.has_f; has_g = j.has_g; from = j.from; to = j.to; below = j.below }
-
--- one more index
-pub next-cases : (n k : ℕ) → k < n + 1 → (k < n) ⊎ (k ≡ n)
-next-cases n k lt = elim (cases_lt k n) [ inl q ↦ inl q | inr q ↦ inr (omega arith) ]
 
 -- an item has an index
 pub item_of : {X : Type 0} (xs : List X) (x d : X) → Contains xs x → (k : ℕ) × (k < length xs) × (slice_index_or xs k d ≡ x)
@@ -82,7 +78,7 @@ JoinsSome-more from vertices count old new new' h inside lt has =
         | inr q ↦ inr (subst (JoinsAll (from ∷ []) vertices) q (joins_one from vertices to (Contains-get_or vertices count 0 inside) lt))
       ];
       stays = λ e k. (has e).1 (inl (h.stays e k));
-      joined = λ k l m. elim (next-cases count k l) [
+      joined = λ k l m. elim (below_last k count l) [
         | inl q ↦ (has (edge from (slice_index_or vertices k 0))).1 (inl (h.joined k q m))
         | inr q ↦ (has (edge from (slice_index_or vertices k 0))).1 (inr (ap (λ j. edge from (slice_index_or vertices j 0)) (sym q)))
       ];
@@ -92,7 +88,7 @@ pub JoinsSome-pass : (from : ℕ) (vertices : List ℕ) (count : ℕ) (old new :
 JoinsSome-pass from vertices count old new h le = record {
   sound = h.sound;
   stays = h.stays;
-  joined = λ k l m. elim (next-cases count k l) [
+  joined = λ k l m. elim (below_last k count l) [
     | inl q ↦ h.joined k q m
     | inr q ↦ let lt : from < slice_index_or vertices count 0 = subst (λ j. from < slice_index_or vertices j 0) q m in absurd (omega arith)
   ];
@@ -128,7 +124,7 @@ JoinsMost-more vertices count old new new' h inside has = record {
     | inr q ↦ inr (joins_more (slice_index_or vertices count 0) vertices vertices e (Contains-get_or vertices count 0 inside) q)
   ];
   stays = λ e k. (has e).1 (inl (h.stays e k));
-  joined = λ k e l j. elim (next-cases count k l) [
+  joined = λ k e l j. elim (below_last k count l) [
     | inl q ↦ (has e).1 (inl (h.joined k e q j))
     | inr q ↦ (has e).1 (inr (subst (λ i. JoinsAll (slice_index_or vertices i 0 ∷ []) vertices e) q j))
   ];
@@ -166,7 +162,7 @@ module _ (nodes : List Node) (syms : List FlatSym) (distinct : List (List ℕ)) 
           | inl q ↦ h.sound e q
           | inr q ↦ apart_group nodes syms marked variables are distinct group e listed ((joins_vertices nodes syms marked variables are group vertices has e).0 q)
         ];
-        joined = λ k e l j. elim (next-cases count k l) [
+        joined = λ k e l j. elim (below_last k count l) [
           | inl q ↦ (adds e).1 (inl (h.joined k e q j))
           | inr q ↦
               let here : JoinsGroup nodes syms marked group e = subst (λ x. JoinsGroup nodes syms marked x e) (ap (λ i. slice_index_or distinct i []) q ∙ is) j in
@@ -202,7 +198,7 @@ ListsSome-more variables group count y vertices new h inside is e = record {
     | inl q ↦ h.sound x q
     | inr q ↦ record { f = slice_index_or group count 0; has = Contains-get_or group count 0 inside; variable = is ∙ ap Some q }
   ];
-  complete = λ k x l m. subst (λ l. Contains l x) (sym e) (elim (next-cases count k l) [
+  complete = λ k x l m. subst (λ l. Contains l x) (sym e) (elim (below_last k count l) [
     | inl q ↦ Contains-append_left vertices (y ∷ []) x (h.complete k x q m)
     | inr q ↦
         let same : y ≡ x = same_Some y x (sym is ∙ ap (λ i. variable_of variables (slice_index_or group i 0)) (sym q) ∙ m) in
@@ -214,7 +210,7 @@ pub ListsSome-pass : (variables : List (ℕ × ℕ)) (group : List ℕ) (count :
     → ((y : ℕ) → variable_of variables (slice_index_or group count 0) ≡ Some y → ⊥) → ListsSome variables group (count + 1) vertices
 ListsSome-pass variables group count vertices h none = record {
   sound = h.sound;
-  complete = λ k x l m. elim (next-cases count k l) [
+  complete = λ k x l m. elim (below_last k count l) [
     | inl q ↦ h.complete k x q m
     | inr q ↦ absurd (none x (ap (λ i. variable_of variables (slice_index_or group i 0)) (sym q) ∙ m))
   ];

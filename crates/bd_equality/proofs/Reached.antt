@@ -1,6 +1,7 @@
 -- The edges of the atoms that the root reaches.
 use Rattle.std.proofs.Common.{◌≡◌, ℕ, ◌+◌, ◌<◌, ◌≤◌, ◌⊎◌, ◌↔◌, inl, inr, Bool, true, List, Some, Contains, slice_get, length, ap, sym, ◌∙◌, subst, arith}
 use Rattle.std.proofs.lemmas.Option.{same_Some, slice_get_within}
+use Rattle.bd_list.proofs.Numbers.{below_last}
 use Rattle.bd_prop.specs.declared.atom.Atom.TheVariants.{Edge as EdgeOf}
 use Rattle.bd_prop.specs.declared.node.PropNode.{PropNode}
 use Rattle.bd_prop.specs.declared.node.PropNode.TheVariants.{Atom as AtomOf}
@@ -9,7 +10,6 @@ use Rattle.bd_transitive.specs.declared.graph.Edge.{Edge}
 use Rattle.bd_equality.specs.Edges.{ReachesEdge}
 use Rattle.bd_equality.specs.inner.Apart.{IsReached}
 use Rattle.bd_equality.specs.inner.Means.{edge}
-use Rattle.bd_equality.proofs.Groups.{next-cases}
 
 atom_edge : (a b x y : ℕ) → ◌≡◌ {A = PropNode} (AtomOf (EdgeOf a b)) (AtomOf (EdgeOf x y)) → edge a b ≡ edge x y
 atom_edge a b x y e = let p : a ≡ x = cc in let q : b ≡ y = cc in (λ i. edge (p i) (q i))
@@ -39,7 +39,7 @@ AddsReached-more prop root count old new new' node mark h there reached has = re
     | inr q ↦ inl (record { id = count; reached = reached.0 q.marked; stands = there ∙ ap Some q.atom })
   ];
   stays = λ e k. (has e).1 (inl (h.stays e k));
-  joined = λ k e l r s. elim (next-cases count k l) [
+  joined = λ k e l r s. elim (below_last k count l) [
     | inl q ↦ (has e).1 (inl (h.joined k e q r s))
     | inr q ↦ (has e).1 (inr (record {
       marked = reached.1 (subst (Reaches prop root) q r);

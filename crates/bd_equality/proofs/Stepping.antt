@@ -1,9 +1,10 @@
 -- What is encoded stays when the truth graph grows, and each step adds to it.
-use Rattle.std.proofs.Common.{◌≡◌, ℕ, ◌+◌, ◌<◌, ◌⊎◌, inl, inr, ◌==◌, ◌&&◌, if◌then◌else◌, Bool, true, false, List, [], ◌∷◌, ◌++◌, Option, None, Some, Result, Ok, Err, IfOk, length, slice_get, refl, ap, sym, ◌∙◌, subst, arith, eq-eqb, eqb-true, length-append}
-use Rattle.std.proofs.lemmas.Bool.{and_parts, cases_lt}
+use Rattle.std.proofs.Common.{◌≡◌, ℕ, ◌+◌, ◌<◌, inl, inr, ◌==◌, ◌&&◌, if◌then◌else◌, Bool, true, false, List, [], ◌∷◌, ◌++◌, Option, None, Some, Result, Ok, Err, IfOk, length, slice_get, refl, ap, sym, ◌∙◌, subst, arith, eq-eqb, eqb-true, length-append}
+use Rattle.std.proofs.lemmas.Bool.{and_parts}
 use Rattle.std.proofs.lemmas.List.{get_or_append_left}
 use Rattle.std.proofs.lemmas.Option.{none-some, same_Some}
 use Rattle.std.proofs.Math.Seq.{get_or-append_seam}
+use Rattle.bd_list.proofs.Numbers.{below_last}
 use Rattle.bd_terms.specs.declared.node.Node.{Node}
 use Rattle.bd_terms.specs.declared.node.Node.TheVariants.{Eq}
 use Rattle.bd_terms.specs.Graph.{IsGraph, sort_at}
@@ -187,9 +188,6 @@ module _ (nodes : List Node) (root : ℕ) (marked : Option (List ℕ)) where
         settled = k.settled;
       }
 
-  push-cases : (n i : ℕ) → i < n + 1 → (i < n) ⊎ (i ≡ n)
-  push-cases n i lt = elim (cases_lt i n) [ inl q ↦ inl q | inr q ↦ inr (omega arith) ]
-
   -- the next term is passed
   pub IsEncoding-push : (e e' : Encoding) (id : ℕ) (e'' : Encoding) → Follows nodes root marked e e' id → e''.prop ≡ e'.prop → e''.equations ≡ e'.equations
       → e''.truths.items ≡ e'.truths.items ++ id ∷ [] → IsEncoding nodes root marked e''
@@ -201,7 +199,7 @@ module _ (nodes : List Node) (root : ℕ) (marked : Option (List ℕ)) where
         atoms = subst (HasAtoms nodes marked) (sym same_prop) f.encoding.atoms;
         truths = λ i lt r s. subst (λ l. Means nodes marked e''.prop (truth_id l i) (Term i)) (sym pushed)
             (subst (λ q. Means nodes marked q (truth_id (old ++ id ∷ []) i) (Term i)) (sym same_prop)
-            (elim (push-cases (length old) i (omega arith)) [
+            (elim (below_last i (length old) (omega arith)) [
               | inl q ↦ subst (λ j. Means nodes marked e'.prop j (Term i)) (sym (get_or_append_left old (id ∷ []) 0 i q)) (f.encoding.truths i q r s)
               | inr q ↦
                   let here : i ≡ length e.truths.items = q ∙ count in

@@ -2,6 +2,7 @@
 use Rattle.std.proofs.Common.{◌≡◌, ℕ, ◌+◌, ◌<◌, ◌≤◌, ◌⊎◌, ◌↔◌, inl, inr, ◌==◌, Bool, true, false, List, [], Option, Some, IsTrue, slice_get, length, refl, ap, sym, ◌∙◌, subst, arith, eqb-true, eq-eqb, if◌then◌else◌}
 use Rattle.std.proofs.lemmas.Bool.{true≢false, false≢true}
 use Rattle.std.proofs.lemmas.Option.{same_Some, slice_get_within}
+use Rattle.bd_list.proofs.Numbers.{below_last}
 use Rattle.bd_model.specs.declared.design.Sort.TheVariants as sort
 use Rattle.bd_terms.specs.declared.node.Sym.{Sym}
 use Rattle.bd_terms.specs.declared.node.Sym.TheVariants.{Var}
@@ -17,7 +18,6 @@ use Rattle.bd_equality.specs.Edges.{IsVertex}
 use Rattle.bd_equality.specs.Made.{symbol_variable}
 use Rattle.bd_equality.proofs.Finding.{app_of, applies_use}
 use Rattle.bd_equality.proofs.Flats.{word_is}
-use Rattle.bd_equality.proofs.Groups.{next-cases}
 
 -- so far the vertices of the first nodes are there
 pub record HasVertices (nodes : List Node) (marked : Option (List ℕ)) (count : ℕ) (vertices : List ℕ) : Type 0 where
@@ -39,7 +39,7 @@ module _ (nodes : List Node) (marked : Option (List ℕ)) (count : ℕ) where
       → slice_get nodes count ≡ Some (App s args) → y ≡ symbol_variable s → has_mark marked y ≡ false → ((x : ℕ) → is_marked new x ≡ (if y == x then true else is_marked vertices x)) → HasVertices nodes marked (count + 1) new
   HasVertices-more g root syms flat s args y vertices new h there is none has = record {
     sound = λ x k. sound_by x (y == x) refl k;
-    complete = λ k x args' l at m. complete_by x (y == x) refl (elim (next-cases count k l) [
+    complete = λ k x args' l at m. complete_by x (y == x) refl (elim (below_last k count l) [
       | inl q ↦ inl (h.complete k x args' q at m)
       | inr q ↦ inr (is ∙ ap symbol_variable (App-symbol s args x args' (sym there ∙ ap (slice_get nodes) (sym q) ∙ at)))
     ]);
@@ -65,7 +65,7 @@ module _ (nodes : List Node) (marked : Option (List ℕ)) (count : ℕ) where
       → ((x : ℕ) (args : List ℕ) → node ≡ App (Var x) args → has_mark marked x ≡ false → ⊥) → HasVertices nodes marked (count + 1) vertices
   HasVertices-pass vertices node h there none = record {
     sound = h.sound;
-    complete = λ k x args l at m. elim (next-cases count k l) [
+    complete = λ k x args l at m. elim (below_last k count l) [
       | inl q ↦ h.complete k x args q at m
       | inr q ↦ absurd (none x args (same_Some node (App (Var x) args) (sym there ∙ ap (slice_get nodes) (sym q) ∙ at)) m)
     ];

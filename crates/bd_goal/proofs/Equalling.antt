@@ -25,11 +25,11 @@ use Rattle.bd_terms.specs.declared.node.Sym.TheVariants as symbol
 use Rattle.bd_terms.specs.declared.node.Node.{Node}
 use Rattle.bd_terms.specs.declared.node.Node.TheVariants as node
 use Rattle.bd_terms.specs.Graph.{AddsUses, Extends, IsGraph, Use, sort_at, uses}
-use Rattle.bd_terms.specs.Graph.{HasSort as TermHasSort}
 use Rattle.bd_terms.specs.Denotation.{World, Denotes, Truth, Word, applied, contents, contents_of, denoted, denoted_sort, truth, truth_of, word, word_of}
 use Rattle.bd_terms.proofs.Growth.{AddsUses-more, AddsUses-trans, Extends-self, Extends-trans, HasSort-Extends, denoted-Extends}
-use Rattle.bd_symbolic.proofs.Arms.{IfOk-sort, iff_ites}
+use Rattle.bd_symbolic.proofs.Arms.{IfOk-sort, iff_ites, truth-Extends}
 use Rattle.bd_terms.proofs.Simplifying.{denoted-sort}
+use Rattle.bd_terms.specs.Graph.{HasSort as TermHasSort}
 use Rattle.bd_symbolic.specs.World.{denotes_value}
 use Rattle.bd_symbolic.specs.Symbolic.{DenoteValues, HaveSorts}
 use Rattle.bd_goal.specs.Symbols.{GrowsKnown, IsKnown, KeepsAddresses, address_use}
@@ -42,7 +42,6 @@ use Rattle.bd_goal.specs.inner.Shown.{EqualIn, EqualTerms, Says, address_uses, a
 use Rattle.bd_goal.proofs.Counting.{memories_in}
 use Rattle.bd_goal.proofs.Lists.{drop-there, zip-length, zip-there}
 use Rattle.bd_goal.proofs.Known.{KeepsAddresses-Known, Known-by, Known-none, Known-trans}
-use Rattle.bd_goal.proofs.Showing.{truth-later}
 use Rattle.bd_model.specs.Limits.{most_items}
 
 -- the value that a term of a sort denotes is of that sort
@@ -211,7 +210,7 @@ equalled-next d old cur mid new ours theirs first stride i all address our their
           let meant : truth w mid one ≡ are_equal x.sort (f h.count) (denotes_value va.0) (denotes_value vb.0) =
           t.denotes w ∙ ap (λ k. are_equal x.sort k (denoted w cur our) (denoted w cur their)) place
           ∙ ap (λ k. are_equal x.sort (f h.count) k (denoted w cur their)) da ∙ ap (λ k. are_equal x.sort (f h.count) (denotes_value va.0) k) db in
-          let kept : truth w mid all ≡ truth w cur all = truth-later w cur mid t.extends all sort.Bool h.sorted in
+          let kept : truth w mid all ≡ truth w cur all = truth-Extends w cur mid t.extends all sort.Bool h.sorted in
           let both : truth w new id ≡ (truth w cur all && are_equal x.sort (f h.count) (denotes_value va.0) (denotes_value vb.0)) =
           ap truth_of (is.is w) ∙ ap (λ k. k && truth w mid one) kept ∙ ap (λ k. truth w cur all && k) meant in
           equal-joined (truth w cur all) (are_equal x.sort (f h.count) (denotes_value va.0) (denotes_value vb.0)) (truth w new id)

@@ -20,7 +20,6 @@ use Rattle.bd_terms.specs.declared.node.Node.{Node}
 use Rattle.bd_terms.specs.declared.node.Node.TheVariants as node
 use Rattle.bd_terms.specs.declared.node.Sym.TheVariants as symbol
 use Rattle.bd_terms.specs.Graph.{AddsUses, Extends}
-use Rattle.bd_terms.specs.Graph.{HasSort as TermHasSort}
 use Rattle.bd_terms.specs.Denotation.{World, Denotes, Truth, applied, truth, truth_of}
 use Rattle.bd_terms.proofs.Growth.{AddsUses-trans, Extends-self, Extends-trans, HasSort-Extends}
 use Rattle.bd_symbolic.specs.DesignSymbols.{GrowsWithin}
@@ -37,9 +36,12 @@ use Rattle.bd_goal.proofs.Making.{allowance-Extends, equal-Extends, item-is, sta
 use Rattle.bd_goal.specs.inner.Shown.{AreConditions, DenoteConditions, EqualIn, IsVisible, Says, StandsIn, StandsUpTo}
 use Rattle.bd_goal.proofs.Equalling.{AreBelow}
 use Rattle.bd_goal.proofs.Known.{Known-none, Known-trans, Known-within}
-use Rattle.bd_goal.proofs.Showing.{IsVisible-later, Says-and, Says-later, Says-or, Says-same, inside_sorts, truth-later, values-later}
+use Rattle.bd_goal.proofs.Showing.{IsVisible-later, Says-and, Says-later, Says-or, Says-same, values-later}
 use Rattle.bd_goal.proofs.Lists.{drop-there, zip-there}
 use Rattle.bd_terms.proofs.Places.{AllByRecursion-get}
+use Rattle.bd_terms.specs.Graph.{HasSort as TermHasSort}
+use Rattle.bd_symbolic.proofs.Arms.{truth-Extends}
+use Rattle.bd_symbolic.proofs.States.{HaveSorts-inside}
 
 -- where the names stand before the cycle
 abbrev env_before : DesignView → List Table → List Value → List Scalar → Env
@@ -99,9 +101,9 @@ allows-next d old cur mid new whens j i all when one id is_free x known there at
       let found = zip-there _ whens d.exact i when denote at in
       let same_item : found.0 ≡ x = cc (found.1, there) in
       let meant : truth w cur when ≡ is_true (value_of env x.when) =
-      truth-later w old cur h.extends when sort.Bool (condition-sorted d old whens known i when at) ∙ found.2 ∙ ap (λ (y : ExactView). is_true (value_of env y.when)) same_item in
+      truth-Extends w old cur h.extends when sort.Bool (condition-sorted d old whens known i when at) ∙ found.2 ∙ ap (λ (y : ExactView). is_true (value_of env y.when)) same_item in
       let free_or : truth w mid one ≡ (is_free || not (is_true (value_of env x.when))) = ap truth_of (denied.is w) ∙ ap (λ k. is_free || not k) meant in
-      let kept : truth w mid all ≡ truth w cur all = truth-later w cur mid e all sort.Bool h.sorted in
+      let kept : truth w mid all ≡ truth w cur all = truth-Extends w cur mid e all sort.Bool h.sorted in
       let both : truth w new id ≡ (truth w cur all && (is_free || not (is_true (value_of env x.when)))) =
       ap truth_of (is.is w) ∙ ap (λ k. k && truth w mid one) kept ∙ ap (λ k. truth w cur all && k) free_or in
       allows-joined (truth w cur all) (is_free || not (is_true (value_of env x.when))) (truth w new id)
@@ -134,7 +136,7 @@ conditions-later_shows : (w : World) (env : Env) (old new : List Node) → Exten
 conditions-later_shows w env old new e [] [] h k = tt
 conditions-later_shows w env old new e [] (x ∷ exact) h k = absurd k
 conditions-later_shows w env old new e (id ∷ whens) [] h k = absurd k
-conditions-later_shows w env old new e (id ∷ whens) (x ∷ exact) h k = (truth-later w old new e id sort.Bool h.0 ∙ k.0, conditions-later_shows w env old new e whens exact h.1 k.1)
+conditions-later_shows w env old new e (id ∷ whens) (x ∷ exact) h k = (truth-Extends w old new e id sort.Bool h.0 ∙ k.0, conditions-later_shows w env old new e whens exact h.1 k.1)
 
 pub conditions-later : (d : DesignView) (old new : List Node) → Extends old new → (whens : List ℕ) → AreConditions d old whens → AreConditions d new whens
 conditions-later d old new e whens h = record { count = h.count; sorted = conditions-later_all old new e whens h.sorted }
@@ -348,5 +350,5 @@ pub next-denotes : (d : DesignView) (w : World) (old new : List Node) (state nex
 next-denotes d w old new state next interp values inputs e sorted t same now = record {
   world = now.world;
   entries = t.denotes w interp values inputs now;
-  inputs = subst (λ l. DenoteScalars w new l inputs) (sym same) (Denote-Extends _ w old new e state.inputs inputs (inside_sorts old state.inputs _ sorted.inputs) now.inputs);
+  inputs = subst (λ l. DenoteScalars w new l inputs) (sym same) (Denote-Extends _ w old new e state.inputs inputs (HaveSorts-inside old state.inputs _ sorted.inputs) now.inputs);
 }

@@ -15,8 +15,8 @@ use Rattle.bd_model.specs.declared.table.Value.TheVariants as value
 use Rattle.bd_model.proofs.Pairs.{AllZip-append}
 use Rattle.bd_terms.specs.declared.node.Node.{Node}
 use Rattle.bd_terms.specs.Graph.{sort_at}
-use Rattle.bd_terms.specs.Graph.{HasSort as TermHasSort}
 use Rattle.bd_terms.specs.Denotation.{World, denoted}
+use Rattle.bd_terms.specs.Graph.{HasSort as TermHasSort}
 use Rattle.bd_symbolic.specs.World.{denotes_value}
 use Rattle.bd_symbolic.specs.declared.state.SymState.{SymState}
 use Rattle.bd_symbolic.specs.DesignSymbols.{GrowsWithin, KeepsDesign}
@@ -26,8 +26,8 @@ use Rattle.bd_symbolic.specs.Symbolic.{AreTerms, DenotesExpr, DenoteValues, Have
 use Rattle.bd_symbolic.specs.States.{DenoteLets, DenotesState, StateHasSorts, local_sorts, port_sorts}
 use Rattle.bd_symbolic.proofs.Growing.{Denote-Extends, Grows-trans, KeepsDesign-Grows}
 use Rattle.bd_goal.proofs.Lists.{take-next, zip-length}
-use Rattle.bd_goal.proofs.Showing.{HaveSorts-later, inside_sorts}
 use Rattle.bd_list.proofs.Pushed.{map-push}
+use Rattle.bd_symbolic.proofs.States.{HaveSorts-inside, HaveSorts-Extends, HaveSorts-sorts}
 
 -- the sorts in force over a state with inputs of these sorts, after lets
 abbrev pub named_context : DesignView → List Sort → List LocalView → Context
@@ -45,24 +45,18 @@ pub record IsNamed (d : DesignView) (ports : List Sort) (old mid : List Node) (s
   pub grows : GrowsWithin d old mid
   pub let_terms : DenoteLets d old mid state locals lets
 
-sorts-of : (nodes : List Node) (ids : List ℕ) (sorts : List Sort) → HaveSorts nodes ids sorts → map (sort_at nodes) ids ≡ sorts
-sorts-of nodes [] [] h = refl
-sorts-of nodes [] (s ∷ sorts) h = absurd h
-sorts-of nodes (id ∷ ids) [] h = absurd h
-sorts-of nodes (id ∷ ids) (s ∷ sorts) h = cc (h.0.sorted, sorts-of nodes ids sorts h.1)
-
 pub stated-terms : (d : DesignView) (ports : List Sort) (nodes : List Node) (state : SymState) → IsStated d ports nodes state → AreTerms nodes (terms_of d state [])
 stated-terms d ports nodes state h = record {
   keeps = h.keeps;
-  entries = inside_sorts nodes state.entries (entry_sorts d.pipe) h.entries;
-  inputs = inside_sorts nodes state.inputs ports h.inputs;
+  entries = HaveSorts-inside nodes state.entries (entry_sorts d.pipe) h.entries;
+  inputs = HaveSorts-inside nodes state.inputs ports h.inputs;
   lets = tt;
 }
 
 stated-context : (d : DesignView) (ports : List Sort) (nodes : List Node) (state : SymState) → IsStated d ports nodes state → context_in nodes (terms_of d state []) ≡ named_context d ports []
 stated-context d ports nodes state h =
-    let one : map (sort_at nodes) state.entries ≡ entry_sorts d.pipe = sorts-of nodes state.entries (entry_sorts d.pipe) h.entries in
-    let two : map (sort_at nodes) state.inputs ≡ ports = sorts-of nodes state.inputs ports h.inputs in
+    let one : map (sort_at nodes) state.entries ≡ entry_sorts d.pipe = HaveSorts-sorts nodes state.entries (entry_sorts d.pipe) h.entries in
+    let two : map (sort_at nodes) state.inputs ≡ ports = HaveSorts-sorts nodes state.inputs ports h.inputs in
     λ i. record { symbols = d.symbols; entries = one i; inputs = two i; locals = [] }
 
 pub stated-lets : (d : DesignView) (ports : List Sort) (nodes : List Node) (state : SymState) (locals : List LocalView) → IsStated d ports nodes state
@@ -72,8 +66,8 @@ stated-lets d ports nodes state locals h k = subst (λ c. LetsHaveSorts c locals
 pub stated-later : (d : DesignView) (ports : List Sort) (old new : List Node) (state : SymState) → GrowsWithin d old new → IsStated d ports old state → IsStated d ports new state
 stated-later d ports old new state g h = record {
   keeps = KeepsDesign-Grows d old new g h.keeps;
-  entries = HaveSorts-later old new g.extends state.entries (entry_sorts d.pipe) h.entries;
-  inputs = HaveSorts-later old new g.extends state.inputs ports h.inputs;
+  entries = HaveSorts-Extends old new g.extends state.entries (entry_sorts d.pipe) h.entries;
+  inputs = HaveSorts-Extends old new g.extends state.inputs ports h.inputs;
 }
 
 pub named-terms : (d : DesignView) (ports : List Sort) (old mid : List Node) (state : SymState) (locals : List LocalView) (lets : List ℕ) → IsNamed d ports old mid state locals lets → AreTerms mid (terms_of d state lets)
@@ -81,18 +75,18 @@ named-terms d ports old mid state locals lets h =
     let now = stated-later d ports old mid state h.grows h.stated in
     record {
       keeps = now.keeps;
-      entries = inside_sorts mid state.entries (entry_sorts d.pipe) now.entries;
-      inputs = inside_sorts mid state.inputs ports now.inputs;
-      lets = inside_sorts mid lets (local_sorts locals) h.let_terms.sorted;
+      entries = HaveSorts-inside mid state.entries (entry_sorts d.pipe) now.entries;
+      inputs = HaveSorts-inside mid state.inputs ports now.inputs;
+      lets = HaveSorts-inside mid lets (local_sorts locals) h.let_terms.sorted;
     }
 
 named-context : (d : DesignView) (ports : List Sort) (old mid : List Node) (state : SymState) (locals : List LocalView) (lets : List ℕ) → IsNamed d ports old mid state locals lets
     → context_in mid (terms_of d state lets) ≡ named_context d ports locals
 named-context d ports old mid state locals lets h =
     let now = stated-later d ports old mid state h.grows h.stated in
-    let one : map (sort_at mid) state.entries ≡ entry_sorts d.pipe = sorts-of mid state.entries (entry_sorts d.pipe) now.entries in
-    let two : map (sort_at mid) state.inputs ≡ ports = sorts-of mid state.inputs ports now.inputs in
-    let three : map (sort_at mid) lets ≡ local_sorts locals = sorts-of mid lets (local_sorts locals) h.let_terms.sorted in
+    let one : map (sort_at mid) state.entries ≡ entry_sorts d.pipe = HaveSorts-sorts mid state.entries (entry_sorts d.pipe) now.entries in
+    let two : map (sort_at mid) state.inputs ≡ ports = HaveSorts-sorts mid state.inputs ports now.inputs in
+    let three : map (sort_at mid) lets ≡ local_sorts locals = HaveSorts-sorts mid lets (local_sorts locals) h.let_terms.sorted in
     λ i. record { symbols = d.symbols; entries = one i; inputs = two i; locals = three i }
 
 pub named-sort : (d : DesignView) (ports : List Sort) (old mid : List Node) (state : SymState) (locals : List LocalView) (lets : List ℕ) (e : ExprView) (s : Sort) → IsNamed d ports old mid state locals lets
@@ -104,8 +98,8 @@ named-later d ports old mid new state locals lets g h = record {
   stated = h.stated;
   grows = Grows-trans d old mid new h.grows g;
   let_terms = record {
-    sorted = HaveSorts-later mid new g.extends lets (local_sorts locals) h.let_terms.sorted;
-    denotes = λ w interp values inputs k. Denote-Extends _ w mid new g.extends lets _ (inside_sorts mid lets (local_sorts locals) h.let_terms.sorted) (h.let_terms.denotes w interp values inputs k);
+    sorted = HaveSorts-Extends mid new g.extends lets (local_sorts locals) h.let_terms.sorted;
+    denotes = λ w interp values inputs k. Denote-Extends _ w mid new g.extends lets _ (HaveSorts-inside mid lets (local_sorts locals) h.let_terms.sorted) (h.let_terms.denotes w interp values inputs k);
     made = lets-Extends mid new g.extends d state [] locals lets h.let_terms.made;
   };
 }
@@ -122,8 +116,8 @@ pub term-value : (d : DesignView) (ports : List Sort) (old mid new : List Node) 
 term-value d ports old mid new state locals lets e id h t w interp values inputs k =
     t.denotes w (env_of locals interp values inputs) (record {
       world = k.world;
-      state = Denote-Extends _ w old mid h.grows.extends state.entries values (inside_sorts old state.entries (entry_sorts d.pipe) h.stated.entries) k.entries;
-      inputs = Denote-Extends _ w old mid h.grows.extends state.inputs inputs (inside_sorts old state.inputs ports h.stated.inputs) k.inputs;
+      state = Denote-Extends _ w old mid h.grows.extends state.entries values (HaveSorts-inside old state.entries (entry_sorts d.pipe) h.stated.entries) k.entries;
+      inputs = Denote-Extends _ w old mid h.grows.extends state.inputs inputs (HaveSorts-inside old state.inputs ports h.stated.inputs) k.inputs;
       locals = h.let_terms.denotes w interp values inputs k;
     })
 
@@ -157,13 +151,13 @@ gathers-next d ports old cur new state locals lets sorts es i ids e id have ther
       named = named-later d ports old cur new state locals lets g h.named;
       sorted =
           rw (take-next sorts i found.0 found.1)
-          (AllZip-append (TermHasSort new) ids (take i sorts) id found.0 (HaveSorts-later cur new g.extends ids (take i sorts) h.sorted)
+          (AllZip-append (TermHasSort new) ids (take i sorts) id found.0 (HaveSorts-Extends cur new g.extends ids (take i sorts) h.sorted)
           (term-sort d ports old cur new state locals lets e found.0 id h.named found.2 t));
       denotes = λ w interp values inputs k.
           let f : ExprView → Value = value_of (env_of locals interp values inputs) in
           rw (take-next es i e there, map-push f (take i es) e)
           (AllZip-append (λ id v. denoted w new id ≡ denotes_value v) ids (map f (take i es)) id (f e)
-          (Denote-Extends _ w cur new g.extends ids (map f (take i es)) (inside_sorts cur ids (take i sorts) h.sorted) (h.denotes w interp values inputs k))
+          (Denote-Extends _ w cur new g.extends ids (map f (take i es)) (HaveSorts-inside cur ids (take i sorts) h.sorted) (h.denotes w interp values inputs k))
           (term-value d ports old cur new state locals lets e id h.named t w interp values inputs k));
       made =
           rw (take-next es i e there)

@@ -35,8 +35,9 @@ use Rattle.bd_goal.specs.inner.Run.{FollowsTrail, IsRun, StartsRun}
 use Rattle.bd_goal.specs.inner.Shown.{Says, StandsFor, StandsUpTo}
 use Rattle.bd_goal.proofs.Joining.{next-denotes}
 use Rattle.bd_goal.proofs.Runs.{inputs-fit, inputs-there, state_after-next}
-use Rattle.bd_goal.proofs.Showing.{DenotesState-later, HaveSorts-later, IsVisible-later, Says-and, Says-implies, Says-later, Says-same, Says-true, StateHasSorts-later, values-later}
+use Rattle.bd_goal.proofs.Showing.{DenotesState-later, IsVisible-later, Says-and, Says-implies, Says-later, Says-same, Says-true, StateHasSorts-later, values-later}
 use Rattle.bd_model.specs.Limits.{most_cycles, most_items}
+use Rattle.bd_symbolic.proofs.States.{HaveSorts-Extends}
 
 -- growth by the symbols of fewer cycles is growth by those of more
 pub Known-wider : (d : DesignView) (n m k l : ℕ) (old new : List Node) → n ≤ m → k ≤ l → GrowsKnown (widened d n) k old new → GrowsKnown (widened d m) l old new
@@ -83,7 +84,7 @@ run-starts d g1 g2 g3 g4 g5 state visible inside id e1 sorted entries inputs_sor
   };
 } where
   stated : StateHasSorts d.pipe g2 state
-  stated = record { entries = HaveSorts-later g1 g2 e1 state.entries (entry_sorts d.pipe) sorted; inputs = inputs_sorted }
+  stated = record { entries = HaveSorts-Extends g1 g2 e1 state.entries (entry_sorts d.pipe) sorted; inputs = inputs_sorted }
 
   first : (t : Trail) (q : List ℕ) → TrailFits d t → 1 ≤ length t.inputs → DenotesState d (trail_world t q) g2 state t.interp t.state (inputs_at t 0)
   first t q fits some = state-denotes d g1 g2 state 0 t q e1 sorted inputs fits (omega (arith, some)) (entries.denotes (trail_world t q) t.state fits.state (λ i within. refl))
@@ -121,7 +122,7 @@ run-more d g0 g1 g2 g3 g4 g5 run inputs next visible n first one id h e0 inputs_
   state = record { entries = run.state.entries; inputs = inputs }
 
   stated : StateHasSorts d.pipe g1 state
-  stated = record { entries = HaveSorts-later g0 g1 e0 run.state.entries (entry_sorts d.pipe) h.sorted.entries; inputs = inputs_sorted }
+  stated = record { entries = HaveSorts-Extends g0 g1 e0 run.state.entries (entry_sorts d.pipe) h.sorted.entries; inputs = inputs_sorted }
 
   followed : (t : Trail) (q : List ℕ) → TrailFits d t → 1 ≤ length t.inputs → n + 1 ≤ length t.inputs → FollowsTrail d g5 (n + 1) (record { state = next; flushed = visible; commutes = id }) t q
   followed t q fits some few =

@@ -9,7 +9,8 @@ use Rattle.bd_transitive.specs.Orders.{IsOrder}
 use Rattle.bd_transitive.specs.Triangle.{class_of, value_at}
 use Rattle.bd_lift.specs.Decoded.{AreClasses, DecodedEdgesTell, DecodedHaveSorts, DecodedOthersDiffer, decoded_word, edge_truths}
 use Rattle.bd_lift.proofs.Decoding.{AreDecodedBy-sorts}
-use Rattle.bd_lift.proofs.Ends.{Ends, Alone, joins-turned, placed}
+use Rattle.bd_transitive.proofs.OrderSpans.{joins_at_comm}
+use Rattle.bd_lift.proofs.Ends.{Ends, Alone, placed}
 
 -- the class of an end is its word
 word-end : (order : Order) (classes : List ℕ) (x : ℕ) → IsOrder order → All (λ c. c < length order.vertices) classes → IsEnd order.edges x → decoded_word order classes x ≡ class_of order.vertices classes x
@@ -20,7 +21,7 @@ pub words-edge : (order : Order) (atoms : List (Atom × Bool)) (classes : List �
     → IsTrue (value_at (edge_truths atoms order.edges) e) ↔ (decoded_word order classes x ≡ decoded_word order classes y)
 words-edge order atoms classes o c e x y j =
     let wx = word-end order classes x o c.below (y, (e, j)) in
-    let wy = word-end order classes y o c.below (x, (e, joins-turned order.edges e x y j)) in
+    let wy = word-end order classes y o c.below (x, (e, joins_at_comm order.edges e x y j)) in
     let a = c.agrees e x y j in
     (λ t. wx ∙ a.0 t ∙ sym wy, λ q. a.1 (sym wx ∙ q ∙ wy))
 

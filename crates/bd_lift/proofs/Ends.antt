@@ -1,5 +1,5 @@
 -- Ends of edges, and the words of variables.
-use Rattle.std.proofs.Common.{◌≡◌, ℕ, zero, suc, ◌+◌, ◌*◌, ◌<◌, ◌==◌, ◌||◌, ◌⊎◌, inl, inr, Bool, true, false, if◌then◌else◌, List, [], ◌∷◌, length, Contains, All, refl, ap, sym, ◌∙◌, subst, arith, eq-eqb}
+use Rattle.std.proofs.Common.{◌≡◌, ℕ, zero, suc, ◌+◌, ◌*◌, ◌<◌, ◌==◌, ◌||◌, inl, inr, Bool, true, false, if◌then◌else◌, List, [], ◌∷◌, length, Contains, All, refl, ap, sym, ◌∙◌, subst, arith, eq-eqb}
 use Rattle.std.specs.Prelude.{slice_index_or}
 use Rattle.std.proofs.lemmas.Bool.{eqb-true, false≢true}
 use Rattle.bd_transitive.specs.declared.graph.Edge.{Edge}
@@ -57,10 +57,3 @@ placed order classes x o below = tested (is_end order.edges x) refl
         Ends end is (subst (λ n. n < length order.vertices) (sym is) (class-below (length order.vertices) classes (place order.vertices x) below some))
     tested false e =
         Alone (λ end. false≢true (sym e ∙ is_end-yes order.edges x end)) (ap (λ t. if t then class_of order.vertices classes x else length order.vertices + 2 * x) e)
-
--- an edge joins its ends either way round
-pub joins-turned : (edges : List Edge) (e x y : ℕ) → JoinsAt edges e x y → JoinsAt edges e y x
-joins-turned [] e x y h = h
-joins-turned (f ∷ edges) zero x y (inl h) = inr h
-joins-turned (f ∷ edges) zero x y (inr h) = inl h
-joins-turned (f ∷ edges) (suc e) x y h = joins-turned edges e x y h

@@ -5,7 +5,6 @@ use Rattle.std.specs.List.{AllByRecursion, AllZip}
 use Rattle.std.proofs.lemmas.List.{length-take-le, take_more}
 use Rattle.std.proofs.lemmas.Option.{get_or_from_slice_get, none-some, same_Some, slice_get_within}
 use Rattle.bd_lift.specs.inner.Built.{numbered}
-use Rattle.bd_list.proofs.Pushed.{map-push}
 
 pub take-get : {X : Type 0} → (xs : List X) (k : ℕ) (x : X) → slice_get xs k ≡ Some x → take (k + 1) xs ≡ take k xs ++ x ∷ []
 take-get xs k x e = take_more xs k x (slice_get_within xs k x e) ∙ ap (λ y. take k xs ++ y ∷ []) (get_or_from_slice_get xs k x x e)
@@ -56,11 +55,6 @@ pub numbered-take : {X Y : Type 0} → (f : ℕ → X → Y) (xs : List X) (i : 
 numbered-take f xs i x at =
     let size : length (take i xs) ≡ i = length-take-le i xs (omega (arith, slice_get_within xs i x at)) in
     ap (numbered f 0) (take-get xs i x at) ∙ numbered-push f 0 (take i xs) x i (omega (arith, size))
-
-pub get-map : {X Y : Type 0} → (f : X → Y) (xs : List X) (i : ℕ) (y : Y) → slice_get (map f xs) i ≡ Some y → (x : X) × (slice_get xs i ≡ Some x) × (f x ≡ y)
-get-map f [] i y h = absurd (none-some y h)
-get-map f (x ∷ xs) zero y h = (x, refl, same_Some (f x) y h)
-get-map f (x ∷ xs) (suc i) y h = get-map f xs i y h
 
 pub length-map : {X Y : Type 0} → (f : X → Y) (xs : List X) → length (map f xs) ≡ length xs
 length-map f [] = refl

@@ -1,7 +1,7 @@
 -- What is forwarded stays so when the new graph grows.
 use Rattle.std.proofs.Common.{◌≡◌, ◌≢◌, ℕ, zero, suc, ◌+◌, ◌<◌, ◌⊎◌, inl, inr, true, List, [], ◌∷◌, ◌++◌, length, slice_get, Some, Contains, Result, Ok, Err, IfOk, OnOk, refl, ap, sym, ◌∙◌, subst, arith, length-append}
 use Rattle.std.specs.declared.alloc.AllocError.{AllocError}
-use Rattle.std.proofs.lemmas.Option.{none-some, same_Some}
+use Rattle.std.proofs.lemmas.Option.{same_Some}
 use Rattle.std.proofs.lemmas.List.{get_or_append_left}
 use Rattle.std.proofs.Math.Seq.{get_or-append_seam}
 use Rattle.std.proofs.lemmas.List.Elements.{Contains-append_cases}
@@ -21,7 +21,7 @@ use Rattle.bd_memory.specs.inner.Reads.{known}
 use Rattle.bd_walk.specs.inner.Carrying.{Means}
 use Rattle.bd_memory.specs.Forwarded.{is_plain}
 use Rattle.bd_memory.specs.inner.Forwarding.{Grows, IsForwarding, place, word_at}
-use Rattle.bd_memory.proofs.Plain.{Gives-IsPlain, IsPlain-empty}
+use Rattle.bd_memory.proofs.Plain.{Gives-IsPlain}
 use Rattle.bd_walk.proofs.Renaming.{IsRenamed}
 use Rattle.bd_memory.specs.Forwarded.{Forwarded, Term, At}
 use Rattle.bd_memory.proofs.Making.{Forwarded-Extends}

@@ -1,6 +1,6 @@
 -- Graphs of plain terms stay so, and have no memory.
 use Rattle.std.proofs.Common.{◌≡◌, ◌≢◌, ℕ, zero, suc, ◌<◌, inl, inr, Bool, true, false, ◌||◌, ◌==◌, if◌then◌else◌, List, [], ◌∷◌, ◌++◌, length, slice_get, slice_index_or, Option, Some, None, Contains, refl, ap, sym, ◌∙◌, subst, arith, true≢false}
-use Rattle.std.proofs.lemmas.Option.{slice_get-get_or, slice_get_within}
+use Rattle.std.proofs.lemmas.Option.{slice_get-get_or}
 use Rattle.bd_model.specs.declared.design.Sort.{Sort}
 use Rattle.bd_model.specs.declared.design.Sort.TheVariants as sort
 use Rattle.bd_terms.specs.declared.node.Node.{Node}
@@ -115,6 +115,3 @@ IsPlain-HasNoMemory nodes g p = record {
   no_memory = λ id h. no_memory-below nodes g p (suc id) id (omega arith) h.inside h.sorted;
   no_read = λ id m a h. true≢false (sym (p.plain id (Read m a) h));
 }
-
-pub IsPlain-empty : IsPlain []
-IsPlain-empty = record { plain = λ i node h. absurd (omega (arith, slice_get_within [] i node h)) }

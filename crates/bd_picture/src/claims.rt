@@ -2,11 +2,12 @@
 //!
 //! Where the invariant is broken, all of them are shown in both states. Where the case is outside, the conjuncts that
 //! are false before the cycle are.
-ghost use Rattle.std.specs.Prelude.{◌≡◌, [], IfOk, IfSome, map};
-ghost use Rattle.std.specs.List.{All, AllZip};
+ghost use Rattle.std.specs.Prelude.{◌≡◌, IfOk, IfSome, map};
+ghost use Rattle.std.specs.List.{All, AllByRecursion, AllZip};
 ghost use Rattle.bd_model.specs.DesignView.{design_view};
 ghost use Rattle.bd_model.specs.ExprView.{expr_view, expr_views, list_of_views};
-ghost use Rattle.bd_model.specs.Value.{let_values, value_of};
+ghost use Rattle.bd_model.specs.Lawful.{IsLawful, IsWithinLimits};
+ghost use Rattle.bd_model.specs.Value.{value_of};
 ghost use Rattle.bd_slice.specs.Columns.{spot_value};
 ghost use Rattle.bd_slice.specs.declared.place.Column.TheVariants as column;
 ghost use Rattle.bd_picture.specs.Claims.{AreClaims, IsClaimsCell, IsClaimsRow, ShowsClaim, after_lets, claim_values, conjunct_values, shown_in, values_in};
@@ -20,7 +21,7 @@ use crate::words::{addressed, elsewhere, value_of};
 use bd_model::{
     Case, Condition, Design, Expr, Exprs, Inputs, Interp, Judged, LetValues, Scalar, State, Value,
 };
-use bd_sim::eval;
+use bd_sim::{eval, values_of_lets};
 use bd_slice::{Column, Location};
 use std::alloc::{AllocError, Global};
 use std::collections::BTreeSet;
@@ -32,25 +33,6 @@ pub struct ClaimValues {
     after: Vec<Value>,
 }
 
-/// The values of the invariant's lets in a state.
-fn let_values(
-    alloc: Global,
-    design: &Design,
-    interp: &Interp,
-    state: &State,
-) -> Result<LetValues, AllocError>
-    ensures { IfOk result (λ vs. vs
-        ≡ let_values interp.now state.now [] (design_view design.now).inv_locals) }
-{
-    let inputs = Inputs::new(alloc);
-    let mut values = LetValues::new(alloc);
-    for local in design.inv_locals.as_slice() {
-        let value = eval(alloc, design, &local.value, interp, state, &inputs, &values)?;
-        values.push(value)?;
-    }
-    Ok(values)
-}
-
 /// The value of an expression of the invariant in a state, where its lets have these values.
 fn value_in(
     alloc: Global,
@@ -60,6 +42,7 @@ fn value_in(
     state: &State,
     lets: &LetValues,
 ) -> Result<Value, AllocError>
+    requires { IsWithinLimits (expr_view expr.now) }
     ensures { IfOk result (λ v. v
         ≡ value_of (after_lets interp.now state.now lets.now) (expr_view expr.now)) }
 {
@@ -76,6 +59,7 @@ fn part_values(
     state: &State,
     lets: &LetValues,
 ) -> Result<Vec<Value>, AllocError>
+    requires { AllByRecursion IsWithinLimits (list_of_views (expr_views parts.now)) }
     ensures { IfOk result (λ vs. vs.items
         ≡ map (value_of (after_lets interp.now state.now lets.now))
         (list_of_views (expr_views parts.now))) }
@@ -95,6 +79,7 @@ fn conjunct_values(
     state: &State,
     lets: &LetValues,
 ) -> Result<Vec<Value>, AllocError>
+    requires { IsWithinLimits (design_view design.now).inv }
     ensures { IfOk result (λ vs. vs.items
         ≡ conjunct_values (design_view design.now).inv interp.now state.now lets.now) }
 {
@@ -115,10 +100,12 @@ fn claim_values(
     interp: &Interp,
     state: &State,
 ) -> Result<Vec<Value>, AllocError>
+    requires lawful { IsLawful (design_view design.now) }
     ensures { IfOk result (λ vs. vs.items
         ≡ claim_values (design_view design.now) interp.now state.now) }
 {
-    let lets = let_values(alloc, design, interp, state)?;
+    let inputs = Inputs::new(alloc);
+    let lets = values_of_lets(alloc, &design.inv_locals, interp, state, &inputs)?;
     let mut conjuncts = conjunct_values(alloc, design, interp, state, &lets)?;
     let mut values = lets.into_vec();
     values.append(&mut conjuncts)?;
@@ -126,7 +113,8 @@ fn claim_values(
 }
 
 /// The values of the invariant's lets and conjuncts after the cycle.
-fn values_after(alloc: Global, view: &ShownCase<'_>) -> Result<Vec<Value>, AllocError>
+fn values_next(alloc: Global, view: &ShownCase<'_>) -> Result<Vec<Value>, AllocError>
+    requires lawful { IsLawful (design_view view.now.design.now) }
     ensures { IfOk result (λ vs. vs.items ≡ values_in (design_view view.now.design.now)
         view.now.case.now view.now.diagram.now (column.After 0)) }
 {
@@ -138,13 +126,14 @@ fn values_after(alloc: Global, view: &ShownCase<'_>) -> Result<Vec<Value>, Alloc
 
 /// The values of the invariant's lets and conjuncts in both states.
 fn both(alloc: Global, view: &ShownCase<'_>) -> Result<ClaimValues, AllocError>
+    requires lawful { IsLawful (design_view view.now.design.now) }
     ensures { IfOk result (AreClaims (design_view view.now.design.now)
         view.now.case.now view.now.diagram.now) }
 {
     let case: &Case = view.case;
     Ok(ClaimValues {
         before: claim_values(alloc, view.design, &case.interp, &case.state)?,
-        after: values_after(alloc, view)?,
+        after: values_next(alloc, view)?,
     })
 }
 
@@ -355,6 +344,7 @@ fn false_before(
 
 /// All lines in both states, or the conjuncts that are false before the cycle. Without a line there is no table.
 fn grid_of(alloc: Global, view: &ShownCase<'_>, is_broken: bool) -> Result<Option<Grid>, AllocError>
+    requires lawful { IsLawful (design_view view.now.design.now) }
     ensures { IfOk result (λ grid. IfSome grid (λ g.
         All (IsClaimsRow (design_view view.now.design.now) view.now.case.now view.now.diagram.now
         g.heads.items) g.rows.items)) }
@@ -379,6 +369,7 @@ fn grid_of(alloc: Global, view: &ShownCase<'_>, is_broken: bool) -> Result<Optio
 
 /// What the invariant says, where it is broken or the case is outside.
 pub fn claims_grid(alloc: Global, view: &ShownCase<'_>) -> Result<Option<Grid>, AllocError>
+    requires lawful { IsLawful (design_view view.now.design.now) }
     ensures { IfOk result (λ grid. IfSome grid (λ g.
         All (IsClaimsRow (design_view view.now.design.now) view.now.case.now view.now.diagram.now
         g.heads.items) g.rows.items)) }

@@ -1,4 +1,6 @@
 //! Which values are shown: those that what differs, or the broken invariant, rests on.
+ghost use Rattle.bd_model.specs.DesignView.{design_view};
+ghost use Rattle.bd_model.specs.Lawful.{IsLawful};
 
 use crate::differing::{Differing, both_sides};
 use crate::grid::Signal;
@@ -167,7 +169,9 @@ fn reasons_behind(
     alloc: Global,
     view: &ShownCase<'_>,
     subjects: &[Subject],
-) -> Result<Reasons, AllocError> {
+) -> Result<Reasons, AllocError>
+    requires lawful { IsLawful (design_view view.now.design.now) }
+{
     let history = history_of(alloc, view.design, view.case)?;
     reasons_of(alloc, view.design, view.case, &history, subjects)
 }
@@ -177,7 +181,9 @@ fn slice_of(
     alloc: Global,
     view: &ShownCase<'_>,
     subjects: &[Subject],
-) -> Result<ShownValues, AllocError> {
+) -> Result<ShownValues, AllocError>
+    requires lawful { IsLawful (design_view view.now.design.now) }
+{
     let reasons = reasons_behind(alloc, view, subjects)?;
     Ok(ShownValues::Of(sliced(alloc, view.design, reasons)?))
 }
@@ -188,7 +194,9 @@ pub fn marks_of(
     alloc: Global,
     view: &ShownCase<'_>,
     differing: &Differing,
-) -> Result<ShownValues, AllocError> {
+) -> Result<ShownValues, AllocError>
+    requires lawful { IsLawful (design_view view.now.design.now) }
+{
     match view.outcome {
         Outcome::Flushed(Judged::Broken(Condition::Invariant)) => {
             slice_of(alloc, view, &[Subject::Invariant])

@@ -2,6 +2,7 @@
 ghost use Rattle.std.specs.Prelude.{◌≡◌, IfOk, IfSome};
 ghost use Rattle.std.specs.List.{All};
 ghost use Rattle.bd_model.specs.DesignView.{design_view};
+ghost use Rattle.bd_model.specs.Lawful.{IsLawful};
 ghost use Rattle.bd_picture.specs.Cells.{ArePrinted, IsStepsRow};
 ghost use Rattle.bd_picture.specs.Seen.{IsSeen};
 ghost use Rattle.bd_picture.specs.Sentence.{outcome_sentence};
@@ -96,6 +97,7 @@ fn tables_of(
     marks: &ShownValues,
     differing: &Differing,
 ) -> Result<Tables, AllocError>
+    requires lawful { IsLawful (design_view view.now.design.now) }
     ensures { IfOk result (ArePrinted (design_view view.now.design.now)
         view.now.case.now view.now.diagram.now) }
 {
@@ -113,7 +115,9 @@ fn some_marks(
     alloc: Global,
     view: &ShownCase<'_>,
     differing: &Differing,
-) -> Result<Option<ShownValues>, AllocError> {
+) -> Result<Option<ShownValues>, AllocError>
+    requires lawful { IsLawful (design_view view.now.design.now) }
+{
     if view.whole {
         return Ok(None);
     }
@@ -125,7 +129,8 @@ fn some_marks(
 
 /// What is printed of a case: the outcome and the diagram have to be its own.
 pub fn picture_of(alloc: Global, view: &ShownCase<'_>) -> Result<Picture, AllocError>
-    requires { IsSeen (design_view view.now.design.now) view.now.case.now view.now.outcome
+    requires lawful { IsLawful (design_view view.now.design.now) }
+    requires seen { IsSeen (design_view view.now.design.now) view.now.case.now view.now.outcome
         view.now.diagram.now }
     ensures sentence { IfOk result (λ p.
         p.sentence.items ≡ outcome_sentence (design_view view.now.design.now) view.now.outcome) }

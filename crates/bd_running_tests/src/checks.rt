@@ -3,6 +3,9 @@
 //! What a function owns is dropped at each of its ways out, and each drop is proved: that of a design takes half a
 //! minute. So one function reads a design, one reads its case, and both are handed on by reference, with a word for
 //! what is checked of them. Where a text isn't read or memory is wanting, the test ends at once.
+ghost use Rattle.bd_model.specs.DesignView.{design_view};
+ghost use Rattle.bd_model.specs.Lawful.{IsLawful};
+
 use crate::cycles::{check_calls, check_forms};
 use crate::slices::{check_register, check_slice};
 use crate::values::{check_copied, check_memories, check_other, check_table};
@@ -73,13 +76,17 @@ pub(crate) fn check_texts(
 }
 
 /// Reads a case of a design, and checks them.
-fn check_design(rt: &(impl Abort + AllocGlobal), design: &Design, text: &str, what: Check) {
+fn check_design(rt: &(impl Abort + AllocGlobal), design: &Design, text: &str, what: Check)
+    requires { IsLawful (design_view design.now) }
+{
     let case = case(rt, design, text);
     check_case(rt, design, &case, what);
 }
 
 /// Checks a design and a case of it.
-fn check_case(rt: &(impl Abort + AllocGlobal), design: &Design, case: &Case, what: Check) {
+fn check_case(rt: &(impl Abort + AllocGlobal), design: &Design, case: &Case, what: Check)
+    requires { IsLawful (design_view design.now) }
+{
     match what {
         Check::Forms => check_forms(rt, design, case),
         Check::Calls => check_calls(rt, design, case),
@@ -95,7 +102,9 @@ fn check_case(rt: &(impl Abort + AllocGlobal), design: &Design, case: &Case, wha
 }
 
 /// The design of a pipeline and a specification.
-pub(crate) fn design(rt: &(impl Abort + AllocGlobal), pipe: &str, spec: &str) -> Design {
+pub(crate) fn design(rt: &(impl Abort + AllocGlobal), pipe: &str, spec: &str) -> Design
+    ensures { IsLawful (design_view result) }
+{
     let (pipe, spec) = (pipe.as_bytes(), spec.as_bytes());
     assert!(rt; pipe.len() <= 1_048_576 && spec.len() <= 1_048_576);
     design_of(rt.alloc(), pipe, spec, None).expect(rt, "a design")

@@ -1,4 +1,7 @@
 //! Values of expressions, cycles, flushes and steps.
+ghost use Rattle.bd_model.specs.DesignView.{design_view};
+ghost use Rattle.bd_model.specs.Lawful.{IsLawful};
+
 use crate::checks::{Check, ONE_STAGE, PENDING, TWO_STAGE, check_state, check_texts};
 use bd_model::{Case, Design, State};
 use bd_sim::{eval, flush, flushed, look, spec_step, step, values_after};
@@ -96,7 +99,9 @@ const VALUES: &str = " (latch b false)
 ";
 
 /// Checks the values of the forms of a pipeline in a case, after its lets.
-fn check_after(rt: &(impl Abort + AllocGlobal), forms: &Design, at: &Case) {
+fn check_after(rt: &(impl Abort + AllocGlobal), forms: &Design, at: &Case)
+    requires { IsLawful (design_view forms.now) }
+{
     let (lets, nexts) = (&forms.pipe.locals, &forms.pipe.nexts);
     let found = values_after(rt.alloc(), lets, nexts, &at.interp, &at.state, &at.inputs);
     check_state(rt, forms, &found.expect(rt, "memory"), VALUES);
@@ -109,7 +114,9 @@ fn push_values(
     forms: &Design,
     at: &Case,
     lets: &State,
-) -> Result<(), AllocError> {
+) -> Result<(), AllocError>
+    requires { IsLawful (design_view forms.now) }
+{
     for form in &forms.pipe.nexts.items {
         values.push(eval(alloc, forms, form, &at.interp, &at.state, &at.inputs, lets)?)?;
     }
@@ -117,7 +124,9 @@ fn push_values(
 }
 
 /// Checks the values of the forms of a pipeline in a case, where the lets have these values.
-fn check_under(rt: &(impl Abort + AllocGlobal), forms: &Design, at: &Case, lets: &State) {
+fn check_under(rt: &(impl Abort + AllocGlobal), forms: &Design, at: &Case, lets: &State)
+    requires { IsLawful (design_view forms.now) }
+{
     let mut found = State::new(rt.alloc());
     push_values(rt.alloc(), &mut found, forms, at, lets).expect(rt, "memory");
     check_state(rt, forms, &found, VALUES);
@@ -125,7 +134,9 @@ fn check_under(rt: &(impl Abort + AllocGlobal), forms: &Design, at: &Case, lets:
 
 /// Checks the values of the forms of a pipeline in a case, of which the values of the lets are visible: after the lets,
 /// and with these values for them.
-pub(crate) fn check_forms(rt: &(impl Abort + AllocGlobal), forms: &Design, at: &Case) {
+pub(crate) fn check_forms(rt: &(impl Abort + AllocGlobal), forms: &Design, at: &Case)
+    requires { IsLawful (design_view forms.now) }
+{
     check_after(rt, forms, at);
     let lets = look(rt.alloc(), forms, &at.state).expect(rt, "memory");
     check_under(rt, forms, at, &lets);
@@ -156,13 +167,17 @@ const FLUSHED: &str = " (latch pc 2)
 ";
 
 /// Checks where the flush cycle leads from a state.
-fn check_flush(rt: &(impl Abort + AllocGlobal), design: &Design, at: &Case, state: &State) {
+fn check_flush(rt: &(impl Abort + AllocGlobal), design: &Design, at: &Case, state: &State)
+    requires { IsLawful (design_view design.now) }
+{
     let end = flush(rt.alloc(), design, &at.interp, state).expect(rt, "memory");
     check_state(rt, design, &end, FLUSHED);
 }
 
 /// Checks where a cycle leads, and the flush after it.
-fn check_step(rt: &(impl Abort + AllocGlobal), design: &Design, at: &Case) {
+fn check_step(rt: &(impl Abort + AllocGlobal), design: &Design, at: &Case)
+    requires { IsLawful (design_view design.now) }
+{
     let next = step(rt.alloc(), design, &at.interp, &at.state, &at.inputs).expect(rt, "memory");
     check_state(rt, design, &next, AFTER_A_CYCLE);
     check_flush(rt, design, at, &next);
@@ -180,7 +195,9 @@ fn check_look(rt: &(impl Abort + AllocGlobal), design: &Design, at: &Case) {
 }
 
 /// Checks where a step of the specification leads from what is visible.
-fn check_spec_step(rt: &(impl Abort + AllocGlobal), design: &Design, at: &Case, visible: &State) {
+fn check_spec_step(rt: &(impl Abort + AllocGlobal), design: &Design, at: &Case, visible: &State)
+    requires { IsLawful (design_view design.now) }
+{
     let next = spec_step(rt.alloc(), design, &at.interp, visible).expect(rt, "memory");
     check_state(
         rt,
@@ -191,7 +208,9 @@ fn check_spec_step(rt: &(impl Abort + AllocGlobal), design: &Design, at: &Case, 
 }
 
 /// Checks what is visible once the pipeline is flushed, and a step of the specification from there.
-fn check_flushed(rt: &(impl Abort + AllocGlobal), design: &Design, at: &Case) {
+fn check_flushed(rt: &(impl Abort + AllocGlobal), design: &Design, at: &Case)
+    requires { IsLawful (design_view design.now) }
+{
     let visible = flushed(rt.alloc(), design, &at.interp, &at.state).expect(rt, "memory");
     check_state(
         rt,
@@ -203,7 +222,9 @@ fn check_flushed(rt: &(impl Abort + AllocGlobal), design: &Design, at: &Case) {
 }
 
 /// Checks each call on the two stages, in the case whose write is pending.
-pub(crate) fn check_calls(rt: &(impl Abort + AllocGlobal), design: &Design, at: &Case) {
+pub(crate) fn check_calls(rt: &(impl Abort + AllocGlobal), design: &Design, at: &Case)
+    requires { IsLawful (design_view design.now) }
+{
     check_step(rt, design, at);
     check_look(rt, design, at);
     check_flushed(rt, design, at);

@@ -1,4 +1,7 @@
 //! The places of a case that decide a value of its diagram.
+ghost use Rattle.bd_model.specs.DesignView.{design_view};
+ghost use Rattle.bd_model.specs.Lawful.{IsLawful};
+
 use crate::checks::{Check, ONE_STAGE, PENDING, TWO_STAGE, changed, check_texts};
 use bd_model::{Case, Design, State, Value};
 use bd_sim::{flush, step};
@@ -71,7 +74,9 @@ pub(crate) fn check_slice(
     column: Column,
     spot: Location,
     want: &str,
-) {
+)
+    requires { IsLawful (design_view design.now) }
+{
     assert!(rt; design.fits(case));
     let places = slice_of(rt.alloc(), design, case, column, spot).expect(rt, "memory");
     check_places(rt, places.as_slice(), want);
@@ -148,7 +153,9 @@ fn flushed_register(
     design: &Design,
     case: &Case,
     state: &State,
-) -> u64 {
+) -> u64
+    requires { IsLawful (design_view design.now) }
+{
     let end = flush(rt.alloc(), design, &case.interp, state).expect(rt, "memory");
     register(&end)
 }
@@ -159,7 +166,9 @@ pub(crate) fn check_register(
     design: &Design,
     case: &Case,
     has: bool,
-) {
+)
+    requires { IsLawful (design_view design.now) }
+{
     let (interp, state, inputs) = (&case.interp, &case.state, &case.inputs);
     let next = step(rt.alloc(), design, interp, state, inputs).expect(rt, "memory");
     assert!(rt; (flushed_register(rt, design, case, &next) == 60) == has);

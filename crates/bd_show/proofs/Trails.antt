@@ -8,6 +8,7 @@ use Rattle.bd_app.specs.Retrace.{retraced_words}
 use Rattle.bd_model.specs.Conditions.{Commutes}
 use Rattle.bd_model.specs.Cycle.{after, flushed, inputs_at, spec_steps, state_after, step}
 use Rattle.bd_model.specs.DesignView.{DesignView}
+use Rattle.bd_model.specs.Lawful.{IsLawful}
 use Rattle.bd_model.specs.Same.{Same}
 use Rattle.bd_model.specs.TrailJudged.{IsTrailJudged}
 use Rattle.bd_model.specs.declared.case.Condition.TheVariants.{Commute}
@@ -18,6 +19,7 @@ use Rattle.bd_model.specs.declared.case.TrailJudged.TheVariants.{Holds, Outside,
 use Rattle.bd_model.specs.declared.table.Scalar.{Scalar}
 use Rattle.bd_model.specs.declared.table.Table.{Table}
 use Rattle.bd_model.specs.declared.table.Value.{Value}
+use Rattle.bd_about.proofs.Changed.{without_invariant_lawful}
 use Rattle.bd_picture.specs.Page.{IsPage}
 use Rattle.bd_picture.specs.Sentence.{sentence}
 use Rattle.bd_show.specs.Files.{AreTrail, Texts}
@@ -56,6 +58,9 @@ breaks d t cycle (inside, (n, counts, first)) =
 pub breaking : (d e : DesignView) (t : Trail) (j : TrailJudged) → e ≡ unstarted d → IsTrailJudged d t j → IsBreakingIf e t j
 breaking d e t j is judged = λ cycle same.
     subst (λ x. IsBreaking x t cycle) (sym is) (breaks d t cycle (subst (IsTrailJudged d t) same judged))
+
+pub unstarted_lawful : (d e : DesignView) → e ≡ unstarted d → IsLawful d → IsLawful e
+unstarted_lawful d e is h = subst IsLawful (sym is) (without_invariant_lawful d h)
 
 -- ---- what is seen of a trail
 

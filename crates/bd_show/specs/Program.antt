@@ -23,11 +23,12 @@ pub record IsDone (words : List (List ℕ)) (before after : FilesSeen) (e : Ende
   pub untouched : taken words ≡ None → after ≡ before
   pub answered : (q : Question) → taken words ≡ Some q → IsAnswered q before after e text
 
--- a line is put, or a prefix of it where the count of faults rose
+-- a line is put at once, or a prefix of it where the count of faults rose
 abbrev pub PutsLine : SinkSeen → SinkSeen → List ℕ → Type 0
 PutsLine before after line =
     PutsOrFaults (λ (sink : SinkSeen). sink.written) (λ (sink : SinkSeen). sink.faults)
     before after line
+    × Counts before.puts after.puts 1
 
 -- an answer and its text are put on the two streams, and the run ends so
 pub record IsPut (e : Ended) (text : List ℕ) (ended : Ended) (out out' err err' : SinkSeen) :

@@ -52,6 +52,7 @@ fn shown_case(
     design: &Design,
     verdict: &Verdict,
 ) -> Result<Vec<u8>, AllocError>
+    requires lawful { IsLawful (design_view design.now) }
     requires verdict { IsVerdict (design_view design.now)
         (asked_of (check_of options)) verdict.now }
     requires readable { AreReadable (texts_view texts.now) }
@@ -82,6 +83,7 @@ fn report(
     design: &Design,
     verdict: &Verdict,
 ) -> Result<Answer, AllocError>
+    requires lawful { IsLawful (design_view design.now) }
     requires verdict { IsVerdict (design_view design.now)
         (asked_of (check_of options)) verdict.now }
     requires readable { AreReadable (texts_view texts.now) }

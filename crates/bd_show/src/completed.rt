@@ -1,7 +1,7 @@
 //! `show` with a completion function (Hosabettu, Srivas and Gopalakrishnan 1998): what a case shows by it, in place of
 //! flushing; and where the line before the case says `differ`, what both give in the case's state.
 ghost use Rattle.std.specs.Prelude.{◌≡◌, ◌++◌, ℕ, List, Some, Ok, true, is_some, IfOk, IsTrue, MatchOption};
-ghost use Rattle.bd_abstraction.specs.Abstraction.{abstraction_of};
+ghost use Rattle.bd_abstraction.specs.Abstraction.{IsLawfulAbstraction, abstraction_of};
 ghost use Rattle.bd_app.specs.Loading.{bytes_of};
 ghost use Rattle.bd_diagram.specs.Diagrams.{IsDiagramBy};
 ghost use Rattle.bd_model.specs.Conditions.{JudgedBy, MeetsInvariant};
@@ -28,12 +28,11 @@ use crate::names::machine_lets;
 use crate::read::{joined, joined_case};
 use crate::show::{ShowOptions, Showing, unseen};
 use bd_abstraction::Abstraction;
-use bd_completion::judge_by;
+use bd_completion::{judge_by, values_given};
 use bd_diagram::{Diagram, contrast_with, diagram_between};
-use bd_list::Sequence;
 use bd_model::{Case, Design, Judged, State};
 use bd_picture::{Outcome, Picture, ShownCase, ShownNames, page_of, picture_of, text_of};
-use bd_sim::{flushed, meets_invariant, same, step, values_after};
+use bd_sim::{flushed, meets_invariant, same, step};
 use bd_syntax::Kind;
 use bd_typer::Joined;
 use std::alloc::{AllocError, Global};
@@ -52,20 +51,23 @@ fn stands_for(
     case: &Case,
     state: &State,
 ) -> Result<State, AllocError>
+    requires lawful { IsLawful (design_view joined.now.design) }
+    requires abstraction { IsLawfulAbstraction (design_view joined.now.design) joined.now.abs }
     ensures { IfOk result (λ visible. visible
         ≡ abstraction_of (design_view joined.now.design) joined.now.abs case.now.interp state.now) }
 {
     match &joined.abs {
         Abstraction::Flushing => flushed(alloc, &joined.design, &case.interp, state),
         Abstraction::Given { lets, parts } => {
-            let inputs = Sequence::new(alloc);
-            values_after(alloc, lets, parts, &case.interp, state, &inputs)
+            values_given(alloc, lets, parts, &case.interp, state)
         }
     }
 }
 
 /// The diagram of a case by the completion function.
 fn diagram_by(alloc: Global, joined: &Joined, case: &Case) -> Result<Diagram, AllocError>
+    requires lawful { IsLawful (design_view joined.now.design) }
+    requires abstraction { IsLawfulAbstraction (design_view joined.now.design) joined.now.abs }
     ensures { IfOk result (IsDiagramBy (design_view joined.now.design)
         (abstraction_of (design_view joined.now.design) joined.now.abs) case.now) }
 {
@@ -85,7 +87,8 @@ fn drawn(
     diagram: &Diagram,
     names: ShownNames<'_>,
 ) -> Result<Picture, AllocError>
-    requires { IsSeen (design_view design.now) case.now outcome diagram.now }
+    requires lawful { IsLawful (design_view design.now) }
+    requires seen { IsSeen (design_view design.now) case.now outcome diagram.now }
     ensures { IfOk result (λ p.
         p.sentence.items ≡ outcome_sentence (design_view design.now) outcome) }
 {
@@ -129,6 +132,8 @@ fn completed(
     judged: Judged,
     shown: Shown<'_>,
 ) -> Result<Showing, AllocError>
+    requires lawful { IsLawful (design_view joined.now.design) }
+    requires abstraction { IsLawfulAbstraction (design_view joined.now.design) joined.now.abs }
     requires judged { JudgedBy (design_view joined.now.design)
         (abstraction_of (design_view joined.now.design) joined.now.abs) case.now judged }
     requires asked { claim_in (bytes_of shown.text.now) ≡ Some Differ → judged ≡ Judged.Outside }
@@ -151,6 +156,8 @@ fn compared(
     case: &Case,
     shown: Shown<'_>,
 ) -> Result<Showing, AllocError>
+    requires lawful { IsLawful (design_view joined.now.design) }
+    requires abstraction { IsLawfulAbstraction (design_view joined.now.design) joined.now.abs }
     requires asked { claim_in (bytes_of shown.text.now) ≡ Some Differ }
     requires inside { MeetsInvariant (design_view joined.now.design)
         case.now.interp case.now.state }
@@ -182,6 +189,7 @@ fn is_compared(
     case: &Case,
     text: &Option<Vec<u8>>,
 ) -> Result<bool, AllocError>
+    requires lawful { IsLawful (design_view design.now) }
     ensures asked { IfOk result (λ b. IsTrue b → claim_in (bytes_of text.now) ≡ Some Differ) }
     ensures inside { IfOk result (λ b. IsTrue b
         → MeetsInvariant (design_view design.now) case.now.interp case.now.state) }
@@ -201,6 +209,8 @@ fn on_case(
     case: &Case,
     shown: Shown<'_>,
 ) -> Result<Showing, AllocError>
+    requires lawful { IsLawful (design_view joined.now.design) }
+    requires abstraction { IsLawfulAbstraction (design_view joined.now.design) joined.now.abs }
     ensures { IfOk result (λ r. IsOfJoined (bytes_of shown.entry.text.now)
         (design_view joined.now.design)
         (abstraction_of (design_view joined.now.design) joined.now.abs) case.now
@@ -225,6 +235,7 @@ fn on_design(
     requires given { is_some (texts_view texts.now).comp ≡ true }
     requires text { is_some (texts_view texts.now).case ≡ true }
     requires lawful { IsLawful (design_view joined.now.design) }
+    requires abstraction { IsLawfulAbstraction (design_view joined.now.design) joined.now.abs }
     requires readable { IsMachineText Pipeline (texts_view texts.now).pipe }
     ensures says { IfOk result (HasAnswer options.entry (texts_view texts.now)) }
     ensures drawn { IfOk result (HasDrawn (texts_view texts.now)) }

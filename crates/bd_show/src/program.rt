@@ -1,5 +1,5 @@
 //! The program's one call.
-ghost use Rattle.bd_files.specs.Devices.{PutsOrFaults};
+ghost use Rattle.bd_files.specs.Devices.{Counts, PutsOrFaults};
 ghost use Rattle.bd_app.specs.Meaning.{files_seen};
 ghost use Rattle.bd_app.specs.Program.{sink_seen};
 ghost use Rattle.bd_app.specs.Words.{texts_of};
@@ -36,9 +36,10 @@ fn answer_of<F: Files>(alloc: Global, words: &[String], files: &mut F) -> Result
     }
 }
 
-/// Puts a text, as far as it goes: that a put fails is passed over.
+/// Puts a text, as far as it goes: that the put fails is passed over.
 pub fn put_ignoring_fault<E: Sink>(err: &mut E, text: &[u8])
-    ensures { PutsOrFaults E.written E.faults err.old err.new text.now }
+    ensures line { PutsOrFaults E.written E.faults err.old err.new text.now }
+    ensures once { Counts (E.puts err.old) (E.puts err.new) 1 }
 {
     let _ = err.put(text);
 }

@@ -2,6 +2,7 @@
 //!
 //! All files are loaded before the first is read, and a design is read before its case or its trail.
 ghost use Rattle.std.specs.Prelude.{◌≡◌, ◌≤◌, ◌==◌, ◌||◌, if◌then◌else◌, false, is_some, length, true, Some, Ok, IfOk, IfErr};
+ghost use Rattle.bd_abstraction.specs.Abstraction.{IsLawfulAbstraction};
 ghost use Rattle.bd_model.specs.DesignView.{design_view};
 ghost use Rattle.bd_app.specs.Loading.{bytes_of};
 ghost use Rattle.bd_model.specs.Fits.{Fits};
@@ -119,6 +120,7 @@ pub fn joined(alloc: Global, texts: &Texts, comp: &[u8]) -> Result<Joined, Desig
     requires comp { (texts_view texts.now).comp ≡ Some comp.now }
     ensures read { IfOk result (λ j. AreJoined (texts_view texts.now) (Ok (joined_view j))) }
     ensures lawful { IfOk result (λ j. IsLawful (design_view j.design)) }
+    ensures abstraction { IfOk result (λ j. IsLawfulAbstraction (design_view j.design) j.abs) }
     ensures readable { IfOk result (λ _. IsMachineText Pipeline (texts_view texts.now).pipe) }
     ensures refused { IfErr result (IsRefusedBy (IsJoinedFault (texts_view texts.now))) }
 {

@@ -58,6 +58,7 @@ pub fn left(
     judged: Judged,
     whole: bool,
 ) -> Result<Case, AllocError>
+    requires lawful { IsLawful (design_view design.now) }
     requires fits { Fits (design_view design.now) case.now }
     requires judged { IsJudged (design_view design.now) case.now judged }
     ensures left { IfOk result (IsLeft whole (design_view design.now) case.now judged) }
@@ -78,7 +79,8 @@ pub fn drawn(
     whole: bool,
     names: ShownNames<'_>,
 ) -> Result<Picture, AllocError>
-    requires { IsJudged (design_view design.now) case.now judged }
+    requires lawful { IsLawful (design_view design.now) }
+    requires judged { IsJudged (design_view design.now) case.now judged }
     ensures { IfOk result (λ p. p.sentence.items ≡ sentence (design_view design.now) judged) }
 {
     let diagram = diagram_of(alloc, design, case)?;
@@ -102,6 +104,7 @@ pub fn pictured(
     whole: bool,
     names: ShownNames<'_>,
 ) -> Result<Picture, AllocError>
+    requires lawful { IsLawful (design_view design.now) }
     requires fits { Fits (design_view design.now) case.now }
     requires judged { IsJudged (design_view design.now) case.now judged }
     ensures left { IfOk result (λ p. (s : Case)
@@ -122,6 +125,7 @@ pub fn pictured_text(
     judged: Judged,
     names: ShownNames<'_>,
 ) -> Result<Vec<u8>, AllocError>
+    requires lawful { IsLawful (design_view design.now) }
     requires fits { Fits (design_view design.now) case.now }
     requires judged { IsJudged (design_view design.now) case.now judged }
     ensures { IfOk result (λ text.
@@ -140,6 +144,7 @@ fn on_judged(
     whole: bool,
     names: ShownNames<'_>,
 ) -> Result<Showing, AllocError>
+    requires lawful { IsLawful (design_view design.now) }
     requires fits { Fits (design_view design.now) case.now }
     requires judged { IsJudged (design_view design.now) case.now judged }
     ensures ended { IfOk result (λ r. r.answer.ended ≡ Ended.Shown judged) }
@@ -180,7 +185,8 @@ fn on_case(
     whole: bool,
     names: ShownNames<'_>,
 ) -> Result<Showing, AllocError>
-    requires { Fits (design_view design.now) case.now }
+    requires lawful { IsLawful (design_view design.now) }
+    requires fits { Fits (design_view design.now) case.now }
     ensures { IfOk result (λ r. (judged : Judged) × (r.answer.ended ≡ Ended.Shown judged)
         × IsShownOfText (bytes_of text.now) whole (design_view design.now) case.now judged
         r.answer.text.items

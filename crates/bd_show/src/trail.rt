@@ -116,7 +116,8 @@ fn state_after(
     trail: &Trail,
     count: usize,
 ) -> Result<State, AllocError>
-    requires { count ≤ length trail.now.inputs }
+    requires lawful { IsLawful (design_view design.now) }
+    requires within { count ≤ length trail.now.inputs }
     ensures { IfOk result (λ s. s ≡ state_after (design_view design.now) trail.now count) }
 {
     let mut state = trail.state.clone()?;
@@ -128,7 +129,8 @@ fn state_after(
 
 /// A cycle of a trail as a case, by its place from 0.
 fn cycle_case(alloc: Global, design: &Design, trail: &Trail, place: u32) -> Result<Case, AllocError>
-    requires { place < length trail.now.inputs }
+    requires lawful { IsLawful (design_view design.now) }
+    requires within { place < length trail.now.inputs }
     ensures { IfOk result (λ c. c ≡ cycle_case (design_view design.now) trail.now place) }
 {
     let state = state_after(alloc, design, trail, place as usize)?;
@@ -148,7 +150,8 @@ fn picture(
     whole: bool,
     names: ShownNames<'_>,
 ) -> Result<Picture, AllocError>
-    requires { IsBreaking (design_view design.now) trail.now cycle }
+    requires lawful { IsLawful (design_view design.now) }
+    requires breaking { IsBreaking (design_view design.now) trail.now cycle }
     ensures { IfOk result (λ p. p.sentence.items
         ≡ sentence (design_view design.now) (Judged.Broken Condition.Commute)) }
 {
@@ -166,6 +169,7 @@ fn on_break(
     judging: &Judging,
     cycle: u32,
 ) -> Result<Showing, AllocError>
+    requires lawful { IsLawful (design_view design.now) }
     requires few { length judging.now.trail.inputs ≤ most_cycles }
     requires readable { IsMachineText Pipeline (texts_view texts.now).pipe }
     requires spec_readable { IsMachineText Specification (texts_view texts.now).spec }
@@ -219,6 +223,7 @@ fn on_judged(
     design: &Design,
     judging: &Judging,
 ) -> Result<Showing, AllocError>
+    requires lawful { IsLawful (design_view design.now) }
     requires few { length judging.now.trail.inputs ≤ most_cycles }
     requires readable { IsMachineText Pipeline (texts_view texts.now).pipe }
     requires spec_readable { IsMachineText Specification (texts_view texts.now).spec }

@@ -84,6 +84,7 @@ fn on_value(
     case: &Case,
     judged: Judged,
 ) -> Result<Answer, AllocError>
+    requires lawful { IsLawful (design_view design.now) }
     requires fits { Fits (design_view design.now) case.now }
     requires judged { IsJudged (design_view design.now) case.now judged }
     ensures { IfOk result (λ a. IsOfValue (why_of options.entry) (design_view design.now) case.now
@@ -118,6 +119,7 @@ fn on_first(
     case: &Case,
     judged: Judged,
 ) -> Result<Answer, AllocError>
+    requires lawful { IsLawful (design_view design.now) }
     requires fits { Fits (design_view design.now) case.now }
     requires judged { IsJudged (design_view design.now) case.now judged }
     requires unasked { (why_of options).value ≡ None }
@@ -139,7 +141,8 @@ fn on_case(
     design: &Design,
     case: &Case,
 ) -> Result<Answer, AllocError>
-    requires { Fits (design_view design.now) case.now }
+    requires lawful { IsLawful (design_view design.now) }
+    requires fits { Fits (design_view design.now) case.now }
     ensures { IfOk result (λ a. IsOfValue (why_of options.entry) (design_view design.now) case.now
         a.ended a.text.items) }
 {

@@ -3,6 +3,7 @@ ghost use Rattle.std.specs.Prelude.{◌≡◌, ◌++◌, ◌↔◌, IfOk, OnOk, 
 ghost use Rattle.std.specs.List.{AllZip};
 ghost use Rattle.bd_model.specs.DesignView.{design_view};
 ghost use Rattle.bd_diagram.specs.Alike.{IsAlike};
+ghost use Rattle.bd_model.specs.Lawful.{IsLawful};
 ghost use Rattle.bd_shrink.specs.Apart.{values_at, values_where, words_at, word_elsewhere};
 ghost use Rattle.bd_shrink.specs.inner.Found.{IsApart, IsSameScalar};
 
@@ -19,6 +20,7 @@ pub struct Apart {
 
 /// The diagram of a case, and the values that its two sides have where they part.
 pub fn apart_of(alloc: Global, design: &Design, case: &Case) -> Result<Apart, AllocError>
+    requires lawful { IsLawful (design_view design.now) }
     ensures { IfOk result (λ x. IsApart (design_view design.now) case.now x) }
 {
     let diagram = diagram_of(alloc, design, case)?;

@@ -9,6 +9,7 @@
 ghost use Rattle.std.specs.Prelude.{IfOk};
 ghost use Rattle.bd_model.specs.DesignView.{design_view};
 ghost use Rattle.bd_model.specs.Fits.{Fits};
+ghost use Rattle.bd_model.specs.Lawful.{IsLawful};
 ghost use Rattle.bd_model.specs.declared.case.Judged.TheVariants.{Broken};
 ghost use Rattle.bd_model.specs.Conditions.{IsJudged};
 ghost use Rattle.bd_shrink.specs.Shrunk.{IsSmall, IsShrunk};
@@ -33,6 +34,7 @@ pub fn shrink(
     case: &Case,
     which: Condition,
 ) -> Result<Case, AllocError>
+    requires lawful { IsLawful (design_view design.now) }
     requires fits { Fits (design_view design.now) case.now }
     requires broken { IsJudged (design_view design.now) case.now (Broken which) }
     ensures { IfOk result (λ s. IsShrunk (design_view design.now) case.now which s) }

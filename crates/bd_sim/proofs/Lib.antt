@@ -1,5 +1,6 @@
 mod Chains
 mod Cycles
 mod ExactItems
-mod Steps
+pub mod Limits
+pub mod Steps
 mod Trails

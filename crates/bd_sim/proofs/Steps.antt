@@ -10,9 +10,9 @@ use Rattle.bd_model.specs.Same.{Same}
 use Rattle.bd_model.specs.declared.table.Scalar.{Scalar}
 use Rattle.bd_model.specs.declared.table.Table.{Table}
 use Rattle.bd_model.specs.declared.table.Value.{Value}
-use Rattle.bd_model.specs.Conditions.{IsAllowed}
+use Rattle.bd_model.specs.Conditions.{Abstraction, CommutesBy, IsAllowed}
 use Rattle.bd_sim.specs.ExactCounts.{counts_in, counts_of}
-use Rattle.bd_sim.specs.StepsJoin.{StepsJoinAt}
+use Rattle.bd_sim.specs.StepsJoin.{StepsJoin, StepsJoinAt}
 use Rattle.bd_sim.proofs.ExactItems.{counts_allow}
 
 -- what the comparison of the states reached tells
@@ -42,3 +42,10 @@ pub exact_allowed : (d : DesignView) (interp : List Table) (state : List Value) 
     → IfOk r (λ v. v.items ≡ counts_of d interp state inputs) → IfOk r (λ v. (j : ℕ) → AllByRecursion (λ n. n ≡ j) v.items ↔ IsAllowed d interp state inputs j)
 exact_allowed d interp state inputs (Ok v) h = λ j. rw h (counts_allow (env_of d.pipe.locals interp state inputs) d.exact j)
 exact_allowed d interp state inputs (Err e) h = tt
+
+-- steps that join what two states stand for show that the cycle between them commutes
+pub joined_commutes : (d : DesignView) (abs : Abstraction) (interp : List Table) (state : List Value) (inputs : List Scalar) (before after : List Value) → before ≡ abs interp state → after ≡ abs interp (step d.pipe interp state inputs)
+    → (r : Result Bool AllocError) → IfOk r (λ b. IsTrue b ↔ StepsJoin d interp state inputs before after) → IfOk r (λ b. IsTrue b ↔ CommutesBy d abs interp state inputs)
+joined_commutes d abs interp state inputs before after first last r h =
+    subst (λ v. IfOk r (λ b. IsTrue b ↔ StepsJoin d interp state inputs (abs interp state) v)) last
+    (subst (λ v. IfOk r (λ b. IsTrue b ↔ StepsJoin d interp state inputs v after)) first h)

@@ -4,9 +4,11 @@
 //! cycle is a cycle whose inputs are valued first, in the state before it, and anew for each. The specification has no
 //! inputs, so its step is a cycle with none.
 ghost use Rattle.std.specs.Prelude.{◌≡◌, [], IfOk, map};
-ghost use Rattle.bd_model.specs.DesignView.{design_view, local_view, machine_view};
+ghost use Rattle.std.specs.List.{AllByRecursion};
+ghost use Rattle.bd_model.specs.DesignView.{LocalView, design_view, local_view, machine_view};
 ghost use Rattle.bd_model.specs.ExprView.{expr_views, list_of_views};
 ghost use Rattle.bd_model.specs.Cycle.{step, idle_inputs, flush, look, flushed};
+ghost use Rattle.bd_model.specs.Lawful.{IsLawful, IsWithinLimits};
 ghost use Rattle.bd_model.specs.Value.{env_of, let_values, value_of};
 
 use crate::value::{Env, scalar, value, value_at, values};
@@ -25,6 +27,7 @@ pub fn step(
     state: &State,
     inputs: &Inputs,
 ) -> Result<State, AllocError>
+    requires lawful { IsLawful (design_view design.now) }
     ensures { IfOk result (λ s. s
         ≡ step (design_view design.now).pipe interp.now state.now inputs.now) }
 {
@@ -44,6 +47,7 @@ pub fn spec_step(
     interp: &Interp,
     visible: &State,
 ) -> Result<State, AllocError>
+    requires lawful { IsLawful (design_view design.now) }
     ensures { IfOk result (λ s. s ≡ step (design_view design.now).spec interp.now visible.now []) }
 {
     cycle(
@@ -62,6 +66,7 @@ pub fn flush(
     interp: &Interp,
     state: &State,
 ) -> Result<State, AllocError>
+    requires lawful { IsLawful (design_view design.now) }
     ensures { IfOk result (λ s. s ≡ flush (design_view design.now) interp.now state.now) }
 {
     let mut flushed = state.clone()?;
@@ -79,6 +84,7 @@ pub fn idle_inputs(
     interp: &Interp,
     state: &State,
 ) -> Result<Inputs, AllocError>
+    requires lawful { IsLawful (design_view design.now) }
     ensures { IfOk result (λ xs. xs
         ≡ idle_inputs (design_view design.now).pipe interp.now state.now) }
 {
@@ -99,11 +105,29 @@ pub fn let_values(
     state: &State,
     inputs: &Inputs,
 ) -> Result<LetValues, AllocError>
+    requires lawful { IsLawful (design_view design.now) }
     ensures { IfOk result (λ vs. vs ≡ let_values
         interp.now state.now inputs.now (design_view design.now).pipe.locals) }
 {
+    values_of_lets(alloc, &design.pipe.locals, interp, state, inputs)
+}
+
+/// The values of lets, each from those of the earlier ones. What isn't there or has another sort is false, 0 or the
+/// memory of zeros.
+pub fn values_of_lets(
+    alloc: Global,
+    lets: &Locals,
+    interp: &Interp,
+    state: &State,
+    inputs: &Inputs,
+) -> Result<LetValues, AllocError>
+    requires { AllByRecursion (λ (l : LocalView). IsWithinLimits l.value)
+        (map local_view lets.now) }
+    ensures { IfOk result (λ vs. vs ≡ let_values
+        interp.now state.now inputs.now (map local_view lets.now)) }
+{
     let (interp, state, inputs) = (interp.as_slice(), state.as_slice(), inputs.as_slice());
-    let env = Env::new(alloc, design.pipe.locals.as_slice(), interp, state, inputs)?;
+    let env = Env::new(alloc, lets.as_slice(), interp, state, inputs)?;
     Ok(Sequence::from_vec(env.let_values()?))
 }
 
@@ -117,6 +141,9 @@ pub fn values_after(
     state: &State,
     inputs: &Inputs,
 ) -> Result<State, AllocError>
+    requires let_limits { AllByRecursion (λ (l : LocalView). IsWithinLimits l.value)
+        (map local_view lets.now) }
+    requires limits { AllByRecursion IsWithinLimits (list_of_views (expr_views exprs.now)) }
     ensures { IfOk result (λ vs. vs ≡ map
         (value_of (env_of (map local_view lets.now) interp.now state.now inputs.now))
         (list_of_views (expr_views exprs.now))) }
@@ -144,6 +171,7 @@ pub fn flushed(
     interp: &Interp,
     state: &State,
 ) -> Result<State, AllocError>
+    requires lawful { IsLawful (design_view design.now) }
     ensures { IfOk result (λ s. s ≡ flushed (design_view design.now) interp.now state.now) }
 {
     let end = flush(alloc, design, interp, state)?;

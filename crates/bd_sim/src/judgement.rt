@@ -9,6 +9,7 @@ ghost use Rattle.std.specs.Prelude.{◌≡◌, ◌↔◌, ℕ, IfOk, IsTrue, map
 ghost use Rattle.std.specs.List.{AllZip, AllByRecursion};
 ghost use Rattle.bd_model.specs.DesignView.{design_view, exact_view};
 ghost use Rattle.bd_model.specs.Cycle.{step, invariant};
+ghost use Rattle.bd_model.specs.Lawful.{IsLawful};
 ghost use Rattle.bd_model.specs.Same.{SameValue, Same};
 ghost use Rattle.bd_model.specs.Conditions.{IsAllowed, Commutes, IsJudged};
 ghost use Rattle.bd_sim.specs.ExactCounts.{counts_in, counts_of};
@@ -22,6 +23,7 @@ use std::alloc::{AllocError, Global};
 
 /// What the case shows of the design; where both conditions are false, the invariant is named.
 pub fn judge(alloc: Global, design: &Design, case: &Case) -> Result<Judged, AllocError>
+    requires lawful { IsLawful (design_view design.now) }
     ensures { IfOk result (λ j. IsJudged (design_view design.now) case.now j) }
 {
     if !meets_invariant(alloc, design, &case.interp, &case.state)? {
@@ -45,6 +47,7 @@ pub fn meets_invariant(
     interp: &Interp,
     state: &State,
 ) -> Result<bool, AllocError>
+    requires lawful { IsLawful (design_view design.now) }
     ensures { IfOk result (λ b. b ≡ invariant (design_view design.now) interp.now state.now) }
 {
     let (interp, state) = (interp.as_slice(), state.as_slice());
@@ -55,7 +58,8 @@ pub fn meets_invariant(
 /// Whether the flushed pipeline stands, after the cycle that ends in `next`, where some number of steps of the
 /// specification, at most the design's and allowed, lead from where it stood before.
 fn commutes(alloc: Global, design: &Design, case: &Case, next: &State) -> Result<bool, AllocError>
-    requires { next.now
+    requires lawful { IsLawful (design_view design.now) }
+    requires next { next.now
         ≡ step (design_view design.now).pipe case.now.interp case.now.state case.now.inputs }
     ensures { IfOk result (λ b. IsTrue b
         ↔ Commutes (design_view design.now) case.now.interp case.now.state case.now.inputs) }
@@ -78,6 +82,7 @@ pub fn steps_join(
     before: State,
     after: &State,
 ) -> Result<bool, AllocError>
+    requires lawful { IsLawful (design_view design.now) }
     ensures { IfOk result (λ b. IsTrue b ↔ StepsJoin (design_view design.now)
         interp.now state.now inputs.now before after.now) }
 {
@@ -95,6 +100,7 @@ pub fn steps_join(
 /// The counts of the exact items whose condition is true in the case's cycle, in the design's order: each must be the
 /// number of steps.
 pub fn exact_counts(alloc: Global, design: &Design, case: &Case) -> Result<Vec<u32>, AllocError>
+    requires lawful { IsLawful (design_view design.now) }
     ensures counts { IfOk result (λ v. v.items
         ≡ counts_of (design_view design.now) case.now.interp case.now.state case.now.inputs) }
     ensures allow { IfOk result (λ v. (j : ℕ) → AllByRecursion (λ n. n ≡ j) v.items

@@ -1,6 +1,7 @@
 //! A run, state by state.
 ghost use Rattle.std.specs.Prelude.{◌≡◌, IfOk};
 ghost use Rattle.bd_model.specs.DesignView.{design_view};
+ghost use Rattle.bd_model.specs.Lawful.{IsLawful};
 ghost use Rattle.bd_sim.specs.Trace.{trace_of, TraceIsRun};
 
 use crate::cycle::step;
@@ -9,6 +10,7 @@ use std::alloc::{AllocError, Global};
 
 /// The case's state, and the states after each of these cycles, all with the case's inputs.
 pub fn trace(alloc: Global, design: &Design, case: &Case, cycles: u32) -> Result<States, AllocError>
+    requires lawful { IsLawful (design_view design.now) }
     ensures { IfOk result (λ states. states ≡ trace_of cycles
         (design_view design.now).pipe case.now.interp case.now.state case.now.inputs) }
 {

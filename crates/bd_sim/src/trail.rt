@@ -2,6 +2,7 @@
 //! after a cycle stands before the next.
 ghost use Rattle.std.specs.Prelude.{◌≤◌, IfOk, length};
 ghost use Rattle.bd_model.specs.DesignView.{design_view};
+ghost use Rattle.bd_model.specs.Lawful.{IsLawful};
 ghost use Rattle.bd_model.specs.TrailJudged.{IsTrailJudged};
 ghost use Rattle.bd_model.specs.Limits.{most_cycles};
 
@@ -12,6 +13,7 @@ use std::alloc::{AllocError, Global};
 
 /// What the trail shows of the design, whose invariant counts in the first state alone. A cycle's number counts from 1.
 pub fn judge_trail(alloc: Global, design: &Design, trail: &Trail) -> Result<TrailJudged, AllocError>
+    requires lawful { IsLawful (design_view design.now) }
     requires short { length trail.now.inputs ≤ most_cycles }
     ensures { IfOk result (λ j. IsTrailJudged (design_view design.now) trail.now j) }
 {

@@ -7,6 +7,7 @@
 //! the expression alone.
 ghost use Rattle.std.specs.Prelude.{◌≡◌, IfOk, false, map, slice_index_or};
 ghost use Rattle.std.specs.List.{list_all, list_any};
+ghost use Rattle.bd_model.specs.Lawful.{IsWithinLimits};
 ghost use Rattle.bd_model.specs.Table.{at, read, write};
 ghost use Rattle.bd_model.specs.ExprView.{expr_view, expr_views, list_of_views};
 ghost use Rattle.bd_model.specs.Value.{value_of, values_of, scalar_of, memory_of, is_true, word_of, table_of, env_of, truth as truth_value};
@@ -164,6 +165,7 @@ pub fn eval(
     inputs: &Inputs,
     lets: &LetValues,
 ) -> Result<Value, AllocError>
+    requires limits { IsWithinLimits (expr_view expr.now) }
     ensures { IfOk result (λ v. v ≡ value_of
         (record { interp = interp.now; state = state.now; inputs = inputs.now; locals = lets.now })
         (expr_view expr.now)) }

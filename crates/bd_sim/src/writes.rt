@@ -163,7 +163,7 @@ impl<'a> Memories<'a> {
     }
 }
 
-/// These slots over a memory, or over that of zeros.
+/// The memory that slots make over another one, or over that of zeros: the first slot with an address counts.
 fn over(slots: Vec<Slot>, below: Option<&Memory>) -> Result<Memory, AllocError>
     ensures { IfOk result (λ m. m ≡ with_slots slots.items (or_zeros below.entry)) }
 {

@@ -3,6 +3,7 @@ use Rattle.std.proofs.Common.{◌≡◌, ℕ, zero, suc, ◌+◌, ◌<◌, ◌�
 use Rattle.std.specs.Prelude.{not, ◌||◌, ◌&&◌, ◌==◌, slice_index_or, if◌then◌else◌}
 use Rattle.std.specs.List.{list_all, list_any}
 use Rattle.std.proofs.lemmas.List.{drop_all, take_more}
+use Rattle.bd_list.proofs.Truths.{neither}
 use Rattle.bd_model.specs.Table.{read, write}
 use Rattle.bd_model.specs.Value.{truth, scalar_of, scalar_truth, memory_of}
 use Rattle.bd_model.specs.declared.table.Scalar.{Scalar}
@@ -22,10 +23,6 @@ use Rattle.bd_slice.specs.inner.Followed.{Other, Follows, FollowsMemory, Follows
 both_true : (s t : Bool) → (s && t) ≡ true → (s ≡ true) × (t ≡ true)
 both_true true t h = (refl, h)
 both_true false t h = absurd (cc h)
-
-both_false : (s t : Bool) → (s || t) ≡ false → (s ≡ false) × (t ≡ false)
-both_false true t h = absurd (cc h)
-both_false false t h = (refl, h)
 
 and_false : (s : Bool) → (s && false) ≡ false
 and_false true = refl
@@ -119,7 +116,7 @@ pub none_more : {X : Type 0} → (p : X → Bool) (xs : List X) (i : ℕ) (d : X
 none_more p [] i d within front here = absurd (omega (arith, within))
 none_more p (x ∷ xs) zero d within front here = rw here
 none_more p (x ∷ xs) (suc i) d within front here =
-    let f = both_false (p x) (list_any p (take i xs)) front in
+    let f = neither (p x) (list_any p (take i xs)) front in
     let rest = none_more p xs i d (omega (arith, within)) f.1 here in
     rw (f.0, rest)
 

@@ -1,8 +1,13 @@
 //! The values of a run, state by state and cycle by cycle.
+ghost use Rattle.std.specs.Prelude.{map};
+ghost use Rattle.std.specs.List.{AllByRecursion};
+ghost use Rattle.bd_model.specs.DesignView.{LocalView, design_view, local_view};
+ghost use Rattle.bd_model.specs.Lawful.{IsLawful, IsWithinLimits};
+
 use crate::place::Column;
 use crate::subject::Cycle;
-use bd_model::{Case, Design, Expr, Exprs, Inputs, LetValues, Locals, Sequence, State, Value};
-use bd_sim::{idle_inputs, let_values, look, spec_step, step, values_after};
+use bd_model::{Case, Design, Inputs, LetValues, Locals, Sequence, State, Value};
+use bd_sim::{idle_inputs, let_values, look, spec_step, step, values_of_lets};
 use std::alloc::{AllocError, Global};
 
 /// A cycle's values: the state in which it begins, its inputs, and its lets.
@@ -34,7 +39,9 @@ fn moment_of(
     case: &Case,
     state: State,
     inputs: Inputs,
-) -> Result<Moment, AllocError> {
+) -> Result<Moment, AllocError>
+    requires lawful { IsLawful (design_view design.now) }
+{
     let lets = let_values(alloc, design, &case.interp, &state, &inputs)?;
     Ok(Moment {
         state,
@@ -49,7 +56,9 @@ fn flushing(
     design: &Design,
     case: &Case,
     state: State,
-) -> Result<Moments, AllocError> {
+) -> Result<Moments, AllocError>
+    requires lawful { IsLawful (design_view design.now) }
+{
     let mut moments = Sequence::new(alloc);
     let mut reached = state;
     for _cycle in 0..design.flush {
@@ -62,27 +71,18 @@ fn flushing(
     Ok(moments)
 }
 
-/// The names of all of these lets, as expressions.
-fn all_lets(alloc: Global, lets: &Locals) -> Result<Exprs, AllocError> {
-    let mut items = Vec::new(alloc);
-    let mut number = 0u32;
-    for _local in lets.as_slice() {
-        items.push(Expr::Local(number))?;
-        number = number.checked_add(1).ok_or(AllocError)?;
-    }
-    Ok(Exprs { items })
-}
-
-/// These lets in this state, without inputs.
+/// A state, and the values of lets in it where there is no input.
 fn plain_moment(
     alloc: Global,
     case: &Case,
     lets: &Locals,
     state: State,
-) -> Result<Moment, AllocError> {
+) -> Result<Moment, AllocError>
+    requires { AllByRecursion (λ (l : LocalView). IsWithinLimits l.value)
+        (map local_view lets.now) }
+{
     let inputs = Sequence::new(alloc);
-    let all = all_lets(alloc, lets)?;
-    let lets = values_after(alloc, lets, &all, &case.interp, &state, &inputs)?;
+    let lets = values_of_lets(alloc, lets, &case.interp, &state, &inputs)?;
     Ok(Moment {
         state,
         inputs,
@@ -96,7 +96,9 @@ fn stepping(
     design: &Design,
     case: &Case,
     visible: State,
-) -> Result<Moments, AllocError> {
+) -> Result<Moments, AllocError>
+    requires lawful { IsLawful (design_view design.now) }
+{
     let lets = &design.spec.locals;
     let mut moments = Sequence::new(alloc);
     let mut reached = visible;
@@ -110,7 +112,9 @@ fn stepping(
 }
 
 /// The case's cycle.
-fn first_moment(alloc: Global, design: &Design, case: &Case) -> Result<Moment, AllocError> {
+fn first_moment(alloc: Global, design: &Design, case: &Case) -> Result<Moment, AllocError>
+    requires lawful { IsLawful (design_view design.now) }
+{
     let state = case.state.clone()?;
     moment_of(alloc, design, case, state, case.inputs.clone()?)
 }
@@ -121,7 +125,9 @@ fn steps_after(
     design: &Design,
     case: &Case,
     before: &Moments,
-) -> Result<Moments, AllocError> {
+) -> Result<Moments, AllocError>
+    requires lawful { IsLawful (design_view design.now) }
+{
     let visible = match before.as_slice().last() {
         Some(moment) => look(alloc, design, &moment.state)?,
         None => Sequence::new(alloc),
@@ -137,14 +143,18 @@ struct Next {
 }
 
 /// What follows the cycle that ends in this state.
-fn next_of(alloc: Global, design: &Design, case: &Case, state: State) -> Result<Next, AllocError> {
+fn next_of(alloc: Global, design: &Design, case: &Case, state: State) -> Result<Next, AllocError>
+    requires lawful { IsLawful (design_view design.now) }
+{
     let kept = plain_moment(alloc, case, &design.inv_locals, state.clone()?)?;
     let after = flushing(alloc, design, case, state)?;
     Ok(Next { after, kept })
 }
 
 /// All of the run of a case.
-pub fn history_of(alloc: Global, design: &Design, case: &Case) -> Result<History, AllocError> {
+pub fn history_of(alloc: Global, design: &Design, case: &Case) -> Result<History, AllocError>
+    requires lawful { IsLawful (design_view design.now) }
+{
     let state = step(alloc, design, &case.interp, &case.state, &case.inputs)?;
     let next = next_of(alloc, design, case, state)?;
     let before = flushing(alloc, design, case, case.state.clone()?)?;

@@ -3,6 +3,9 @@
 //!
 //! These are the rules by which a slice is made, over the values of the same run. Nothing is proved of them but that
 //! they are safe.
+ghost use Rattle.bd_model.specs.DesignView.{design_view};
+ghost use Rattle.bd_model.specs.Lawful.{IsLawful};
+
 use crate::finding::{Found, Here, Path, find, find_word};
 use crate::moment::History;
 use crate::place::{Column, Location, Want};
@@ -61,7 +64,9 @@ pub fn reasons_of(
     case: &Case,
     history: &History,
     subjects: &[Subject],
-) -> Result<Reasons, AllocError> {
+) -> Result<Reasons, AllocError>
+    requires lawful { IsLawful (design_view design.now) }
+{
     let run = Run {
         alloc,
         design,

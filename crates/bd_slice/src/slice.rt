@@ -6,6 +6,7 @@
 ghost use Rattle.std.specs.Prelude.{◌≡◌, IfOk, IsTrue, List, true, slice_index_or};
 ghost use Rattle.bd_model.specs.DesignView.{design_view};
 ghost use Rattle.bd_model.specs.Fits.{Fits};
+ghost use Rattle.bd_model.specs.Lawful.{IsLawful};
 ghost use Rattle.bd_slice.specs.Columns.{Decides, spot_value};
 ghost use Rattle.bd_model.specs.declared.table.Value.{Value};
 ghost use Rattle.bd_slice.specs.inner.Followed.{Other, Holds, Grows, Follows, FollowsState};
@@ -28,7 +29,8 @@ pub fn slice_of(
     column: Column,
     spot: Location,
 ) -> Result<CasePlaces, AllocError>
-    requires { Fits (design_view design.now) case.now }
+    requires lawful { IsLawful (design_view design.now) }
+    requires fits { Fits (design_view design.now) case.now }
     ensures { IfOk result (λ places.
         Decides (design_view design.now) case.now column spot places) }
 {

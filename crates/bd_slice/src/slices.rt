@@ -3,6 +3,7 @@ ghost use Rattle.std.specs.Prelude.{◌≡◌, IfOk};
 ghost use Rattle.std.specs.List.{All};
 ghost use Rattle.bd_model.specs.DesignView.{design_view};
 ghost use Rattle.bd_model.specs.Fits.{Fits};
+ghost use Rattle.bd_model.specs.Lawful.{IsLawful};
 ghost use Rattle.bd_slice.specs.Columns.{Decides};
 ghost use Rattle.bd_slice.specs.inner.Followed.{Grows};
 ghost use Rattle.bd_slice.specs.inner.Runs.{IsWhole, Pinned};
@@ -30,7 +31,8 @@ pub fn slices_of(
     case: &Case,
     wants: &[Want],
 ) -> Result<Slices, AllocError>
-    requires { Fits (design_view design.now) case.now }
+    requires lawful { IsLawful (design_view design.now) }
+    requires fits { Fits (design_view design.now) case.now }
     ensures { IfOk result (λ s. All (λ w.
         Decides (design_view design.now) case.now w.column w.spot s.places) wants.now) }
 {
@@ -46,7 +48,9 @@ fn reasons_for(
     design: &Design,
     case: &Case,
     wants: &[Want],
-) -> Result<Reasons, AllocError> {
+) -> Result<Reasons, AllocError>
+    requires lawful { IsLawful (design_view design.now) }
+{
     let mut subjects = Vec::new(alloc);
     for want in wants {
         subjects.push(want.subject())?;

@@ -5,7 +5,7 @@ ghost use Rattle.std.specs.Prelude.{◌≡◌, [], IfOk};
 ghost use Rattle.std.specs.List.{AllByRecursion};
 ghost use Rattle.bd_model.specs.DesignView.{design_view, machine_view};
 ghost use Rattle.bd_model.specs.ExprView.{expr_views, list_of_views};
-ghost use Rattle.bd_model.specs.Lawful.{IsLawful, IsLawfulMachine, entry_sorts};
+ghost use Rattle.bd_model.specs.Lawful.{IsLawful, IsLawfulMachine, IsWithinLimits, entry_sorts};
 ghost use Rattle.bd_symbolic.specs.DesignSymbols.{GrowsWithin, KeepsDesign};
 ghost use Rattle.bd_symbolic.specs.Made.{AreMadeOver};
 ghost use Rattle.bd_symbolic.specs.Symbolic.{AreTerms, HaveSorts, context_in};
@@ -109,6 +109,7 @@ fn next_terms(
     requires sorted { AllByRecursion (HasSomeSort (context_in graph.old
         (terms_of (design_view design.now) state.now lets.now)))
         (list_of_views (expr_views nexts.now)) }
+    requires limits { AllByRecursion IsWithinLimits (list_of_views (expr_views nexts.now)) }
     ensures terms { IfOk result (DenoteExprs graph.old graph.new
         (terms_of (design_view design.now) state.now lets.now)
         (list_of_views (expr_views nexts.now))) }

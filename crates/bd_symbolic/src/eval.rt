@@ -5,7 +5,7 @@ ghost use Rattle.bd_model.specs.ExprView.{And, Or};
 ghost use Rattle.bd_model.specs.declared.design.Sort.TheVariants as sort;
 ghost use Rattle.bd_model.specs.declared.design.Sort.{Sort};
 ghost use Rattle.bd_model.specs.DesignView.{design_view};
-ghost use Rattle.bd_model.specs.Lawful.{HasSort};
+ghost use Rattle.bd_model.specs.Lawful.{HasSort, IsWithinLimits};
 ghost use Rattle.bd_symbolic.specs.DesignSymbols.{GrowsWithin};
 ghost use Rattle.bd_symbolic.specs.Symbolic.{AreTerms, DenotesExpr, context_in};
 ghost use Rattle.bd_symbolic.specs.Terms.{terms_of};
@@ -41,6 +41,7 @@ pub fn sym_eval(
     requires terms { AreTerms graph.old (terms_of (design_view design.now) state.now lets.now) }
     requires sorted { (s : Sort) × HasSort (context_in graph.old
         (terms_of (design_view design.now) state.now lets.now)) (expr_view expr.now) s }
+    requires limits { IsWithinLimits (expr_view expr.now) }
     ensures term { IfOk result (λ id. DenotesExpr graph.old graph.new
         (terms_of (design_view design.now) state.now lets.now) (expr_view expr.now) id) }
     ensures grows { GrowsWithin (design_view design.now) graph.old graph.new }

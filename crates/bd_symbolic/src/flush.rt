@@ -6,7 +6,7 @@
 ghost use Rattle.std.specs.Prelude.{◌≡◌, IfOk, map};
 ghost use Rattle.std.specs.List.{AllByRecursion};
 ghost use Rattle.bd_model.specs.DesignView.{design_view, port_view, PortView};
-ghost use Rattle.bd_model.specs.Lawful.{IsLawful};
+ghost use Rattle.bd_model.specs.Lawful.{IsLawful, IsWithinLimits};
 ghost use Rattle.bd_symbolic.specs.DesignSymbols.{GrowsWithin, KeepsDesign};
 ghost use Rattle.bd_symbolic.specs.Made.{AreFlushed, AreMadeOver, IsFlushCycle};
 ghost use Rattle.bd_symbolic.specs.Symbolic.{AreTerms, context_in};
@@ -122,6 +122,8 @@ fn idle_terms(
     requires sorted { AllByRecursion (HasSomeSort (context_in graph.old
         (terms_of (design_view design.now) state.now lets.now)))
         (map (λ (p : PortView). p.idle) (map port_view ports.now)) }
+    requires limits { AllByRecursion (λ (p : PortView). IsWithinLimits p.idle)
+        (map port_view ports.now) }
     ensures terms { IfOk result (DenoteExprs graph.old graph.new
         (terms_of (design_view design.now) state.now lets.now)
         (map (λ (p : PortView). p.idle) (map port_view ports.now))) }

@@ -1,7 +1,8 @@
 //! Terms of lets.
 ghost use Rattle.std.specs.Prelude.{IfOk, [], map};
-ghost use Rattle.bd_model.specs.DesignView.{design_view, local_view};
-ghost use Rattle.bd_model.specs.Lawful.{LetsHaveSorts};
+ghost use Rattle.std.specs.List.{AllByRecursion};
+ghost use Rattle.bd_model.specs.DesignView.{LocalView, design_view, local_view};
+ghost use Rattle.bd_model.specs.Lawful.{IsWithinLimits, LetsHaveSorts};
 ghost use Rattle.bd_symbolic.specs.DesignSymbols.{GrowsWithin};
 ghost use Rattle.bd_symbolic.specs.Symbolic.{AreTerms, context_in};
 ghost use Rattle.bd_symbolic.specs.Terms.{terms_of};
@@ -26,6 +27,8 @@ pub fn sym_lets(
     requires terms { AreTerms graph.old (terms_of (design_view design.now) state.now []) }
     requires sorted { LetsHaveSorts
         (context_in graph.old (terms_of (design_view design.now) state.now []))
+        (map local_view locals.now) }
+    requires limits { AllByRecursion (λ (l : LocalView). IsWithinLimits l.value)
         (map local_view locals.now) }
     ensures lets { IfOk result (DenoteLets (design_view design.now) graph.old graph.new
         state.now (map local_view locals.now)) }

@@ -87,9 +87,6 @@ module _ (order : Order) (is : IsOrder order) (vars : List ℕ) (clauses : List 
   -- they are met exactly where in no triangle exactly two edges are true
   pub clauses_meet : (v : ℕ → Bool) → Satisfies v clauses ↔ MeetsTriangles order (edge_value v vars)
   clauses_meet v = (to, from) where
-    value : ℕ → Bool
-    value = edge_value v vars
-
     rising : Satisfies v clauses → (d e f : ℕ) → d < e → IsTriangle order d e f → IsNotTwo (edge_value v vars d) (edge_value v vars e) (edge_value v vars f)
     rising sat d e f less made =
         let parts = parts_satisfied (triangle_clauses vars) v t.triangles (sym (ap (clauses_value v) t.is) ∙ sat) in

@@ -35,9 +35,6 @@ module _ (nodes : List PropNode) (root : ℕ) (inside : ℕ → Bool) (graph : I
       (negation : (path : List Literal) (gate : Literal) (id a : ℕ) (cs : List (List Literal)) → StandsAt nodes id (Not a) → P path (negate gate) a cs → P path gate id cs)
       (choice : (path : List Literal) (gate : Literal) (id a b c : ℕ) (xs ys : List (List Literal)) → a < top → Reaches nodes root a → inside a ≡ false → StandsAt nodes id (Ite a b c)
       → P (path ++ negate (child a) ∷ []) gate b xs → P (path ++ child a ∷ []) gate c ys → P path gate id (xs ++ ys)) where
-    Each : ℕ → Type 0
-    Each levels = (path : List Literal) (gate : Literal) (id : ℕ) → id < levels → Reaches nodes root id → P path gate id (branch_clauses nodes inside child levels path gate id)
-
     inner_step : (levels : ℕ) → levels ≤ top → ((path : List Literal) (gate : Literal) (id : ℕ) → id < levels → Reaches nodes root id → P path gate id (branch_clauses nodes inside child levels path gate id))
         → (path : List Literal) (gate : Literal) (id : ℕ) (n : PropNode) → id ≤ levels → Reaches nodes root id → StandsAt nodes id n → fits inside true n ≡ true
         → P path gate id (inner_clauses child (branch_clauses nodes inside child levels) path gate n)

@@ -2,7 +2,8 @@
 use Rattle.std.proofs.Common.{◌≡◌, ℕ, ◌+◌, Bool, true, false, List, [], ◌∷◌, length, inl, inr, Option, Some, None, Result, Ok, refl, ap, sym, ◌∙◌, subst, arith}
 use Rattle.std.specs.Prelude.{◌||◌, ◌==◌, not, slice_get, codes}
 use Rattle.std.proofs.lemmas.Bool.Decides.{nat_tests}
-use Rattle.bd_model.specs.ExprView.{ExprView, Truth, views_of_list, count_of}
+use Rattle.bd_list.proofs.Truths.{neither}
+use Rattle.bd_model.specs.ExprView.{ExprView, views_of_list, count_of}
 use Rattle.bd_model.specs.ExprView as view
 use Rattle.bd_model.specs.Fits.{result_sort}
 use Rattle.bd_model.specs.Lawful.{Context, HasSort, HaveSort}
@@ -34,10 +35,6 @@ of_sort-same want offset x sort is = rw (is, same_sort-same want) refl
 -- a step that gives a value, before another
 then_gives : {A B E : Type 0} (r : Result A E) (f : A → Result B E) (x : A) (y : Result B E) → r ≡ Ok x → f x ≡ y → (r >>= f) ≡ y
 then_gives r f x y first second = rw first second
-
-neither : (a b : Bool) → (a || b) ≡ false → (a ≡ false) × (b ≡ false)
-neither true b h = absurd (cc h)
-neither false b h = (refl, h)
 
 -- a let that uses an input only where inputs may be used
 may_use : (inputs uses : Bool) → (uses ≡ true → inputs ≡ true) → (inputs || not uses) ≡ true

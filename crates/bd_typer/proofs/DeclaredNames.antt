@@ -9,6 +9,7 @@ use Rattle.bd_model.specs.declared.design.Sort.TheVariants as sorts
 use Rattle.bd_model.specs.declared.design.Entry as entry
 use Rattle.bd_model.specs.declared.design.Symbol as symbol
 use Rattle.bd_model.specs.Name.{IsName}
+use Rattle.bd_syntax.proofs.Results.{split_and}
 use Rattle.bd_syntax.specs.WellFormed.{HasParts}
 use Rattle.bd_syntax.specs.Words.{same_text}
 use Rattle.bd_syntax.specs.Forms.{ItemView, latch_item, memory_item, input_item, function_item, predicate_item, let_item, next_item, flush_item, steps_item, exact_item, distinct_item}
@@ -19,7 +20,7 @@ use Rattle.bd_typer.specs.Across.{agrees, same_truth}
 use Rattle.bd_typer.specs.Declarations.{declared_name}
 use Rattle.bd_typer.specs.NameMap.{NameMap, declare, Scope, with_entry, with_input, with_symbol, with_item}
 use Rattle.bd_typer.specs.Repeats.{NameSet, with_text, repeated}
-use Rattle.bd_typer.proofs.Lists.{both_true, same_text-true, same_text-same, get-left, get-end, get-push}
+use Rattle.bd_typer.proofs.Lists.{same_text-true, same_text-same, get-left, get-end, get-push}
 
 -- an input as a name with its sort
 abbrev pub input_entry : ItemView → Option entry.Entry
@@ -194,7 +195,7 @@ module _ (others : NameMap) (first : List symbol.Symbol) (stand : OthersStand ot
     count = ok.count;
   }
   symbol_ok arity predicate small (Some (Symbol n a p)) is h =
-      let q = both_true (a == arity) (same_truth p predicate) h in
+      let q = split_and (a == arity) (same_truth p predicate) h in
       let e : a ≡ arity = grind (arith, nat_tests, q.0) in
       let f : p ≡ predicate = same_truth-true p predicate q.1 in
       let there : slice_get scope.symbols n ≡ Some (symbol_of name arity predicate) =

@@ -42,10 +42,6 @@ AtPlaces tag k [] = Unit {0}
 AtPlaces tag k (x ∷ xs) = (tag x ≡ k) × AtPlaces tag (k + 1) xs
 
 module _ {X : Type 0} (tag : X → ℕ) where
-  placed : (k : ℕ) (xs : List X) → ((n : ℕ) (x : X) → slice_get xs n ≡ Some x → tag x ≡ k + n) → AtPlaces tag k xs
-  placed k [] h = tt
-  placed k (x ∷ xs) h = (omega (arith, h 0 x refl), placed (k + 1) xs (λ n y there. omega (arith, h (suc n) y there)))
-
   placed_append : (k : ℕ) (xs ys : List X) → AtPlaces tag k xs → AtPlaces tag (k + length xs) ys → AtPlaces tag k (xs ++ ys)
   placed_append k [] ys h g = let e : k + 0 ≡ k = omega arith in subst (λ n. AtPlaces tag n ys) e g
   placed_append k (x ∷ xs) ys h g =

@@ -1,20 +1,16 @@
 -- Texts that are equal, and places of lists that grow.
-use Rattle.std.proofs.Common.{◌≡◌, ⊎_elim, inl, inr, ℕ, zero, suc, Bool, true, false, List, [], ◌∷◌, ◌++◌, length, Option, Some, None, refl, ap, arith}
-use Rattle.std.specs.Prelude.{◌⊎◌, ◌&&◌, nat_eq, slice_get}
+use Rattle.std.proofs.Common.{◌≡◌, ⊎_elim, inl, inr, ℕ, zero, suc, true, List, [], ◌∷◌, ◌++◌, length, Option, Some, None, refl, ap, arith}
+use Rattle.std.specs.Prelude.{◌⊎◌, nat_eq, slice_get}
 use Rattle.std.proofs.lemmas.Bool.{eqb-true}
+use Rattle.bd_syntax.proofs.Results.{split_and}
 use Rattle.bd_syntax.specs.Words.{same_text}
-
-pub both_true : (a b : Bool) → (a && b) ≡ true → (a ≡ true) × (b ≡ true)
-both_true true true e = (refl, refl)
-both_true true false e = absurd (cc e)
-both_true false b e = absurd (cc e)
 
 pub same_text-true : (a b : List ℕ) → same_text a b ≡ true → a ≡ b
 same_text-true [] [] h = refl
 same_text-true [] (y ∷ ys) h = absurd (cc h)
 same_text-true (x ∷ xs) [] h = absurd (cc h)
 same_text-true (x ∷ xs) (y ∷ ys) h =
-    let p = both_true (nat_eq x y) (same_text xs ys) h in
+    let p = split_and (nat_eq x y) (same_text xs ys) h in
     let head : x ≡ y = eqb-true x y p.0 in
     let tail : xs ≡ ys = same_text-true xs ys p.1 in
     rw (head, tail) refl

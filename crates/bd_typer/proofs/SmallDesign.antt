@@ -4,6 +4,7 @@ use Rattle.std.specs.Prelude.{◌&&◌, ◌==◌, not, nat_le, codes}
 use Rattle.std.specs.List.{list_all, All}
 use Rattle.std.proofs.lemmas.List.Elements.{All-nil, All-cons}
 use Rattle.std.proofs.lemmas.Bool.Decides.{nat_tests}
+use Rattle.bd_syntax.proofs.Results.{split_and}
 use Rattle.bd_text.specs.Faults.{HasNoFault}
 use Rattle.bd_text.specs.Grammar.{Spells}
 use Rattle.bd_text.specs.Layout.{IsAtomByte}
@@ -22,7 +23,6 @@ use Rattle.bd_typer.specs.Typing.{typed_leaf}
 use Rattle.bd_typer.specs.Walk.{typed_next}
 use Rattle.bd_typer.specs.declared.premise.Premise.TheVariants as premises
 use Rattle.bd_typer.proofs.DenotedLawful.{denotes_lawful}
-use Rattle.bd_typer.proofs.Lists.{both_true}
 
 -- ---- trees with offsets put in
 
@@ -67,7 +67,7 @@ plain_byte b h = grind (arith, nat_tests)
 
 plain_bytes : (bs : List ℕ) → list_all is_plain_byte bs ≡ true → All IsAtomByte bs
 plain_bytes [] h = All-nil IsAtomByte
-plain_bytes (b ∷ bs) h = let p = both_true (is_plain_byte b) (list_all is_plain_byte bs) h in All-cons IsAtomByte b bs (plain_byte b p.0) (plain_bytes bs p.1)
+plain_bytes (b ∷ bs) h = let p = split_and (is_plain_byte b) (list_all is_plain_byte bs) h in All-cons IsAtomByte b bs (plain_byte b p.0) (plain_bytes bs p.1)
 
 abbrev mutual
   is_plain : Node → Bool
@@ -80,12 +80,12 @@ abbrev mutual
 
 mutual
   plain : (t : Node) → is_plain t ≡ true → HasPlainAtoms t
-  plain (atom offset text) h = let p = both_true (nat_le 1 (length text)) (list_all is_plain_byte text) h in (grind (arith, nat_tests, p.0), plain_bytes text p.1)
+  plain (atom offset text) h = let p = split_and (nat_le 1 (length text)) (list_all is_plain_byte text) h in (grind (arith, nat_tests, p.0), plain_bytes text p.1)
   plain (list offset parts) h = all_plain parts h
 
   all_plain : (ts : Nodes) → are_plain ts ≡ true → HavePlainAtoms ts
   all_plain no_nodes h = tt
-  all_plain (node t ts) h = let p = both_true (is_plain t) (are_plain ts) h in (plain t p.0, all_plain ts p.1)
+  all_plain (node t ts) h = let p = split_and (is_plain t) (are_plain ts) h in (plain t p.0, all_plain ts p.1)
 
 record IsRead (t : Node) : Type 0 where
   no_fault : HasNoFault (written t)

@@ -3,7 +3,7 @@ use Rattle.std.proofs.Common.{◌≡◌, ℕ, ◌+◌, ◌≤◌, suc, Bool, tru
 use Rattle.std.specs.Prelude.{◌||◌, ◌==◌, not, slice_get, codes}
 use Rattle.std.proofs.lemmas.Option.{get_or_from_slice_get}
 use Rattle.std.proofs.lemmas.Bool.Decides.{nat_tests}
-use Rattle.bd_model.specs.ExprView.{ExprView, ExprViews, Truth, no_exprs, expr, views_of_list, count_of, depth, exprs_depth, width, exprs_width}
+use Rattle.bd_model.specs.ExprView.{ExprView, ExprViews, Truth, views_of_list, count_of, depth, exprs_depth, width, exprs_width}
 use Rattle.bd_model.specs.ExprView as view
 use Rattle.bd_model.specs.Fits.{result_sort}
 use Rattle.bd_model.specs.Lawful.{Context, HasSort, HaveSort, uses_input, any_uses_input}
@@ -165,9 +165,6 @@ module _ (c : Context) (flags : List Bool) (inputs : Bool) (want : ℕ → Sort)
   no_part (expression e es) xs count h = absurd (omega arith)
 
 module _ (c : Context) (flags : List Bool) (inputs : Bool) (want : Sort) (offset : ℕ) (head : Spot) where
-  Whole : Expressions → ExprView → Type 0
-  Whole es x = IsSound c flags inputs want (application offset head es) x
-
   one_sound : (f : ℕ → Sort) (es : Expressions) (xs : List ExprView) → expression_count es ≡ 1 → AreSound c flags inputs f 0 es xs → want ≡ sorts.Bool → f 0 ≡ sorts.Bool → IsSound c flags inputs want (application offset head es) (of_one_part xs)
   one_sound f es xs count h is fs =
       let p = first_part c flags inputs f 0 es xs 0 count h in

@@ -18,6 +18,7 @@ use Rattle.bd_model.specs.declared.design.Sort.{Sort}
 use Rattle.bd_model.specs.declared.design.Sort.TheVariants as sorts
 use Rattle.bd_model.specs.declared.design.Entry as entry
 use Rattle.bd_model.specs.declared.design.Symbol as symbol
+use Rattle.bd_syntax.proofs.Results.{split_and}
 use Rattle.bd_syntax.specs.Words.{same_text}
 use Rattle.bd_syntax.specs.Forms.{Expression, ItemView, latch_item, memory_item, input_item, function_item, predicate_item, let_item, next_item, flush_item, steps_item, exact_item, distinct_item}
 use Rattle.bd_syntax.specs.WellFormed.{IsExpression, IsLimited, IsLimitedItem, HasParts}
@@ -30,7 +31,7 @@ use Rattle.bd_typer.specs.Declarations.{next_name}
 use Rattle.bd_typer.specs.NameMap.{NameMap, declare}
 use Rattle.bd_typer.specs.Typing.{typed}
 use Rattle.bd_typer.specs.Walk.{Typed, typed_input, with_local, typed_let, entry_named, typed_next, typed_exact, constant_named, constants, typed_distinct, typed_item, typed_items}
-use Rattle.bd_typer.proofs.Lists.{some_is, both_true, same_text-true, same_text-same, get-left, get-end}
+use Rattle.bd_typer.proofs.Lists.{some_is, same_text-true, same_text-same, get-left, get-end}
 use Rattle.bd_typer.specs.Repeats.{NameSet, no_texts, with_text, with_names}
 use Rattle.bd_typer.proofs.DeclaredNames.{Stands, LetIsLater, input_entry}
 use Rattle.bd_text.specs.declared.code.Code.TheVariants.{DeclaredTwice}
@@ -282,7 +283,7 @@ constant_meant f names locals flags are offset q i h = ⊎_elim
       is_constant : (m : Option Meaning) → constant_named offset m ≡ Ok i → m ≡ Some (Symbol i 0 false)
       is_constant (Some (Symbol n a b)) h =
           let p = passes ((a == 0) && not b) n i _ h in
-          let e = both_true (a == 0) (not b) p.0 in
+          let e = split_and (a == 0) (not b) p.0 in
           let zero-is : a ≡ 0 = grind (arith, nat_tests, e.0) in
           let false-is : b ≡ false = is_not b e.1 in
           rw (zero-is, false-is, p.1) refl

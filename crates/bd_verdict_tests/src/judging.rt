@@ -1,4 +1,9 @@
 //! Cases judged by a completion.
+ghost use Rattle.std.specs.Prelude.{IfOk};
+ghost use Rattle.bd_abstraction.specs.Abstraction.{IsLawfulAbstraction};
+ghost use Rattle.bd_model.specs.DesignView.{design_view};
+ghost use Rattle.bd_model.specs.Lawful.{IsLawful};
+
 use bd_case::read_case;
 use bd_completion::judge_by;
 use bd_model::{Case, Condition, Judged};
@@ -39,7 +44,10 @@ static ROWS: [(&str, &str, Judged); 4] = [
 ];
 
 /// The design and the abstraction of the texts.
-fn joined(alloc: Global, comp: &str) -> Result<Joined, DesignFault> {
+fn joined(alloc: Global, comp: &str) -> Result<Joined, DesignFault>
+    ensures lawful { IfOk result (λ j. IsLawful (design_view j.design)) }
+    ensures abstraction { IfOk result (λ j. IsLawfulAbstraction (design_view j.design) j.abs) }
+{
     let (pipe, spec) = (PIPE.as_bytes(), SPEC.as_bytes());
     let (comp, inv) = (comp.as_bytes(), INV.as_bytes());
     if pipe.len() > 1_048_576 || spec.len() > 1_048_576 {
@@ -52,12 +60,18 @@ fn joined(alloc: Global, comp: &str) -> Result<Joined, DesignFault> {
 }
 
 /// What a case shows by the abstraction of a completed design.
-fn judged_case(alloc: Global, joined: &Joined, case: &Case) -> Result<Option<Judged>, AllocError> {
+fn judged_case(alloc: Global, joined: &Joined, case: &Case) -> Result<Option<Judged>, AllocError>
+    requires lawful { IsLawful (design_view joined.now.design) }
+    requires abstraction { IsLawfulAbstraction (design_view joined.now.design) joined.now.abs }
+{
     Ok(Some(judge_by(alloc, &joined.design, &joined.abs, case)?))
 }
 
 /// What the case that a text denotes shows by an abstraction; nothing if the text has a fault.
-fn judged_text(alloc: Global, joined: &Joined, case: &str) -> Result<Option<Judged>, AllocError> {
+fn judged_text(alloc: Global, joined: &Joined, case: &str) -> Result<Option<Judged>, AllocError>
+    requires lawful { IsLawful (design_view joined.now.design) }
+    requires abstraction { IsLawfulAbstraction (design_view joined.now.design) joined.now.abs }
+{
     match read_case(alloc, &joined.design, case.as_bytes()) {
         Ok(case) => judged_case(alloc, joined, &case),
         Err(_) => Ok(None),

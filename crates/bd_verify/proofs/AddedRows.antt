@@ -12,8 +12,8 @@ use Rattle.bd_transitive.proofs.Ends.{no_edge}
 use Rattle.bd_tseitin.specs.declared.row.AtomVar.{AtomVar}
 use Rattle.bd_tseitin.specs.Rows.{AreRows, HasAtom}
 use Rattle.bd_tseitin.proofs.Further.{AreRows-push}
+use Rattle.bd_transitive.proofs.OrderSpans.{at_from_Contains}
 use Rattle.bd_verify.specs.Kept.{AddsRows, AreVariables, IsFurtherRow, edge_row}
-use Rattle.bd_verify.proofs.Entries.{at-Contains}
 
 pub AddsRows-none : (edges : List Edge) (vars : ℕ) (rows : List AtomVar) → AreRows vars rows → AddsRows edges vars rows vars rows
 AddsRows-none edges vars rows are = record {
@@ -118,8 +118,8 @@ AreVariables-all P rows edges vars all h = All-from_get_or P vars 0 (λ e lt.
 -- a variable has one row
 pub one-row : (n : ℕ) (rows : List AtomVar) → AreRows n rows → (r s : AtomVar) → Contains rows r → Contains rows s → r.var ≡ s.var → r ≡ s
 one-row n rows are r s p q e =
-    let a = at-Contains rows r p in
-    let b = at-Contains rows s q in
+    let a = at_from_Contains rows r p in
+    let b = at_from_Contains rows s q in
     let same : a.0 ≡ b.0 = are.variables a.0 b.0 r s a.1 b.1 e in
     same_Some r s (sym a.1 ∙ ap (slice_get rows) same ∙ b.1)
 

@@ -37,7 +37,8 @@ use Rattle.bd_verify.specs.declared.verdict.Mode.TheVariants as mode
 use Rattle.bd_verify.specs.Decided.{IsKnownRoot}
 use Rattle.bd_verify.specs.Kept.{AreMarks, IsFlatOf}
 use Rattle.bd_verify.specs.inner.Questions.{FollowsRoot, KeepsWordsApart, MarksPositive}
-use Rattle.bd_verify.proofs.Entries.{Contains-at, at-Contains, one-entry}
+use Rattle.bd_verify.proofs.Entries.{one-entry}
+use Rattle.bd_transitive.proofs.OrderSpans.{at_from_Contains, Contains-from_at}
 use Rattle.bd_verify.proofs.MarkedApart.{marked-apart}
 
 -- two members of a group with different values have them wherever they stand
@@ -67,7 +68,7 @@ module _ (d : DesignView) (nodes : List Node) (root : ℕ) (syms : List FlatSym)
       let none : arguments v nodes c.row ≡ [] = ap (words (under v) nodes) c.plain in
       ap (λ y. scalar_word (v y)) (sym c.variable)
       ∙ ap scalar_word (sym (first-value v nodes c.holder.rows c.row c.first c.plain) ∙ ap (first_value v nodes c.holder.rows) (sym none)
-      ∙ keeps.first c.holder c.listed c.row (Contains-at c.holder.rows 0 c.row c.first))
+      ∙ keeps.first c.holder c.listed c.row (Contains-from_at c.holder.rows 0 c.row c.first))
       ∙ ap (λ args. scalar_word (at (w c.holder.sym) args)) none
       ∙ ap (λ s. scalar_word (at (w s) [])) c.same
 
@@ -83,7 +84,7 @@ module _ (d : DesignView) (nodes : List Node) (root : ℕ) (syms : List FlatSym)
 
   pub words-apart : KeepsConstantsApart d w → (edge : Edge) → IsApart nodes syms d.distinct marked edge → scalar_word (v edge.from) ≢ scalar_word (v edge.to)
   words-apart apart edge e same =
-      let place = at-Contains d.distinct e.group e.listed in
+      let place = at_from_Contains d.distinct e.group e.listed in
       let pairs = AllByRecursion-get (AllPairs (λ f g. applied w (symbol.Function f) [] ≢ applied w (symbol.Function g) [])) d.distinct place.0 e.group apart place.1 in
       pairs-apart (λ f. applied w (symbol.Function f) []) e.group pairs e.f e.g e.has_f e.has_g (constants-different edge e)
       (sym (constant-value e.f edge.from e.from) ∙ same ∙ constant-value e.g edge.to e.to)

@@ -43,14 +43,13 @@ use Rattle.bd_equality.specs.Edges.{IsApart, IsConstant, IsEdge, IsVertex, Reach
 use Rattle.bd_equality.specs.Encoding.{Encodes, EncodesByEdges, atom_value, has_mark}
 use Rattle.bd_lift.specs.Decoded.{variable_use}
 use Rattle.bd_lift.specs.Lifted.{AreKnown, TellsApart}
-use Rattle.bd_lift.proofs.Ends.{joins-turned}
 use Rattle.bd_lift.proofs.Known.{known-function}
 use Rattle.bd_verify.specs.Kept.{IsDenied, IsFormulaOf}
 use Rattle.bd_verify.specs.inner.Edges.{MeansEdges, edge_value, edge_values}
 use Rattle.bd_verify.specs.inner.Questions.{Formulates, IsAdmitted, KeepsWordsApart}
 use Rattle.bd_tseitin.proofs.Laws.{AreRows-form, denoted, denoted_agrees, denoted_satisfies, satisfied_holds, within_form}
 use Rattle.bd_verify.proofs.EdgesMean.{edges-mean}
-use Rattle.bd_verify.proofs.Entries.{Contains-at, at-Contains}
+use Rattle.bd_transitive.proofs.OrderSpans.{at_from_Contains, Contains-from_at, joins_at_comm}
 
 -- the value of an edge by its number
 pub value-at : (value : Atom → Bool) (edges : List Edge) (e : ℕ) (d : Edge) → e < length edges → value_at (edge_values value edges) e ≡ edge_value value (get_or edges e d)
@@ -111,7 +110,7 @@ module _ (d : DesignView) (nodes : List Node) (root : ℕ) (syms : List FlatSym)
   -- the first application of a constant has its vertex, unless it is marked
   constant-of : (f : ℕ) (s : FlatSym) (q : FlatRow) → IsConstantOf d f → Contains syms s → s.sym ≡ symbol.Function f → slice_get s.rows 0 ≡ Some q → has_mark marked q.var ≡ false → IsConstant nodes syms marked f q.var
   constant-of f s q c p e first unmarked =
-      let k = known.each s p q (Contains-at s.rows 0 q first) in
+      let k = known.each s p q (Contains-from_at s.rows 0 q first) in
       let is = known-function d k.applied f k.known (k.same ∙ e) in
       let same : is.0 ≡ c.0 = same_Some is.0 c.0 (sym is.1 ∙ c.1) in
       let kind : k.applied.sort ≡ sort.Word = ap (λ (u : Use). u.sort) is.2 ∙ ap result_sort same ∙ ap (λ (b : Bool). if b then sort.Bool else sort.Word) c.3 in
@@ -133,10 +132,10 @@ module _ (d : DesignView) (nodes : List Node) (root : ℕ) (syms : List FlatSym)
       → TellsApart d syms order (value_at (edge_values value order.edges))
   tells-apart order value ends false_at = record {
     apart = λ group p f g pf pg ne s t ps pt es et q r first second.
-        let place = at-Contains d.distinct group p in
+        let place = at_from_Contains d.distinct group p in
         let lawful_group : IsLawfulGroup d group = AllByRecursion-get (IsLawfulGroup d) d.distinct place.0 group lawful.distinct place.1 in
-        let at_f = at-Contains group f pf in
-        let at_g = at-Contains group g pg in
+        let at_f = at_from_Contains group f pf in
+        let at_g = at_from_Contains group g pg in
         elim (cases_Bool (has_mark marked q.var)) [
           | inl mark ↦ inr (inl (alone q.var mark))
           | inr unmarked ↦ elim (cases_Bool (has_mark marked r.var)) [
@@ -146,7 +145,7 @@ module _ (d : DesignView) (nodes : List Node) (root : ℕ) (syms : List FlatSym)
                 let cg = constant-of g t r (AllByRecursion-get (IsConstantOf d) group at_g.0 g lawful_group.constants at_g.1) pt et second unmarked' in
                 elim (cases_order q.var r.var) [
                   | inl same ↦
-                      let one = (flat.different s t q r ps (Contains-at s.rows 0 q first) pt (Contains-at t.rows 0 r second) same).0 in
+                      let one = (flat.different s t q r ps (Contains-from_at s.rows 0 q first) pt (Contains-from_at t.rows 0 r second) same).0 in
                       let bad : symbol.Function f ≡ symbol.Function g = sym es ∙ one ∙ et in
                       absurd (ne (function-number f g bad))
                   | inr (inl lt) ↦ inl (told (record { from = q.var; to = r.var }) (false_at (record { from = q.var; to = r.var })
@@ -167,7 +166,7 @@ module _ (d : DesignView) (nodes : List Node) (root : ℕ) (syms : List FlatSym)
     told edge h = let s = stands-in order.edges value edge h.0 in (s.at, s.joins, s.is ∙ h.1)
 
     turned : (edge : Edge) → Contains order.edges edge × (edge_value value edge ≡ false) → (e : ℕ) × JoinsAt order.edges e edge.to edge.from × (value_at (edge_values value order.edges) e ≡ false)
-    turned edge h = let s = stands-in order.edges value edge h.0 in (s.at, joins-turned order.edges s.at edge.from edge.to s.joins, s.is ∙ h.1)
+    turned edge h = let s = stands-in order.edges value edge h.0 in (s.at, joins_at_comm order.edges s.at edge.from edge.to s.joins, s.is ∙ h.1)
 
   module _ (prop : List PropNode) (prop_root : ℕ) (edges apart : List Edge) (by_value : Encodes nodes root marked prop prop_root) (by_edges : EncodesByEdges nodes root marked edges prop prop_root)
       (edges_are : (edge : Edge) → Contains edges edge ↔ (ReachesEdge prop prop_root edge ⊎ Contains apart edge)) (vertices : All (IsEdge nodes marked) edges)

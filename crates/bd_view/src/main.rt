@@ -6,7 +6,7 @@
 
 ghost use Rattle.std.specs.Prelude.{◌≡◌, [], codes, IfOk, IsErrOf};
 ghost use Rattle.std.specs.Process.{exit_status};
-ghost use Rattle.bd_files.specs.Devices.{PutsOrFaults};
+ghost use Rattle.bd_files.specs.Devices.{Counts, PutsOrFaults};
 ghost use Rattle.bd_app.specs.Meaning.{files_seen};
 ghost use Rattle.bd_app.specs.Program.{sink_seen};
 ghost use Rattle.bd_app.specs.Words.{texts_of};
@@ -54,6 +54,8 @@ fn program<F: Files, O: Sink, E: Sink>(
         exit_status result ≡ status_of Ended.Memory }
     ensures no_words_line { IsErrOf words WordsError.Memory →
         PutsOrFaults E.written E.faults err.old err.new (codes "out of memory\n") }
+    ensures no_words_once { IsErrOf words WordsError.Memory →
+        Counts (E.puts err.old) (E.puts err.new) 1 }
     ensures no_words_files { IsErrOf words WordsError.Memory → files.new ≡ files.old }
     ensures no_words_out { IsErrOf words WordsError.Memory → out.new ≡ out.old }
 {

@@ -1,4 +1,6 @@
 //! Whether the pipeline is empty where its flushing ends.
+ghost use Rattle.bd_model.specs.DesignView.{design_view};
+ghost use Rattle.bd_model.specs.Lawful.{IsLawful};
 
 use bd_diagram::{Diagram, Flushing};
 use bd_model::{Case, Design};
@@ -11,7 +13,9 @@ pub fn is_short(
     design: &Design,
     case: &Case,
     diagram: &Diagram,
-) -> Result<bool, AllocError> {
+) -> Result<bool, AllocError>
+    requires lawful { IsLawful (design_view design.now) }
+{
     Ok(
         goes_on(alloc, design, case, &diagram.before)?
             || goes_on(alloc, design, case, &diagram.after)?,
@@ -24,7 +28,9 @@ fn goes_on(
     design: &Design,
     case: &Case,
     flushing: &Flushing,
-) -> Result<bool, AllocError> {
+) -> Result<bool, AllocError>
+    requires lawful { IsLawful (design_view design.now) }
+{
     let Some(end) = flushing.states.as_slice().last() else {
         return Ok(false);
     };

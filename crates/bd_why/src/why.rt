@@ -1,4 +1,7 @@
 //! Why a value of a case's run is what it is.
+ghost use Rattle.std.specs.Prelude.{IfOk};
+ghost use Rattle.bd_model.specs.DesignView.{design_view};
+ghost use Rattle.bd_model.specs.Lawful.{IsLawful};
 
 use crate::asked::{Asked, Missing, asked_of};
 use crate::flushed::is_short;
@@ -61,7 +64,9 @@ pub fn why_of(
     judged: Judged,
     sources: Sources<'_>,
     asked: Option<&str>,
-) -> Result<Explanation, AllocError> {
+) -> Result<Explanation, AllocError>
+    requires lawful { IsLawful (design_view design.now) }
+{
     let diagram = diagram_of(alloc, design, case)?;
     let goal = match goal_of(design, judged, &diagram, asked) {
         Ok(goal) => goal,
@@ -96,7 +101,9 @@ fn explained(
     case: &Case,
     sources: Sources<'_>,
     topic: Topic,
-) -> Result<Explanation, AllocError> {
+) -> Result<Explanation, AllocError>
+    requires lawful { IsLawful (design_view design.now) }
+{
     let view = view_of(alloc, design, sources)?;
     Ok(Explanation::Explained(lines(alloc, &view, case, topic)?))
 }
@@ -152,7 +159,10 @@ fn view_of<'a, 'b>(
     alloc: Global,
     design: &'a Design,
     sources: Sources<'b>,
-) -> Result<ListedDesign<'a, 'b>, AllocError> {
+) -> Result<ListedDesign<'a, 'b>, AllocError>
+    requires lawful { IsLawful (design_view design.now) }
+    ensures { IfOk result (λ v. IsLawful (design_view v.design.now)) }
+{
     let pipe = Listing::new(alloc, sources.pipe)?;
     let spec = Listing::new(alloc, sources.spec)?;
     let inv = match sources.inv {
@@ -173,7 +183,9 @@ fn lines(
     view: &ListedDesign<'_, '_>,
     case: &Case,
     topic: Topic,
-) -> Result<Vec<u8>, AllocError> {
+) -> Result<Vec<u8>, AllocError>
+    requires lawful { IsLawful (design_view view.now.design.now) }
+{
     let history = history_of(alloc, view.design, case)?;
     match topic.goal {
         Target::Nothing => Vec::from_slice(alloc, b"nothing differs\n"),
@@ -189,7 +201,9 @@ fn one_side(
     case: &Case,
     history: &History,
     subject: Subject,
-) -> Result<Vec<u8>, AllocError> {
+) -> Result<Vec<u8>, AllocError>
+    requires lawful { IsLawful (design_view view.now.design.now) }
+{
     let reasons = reasons_of(alloc, view.design, case, history, &[subject])?;
     let nothing = reasons_of(alloc, view.design, case, history, &[])?;
     let order = order_of(alloc, view, &reasons, subject, &nothing)?;
@@ -206,7 +220,9 @@ fn two_sides(
     history: &History,
     parting: Parting,
     is_short: bool,
-) -> Result<Vec<u8>, AllocError> {
+) -> Result<Vec<u8>, AllocError>
+    requires lawful { IsLawful (design_view view.now.design.now) }
+{
     let pipe = reasons_of(alloc, view.design, case, history, &[parting.pipe])?;
     let spec = reasons_of(alloc, view.design, case, history, &[parting.spec])?;
     told_sides(alloc, view, parting, &pipe, &spec, is_short)

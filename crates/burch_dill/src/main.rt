@@ -9,8 +9,10 @@
 ghost use Rattle.std.specs.Prelude.{◌≡◌, IfErr, IfOk, OnErr};
 ghost use Rattle.std.specs.Process.{exit_status};
 ghost use Rattle.bd_files.specs.Devices.{PutsOrFaults};
+ghost use Rattle.bd_files.specs.Pieces.{PutsInPieces};
 ghost use Rattle.bd_app.specs.Answer.{fault_line_of, status_of};
 ghost use Rattle.bd_app.specs.Meaning.{files_seen};
+ghost use Rattle.bd_app.specs.Pieces.{line_pieces_of};
 ghost use Rattle.bd_app.specs.Program.{sink_seen};
 ghost use Rattle.bd_app.specs.Words.{texts_of};
 ghost use Rattle.burch_dill.specs.Program.{EndsWith, ended_without};
@@ -61,6 +63,8 @@ fn end_without<E: Sink>(fault: WordsError, err: &mut E) -> ExitCode
     ensures status { exit_status result ≡ status_of (ended_without fault) }
     ensures line { PutsOrFaults E.written E.faults err.old err.new
         (fault_line_of (ended_without fault)) }
+    ensures pieces { PutsInPieces E.written E.faults E.puts err.old err.new
+        (fault_line_of (ended_without fault)) (line_pieces_of (ended_without fault)) }
 {
     let ended = ended_without(fault);
     ended.put_line(err);
@@ -86,6 +90,9 @@ fn program<F: Files, O: Sink, E: Sink>(
     ensures no_words { IfErr words (λ fault. exit_status result ≡ status_of (ended_without fault)) }
     ensures no_words_line { IfErr words (λ fault.
         PutsOrFaults E.written E.faults err.old err.new (fault_line_of (ended_without fault))) }
+    ensures no_words_pieces { IfErr words (λ fault.
+        PutsInPieces E.written E.faults E.puts err.old err.new
+        (fault_line_of (ended_without fault)) (line_pieces_of (ended_without fault))) }
     ensures no_words_files { OnErr words (files.new ≡ files.old) }
     ensures no_words_out { OnErr words (out.new ≡ out.old) }
 {

@@ -100,6 +100,7 @@ fn states_text(alloc: Global, design: &Design, states: &[State]) -> Result<Vec<u
 
 /// The text of a case's run.
 fn run_text(alloc: Global, design: &Design, case: &Case, cycles: u32) -> Result<Vec<u8>, AllocError>
+    requires lawful { IsLawful (design_view design.now) }
     ensures { IfOk result (λ text.
         text.items ≡ run_text (design_view design.now) case.now cycles) }
 {

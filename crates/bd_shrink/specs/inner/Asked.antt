@@ -1,15 +1,17 @@
 -- What is asked of less and less of a case.
 use Rattle.std.specs.Prelude.{◌≡◌, ◌<◌, ℕ, List, slice_get, slice_set, Some}
 use Rattle.bd_model.specs.DesignView.{design_view}
+use Rattle.bd_model.specs.Lawful.{IsLawful}
 use Rattle.bd_shrink.specs.Remnant.{remnant}
 use Rattle.bd_shrink.specs.Shrunk.{Shows, leaves}
 use Rattle.bd_shrink.specs.inner.Found.{IsApart}
 use Rattle.bd_shrink.specs.declared.fate.Fate.{Fate}
 use Rattle.bd_shrink.specs.declared.search.ShrinkGoal.{ShrinkGoal}
 
--- what is known to differ in the case is what differs in it
+-- the design is lawful, and what is known to differ in the case is what differs in it
 abbrev pub IsKnown : ShrinkGoal → Type 0
-IsKnown q = IsApart (design_view q.design.now) q.case.now q.apart.now
+IsKnown q =
+    IsLawful (design_view q.design.now) × IsApart (design_view q.design.now) q.case.now q.apart.now
 
 -- what the fates leave of the case shows what the case does
 abbrev pub ShowsBy : ShrinkGoal → List Fate → Type 0

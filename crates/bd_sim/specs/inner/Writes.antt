@@ -56,10 +56,6 @@ abbrev pub kept_value : Memories → Kept → Value
 kept_value m (kept.Scalar x) = value.Scalar x
 kept_value m (kept.Memory c) = value.Memory (memory_at m c)
 
-abbrev pub memory_kept : Kept → Chain
-memory_kept (kept.Scalar x) = chain.Zeros
-memory_kept (kept.Memory c) = c
-
 -- no write or one of these made it
 abbrev pub IsMade : Memories → Kept → Type 0
 IsMade m (kept.Memory (chain.Written place)) = place < length m.writes.items

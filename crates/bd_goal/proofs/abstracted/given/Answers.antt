@@ -1,12 +1,14 @@
-use Rattle.std.proofs.Common.{◌≤◌, ◌∙◌, [], map, ap, sym, subst, length, arith}
+use Rattle.std.proofs.Common.{◌≤◌, ◌∙◌, [], map, ap, refl, sym, subst, length, arith}
+use Rattle.std.specs.List.{AllByRecursion}
 use Rattle.std.specs.Prelude.{slice_get}
 use Rattle.bd_model.specs.DesignView.{design_view, local_view}
 use Rattle.bd_model.specs.ExprView.{expr_view, expr_views, list_of_views}
-use Rattle.bd_model.specs.Lawful.{HasSort, entry_sorts}
+use Rattle.bd_model.specs.Lawful.{HasSort, IsWithinLimits, entry_sorts}
 use Rattle.bd_model.specs.declared.design.Sort.{Sort}
 use Rattle.bd_symbolic.specs.Symbolic.{AreTerms, DenotesExpr, context_in, terms_of}
 use Rattle.bd_model.specs.declared.expr.Exprs.{out-Exprs}
 use Rattle.bd_model.proofs.Views.{list_of-expr_views}
+use Rattle.bd_symbolic.proofs.Firsts.{item_of_all, item_seen}
 use Rattle.bd_symbolic.proofs.Growing.{Grows-trans}
 use Rattle.bd_symbolic.specs.Made.{AreMadeOver}
 use Rattle.bd_symbolic.specs.declared.state.SymState.{SymState}
@@ -52,6 +54,15 @@ sym_eval-requires-clause-sorted c =
     subst (λ ls. (u : Sort) × HasSort (context_in c.loop-part.graph (terms_of d c.in_ok-alone.alone ls)) (expr_view c.part-item.result) u) c.lets.view_is
     (gathers-ready d [] _ _ _ (map local_view c.args.lets.now) _ (entry_sorts d.spec) (list_of_views (expr_views c.args.parts.now)) c.loop-part.part-index _ _ (given-sorts d (map local_view c.args.lets.now) (list_of_views (expr_views c.args.parts.now)) c.requires.given) at
     c.loop-part.invariant)
+
+pub sym_lets-requires-clause-limits : goal.sym_lets-requires-clause-limits
+sym_lets-requires-clause-limits c = c.requires.given.let_limits
+
+pub sym_eval-requires-clause-limits : goal.sym_eval-requires-clause-limits
+sym_eval-requires-clause-limits c =
+    let whole = list_of-expr_views c.args.parts.now ∙ ap (map expr_view) (sym c.deref-part-items.ensures.value) in
+    item_of_all IsWithinLimits (map expr_view c.deref-part-items.result.now) c.loop-part.part-index (expr_view c.part-item.result) (subst (AllByRecursion IsWithinLimits) whole c.requires.given.part_limits)
+    (item_seen expr_view c.deref-part-items.result.now c.deref-part-items.result.now c.loop-part.part-index c.part-item.result refl c.loop-part-test.true c.part-item.is)
 
 pub returns-in_err-sym_eval-clause-grows : goal.returns-in_err-sym_eval-clause-grows
 returns-in_err-sym_eval-clause-grows c = Grows-trans (design_view c.args.design.now) _ _ _ c.loop-part.invariant.named.grows c.sym_eval.ensures.grows

@@ -13,8 +13,9 @@ use Rattle.bd_symbolic.specs.declared.state.SymState.{SymState}
 use Rattle.bd_symbolic.proofs.Making.{called, first-Extends}
 use Rattle.bd_goal.proofs.Making.{invariant-Extends, visible-Extends}
 use Rattle.bd_goal.proofs.Running.{run-starts}
-use Rattle.bd_goal.proofs.Showing.{HaveSorts-later, StateHasSorts-later}
+use Rattle.bd_goal.proofs.Showing.{StateHasSorts-later}
 use Rattle.bd_goal.proofs.bounded.no_cycle.Goals as goal
+use Rattle.bd_symbolic.proofs.States.{HaveSorts-Extends}
 
 pub sym_inputs-requires-clause-keeps : goal.sym_inputs-requires-clause-keeps
 sym_inputs-requires-clause-keeps c =
@@ -29,7 +30,7 @@ invariant-requires-clause-keeps c =
 pub invariant-requires-clause-sorted : goal.invariant-requires-clause-sorted
 invariant-requires-clause-sorted c =
     let d = design_view c.args.design.now in
-    record { entries = HaveSorts-later _ _ c.sym_inputs.ensures.grows.extends _ _ c.in_ok-entries.ensures.sorted; inputs = c.in_ok-inputs.ensures.sorted }
+    record { entries = HaveSorts-Extends _ _ c.sym_inputs.ensures.grows.extends _ _ c.in_ok-entries.ensures.sorted; inputs = c.in_ok-inputs.ensures.sorted }
 
 pub abstracted-requires-clause-keeps : goal.abstracted-requires-clause-keeps
 abstracted-requires-clause-keeps c =
@@ -39,7 +40,7 @@ abstracted-requires-clause-keeps c =
 pub abstracted-requires-clause-sorted : goal.abstracted-requires-clause-sorted
 abstracted-requires-clause-sorted c =
     let d = design_view c.args.design.now in
-    StateHasSorts-later d _ _ c.invariant.ensures.grows.extends _ (record { entries = HaveSorts-later _ _ c.sym_inputs.ensures.grows.extends _ _ c.in_ok-entries.ensures.sorted; inputs = c.in_ok-inputs.ensures.sorted })
+    StateHasSorts-later d _ _ c.invariant.ensures.grows.extends _ (record { entries = HaveSorts-Extends _ _ c.sym_inputs.ensures.grows.extends _ _ c.in_ok-entries.ensures.sorted; inputs = c.in_ok-inputs.ensures.sorted })
 
 pub returns-clause-starts : goal.returns-clause-starts
 returns-clause-starts c =

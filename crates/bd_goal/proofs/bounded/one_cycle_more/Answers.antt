@@ -16,8 +16,9 @@ use Rattle.bd_symbolic.proofs.Making.{called, first-Extends, over-Extends}
 use Rattle.bd_goal.specs.Made.{IsCommuting}
 use Rattle.bd_goal.proofs.Making.{commuting-Extends, visible-Extends}
 use Rattle.bd_goal.proofs.Running.{Known-own, each-fit, first-fits, more-fit, run-more}
-use Rattle.bd_goal.proofs.Showing.{HaveSorts-later, IsVisible-later, StateHasSorts-later}
+use Rattle.bd_goal.proofs.Showing.{IsVisible-later, StateHasSorts-later}
 use Rattle.bd_goal.proofs.bounded.one_cycle_more.Goals as goal
+use Rattle.bd_symbolic.proofs.States.{HaveSorts-Extends}
 
 pub overflow_mul-first : goal.overflow_mul-first
 overflow_mul-first c =
@@ -39,7 +40,7 @@ sym_step-requires-clause-keeps c =
 pub sym_step-requires-clause-sorted : goal.sym_step-requires-clause-sorted
 sym_step-requires-clause-sorted c =
     let d = design_view c.args.design.now in
-    record { entries = HaveSorts-later _ _ c.sym_inputs.ensures.grows.extends _ _ c.requires.run.sorted.entries; inputs = c.in_ok-inputs.ensures.sorted }
+    record { entries = HaveSorts-Extends _ _ c.sym_inputs.ensures.grows.extends _ _ c.requires.run.sorted.entries; inputs = c.in_ok-inputs.ensures.sorted }
 
 pub abstracted-requires-clause-keeps : goal.abstracted-requires-clause-keeps
 abstracted-requires-clause-keeps c =
@@ -59,7 +60,7 @@ commutes-requires-clause-words c =
 pub commutes-requires-clause-state : goal.commutes-requires-clause-state
 commutes-requires-clause-state c =
     let d = design_view c.args.design.now in
-    StateHasSorts-later d _ _ (Extends-trans _ _ _ c.sym_step.ensures.grows.extends c.abstracted.ensures.grows.extends) _ (record { entries = HaveSorts-later _ _ c.sym_inputs.ensures.grows.extends _ _ c.requires.run.sorted.entries; inputs = c.in_ok-inputs.ensures.sorted })
+    StateHasSorts-later d _ _ (Extends-trans _ _ _ c.sym_step.ensures.grows.extends c.abstracted.ensures.grows.extends) _ (record { entries = HaveSorts-Extends _ _ c.sym_inputs.ensures.grows.extends _ _ c.requires.run.sorted.entries; inputs = c.in_ok-inputs.ensures.sorted })
 
 pub commutes-requires-clause-before : goal.commutes-requires-clause-before
 commutes-requires-clause-before c =

@@ -8,9 +8,9 @@ use Rattle.bd_goal.specs.Made.{IsStanding}
 use Rattle.bd_goal.specs.inner.Shown.{AreConditions}
 use Rattle.bd_goal.specs.Formula.{address_count}
 use Rattle.bd_goal.proofs.Known.{KeepsAddresses-Known, KeepsDesign-Known, Known-none, Known-trans, Known-within}
-use Rattle.bd_goal.proofs.Showing.{HaveSorts-later}
 use Rattle.bd_goal.proofs.Joining.{Commuting, SaysStands, commuting-more, commuting-none, commutes-made, commutes-said, conditions-later}
 use Rattle.bd_goal.proofs.commute.commutes.Goals as goal
+use Rattle.bd_symbolic.proofs.States.{HaveSorts-Extends}
 
 pub stands-requires-clause-words : goal.stands-requires-clause-words
 stands-requires-clause-words c =
@@ -18,10 +18,10 @@ stands-requires-clause-words c =
     KeepsAddresses-Known d 0 _ _ (Known-within d 0 _ _ c.conditions.ensures.grows) c.requires.words
 
 pub stands-requires-clause-after : goal.stands-requires-clause-after
-stands-requires-clause-after c = HaveSorts-later _ _ c.conditions.ensures.grows.extends _ _ c.requires.after.sorted
+stands-requires-clause-after c = HaveSorts-Extends _ _ c.conditions.ensures.grows.extends _ _ c.requires.after.sorted
 
 pub stands-requires-clause-joined : goal.stands-requires-clause-joined
-stands-requires-clause-joined c = HaveSorts-later _ _ c.conditions.ensures.grows.extends _ _ c.requires.before.sorted
+stands-requires-clause-joined c = HaveSorts-Extends _ _ c.conditions.ensures.grows.extends _ _ c.requires.before.sorted
 
 pub returns-in_err-whens-clause-grows : goal.returns-in_err-whens-clause-grows
 returns-in_err-whens-clause-grows c = Known-within (design_view c.args.design.now) _ _ _ c.conditions.ensures.grows
@@ -59,7 +59,7 @@ stands-requires-in-loop-done-clause-whens c =
     subst (AreConditions d c.sym_spec_step.new.graph) c.whens.view_is (conditions-later d _ _ c.sym_spec_step.ensures.grows.extends _ c.loop-done.invariant.conditions)
 
 pub stands-requires-in-loop-done-clause-after : goal.stands-requires-in-loop-done-clause-after
-stands-requires-in-loop-done-clause-after c = HaveSorts-later _ _ c.sym_spec_step.ensures.grows.extends _ _ c.loop-done.invariant.after_sorted.sorted
+stands-requires-in-loop-done-clause-after c = HaveSorts-Extends _ _ c.sym_spec_step.ensures.grows.extends _ _ c.loop-done.invariant.after_sorted.sorted
 
 pub returns-clause-sorted : goal.returns-clause-sorted
 returns-clause-sorted c = c.loop-done.invariant.sorted

@@ -5,10 +5,11 @@ use Rattle.std.proofs.lemmas.Simd.{map-map}
 use Rattle.bd_model.specs.DesignView.{ExactView, design_view, exact_view}
 use Rattle.bd_model.specs.declared.design.Sort.TheVariants as sort
 use Rattle.bd_symbolic.specs.States.{port_sorts}
+use Rattle.bd_symbolic.proofs.Firsts.{item_of_all, item_seen}
 use Rattle.bd_symbolic.proofs.Growing.{Grows-trans}
 use Rattle.bd_goal.proofs.Lists.{map-length, map-there}
 use Rattle.bd_model.specs.ExprView.{expr_view}
-use Rattle.bd_model.specs.Lawful.{HasSort}
+use Rattle.bd_model.specs.Lawful.{HasSort, IsLawfulExact}
 use Rattle.bd_model.specs.declared.design.Sort.{Sort}
 use Rattle.bd_symbolic.specs.Symbolic.{AreTerms, DenotesExpr, context_in, terms_of}
 use Rattle.bd_goal.proofs.Named.{Gathers, gathers-all, gathers-next, gathers-none, gathers-ready, named-terms, stated-lets, stated-terms, whole-stated}
@@ -45,6 +46,15 @@ sym_eval-requires-clause-sorted c =
     let at = ap (λ l. slice_get l c.loop-exact.exact-index) (map-map (λ (e : ExactView). e.when) exact_view c.args.design.now.exact) ∙ there in
     subst (λ ls. (u : Sort) × HasSort (context_in c.loop-exact.graph (terms_of d c.args.state.now ls)) (expr_view c.exact-item.result.when) u) c.lets.view_is
     (gathers-ready d (port_sorts d.pipe) _ _ c.args.state.now d.pipe.locals _ (map (λ (e : ExactView). sort.Bool) d.exact) (map (λ (e : ExactView). e.when) d.exact) c.loop-exact.exact-index _ _ (exact-sorts d c.requires.lawful) at c.loop-exact.invariant)
+
+pub sym_lets-requires-clause-limits : goal.sym_lets-requires-clause-limits
+sym_lets-requires-clause-limits c = c.requires.lawful.pipe.local_limits
+
+pub sym_eval-requires-clause-limits : goal.sym_eval-requires-clause-limits
+sym_eval-requires-clause-limits c =
+    let d = design_view c.args.design.now in
+    let seen = item_seen exact_view c.args.design.now.exact c.as_slice-exact-items.result.now c.loop-exact.exact-index c.exact-item.result c.as_slice-exact-items.ensures c.loop-exact-test.true c.exact-item.is in
+    (item_of_all (IsLawfulExact d) d.exact c.loop-exact.exact-index (exact_view c.exact-item.result) c.requires.lawful.exact seen).limits
 
 pub returns-in_err-sym_eval-clause-grows : goal.returns-in_err-sym_eval-clause-grows
 returns-in_err-sym_eval-clause-grows c = Grows-trans (design_view c.args.design.now) _ _ _ c.loop-exact.invariant.named.grows c.sym_eval.ensures.grows

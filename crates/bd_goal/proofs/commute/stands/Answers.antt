@@ -6,9 +6,9 @@ use Rattle.bd_terms.specs.declared.node.Node.TheVariants as node
 use Rattle.bd_symbolic.proofs.Making.{called}
 use Rattle.bd_goal.specs.Formula.{address_count}
 use Rattle.bd_goal.proofs.Known.{KeepsAddresses-Known, Known-none, Known-trans}
-use Rattle.bd_goal.proofs.Showing.{HaveSorts-later}
 use Rattle.bd_goal.proofs.Joining.{below-count, stands-made, stands-said}
 use Rattle.bd_goal.proofs.commute.stands.Goals as goal
+use Rattle.bd_symbolic.proofs.States.{HaveSorts-Extends}
 
 pub equal-requires-clause-addresses : goal.equal-requires-clause-addresses
 equal-requires-clause-addresses c =
@@ -16,10 +16,10 @@ equal-requires-clause-addresses c =
     KeepsAddresses-Known d 0 _ _ (Known-none d 0 _ _ c.allowed.ensures.extends c.allowed.ensures.uses) c.requires.words
 
 pub equal-requires-clause-ours : goal.equal-requires-clause-ours
-equal-requires-clause-ours c = HaveSorts-later _ _ c.allowed.ensures.extends _ _ c.requires.after
+equal-requires-clause-ours c = HaveSorts-Extends _ _ c.allowed.ensures.extends _ _ c.requires.after
 
 pub equal-requires-clause-theirs : goal.equal-requires-clause-theirs
-equal-requires-clause-theirs c = HaveSorts-later _ _ c.allowed.ensures.extends _ _ c.requires.joined
+equal-requires-clause-theirs c = HaveSorts-Extends _ _ c.allowed.ensures.extends _ _ c.requires.joined
 
 pub mk_and-requires-clause-first : goal.mk_and-requires-clause-first
 mk_and-requires-clause-first c =

@@ -18,8 +18,9 @@ use Rattle.bd_goal.specs.Symbols.{GrowsKnown}
 use Rattle.bd_goal.proofs.Known.{KeepsAddresses-Known, KeepsAddresses-empty, KeepsDesign-empty, Known-none, Known-trans, Known-within, Reaches-Known}
 use Rattle.bd_goal.proofs.Equalling.{AreBelow}
 use Rattle.bd_goal.proofs.Joining.{plain-address}
-use Rattle.bd_goal.proofs.Showing.{DenotesState-later, HaveSorts-later, Says-implies, Says-later, Says-same, StateHasSorts-later, values-later}
+use Rattle.bd_goal.proofs.Showing.{DenotesState-later, Says-implies, Says-later, Says-same, StateHasSorts-later, values-later}
 use Rattle.bd_goal.proofs.correspondence.agree_goal.Goals as goal
+use Rattle.bd_symbolic.proofs.States.{HaveSorts-Extends}
 
 below-once : (d : DesignView) → AreBelow d 0 1 (memory_count d)
 below-once d m inside = omega (arith, inside)
@@ -56,7 +57,7 @@ equal-requires-clause-addresses c =
     KeepsAddresses-Known d 0 _ _ (Known-within d 0 _ _ front) (KeepsAddresses-empty _ c.requires.empty)
 
 pub equal-requires-clause-ours : goal.equal-requires-clause-ours
-equal-requires-clause-ours c = HaveSorts-later _ _ c.abstracted-2.ensures.grows.extends _ _ c.in_ok-given.ensures.shown.sorted.sorted
+equal-requires-clause-ours c = HaveSorts-Extends _ _ c.abstracted-2.ensures.grows.extends _ _ c.in_ok-given.ensures.shown.sorted.sorted
 
 pub equal-requires-clause-theirs : goal.equal-requires-clause-theirs
 equal-requires-clause-theirs c = c.in_ok-flushed.ensures.shown.sorted.sorted

@@ -27,6 +27,12 @@ sym_eval-requires-clause-sorted c =
     let named : IsNamed (design_view c.args.design.now) [] c.args.graph.now c.sym_lets.new.graph c.in_ok-alone.alone (design_view c.args.design.now).inv_locals c.in_ok-lets.lets = record { stated = alone-stated (design_view c.args.design.now) c.args.graph.now c.args.state.now _ c.requires.keeps c.requires.sorted c.in_ok-alone.ensures.entries c.in_ok-alone.ensures.inputs; grows = c.sym_lets.ensures.grows; let_terms = c.in_ok-lets.ensures.lets } in
     named-sort (design_view c.args.design.now) [] _ _ _ _ _ (design_view c.args.design.now).inv sort.Bool named c.requires.lawful.inv
 
+pub sym_lets-requires-clause-limits : goal.sym_lets-requires-clause-limits
+sym_lets-requires-clause-limits c = c.requires.lawful.inv_local_limits
+
+pub sym_eval-requires-clause-limits : goal.sym_eval-requires-clause-limits
+sym_eval-requires-clause-limits c = c.requires.lawful.inv_limits
+
 pub returns-clause-sorted : goal.returns-clause-sorted
 returns-clause-sorted c =
     let named : IsNamed (design_view c.args.design.now) [] c.args.graph.now c.sym_lets.new.graph c.in_ok-alone.alone (design_view c.args.design.now).inv_locals c.in_ok-lets.lets = record { stated = alone-stated (design_view c.args.design.now) c.args.graph.now c.args.state.now _ c.requires.keeps c.requires.sorted c.in_ok-alone.ensures.entries c.in_ok-alone.ensures.inputs; grows = c.sym_lets.ensures.grows; let_terms = c.in_ok-lets.ensures.lets } in

@@ -1,12 +1,12 @@
-use Rattle.std.proofs.Common.{◌∙◌, ap}
+use Rattle.std.proofs.Common.{◌∙◌}
 use Rattle.bd_abstraction.specs.Abstraction.{abstraction_of}
 use Rattle.bd_app.specs.Loading.{bytes_of}
 use Rattle.bd_model.specs.DesignView.{design_view}
 use Rattle.bd_show.proofs.Joins.{compared_shown, same_lists}
 use Rattle.bd_show.proofs.completed.compared.Goals as goal
 
-pub drawn-requires : goal.drawn-requires
-drawn-requires c =
+pub drawn-requires-clause-seen : goal.drawn-requires-clause-seen
+drawn-requires-clause-seen c =
     let abs = abstraction_of (design_view c.args.joined.now.design) c.args.joined.now.abs in
     record {
       abs = abs;

@@ -6,8 +6,8 @@ use Rattle.bd_show.specs.Claims.{completed_note}
 use Rattle.bd_show.proofs.Joins.{completed_shown}
 use Rattle.bd_show.proofs.completed.completed.Goals as goal
 
-pub drawn-requires : goal.drawn-requires
-drawn-requires c = record {
+pub drawn-requires-clause-seen : goal.drawn-requires-clause-seen
+drawn-requires-clause-seen c = record {
   abs = abstraction_of (design_view c.args.joined.now.design) c.args.joined.now.abs;
   judged = c.requires.judged;
   diagram = c.in_ok-diagram.ensures;

@@ -9,7 +9,7 @@ use Rattle.bd_sim.proofs.trail.judge_trail.Goals as goal
 pub overflow_add-cycle : goal.overflow_add-cycle
 overflow_add-cycle c =
     let within : c.loop-inputs.inputs-index < length c.args.trail.now.inputs = subst (λ (xs : List (List Scalar)). c.loop-inputs.inputs-index < length xs) c.as_slice-inputs-items.ensures c.loop-inputs-test.true in
-    omega (arith, within, c.requires, c.loop-inputs.invariant.count)
+    omega (arith, within, c.requires.short, c.loop-inputs.invariant.count)
 
 pub returns-then-not-branch-2 : goal.returns-then-not-branch-2
 returns-then-not-branch-2 c =

@@ -18,6 +18,12 @@ pub next_terms-requires-clause-sorted : goal.next_terms-requires-clause-sorted
 next_terms-requires-clause-sorted c =
     nexts_sorted (design_view c.args.design.now) (machine_view c.args.machine.now) c.args.graph.now _ c.args.state.now _ c.requires.lawful c.requires.sorted c.sym_lets.ensures.grows c.in_ok-lets.ensures.lets
 
+pub sym_lets-requires-clause-limits : goal.sym_lets-requires-clause-limits
+sym_lets-requires-clause-limits c = c.requires.lawful.local_limits
+
+pub next_terms-requires-clause-limits : goal.next_terms-requires-clause-limits
+next_terms-requires-clause-limits c = c.requires.lawful.next_limits
+
 pub returns-clause-sorted : goal.returns-clause-sorted
 returns-clause-sorted c =
     IfOk-follows _ _ c.next_terms.result

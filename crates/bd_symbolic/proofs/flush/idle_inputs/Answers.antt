@@ -1,4 +1,6 @@
-use Rattle.bd_model.specs.DesignView.{design_view}
+use Rattle.bd_model.specs.DesignView.{PortView, design_view}
+use Rattle.bd_model.specs.Lawful.{IsLawfulPort, IsWithinLimits}
+use Rattle.bd_symbolic.proofs.Widening.{AllByRecursion-weaker}
 use Rattle.bd_symbolic.proofs.Growing.{Grows-trans}
 use Rattle.bd_symbolic.proofs.States.{AreTerms-state}
 use Rattle.bd_symbolic.proofs.Cycles.{lets_sorted, after_lets, idles, idles_sorted, idle_denotes, over_made}
@@ -17,6 +19,14 @@ idle_terms-requires-clause-terms c =
 pub idle_terms-requires-clause-sorted : goal.idle_terms-requires-clause-sorted
 idle_terms-requires-clause-sorted c =
     idles_sorted (design_view c.args.design.now) c.args.graph.now _ c.args.state.now _ c.requires.lawful c.requires.sorted c.sym_lets.ensures.grows c.in_ok-lets.ensures.lets
+
+pub sym_lets-requires-clause-limits : goal.sym_lets-requires-clause-limits
+sym_lets-requires-clause-limits c = c.requires.lawful.pipe.local_limits
+
+pub idle_terms-requires-clause-limits : goal.idle_terms-requires-clause-limits
+idle_terms-requires-clause-limits c =
+    let d = design_view c.args.design.now in
+    AllByRecursion-weaker (IsLawfulPort d) (λ (p : PortView). IsWithinLimits p.idle) (λ p h. h.limits) d.pipe.ports c.requires.lawful.ports
 
 pub returns-in_err-inputs-clause-grows : goal.returns-in_err-inputs-clause-grows
 returns-in_err-inputs-clause-grows c = Grows-trans (design_view c.args.design.now) _ _ _ c.sym_lets.ensures.grows c.idle_terms.ensures.grows

@@ -1,5 +1,7 @@
 use Rattle.std.proofs.Common.{map, subst}
-use Rattle.bd_model.specs.DesignView.{design_view, local_view}
+use Rattle.bd_model.specs.DesignView.{LocalView, design_view, local_view}
+use Rattle.bd_model.specs.Lawful.{IsWithinLimits}
+use Rattle.bd_symbolic.proofs.Firsts.{item_of_all, item_seen}
 use Rattle.bd_symbolic.proofs.Growing.{Grows-trans}
 use Rattle.bd_symbolic.proofs.Gathering.{LetsDone, map-front, map-none, lets_init, lets_terms, lets_step, lets_done}
 use Rattle.bd_symbolic.proofs.lets.sym_lets.Goals as goal
@@ -15,6 +17,11 @@ sym_eval-requires-clause-sorted c =
     let here = subst (λ rest. LetsDone (design_view c.args.design.now) c.args.graph.now c.loop-local.graph c.args.state.now (map local_view c.args.locals.now) rest c.loop-local.lets)
     (map-front local_view c.as_slice-local-items.result.now c.loop-local.local-index c.local-item.result c.loop-local-test.true c.local-item.is) c.loop-local.invariant in
     (c.local-item.result.sort, here.left.0)
+
+pub sym_eval-requires-clause-limits : goal.sym_eval-requires-clause-limits
+sym_eval-requires-clause-limits c =
+    item_of_all (λ (l : LocalView). IsWithinLimits l.value) (map local_view c.args.locals.now) c.loop-local.local-index (local_view c.local-item.result) c.requires.limits
+    (item_seen local_view c.args.locals.now c.as_slice-local-items.result.now c.loop-local.local-index c.local-item.result c.as_slice-local-items.ensures c.loop-local-test.true c.local-item.is)
 
 pub returns-in_err-id-clause-grows : goal.returns-in_err-id-clause-grows
 returns-in_err-id-clause-grows c = Grows-trans (design_view c.args.design.now) _ _ _ c.loop-local.invariant.grows c.sym_eval.ensures.grows
