@@ -13,6 +13,9 @@ version=$(cat "$(dirname "$0")/../VERSION")
 root=${2:-$(mktemp -d)}
 [ -d "$root/usr" ] || debootstrap --variant=minbase --include=python3 bookworm "$root" \
     "${MIRROR:-http://deb.debian.org/debian}"
+# the name `-` is /dev/stdin, which leads into /proc
+mount -t proc proc "$root/proc"
+trap 'umount "$root/proc"' EXIT
 (cd "$folder" && sha256sum --check --strict SHA256SUMS)
 rm -rf "$root/try"
 mkdir "$root/try"
