@@ -3,8 +3,9 @@
 
 usage: bench/wrong.py [NAME ..]
 
-`bench/wrong/NAME/` has those of the crate NAME. In a copy of the repository they are put into `crates/NAME/must-fail/`,
-and `rt must-fail` tries them there: those of the crates that are named, or all. The status is that of `rt must-fail`.
+`bench/wrong/NAME/` has those of the crate NAME. In a copy of the repository they take the place of the gate's, and are
+tried there: those of the crates that are named, or all. Where the kit's `rt ci` takes names it tries them, since it uses
+what earlier runs proved; else `rt must-fail` does. The status is that of the one that did.
 """
 import shutil
 import subprocess
@@ -16,14 +17,20 @@ TOP = Path(__file__).resolve().parent.parent
 LEFT_OUT = TOP / "bench" / "wrong"
 
 
+def command():
+    """The command of this kit that tries the wrong bodies of the crates named after it."""
+    told = subprocess.run(["rt", "help"], capture_output=True, text=True, check=False)
+    return ["rt", "ci"] if "rt ci NAME" in told.stdout + told.stderr else ["rt", "must-fail"]
+
+
 def tried(names):
-    """The status of `rt must-fail` on a copy of the repository in which these crates have their wrong bodies."""
+    """The status of trying them on a copy of the repository in which these crates have their wrong bodies alone."""
     with tempfile.TemporaryDirectory(prefix="wrong-") as room:
         copy = Path(room, "repo")
-        shutil.copytree(TOP, copy, ignore=shutil.ignore_patterns(".git"))
+        shutil.copytree(TOP, copy, ignore=shutil.ignore_patterns(".git", "must-fail"))
         for name in names:
-            shutil.copytree(LEFT_OUT / name, copy / "crates" / name / "must-fail", dirs_exist_ok=True)
-        return subprocess.run(["rt", "must-fail", *names], cwd=copy, check=False).returncode
+            shutil.copytree(LEFT_OUT / name, copy / "crates" / name / "must-fail")
+        return subprocess.run([*command(), *names], cwd=copy, check=False).returncode
 
 
 def main(names):
