@@ -13,7 +13,7 @@ import subprocess
 import sys
 from pathlib import Path
 
-TRIED = re.compile(r"^must-fail (?P<edit>\S+?\.edit|\S+): (?P<told>.*)$")
+TRIED = re.compile(r"^(rt: )?must-fail (?P<edit>\S+?\.edit|\S+): (?P<told>.*)$")
 SILENT = (
     ("only because a proof file names what the edit took away", "refused by a proof file alone"),
     ("BAD EDIT", "can't be read"),

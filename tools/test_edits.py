@@ -27,10 +27,14 @@ class Edits(unittest.TestCase):
 
     def test_what_is_silent_is_listed(self):
         """A refusal by a proof file alone, and none at all, tell nothing."""
-        self.assertEqual(
-            edits.silent([TELLS, CITED, PROVED]),
-            {"bd_app/always_usage.edit": "refused by a proof file alone", "bd_host/writes_twice.edit": "isn't refused"},
-        )
+        listed = {
+            "bd_app/always_usage.edit": "refused by a proof file alone",
+            "bd_host/writes_twice.edit": "isn't refused",
+        }
+        for before in "", "rt: ":
+            with self.subTest(before=before):
+                lines = [before + line for line in (TELLS, CITED, PROVED)]
+                self.assertEqual(edits.silent(lines), listed)
 
     def test_the_last_line_counts(self):
         """A wrong body that was mended and tried again is gone."""
