@@ -1,7 +1,5 @@
 #!/usr/bin/env python3
-"""Makes man pages of docs/commands/ and of docs/LANGUAGE.md.
-
-    tools/manual.py FOLDER       writes a page of section 1 for each page of docs/commands/, and burch_dill-language.7
+"""Makes man pages: of section 1 for each page of docs/commands/, and burch_dill-language.7 of docs/LANGUAGE.md.
 
 It takes what those pages are written in: a head with the name, a line with what it is, the words in one code span,
 sections, paragraphs, tables, lists, blocks of code. Links become their texts; `burch_dill-check.md` becomes
@@ -9,6 +7,7 @@ burch_dill-check(1).
 """
 from __future__ import annotations
 
+import argparse
 import re
 import sys
 from pathlib import Path
@@ -116,10 +115,10 @@ def language_page() -> str:
 
 def main(words: List[str]) -> int:
     """Writes the pages."""
-    if len(words) != 1:
-        print(__doc__)
-        return 2
-    folder = Path(words[0])
+    parser = argparse.ArgumentParser(prog="manual.py", description=__doc__,
+                                     formatter_class=argparse.RawDescriptionHelpFormatter)
+    parser.add_argument("folder", metavar="FOLDER", type=Path, help="where the pages are written")
+    folder = parser.parse_args(words).folder
     folder.mkdir(parents=True, exist_ok=True)
     for path in sorted(COMMANDS.glob("*.md")):
         (folder / f"{path.stem}.1").write_text(command_page(path), encoding="utf-8")
