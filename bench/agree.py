@@ -6,11 +6,11 @@ distinct constants, an exact item and an invariant; its specification keeps some
 printed is replayed: it must break the condition that the program named, or hold where an invariant came with
 `correct`. Each proof that is saved is checked (`tools/lrat_check.py`). It stops at the first design on which they differ,
 and leaves its files.
-
-usage: agree.py PROGRAM COUNT [SEED]
 """
+import argparse
 import os
 import random
+import shutil
 import subprocess
 import sys
 import tempfile
@@ -142,19 +142,26 @@ def expected(texts, smt):
 
 
 def main():
-    program, count, *seed = sys.argv[1:]
-    chance = random.Random(int(seed[0]) if seed else 0)
+    parser = argparse.ArgumentParser(description=__doc__, formatter_class=argparse.RawDescriptionHelpFormatter)
+    parser.add_argument("program", metavar="PROGRAM", type=os.path.abspath, help="burch_dill")
+    parser.add_argument("count", metavar="COUNT", type=int, help="how many designs")
+    parser.add_argument("seed", metavar="SEED", type=int, nargs="?", default=0, help="of the random numbers (0)")
+    words = parser.parse_args()
+    for program in (words.program, "z3"):
+        if shutil.which(program) is None:
+            parser.error(f"{program} can't be run")
+    chance = random.Random(words.seed)
     folder = tempfile.mkdtemp()
     names = [os.path.join(folder, name) for name in ("pipe", "spec", "inv")]
     smt, counts = os.path.join(folder, "question.smt2"), {}
-    for _ in range(int(count)):
+    for _ in range(words.count):
         texts = []
         for name, text in zip(names, Design(chance).texts()):
             texts.append(name)
             with open(name, "w") as file:
                 file.write(text)
         want = expected(texts, smt)
-        answers = {answer(program, texts, folder, mode) for mode in ([], ["--diverse"])}
+        answers = {answer(words.program, texts, folder, mode) for mode in ([], ["--diverse"])}
         if want is not None and answers != {want}:
             raise SystemExit(f"they differ on {folder}: {answers}, {want}")
         counts[want] = counts.get(want, 0) + 1

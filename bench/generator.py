@@ -1,9 +1,6 @@
 #!/usr/bin/env python3
-"""The texts of `burch_dill gen DEPTH DROP`, for programs that read a design.
-
-usage: generator.py DEPTH DROP PIPE SPEC
-"""
-import sys
+"""The texts of `burch_dill gen DEPTH DROP`, for programs that read a design."""
+import argparse
 
 FUNCTIONS = ("(function inc 1)", "(function src 1)", "(function dst 1)", "(function op 1)", "(function alu 2)")
 
@@ -37,10 +34,15 @@ def pipeline(depth, drop):
 
 
 def main():
-    depth, drop, pipe, spec = int(sys.argv[1]), int(sys.argv[2]), sys.argv[3], sys.argv[4]
-    with open(pipe, "w") as file:
-        file.write(pipeline(depth, drop))
-    with open(spec, "w") as file:
+    parser = argparse.ArgumentParser(description=__doc__)
+    parser.add_argument("depth", metavar="DEPTH", type=int, help="the number of stages")
+    parser.add_argument("drop", metavar="DROP", type=int, help="the stage that isn't forwarded from; 0: none")
+    parser.add_argument("pipe", metavar="PIPE", help="where the pipeline is written")
+    parser.add_argument("spec", metavar="SPEC", help="where the specification is written")
+    words = parser.parse_args()
+    with open(words.pipe, "w") as file:
+        file.write(pipeline(words.depth, words.drop))
+    with open(words.spec, "w") as file:
         file.write(SPECIFICATION)
 
 

@@ -3,10 +3,9 @@
 
 Words are of a sort of their own, memories are arrays, and two memories are compared at one fresh address each, as the
 program does. Each step's terms are defined once, so the text grows with the number of cycles. With an invariant it is
-asked first whether any state meets it.
-
-usage: smtlib.py PIPE SPEC [INV] > QUESTION.smt2
+asked first whether any state meets it. The question is printed.
 """
+import argparse
 import re
 import sys
 
@@ -155,13 +154,21 @@ def question(pipe, spec, invariant):
 
 
 def tree_in(name):
-    with open(name) as file:
-        return parse(file.read())
+    try:
+        with open(name, encoding="ascii") as file:
+            return parse(file.read())
+    except OSError as error:
+        raise argparse.ArgumentTypeError(f"{name}: {error.strerror}") from None
 
 
 def main():
-    pipe, spec, *inv = (tree_in(name) for name in sys.argv[1:])
-    sys.stdout.write(question(Machine(pipe), Machine(spec), Invariant(inv[0]) if inv else None))
+    parser = argparse.ArgumentParser(description=__doc__, formatter_class=argparse.RawDescriptionHelpFormatter)
+    parser.add_argument("pipe", metavar="PIPE", type=tree_in, help="a pipeline")
+    parser.add_argument("spec", metavar="SPEC", type=tree_in, help="its specification")
+    parser.add_argument("inv", metavar="INV", type=tree_in, nargs="?", help="an invariant")
+    words = parser.parse_args()
+    inv = words.inv and Invariant(words.inv)
+    sys.stdout.write(question(Machine(words.pipe), Machine(words.spec), inv))
 
 
 if __name__ == "__main__":
