@@ -69,9 +69,9 @@ def main():
     words = parser.parse_args()
     faults = 0
     with tempfile.TemporaryDirectory() as folder:
-        for twin, files, _, verdicts in listed():
+        for twin, files, _, verdict in listed():
             page = page_of(twin)
-            if words.only not in twin or not verdicts[0].startswith("wrong") or "riddles" in twin:
+            if words.only not in twin or verdict != "wrong" or "riddles" in twin:
                 continue
             with open(page, encoding="utf-8") as file:
                 text = file.read()

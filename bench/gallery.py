@@ -1,12 +1,11 @@
 #!/usr/bin/env python3
 """Runs all designs of the gallery, and compares what the program says with what `gallery/verdicts.txt` does.
 
-Each line there has a pipeline, its specification, its invariant or `-`, and the verdict in plain and in diverse mode.
-Each printed case is replayed, each proof is checked (`tools/lrat_check.py`), and where they are installed `z3` and `cvc5` are
-asked the same (`smtlib.py`), a minute each. It prints a table with processor seconds and peak memory in MB, names what
-takes more than 30 s or 2 GiB in the better mode, and ends with status 1 where anything differs.
-
-usage: gallery.py PROGRAM [--only WORD]
+Each line there has a pipeline, its specification, its invariant or `-`, and the verdict, which is the same in plain and
+in diverse mode. Each printed case is replayed, each proof is checked (`tools/lrat_check.py`), and where they are
+installed `z3` and `cvc5` are asked the same (`smtlib.py`), a minute each. It prints a table with processor seconds and
+peak memory in MB, names what takes more than 30 s or 2 GiB in the better mode, and ends with status 1 where anything
+differs. With --check it asks no other solver, and prints only what differs: that takes half a minute.
 """
 import argparse
 import os
@@ -33,10 +32,10 @@ def listed():
     with open(os.path.join(GALLERY, "verdicts.txt"), encoding="ascii") as file:
         for line in file:
             if line.strip() and line[0] != ";":
-                pipe, spec, inv, *verdicts = [word.strip() for word in line.split("|")]
+                pipe, spec, inv, verdict = [word.strip() for word in line.split("|")]
                 folder = os.path.join(GALLERY, os.path.dirname(pipe))
                 files = [os.path.join(GALLERY, pipe), os.path.join(folder, spec)]
-                yield pipe, files, [] if inv == "-" else [os.path.join(folder, inv)], verdicts
+                yield pipe, files, [] if inv == "-" else [os.path.join(folder, inv)], verdict
 
 
 def replayed(program, files, inv, case, folder):
@@ -76,45 +75,73 @@ def other(solver, question):
     return verdict, f"{done[2]:.2f}"
 
 
-def row(program, pipe, files, inv, verdicts, folder):
+def fits(said, verdict, inv):
+    """Whether an answer is that of the line: a wrong pipeline without an invariant can only break `commute`."""
+    conditions = ["commute", "invariant"] if inv else ["commute"]
+    return said in ([f"wrong {condition}" for condition in conditions] if verdict == "wrong" else [verdict])
+
+
+def row(program, pipe, files, inv, verdict, folder):
     """A row of the table, whether the design is long or large in the better mode, and what differs."""
     cells, costs, faults = [pipe], [], []
-    for mode, expected in zip(MODES, verdicts):
-        verdict, took, memory, wrong = asked(program, files, inv, mode, folder)
+    for mode in MODES:
+        said, took, memory, wrong = asked(program, files, inv, mode, folder)
         faults += [f"{pipe}, {mode}: {fault}" for fault in wrong]
-        if verdict != expected:
-            faults.append(f"{pipe}, {mode}: {verdict} in place of {expected}")
-        cells += [verdict, f"{took:.2f}", f"{memory:.0f}"]
+        if not fits(said, verdict, inv):
+            faults.append(f"{pipe}, {mode}: {said} in place of {verdict}")
+        cells += [said, f"{took:.2f}", f"{memory:.0f}"]
         costs.append((took, memory))
+    took, memory = min(costs)
+    return cells, took > LONG or memory > LARGE, faults
+
+
+def others(pipe, files, inv, verdict, folder):
+    """The cells of the other solvers, and what differs."""
+    cells, faults = [], []
     question = os.path.join(folder, "question.smt2")
     with open(question, "w", encoding="ascii") as file:
         subprocess.run([sys.executable, os.path.join(HERE, "smtlib.py"), *files, *inv], stdout=file, check=True)
     for solver in (["z3"], ["cvc5", "--incremental"]):
         said, took = other(solver, question)
         cells.append(took)
-        if said and said != verdicts[0].split()[0]:
+        if said and said != verdict:
             faults.append(f"{pipe}: {solver[0]} says {said}")
-    took, memory = min(costs)
-    return cells, took > LONG or memory > LARGE, faults
+    return cells, faults
+
+
+def compare(program, designs, folder):
+    """What differs, by the program alone."""
+    return [fault for design in designs for fault in row(program, *design, folder)[2]]
+
+
+def tabulate(program, designs, folder):
+    """Prints the table, and gives what differs, also by other solvers."""
+    named, faults = [], []
+    print("| Design | Plain | s | MB | Diverse | s | MB | z3 | cvc5 |")
+    print("|---|---|---|---|---|---|---|---|---|")
+    for design in designs:
+        cells, is_long, wrong = row(program, *design, folder)
+        more, differing = others(*design, folder)
+        named += [design[0]] if is_long else []
+        faults += wrong + differing
+        print("| " + " | ".join(cells + more) + " |", flush=True)
+    print(f"\nMore than {LONG} s or {LARGE} MB in the better mode: {', '.join(named) or 'none'}.")
+    return faults
 
 
 def main():
-    parser = argparse.ArgumentParser(description="Runs the gallery.")
-    parser.add_argument("program")
-    parser.add_argument("--only", default="", help="designs whose name has this in it")
+    parser = argparse.ArgumentParser(description=__doc__, formatter_class=argparse.RawDescriptionHelpFormatter)
+    parser.add_argument("program", metavar="PROGRAM", type=os.path.abspath, help="burch_dill")
+    parser.add_argument("--only", metavar="WORD", default="", help="designs whose name has this in it")
+    parser.add_argument("--check", action="store_true", help="no other solvers and no table")
     words = parser.parse_args()
-    program, named, faults = os.path.abspath(words.program), [], []
-    print("| Design | Plain | s | MB | Diverse | s | MB | z3 | cvc5 |")
-    print("|---|---|---|---|---|---|---|---|---|")
+    if not os.access(words.program, os.X_OK):
+        parser.error(f"{words.program} can't be run")
+    designs = [design for design in listed() if words.only in design[0]]
     with tempfile.TemporaryDirectory() as folder:
-        for pipe, files, inv, verdicts in listed():
-            if words.only in pipe:
-                cells, is_long, wrong = row(program, pipe, files, inv, verdicts, folder)
-                named += [pipe] if is_long else []
-                faults += wrong
-                print("| " + " | ".join(cells) + " |", flush=True)
-    print(f"\nMore than {LONG} s or {LARGE} MB in the better mode: {', '.join(named) or 'none'}.")
-    print("\n".join(faults), file=sys.stderr)
+        faults = (compare if words.check else tabulate)(words.program, designs, folder)
+    print(*faults, sep="\n", end="\n" if faults else "", file=sys.stderr)
+    print(f"{len(designs)} designs in both modes, {len(faults)} faults")
     return 1 if faults else 0
 
 

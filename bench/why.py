@@ -55,10 +55,10 @@ def printed(*words):
 
 def of_gallery():
     """The wrong pipelines of the gallery that have a right machine beside them."""
-    for pipe, files, inv, verdicts in listed():
+    for pipe, files, inv, verdict in listed():
         folder = os.path.dirname(files[0])
         right = os.path.join(folder, os.path.basename(folder) + ".pipe")
-        if verdicts[0].startswith("wrong") and os.path.exists(right):
+        if verdict == "wrong" and os.path.exists(right):
             yield Twin(pipe, files, inv, text_of(right).splitlines(), text_of(files[0]).splitlines())
 
 
