@@ -223,7 +223,7 @@ class Answers(InBrowser):
 
 
 class Clicks(InBrowser):
-    """What a visitor does."""
+    """Waiting for what a click does."""
 
     def until(self, holds: Callable[[], bool], seconds: float = 60) -> None:
         end = time.monotonic() + seconds
@@ -236,6 +236,10 @@ class Clicks(InBrowser):
 
     def setUp(self) -> None:
         self.browser.go(PAGE.as_uri())
+
+
+class Visit(Clicks):
+    """What a visitor does."""
 
     def test_right_design(self) -> None:
         self.browser.choose("accumulator/accumulator.pipe")
@@ -306,14 +310,136 @@ class Clicks(InBrowser):
         self.assertRegex(self.browser.text("#spec .printed"), r"^   1 ; .*\n   2 \(specification\n")
         self.assertEqual(self.browser.script("return document.querySelector('.empty').id"), "inv")
 
+    def test_link_without_a_design(self) -> None:
+        self.browser.go(PAGE.as_uri() + "#d=nothing")
+        self.wait("#note", "the link holds no design$")
+
+
+class Latest(Clicks):
+    """What is shown is the answer to the latest question, about the text that stands there."""
+
+    def shown(self) -> List[Any]:
+        """The verdict, the texts, whether the diagram and the case are shown, and whether `why` can be asked."""
+        return list(self.browser.script("""
+            const at = (id) => document.getElementById(id);
+            return [at("verdict").textContent, at("text").textContent, !at("diagram").hidden, !at("case").hidden,
+                    !at("why").disabled];"""))
+
+    def nothing_is_shown(self) -> None:
+        self.assertEqual(self.shown(), ["", "", False, False, False])
+
+    def answers_late(self, out: str, seconds: float) -> None:
+        """Each run answers so late, and can't be stopped."""
+        self.browser.script("""
+            const [out, seconds] = arguments;
+            runner.stop = () => {};
+            runner.run = () => new Promise((resolve) => {
+              setTimeout(() => resolve({status: 0, out, err: "", files: {}}), 1000 * seconds);
+            });""", out, seconds)
+
+    def check_wrong(self) -> None:
+        self.browser.choose("accumulator/store_computes.pipe")
+        self.browser.click("#check")
+        self.wait("#verdict", "wrong commute$")
+
+    def test_another_design_while_asked(self) -> None:
+        self.answers_late("correct\n", 1)
+        self.browser.choose("accumulator/accumulator.pipe")
+        self.browser.click("#check")
+        self.wait("#note", "running")
+        self.browser.choose("accumulator/store_computes.pipe")
+        self.assertEqual(self.browser.text("#note"), "")
+        time.sleep(1.5)
+        self.nothing_is_shown()
+
+    def test_edit_while_asked(self) -> None:
+        self.answers_late("wrong commute\n(case 1)\n", 1)
+        self.browser.click("#check")
+        self.wait("#note", "running")
+        self.browser.type("#spec textarea", "(specification)")
+        time.sleep(1.5)
+        self.nothing_is_shown()
+
+    def test_asked_again_while_asked(self) -> None:
+        self.answers_late("correct\n", 1.5)
+        self.browser.click("#check")
+        self.answers_late("undecided 1\n", 0.5)
+        self.browser.click("#check")
+        self.wait("#verdict", "undecided 1$")
+        time.sleep(1.5)
+        self.assertEqual(self.browser.text("#verdict"), "undecided 1")
+
+    def test_edit_ends_the_run(self) -> None:
+        self.browser.choose("dlx/dlx.pipe")
+        self.browser.click("#check")
+        self.until(lambda: bool(self.browser.script("return runner.worker !== null")))
+        self.browser.type("#inv textarea", ";")
+        self.assertEqual(self.browser.script("return [runner.worker, runner.waiting.size]"), [None, 0])
+        self.nothing_is_shown()
+
+    def test_edit_after_correct(self) -> None:
+        self.browser.choose("accumulator/accumulator.pipe")
+        self.browser.click("#check")
+        self.wait("#verdict", "correct$")
+        self.browser.type("#pipe textarea", "(pipeline)")
+        self.nothing_is_shown()
+        self.assertEqual(self.browser.script("return document.getElementById('verdict').className"), "")
+
+    def test_edit_after_wrong(self) -> None:
+        self.check_wrong()
+        self.browser.type("#inv textarea", ";")
+        self.nothing_is_shown()
+
+    def test_another_design_after_wrong(self) -> None:
+        self.check_wrong()
+        self.browser.choose("accumulator/accumulator.pipe")
+        self.nothing_is_shown()
+
     def test_stop(self) -> None:
         self.browser.choose("dlx/dlx.pipe")
         self.browser.click("#check")
         self.browser.click("#stop")
         self.wait("#note", "stopped$")
+        self.nothing_is_shown()
         self.browser.choose("accumulator/accumulator.pipe")
         self.browser.click("#check")
         self.wait("#verdict", "correct$")
+
+    def test_late_answer_after_stop(self) -> None:
+        self.answers_late("correct\n", 1)
+        self.browser.click("#check")
+        self.browser.click("#stop")
+        time.sleep(1.5)
+        self.nothing_is_shown()
+        self.assertEqual(self.browser.text("#note"), "stopped")
+
+    def fails_once(self, source: str, wanted: str) -> None:
+        """A worker of another source says that it failed, and the next one answers."""
+        self.browser.script("window.rightSource = runner.source;"
+                            "runner.source = URL.createObjectURL(new Blob([arguments[0]]));", source)
+        self.browser.click("#check")
+        self.wait("#note", wanted)
+        self.nothing_is_shown()
+        self.assertTrue(self.browser.script("return document.getElementById('stop').disabled"))
+        self.browser.script("runner.source = window.rightSource")
+        self.browser.click("#check")
+        self.wait("#verdict", "correct$")
+
+    def test_worker_that_does_not_begin(self) -> None:
+        self.fails_once("throw new Error('gone')", "no answer: .*gone$")
+
+    def test_worker_that_dies(self) -> None:
+        self.fails_once("onmessage = () => setTimeout(() => { throw new Error('died'); })", "no answer: .*died$")
+
+    def test_worker_of_what_is_no_script(self) -> None:
+        self.fails_once("(", "no answer: .*SyntaxError")
+
+    def test_run_that_breaks_off(self) -> None:
+        self.browser.script("window.rightModule = runner.module;"
+                            "runner.module = WebAssembly.compile(new Uint8Array([0, 97, 115, 109, 1, 0, 0, 0]));")
+        self.browser.click("#check")
+        self.wait("#note", "no answer: the run broke off: ")
+        self.nothing_is_shown()
 
 
 if __name__ == "__main__":

@@ -11,13 +11,30 @@ const runner = new Runner(at("worker").textContent, bytesOfModule);
 /** The last case, the design that it is of, and its diagram's page. */
 let last = null;
 
+/** The number of the latest question. Only its answer is shown. */
+let latest = 0;
+
 function design() {
   return Object.fromEntries(FILES.map((file) => [file, editors[file].text]));
 }
 
 function fill(texts) {
+  forget();
   for (const file of FILES) editors[file].text = texts[file];
+}
+
+/** Ends the question under way, and takes away what is shown of the text as it was. */
+function forget() {
+  endQuestion();
   clearAnswer();
+}
+
+/** Ends the question under way: whatever comes of it later isn't shown. */
+function endQuestion() {
+  latest += 1;
+  runner.stop();
+  at("stop").disabled = true;
+  at("note").textContent = "";
 }
 
 function clearAnswer() {
@@ -92,36 +109,41 @@ function fitDiagram() {
   fit();
 }
 
-/** Asks, while the page can stop it. */
+/** Asks, while the page can stop it. A newer question, another text or a stop ends it. */
 async function ask(question) {
+  endQuestion();
+  const number = latest;
   const asked = design();
   at("note").textContent = "running ..";
   at("stop").disabled = false;
   try {
-    show(await question(asked), asked);
+    const came = await question(asked);
+    if (number !== latest) return;
+    keep(came, asked);
+    show(came, asked);
     at("note").textContent = "";
   } catch (error) {
-    at("note").textContent = error instanceof Stopped ? "stopped" : `${error}`;
+    if (number !== latest) return;
+    at("note").textContent = `no answer: ${error.message}`;
   }
-  at("stop").disabled = runner.waiting.size === 0;
+  at("stop").disabled = true;
+}
+
+/** Keeps a case for `why`. */
+function keep(came, asked) {
+  if (!(came.verdict ?? "").startsWith("wrong")) return;
+  last = { design: asked, verdict: came.verdict, caseText: came.caseText, page: came.page };
+  at("why").disabled = at("of").disabled = false;
 }
 
 function check() {
   clearAnswer();
-  return ask(async (asked) => {
-    const came = await askCheck(runner, asked, at("diverse").checked);
-    if ((came.verdict ?? "").startsWith("wrong")) {
-      last = { design: asked, caseText: came.caseText, page: came.page };
-      at("why").disabled = at("of").disabled = false;
-    }
-    return came;
-  });
+  return ask((asked) => askCheck(runner, asked, at("diverse").checked));
 }
 
 function why() {
   if (last === null) return undefined;
-  const { design: asked, caseText, page } = last;
-  const verdict = at("verdict").textContent;
+  const { design: asked, verdict, caseText, page } = last;
   const value = at("of").value.trim();
   return ask(async () => ({ verdict, caseText, page, ...await askWhy(runner, asked, caseText, value) }));
 }
@@ -129,6 +151,11 @@ function why() {
 function about() {
   clearAnswer();
   return ask((asked) => askAbout(runner, asked));
+}
+
+function stop() {
+  endQuestion();
+  at("note").textContent = "stopped";
 }
 
 async function copyLink() {
@@ -144,27 +171,26 @@ async function copyLink() {
 
 /** Begins with the link's design, a design of the gallery that it names, or the first. */
 async function begin() {
+  forget();
+  const number = latest;
   const name = location.hash.startsWith("#g=") ? decodeURIComponent(location.hash.slice(3)) : "";
   if (name !== "" && take(name)) return;
-  let linked = null;
-  try {
-    linked = await designOf(location.hash);
-  } catch {
-    at("note").textContent = "the link holds no design";
-  }
+  const linked = await designOf(location.hash).catch(() => null);
+  if (number !== latest) return;
   if (linked) {
     at("design").value = "";
     fill(linked);
-  } else {
-    take(gallery.machines[0].designs[0].name);
+    return;
   }
+  take(gallery.machines[0].designs[0].name);
+  if (location.hash !== "") at("note").textContent = "the link holds no design";
 }
 
 list();
 at("ask").addEventListener("submit", (event) => { event.preventDefault(); check(); });
 at("why").addEventListener("click", why);
 at("about").addEventListener("click", about);
-at("stop").addEventListener("click", () => runner.stop());
+at("stop").addEventListener("click", stop);
 at("link").addEventListener("click", copyLink);
 at("of").addEventListener("keydown", (event) => {
   if (event.key !== "Enter") return;
@@ -182,7 +208,10 @@ at("design").addEventListener("change", () => {
   if (at("design").value !== "") take(at("design").value);
 });
 for (const file of FILES) {
-  editors[file].area.addEventListener("input", () => { at("design").value = ""; });
+  editors[file].area.addEventListener("input", () => {
+    at("design").value = "";
+    forget();
+  });
 }
 addEventListener("hashchange", begin);
 begin();

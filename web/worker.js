@@ -3,21 +3,14 @@
 
 let module = null;
 
-/** What a run that broke off says. */
-function brokenOff(error) {
-  return { status: STATUS.memory, out: "", err: `the run broke off: ${error.message}\n`, files: {} };
-}
-
 onmessage = ({ data }) => {
   if (data.module) {
     module = data.module;
     return;
   }
-  let came;
   try {
-    came = runOn(module, data.words, data.files);
+    postMessage({ id: data.id, came: runOn(module, data.words, data.files) });
   } catch (error) {
-    came = brokenOff(error);
+    postMessage({ id: data.id, failure: `the run broke off: ${error.message}` });
   }
-  postMessage({ id: data.id, came });
 };
