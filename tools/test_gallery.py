@@ -1,0 +1,39 @@
+"""Tests of `bench/gallery.py`: which answers fit a line of `gallery/verdicts.txt`, and that each pipeline has one."""
+from __future__ import annotations
+
+import os
+import sys
+import unittest
+from pathlib import Path
+
+ROOT = Path(__file__).resolve().parent.parent
+sys.path.append(str(ROOT / "bench"))
+
+import gallery  # noqa: E402
+
+
+class Gallery(unittest.TestCase):
+    def test_which_answers_fit(self) -> None:
+        self.assertTrue(gallery.fits("correct", "correct", []))
+        self.assertTrue(gallery.fits("wrong commute", "wrong", []))
+        self.assertFalse(gallery.fits("wrong commute", "correct", []))
+        self.assertFalse(gallery.fits("correct", "wrong", []))
+
+    def test_either_condition_may_be_found_where_there_is_an_invariant(self) -> None:
+        self.assertTrue(gallery.fits("wrong invariant", "wrong", ["an.inv"]))
+        self.assertTrue(gallery.fits("wrong commute", "wrong", ["an.inv"]))
+        self.assertFalse(gallery.fits("wrong invariant", "wrong", []))
+
+    def test_each_pipeline_has_one_line(self) -> None:
+        there = sorted(path.relative_to(ROOT / "gallery").as_posix() for path in (ROOT / "gallery").glob("*/*.pipe"))
+        self.assertEqual(sorted(pipe for pipe, *_ in gallery.listed()), there)
+
+    def test_each_line_names_files_and_a_verdict(self) -> None:
+        for pipe, files, inv, verdict in gallery.listed():
+            with self.subTest(pipe=pipe):
+                self.assertEqual([name for name in [*files, *inv] if not os.path.isfile(name)], [])
+                self.assertIn(verdict, ("correct", "wrong", "void"))
+
+
+if __name__ == "__main__":
+    unittest.main()
