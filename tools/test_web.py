@@ -32,7 +32,7 @@ MISSING = "the page isn't built, or Chromium or its driver is missing"
 # A run of the page's worker. A file that it saves comes back as a text.
 RUN = """
 const [words, files, done] = arguments;
-runner.run(words, files).then((came) => done({status: came.status, out: came.out, err: came.err,
+burchDill.runner.run(words, files).then((came) => done({status: came.status, out: came.out, err: came.err,
   files: Object.fromEntries(Object.entries(came.files).map(([name, bytes]) => [name, textOf(bytes)]))}),
   (error) => done({status: -1, out: "", err: String(error), files: {}}));
 """
@@ -94,6 +94,10 @@ class Browser:
 
     def later(self, text: str, *arguments: Any) -> Any:
         return self.call("POST", f"{self.session}/execute/async", {"script": text, "args": list(arguments)})
+
+    def devtools(self, command: str, **parameters: Any) -> Any:
+        """A command of Chromium's own, such as one that makes the screen narrow."""
+        return self.call("POST", f"{self.session}/goog/cdp/execute", {"cmd": command, "params": parameters})
 
     def find(self, selector: str) -> str:
         found = self.call("POST", f"{self.session}/element", {"using": "css selector", "value": selector})
@@ -218,7 +222,7 @@ class Answers(InBrowser):
 
     def test_words_that_are_not_text(self) -> None:
         came = self.browser.later("const done = arguments[0];"
-                                  "runner.run([new Uint8Array([255])], []).then((came) => done(came.status));")
+                                  "burchDill.runner.run([new Uint8Array([255])], []).then((came) => done(came.status));")
         self.assertEqual(came, 257)
 
 
@@ -270,8 +274,8 @@ class Visit(Clicks):
         self.browser.choose("accumulator/store_computes.pipe")
         self.browser.click("#check")
         self.wait("#verdict", "wrong commute$")
-        room = "const frame = document.getElementById('diagram');" \
-               "return frame.clientHeight - frame.contentDocument.documentElement.scrollHeight"
+        room = "const page = document.getElementById('diagram').contentDocument.documentElement;" \
+               "return page.clientHeight - page.scrollHeight"
         self.until(lambda: self.browser.script(room) == 0)
 
     def test_case_of_a_correct_design(self) -> None:
@@ -290,7 +294,12 @@ class Visit(Clicks):
         self.browser.type("#spec textarea", "(specification (latch a bool) (next a a))")
         self.browser.click("#check")
         self.wait("#pipe .says", "3:10: E08 unknown name: b\nno declared name is near")
-        self.assertEqual(self.browser.text("#pipe .fault"), "3")
+        self.assertEqual(self.browser.text("#pipe .faulty"), " (next a b)")
+        self.assertEqual(self.browser.text("#pipe .fault"), "b")
+        described = "const area = document.querySelector('#pipe textarea');" \
+                    "return [area.getAttribute('aria-invalid'), document.getElementById(" \
+                    "area.getAttribute('aria-describedby')).className]"
+        self.assertEqual(self.browser.script(described), ["true", "says"])
         chosen = "const area = document.querySelector('#pipe textarea');" \
                  "return area.value.slice(area.selectionStart, area.selectionEnd)"
         self.assertEqual(self.browser.script(chosen), "b")
@@ -306,9 +315,12 @@ class Visit(Clicks):
 
     def test_print(self) -> None:
         self.browser.choose("accumulator/accumulator.pipe")
-        self.browser.script("dispatchEvent(new Event('beforeprint'))")
-        self.assertRegex(self.browser.text("#spec .printed"), r"^   1 ; .*\n   2 \(specification\n")
-        self.assertEqual(self.browser.script("return document.querySelector('.empty').id"), "inv")
+        self.browser.devtools("Emulation.setEmulatedMedia", media="print")
+        shown = self.browser.script("""
+            const lines = [...document.querySelectorAll("#spec .line")].slice(0, 2);
+            return [...lines, ...document.querySelectorAll(".editor")].map((one) => one.checkVisibility());""")
+        self.browser.devtools("Emulation.setEmulatedMedia", media="")
+        self.assertEqual(shown, [True, True, True, True, False, False])
 
     def test_link_without_a_design(self) -> None:
         self.browser.go(PAGE.as_uri() + "#d=nothing")
@@ -323,7 +335,7 @@ class Latest(Clicks):
         return list(self.browser.script("""
             const at = (id) => document.getElementById(id);
             return [at("verdict").textContent, at("text").textContent, !at("diagram").hidden, !at("case").hidden,
-                    !at("why").disabled];"""))
+                    !at("asks-why").hidden];"""))
 
     def nothing_is_shown(self) -> None:
         self.assertEqual(self.shown(), ["", "", False, False, False])
@@ -332,8 +344,8 @@ class Latest(Clicks):
         """Each run answers so late, and can't be stopped."""
         self.browser.script("""
             const [out, seconds] = arguments;
-            runner.stop = () => {};
-            runner.run = () => new Promise((resolve) => {
+            burchDill.runner.stop = () => {};
+            burchDill.runner.run = () => new Promise((resolve) => {
               setTimeout(() => resolve({status: 0, out, err: "", files: {}}), 1000 * seconds);
             });""", out, seconds)
 
@@ -372,9 +384,9 @@ class Latest(Clicks):
     def test_edit_ends_the_run(self) -> None:
         self.browser.choose("dlx/dlx.pipe")
         self.browser.click("#check")
-        self.until(lambda: bool(self.browser.script("return runner.worker !== null")))
+        self.until(lambda: bool(self.browser.script("return burchDill.runner.worker !== null")))
         self.browser.type("#inv textarea", ";")
-        self.assertEqual(self.browser.script("return [runner.worker, runner.waiting.size]"), [None, 0])
+        self.assertEqual(self.browser.script("return [burchDill.runner.worker, burchDill.runner.waiting.size]"), [None, 0])
         self.nothing_is_shown()
 
     def test_edit_after_correct(self) -> None:
@@ -415,13 +427,13 @@ class Latest(Clicks):
 
     def fails_once(self, source: str, wanted: str) -> None:
         """A worker of another source says that it failed, and the next one answers."""
-        self.browser.script("window.rightSource = runner.source;"
-                            "runner.source = URL.createObjectURL(new Blob([arguments[0]]));", source)
+        self.browser.script("window.rightSource = burchDill.runner.source;"
+                            "burchDill.runner.source = URL.createObjectURL(new Blob([arguments[0]]));", source)
         self.browser.click("#check")
         self.wait("#note", wanted)
         self.nothing_is_shown()
         self.assertTrue(self.browser.script("return document.getElementById('stop').disabled"))
-        self.browser.script("runner.source = window.rightSource")
+        self.browser.script("burchDill.runner.source = window.rightSource")
         self.browser.click("#check")
         self.wait("#verdict", "correct$")
 
@@ -435,8 +447,7 @@ class Latest(Clicks):
         self.fails_once("(", "no answer: .*SyntaxError")
 
     def test_run_that_breaks_off(self) -> None:
-        self.browser.script("window.rightModule = runner.module;"
-                            "runner.module = WebAssembly.compile(new Uint8Array([0, 97, 115, 109, 1, 0, 0, 0]));")
+        self.browser.script("burchDill.runner.module = WebAssembly.compile(new Uint8Array([0, 97, 115, 109, 1, 0, 0, 0]));")
         self.browser.click("#check")
         self.wait("#note", "no answer: the run broke off: ")
         self.nothing_is_shown()

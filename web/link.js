@@ -1,5 +1,4 @@
 // A design in a link.
-"use strict";
 
 /** Bytes as a text that a link can hold, and back. */
 function toLink(bytes) {
@@ -20,17 +19,19 @@ async function through(stream, bytes) {
 }
 
 /** The part of a link that holds a design. */
-async function linkOf(design) {
-  const bytes = new TextEncoder().encode(JSON.stringify([design.pipe, design.spec, design.inv]));
+export async function linkOf({ pipe, spec, inv, start }) {
+  const texts = start.trim() === "" ? [pipe, spec, inv] : [pipe, spec, inv, start];
+  const bytes = new TextEncoder().encode(JSON.stringify(texts));
   return `#d=${toLink(await through(new CompressionStream("deflate-raw"), bytes))}`;
 }
 
-/** The design that a link holds, or nothing. */
-async function designOf(link) {
+/** The design that a link holds, or nothing. A link may have no start. */
+export async function designOf(link) {
   if (!link.startsWith("#d=")) return null;
   const bytes = await through(new DecompressionStream("deflate-raw"), fromLink(link.slice(3)));
   const texts = JSON.parse(new TextDecoder().decode(bytes));
-  if (!Array.isArray(texts) || texts.length !== 3 || texts.some((text) => typeof text !== "string")) return null;
-  const [pipe, spec, inv] = texts;
-  return { pipe, spec, inv };
+  if (!Array.isArray(texts) || texts.some((text) => typeof text !== "string")) return null;
+  if (texts.length !== 3 && texts.length !== 4) return null;
+  const [pipe, spec, inv, start = ""] = texts;
+  return { pipe, spec, inv, start };
 }

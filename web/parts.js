@@ -1,6 +1,5 @@
 // The program's one call, from the page: words and files are laid out as bytes, and what comes back is
 // cut again. Each run has a module of its own, so nothing is left of one run for the next.
-"use strict";
 
 /** The statuses of the call that neither program ends with. */
 const STATUS = { notParts: 256, notText: 257, cutOff: 258, memory: 259 };
@@ -101,7 +100,7 @@ function filesOf(parts) {
 }
 
 /** Runs the program on words and files, which are pairs of a name and a text. */
-function runOn(module, words, files) {
+export function runOn(module, words, files) {
   for (let room = FIRST_ROOM; ; room *= 4) {
     const { status, parts } = callWithRoom(module, words, files, room);
     if (status === STATUS.cutOff && room < MOST_ROOM) continue;

@@ -1,8 +1,10 @@
 // What is asked of a design, and what its answers are.
-"use strict";
 
 const REFUSED = 3;
 const SHOWN = "diagram.html";
+const FILE = "(pipe|spec|inv|start)";
+const FAULT = new RegExp(`^${FILE}:(\\d+):(\\d+): (.*)`);
+const PLACE = new RegExp(`^(\\s*)${FILE}:(\\d+):(\\d+)(: (.*))?$`);
 
 /** A design's files as the program gets them; an empty invariant is none. */
 function designFiles(design) {
@@ -16,29 +18,51 @@ function invariantOf(files) {
   return files.filter(([name]) => name === "inv").map(([name]) => name);
 }
 
+/** What the program printed: its first line, and the case or the trail below it. */
+function parts(out) {
+  const end = out.indexOf("\n");
+  return { verdict: end < 0 ? "" : out.slice(0, end), caseText: out.slice(end + 1) };
+}
+
 /** Asks for the verdict; a case comes with its tables and its diagram, and a fault with what the companion says of it. */
-async function askCheck(runner, design, diverse) {
+export async function askCheck(runner, design, diverse) {
   const files = designFiles(design);
   const words = ["burch_dill", "check", "pipe", "spec", ...invariantOf(files)];
   const checked = await runner.run(diverse ? [...words, "--diverse"] : words, files);
   if (checked.status === REFUSED) return askAbout(runner, design);
-  const end = checked.out.indexOf("\n");
-  const verdict = end < 0 ? "" : checked.out.slice(0, end);
-  if (!verdict.startsWith("wrong")) return { verdict, text: "", ...checked, caseText: checked.out.slice(end + 1) };
-  const shown = await askShow(runner, files, checked.out);
-  return { verdict, ...shown, status: checked.status, caseText: checked.out };
+  const { verdict, caseText } = parts(checked.out);
+  if (!verdict.startsWith("wrong")) return { ...checked, verdict, text: "", caseText };
+  const shown = await askShow(runner, files, checked.out, invariantOf(files));
+  return { ...shown, verdict, caseText: checked.out, status: checked.status, isCase: true };
 }
 
-/** Asks for both ways round a case's diagram, as a text and as a page. */
-async function askShow(runner, files, caseText) {
-  const words = ["bd_view", "show", "pipe", "spec", "case", ...invariantOf(files), "--html", SHOWN];
+/** Asks whether a pipeline is right for some cycles from a start; the first cycle that isn't comes with its tables. */
+export async function askBounded(runner, design, cycles) {
+  const files = [["pipe", design.pipe], ["spec", design.spec], ["start", design.start]];
+  const bounded = await runner.run(["burch_dill", "bounded", "pipe", "spec", "start", `${cycles}`], files);
+  if (bounded.status === REFUSED) return faultInTrail(runner, files, bounded);
+  const { verdict, caseText } = parts(bounded.out);
+  if (!verdict.startsWith("wrong")) return { ...bounded, verdict, text: "", caseText };
+  const shown = await askShow(runner, files, bounded.out, ["start"]);
+  return { ...shown, verdict, caseText: bounded.out, status: bounded.status };
+}
+
+/** A fault of the three files as the companion tells it, which reads them before the trail. */
+async function faultInTrail(runner, files, bounded) {
+  const said = await runner.run(["bd_view", "show", "pipe", "spec", "trail", "start"], [...files, ["trail", ""]]);
+  return { ...bounded, text: "", err: FAULT.test(said.err) ? said.err : bounded.err };
+}
+
+/** Asks for both ways round the diagram of a case or a trail, as a text and as a page. */
+async function askShow(runner, files, caseText, lastWords) {
+  const words = ["bd_view", "show", "pipe", "spec", "case", ...lastWords, "--html", SHOWN];
   const shown = await runner.run(words, [...files, ["case", caseText]]);
   const page = shown.files[SHOWN];
   return { ...shown, text: shown.out, page: page && new TextDecoder().decode(page) };
 }
 
 /** Asks why a value of a case is what it is: the one that is named, or the first that differs where none is. */
-async function askWhy(runner, design, caseText, value) {
+export async function askWhy(runner, design, caseText, value) {
   const files = designFiles(design);
   const words = ["bd_view", "why", "pipe", "spec", "case", ...invariantOf(files), ...(value ? ["--of", value] : [])];
   const said = await runner.run(words, [...files, ["case", caseText]]);
@@ -46,16 +70,16 @@ async function askWhy(runner, design, caseText, value) {
 }
 
 /** Asks what can be said of a design without a case. */
-async function askAbout(runner, design) {
+export async function askAbout(runner, design) {
   const files = designFiles(design);
   const said = await runner.run(["bd_view", "about", "pipe", "spec", ...invariantOf(files)], files);
   return { ...said, text: said.out };
 }
 
 /** The fault that the companion tells, at a line and a column: below the line and its caret stands what helps. */
-function faultOf(err, design) {
+export function faultOf(err, design) {
   const [first, ...rest] = err.trimEnd().split("\n");
-  const found = /^(pipe|spec|inv):(\d+):(\d+): (.*)/.exec(first);
+  const found = FAULT.exec(first);
   if (!found) return null;
   const [, file, line, column, message] = found;
   const helps = rest.slice(rest.findIndex((text) => text.trim() === "^") + 1);
@@ -66,4 +90,31 @@ function faultOf(err, design) {
 function offsetOf(text, line, column) {
   const before = text.split("\n").slice(0, line - 1).map((whole) => `${whole}\n`).join("");
   return new TextEncoder().encode(before).length + column - 1;
+}
+
+/** The lines of an answer; one that tells of a place in a file has it, and what it says of it. */
+export function linesOf(text) {
+  return text.split("\n").map((line) => {
+    const found = PLACE.exec(line);
+    if (!found) return { line };
+    const [, indent, file, at, column, says = ""] = found;
+    return { line, indent, place: { file, line: Number(at), column: Number(column) }, says };
+  });
+}
+
+/**
+ * What an answer tells of the lines of a design. Below what it says of a line may stand the line itself, moved to the
+ * right, and carets under the part that decides.
+ */
+export function toldOf(text, design) {
+  const lines = linesOf(text);
+  return lines.flatMap(({ place, says }, index) => {
+    if (!place) return [];
+    const [source, carets] = [lines[index + 1]?.line ?? "", lines[index + 2]?.line ?? ""];
+    const whole = design[place.file]?.split("\n")[place.line - 1] ?? "";
+    const moved = source.length - whole.length;
+    const note = says.replace(/^: /, "").split(" since ")[0];
+    if (whole === "" || !source.endsWith(whole) || !/^ *\^+$/.test(carets)) return [{ ...place, note }];
+    return [{ ...place, note, from: carets.indexOf("^") - moved, to: carets.length - moved }];
+  });
 }

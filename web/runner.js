@@ -1,7 +1,6 @@
 // Runs of the program, one after another, in a worker that can be stopped.
-"use strict";
 
-class Runner {
+export class Runner {
   constructor(source, moduleBytes) {
     this.source = URL.createObjectURL(new Blob([source], { type: "text/javascript" }));
     this.module = WebAssembly.compile(moduleBytes);

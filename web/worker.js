@@ -1,5 +1,5 @@
 // Runs the program in a thread of its own, so that the page answers while it works and can stop it.
-"use strict";
+import { runOn } from "./parts.js";
 
 let module = null;
 
