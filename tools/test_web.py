@@ -27,6 +27,7 @@ PROGRAM, VIEW = (shutil.which(os.environ.get(variable, name)) for variable, name
                  (("BURCH_DILL", "burch_dill"), ("BD_VIEW", "bd_view")))
 RANDOM_DESIGNS = int(os.environ.get("WEB_DESIGNS", "500"))
 ELEMENT = "element-6066-11e4-a52e-4f735466cecf"
+KEYS = {"Tab": "\ue004", "Enter": "\ue007", "Shift": "\ue008", "Control": "\ue009", "Down": "\ue015"}
 MISSING = "the page isn't built, or Chromium or its driver is missing"
 
 # A run of the page's worker. A file that it saves comes back as a text.
@@ -37,6 +38,29 @@ burchDill.runner.run(words, files).then((came) => done({status: came.status, out
   (error) => done({status: -1, out: "", err: String(error), files: {}}));
 """
 TEXT_OF = "window.textOf = (bytes) => new TextDecoder().decode(bytes);"
+
+# The contrast of each of these with what it stands on, as WCAG 2.1 defines it; of a line that of its number too.
+CONTRAST = """
+const parts = (colour) => colour.match(/[\\d.]+/g).map(Number);
+const light = (colour) => parts(colour).slice(0, 3).map((part) => part / 255)
+  .map((part) => (part <= 0.04045 ? part / 12.92 : ((part + 0.055) / 1.055) ** 2.4))
+  .reduce((sum, part, at) => sum + part * [0.2126, 0.7152, 0.0722][at], 0);
+const isSeen = (colour) => (parts(colour)[3] ?? 1) > 0;
+const under = (one) => (!one || isSeen(getComputedStyle(one).backgroundColor)
+  ? getComputedStyle(one ?? document.body).backgroundColor : under(one.parentElement));
+const ratio = (ink, paper) => {
+  const [dark, bright] = [light(ink), light(paper)].sort((a, b) => a - b);
+  return (bright + 0.05) / (dark + 0.05);
+};
+const looks = ["body", ".comment", ".head", ".call", ".told .head", ".told .call", ".because", ".because.head",
+  ".because.call", ".value", "#verdict", ".place", "#of-means", "#text", "#riddle p", "footer p"];
+return [...looks.flatMap((look) => [...document.querySelectorAll(look)].map((one) =>
+    [look, ratio(getComputedStyle(one).color, under(one))])),
+  ...[...document.querySelectorAll(".line")].map((one) => {
+    const { color, backgroundColor } = getComputedStyle(one, "::before");
+    return [one.className + " number", ratio(color, backgroundColor)];
+  })];
+"""
 
 
 class Ran(NamedTuple):
@@ -114,6 +138,29 @@ class Browser:
         self.call("POST", f"{self.session}/element/{element}/clear", {})
         self.call("POST", f"{self.session}/element/{element}/value", {"text": text})
 
+    def press(self, *keys: str) -> None:
+        """Keys that are pressed one after another; those of a word such as `Control+Enter` together."""
+        actions = []
+        for word in keys:
+            codes = [KEYS.get(key, key) for key in word.split("+")]
+            actions += [{"type": "keyDown", "value": code} for code in codes]
+            actions += [{"type": "keyUp", "value": code} for code in reversed(codes)]
+        self._act({"type": "key", "id": "keys", "actions": actions})
+
+    def tap(self, selector: str, x: int = 0, y: int = 0) -> None:
+        """A finger taps so far from the middle of an element."""
+        self.script("document.querySelector(arguments[0]).scrollIntoView({block: 'center'})", selector)
+        place = {"type": "pointerMove", "origin": {ELEMENT: self.find(selector)}, "x": x, "y": y}
+        self._act({"type": "pointer", "id": "finger", "parameters": {"pointerType": "touch"},
+                   "actions": [place, {"type": "pointerDown", "button": 0}, {"type": "pointerUp", "button": 0}]})
+
+    def _act(self, source: Any) -> None:
+        self.call("POST", f"{self.session}/actions", {"actions": [source]})
+
+    def name(self, element: str) -> str:
+        """The name by which a screen reader calls an element."""
+        return str(self.call("GET", f"{self.session}/element/{element}/computedlabel"))
+
     def choose(self, name: str) -> None:
         self.script("const list = document.getElementById('design'); list.value = arguments[0];"
                     "list.dispatchEvent(new Event('change'));", name)
@@ -165,6 +212,18 @@ class Joined(unittest.TestCase):
         assert isinstance(listed, list)
         names = {design["name"] for machine in listed for design in machine["designs"]}
         self.assertEqual(names, {design.pipe for design in web_page.designs()})
+
+    def test_riddles(self) -> None:
+        names = [design.pipe for design in web_page.designs() if design.machine == "riddles"]
+        self.assertEqual(sorted(web_page.riddles()), sorted(names))
+
+    def test_modules(self) -> None:
+        joined = web_page.script("page.js")
+        names = re.findall(r"^const (\w+)_module = ", joined, re.M)
+        self.assertEqual(len(names), len(set(names)))
+        self.assertEqual(names[-1], "page")
+        self.assertLess(names.index("paint"), names.index("editor"))
+        self.assertIn("return { Paint", joined.replace("looksOf, partnerOf, parenthesisAt, ", ""))
 
 
 @unittest.skipUnless(PAGE.exists() and CHROMIUM and DRIVER, MISSING)
@@ -398,9 +457,16 @@ class Latest(Clicks):
         self.assertEqual(self.browser.script("return document.getElementById('verdict').className"), "")
 
     def test_edit_after_wrong(self) -> None:
+        """What was shown stays readable, closed and under another title."""
         self.check_wrong()
-        self.browser.type("#inv textarea", ";")
+        text = self.browser.text("#text")
+        self.browser.type("#inv textarea", "; a change")
         self.nothing_is_shown()
+        self.assertEqual(self.browser.text("#earlier summary"), "before the change: wrong commute")
+        self.assertEqual(self.browser.text("#earlier pre"), text)
+        self.assertFalse(self.browser.script("return document.getElementById('earlier').open"))
+        self.browser.choose("accumulator/accumulator.pipe")
+        self.assertTrue(self.browser.script("return document.getElementById('earlier').hidden"))
 
     def test_another_design_after_wrong(self) -> None:
         self.check_wrong()
@@ -451,6 +517,288 @@ class Latest(Clicks):
         self.browser.click("#check")
         self.wait("#note", "no answer: the run broke off: ")
         self.nothing_is_shown()
+
+
+class Learning(Clicks):
+    """The texts, what is told of their lines, a start, and the riddles."""
+
+    def write(self, file: str, text: str) -> None:
+        self.browser.script("const area = document.querySelector(arguments[0] + ' textarea');"
+                            "area.focus(); area.value = arguments[1]; area.dispatchEvent(new Event('input'));",
+                            f"#{file}", text)
+
+    def cursor(self, file: str, place: int) -> None:
+        self.browser.script("const area = document.querySelector(arguments[0] + ' textarea');"
+                            "area.focus(); area.setSelectionRange(arguments[1], arguments[1]);", f"#{file}", place)
+
+    def texts(self, selector: str) -> List[str]:
+        return list(self.browser.script("return [...document.querySelectorAll(arguments[0])].map((one) => "
+                                        "one.textContent)", selector))
+
+    def check_wrong(self, name: str) -> None:
+        self.browser.choose(name)
+        self.browser.click("#check")
+        self.wait("#verdict", "wrong commute$")
+
+    def test_looks(self) -> None:
+        self.write("pipe", "(pipeline ; (a comment\n (next a (alu b)))")
+        self.assertEqual(self.texts("#pipe .comment"), ["; (a comment"])
+        self.assertEqual(self.texts("#pipe .head"), ["pipeline", "next"])
+        self.assertEqual(self.texts("#pipe .call"), ["alu"])
+        self.assertEqual(self.texts("#pipe .line"), ["(pipeline ; (a comment", " (next a (alu b)))"])
+
+    def test_only_changed_lines_are_made_anew(self) -> None:
+        self.write("spec", "one\ntwo\n(three)\ntwo\nfive\n")
+        self.browser.script("window.before = [...document.querySelectorAll('#spec .line')]")
+        self.write("spec", "one\ntwo\n(three 3)\nand\ntwo\nfive\n")
+        same = "return [...document.querySelectorAll('#spec .line')].map((line) => before.indexOf(line))"
+        self.assertEqual(self.browser.script(same)[:-1], [0, 1, -1, -1, 3, 4])
+        self.assertEqual(self.texts("#spec .line"), ["one", "two", "(three 3)", "and", "two", "five", ""])
+
+    def test_parentheses(self) -> None:
+        self.write("pipe", "(a ; )\n (b))\n)")
+        for place, look, lines in ((0, "match", [0, 1]), (12, "match", [0, 1]), (5, "match", []), (13, "unmatched", [2])):
+            self.cursor("pipe", place)
+            marked = "return [...document.querySelectorAll('#pipe .line')].flatMap((line, at) => " \
+                     "[...line.querySelectorAll('.' + arguments[0])].map(() => at))"
+            self.until(lambda: bool(self.browser.script(marked, look) == lines))
+
+    def test_what_is_told_stands_beside_the_lines(self) -> None:
+        self.check_wrong("accumulator/store_computes.pipe")
+        self.assertEqual(self.texts(".told"), [])
+        self.browser.click("#why")
+        self.until(lambda: self.texts(".place") != [])
+        told = {place.rsplit(":", 1)[0] for place in self.texts(".place")}
+        marked = self.browser.script("return [...document.querySelectorAll('.told')].map((line) => "
+                                     "`${line.closest('.editor').id}:${[...line.parentNode.children].indexOf(line) + 1}`)")
+        self.assertEqual(set(marked), told)
+        self.assertTrue(all("=" in value for value in self.texts(".value")))
+        lines = self.browser.text("#text").splitlines()
+        carets = [(above, line) for above, line in zip(lines, lines[1:]) if re.fullmatch(r" *\^+", line)]
+        because = {above[line.index("^"):len(line)] for above, line in carets}
+        drawn = "".join(self.texts(".because"))
+        self.assertTrue(because)
+        self.assertEqual(len(drawn), sum(map(len, because)))
+        self.assertTrue(all(part in drawn for part in because), (because, drawn))
+        self.write("inv", ";")
+        self.assertEqual(self.texts(".told"), [])
+
+    def test_place_leads_to_its_line(self) -> None:
+        self.check_wrong("accumulator/store_computes.pipe")
+        self.browser.click("#why")
+        self.until(lambda: self.texts(".place") != [])
+        self.browser.click(".place")
+        file, line, column = self.texts(".place")[0].split(":")
+        place = self.browser.script("const area = document.activeElement;"
+                                    "return [area.closest('.editor').id, area.value.slice(0, area.selectionStart)]")
+        self.assertEqual([place[0], place[1].count("\n") + 1, len(place[1].split("\n")[-1]) + 1],
+                         [file, int(line), int(column)])
+
+    def test_painted_text_scrolls_with_its_text_area(self) -> None:
+        self.browser.choose("dlx/dlx.pipe")
+        places = self.browser.script("""
+            const [area, layer] = ["textarea", ".paint"].map((one) => document.querySelector("#pipe " + one));
+            area.scrollTo(1e6, 1e6);
+            area.dispatchEvent(new Event("scroll"));
+            return [area.scrollTop - layer.scrollTop, area.scrollLeft - layer.scrollLeft, area.scrollTop];""")
+        self.assertEqual(places[:2], [0, 0])
+        self.assertGreater(places[2], 0)
+
+    def bounded(self, cycles: int) -> None:
+        self.browser.type("#cycles", str(cycles))
+        self.browser.click("#bounded")
+
+    def test_bounded(self) -> None:
+        self.browser.choose("riddles/riddle_05.pipe")
+        self.bounded(1)
+        self.wait("#verdict", "correct to 1$")
+        self.bounded(2)
+        self.wait("#verdict", "wrong commute 2$")
+        self.assertIn("cycle 2: stall=false", self.browser.text("#text"))
+        self.assertIn("(trail 2", self.browser.text("#case pre"))
+        self.assertTrue(self.browser.script("return document.getElementById('asks-why').hidden"))
+
+    def test_fault_of_a_start(self) -> None:
+        self.browser.choose("accumulator/accumulator.pipe")
+        self.bounded(1)
+        self.wait("#start .says", "1:1: write where runs begin")
+        self.write("start", "(start nowhere)")
+        self.browser.click("#bounded")
+        self.wait("#start .says", "1:8: E08 unknown name")
+
+    def test_cycles_out_of_range(self) -> None:
+        self.browser.choose("riddles/riddle_05.pipe")
+        self.bounded(17)
+        self.assertEqual(self.browser.text("#note"), "")
+        self.assertEqual(self.browser.script("return document.activeElement.id"), "cycles")
+
+    def test_diverse(self) -> None:
+        self.browser.script("""
+            const run = burchDill.runner.run.bind(burchDill.runner);
+            burchDill.runner.run = (words, files) => { window.words = words; return run(words, files); };""")
+        self.browser.click("#diverse")
+        self.browser.click("#check")
+        self.wait("#verdict", "correct$")
+        self.assertEqual(self.browser.script("return words"), ["burch_dill", "check", "pipe", "spec", "--diverse"])
+
+    def test_link_with_a_start(self) -> None:
+        self.browser.choose("riddles/riddle_01.pipe")
+        self.browser.click("#link")
+        self.wait("#note", "the link")
+        self.browser.go(self.browser.script("return location.href"))
+        start = "return document.querySelector('#start textarea').value"
+        self.until(lambda: bool(self.browser.script(start) == "(start (not v))\n"))
+
+    def take_riddle(self, number: int) -> Tuple[Dict[str, Any], List[str]]:
+        name = f"riddles/riddle_{number:02}.pipe"
+        self.browser.choose(name)
+        riddle = web_page.riddles()[name]
+        assert isinstance(riddle, dict)
+        return riddle, (web_page.GALLERY / name).read_text().splitlines(keepends=True)
+
+    def name_line(self, lines: List[str], line: int) -> None:
+        self.cursor("pipe", len("".join(lines[:line - 1])))
+        self.wait("#name-line", f"line {line} is wrong")
+        self.browser.click("#name-line")
+
+    def test_riddle(self) -> None:
+        riddle, lines = self.take_riddle(1)
+        self.name_line(lines, riddle["line"] - 1)
+        self.wait("#riddle-says", "No\\.")
+        self.browser.click("#no-harm")
+        self.wait("#riddle-says", "No\\.")
+        self.name_line(lines, riddle["line"])
+        self.wait("#riddle-says", "Yes\\.")
+        self.write("pipe", "".join([*lines[:riddle["line"] - 1], riddle["right"] + "\n", *lines[riddle["line"]:]]))
+        self.assertTrue(self.browser.script("return document.getElementById('name-line').disabled"))
+        self.browser.click("#check")
+        self.wait("#riddle-says", "Solved: the line is as in the right machine")
+
+    def test_riddle_with_nothing_wrong(self) -> None:
+        riddle, lines = self.take_riddle(6)
+        self.assertTrue(riddle["harmless"])
+        self.name_line(lines, riddle["line"])
+        self.wait("#riddle-says", f"Line {riddle['line']} was changed. But is it wrong")
+        self.browser.click("#no-harm")
+        self.wait("#riddle-says", "Yes\\.")
+
+    def test_no_riddle(self) -> None:
+        self.take_riddle(1)
+        self.browser.choose("accumulator/accumulator.pipe")
+        self.assertTrue(self.browser.script("return document.getElementById('riddle').hidden"))
+
+
+class Access(Clicks):
+    """The page by keyboard alone, by touch on a narrow screen, by its names, and by its contrast."""
+
+    def focused(self) -> str:
+        return str(self.browser.script("const one = document.activeElement;"
+                                       "return one.id || one.closest('section')?.id || one.tagName"))
+
+    def tab_to(self, wanted: str) -> List[str]:
+        """Goes on by Tab to an element, and tells what it passes."""
+        passed: List[str] = []
+        while not passed or passed[-1] != wanted:
+            self.assertLess(len(passed), 30, passed)
+            self.browser.press("Tab")
+            passed.append(self.focused())
+        return passed
+
+    def test_keyboard_alone(self) -> None:
+        self.assertEqual(self.tab_to("design"), ["design"])
+        self.browser.press("Down")
+        self.assertEqual(self.browser.script("return document.getElementById('design').value"),
+                         "accumulator/operand_before_store.pipe")
+        self.tab_to("check")
+        self.browser.press("Enter")
+        self.wait("#verdict", "wrong commute$")
+        self.assertEqual(self.tab_to("of"), ["diverse", "bounded", "cycles", "about", "link", "pipe", "spec", "inv",
+                                             "start", "of"])
+        self.browser.press(*"acc@before", "Enter")
+        self.wait("#text", r"(?s).*acc@before=")
+        self.tab_to("why")
+        self.browser.press("Shift+Tab")
+        self.browser.press(*(["\ue003"] * 10), "Enter")
+        self.until(lambda: bool(self.browser.script("return document.querySelector('.place') !== null")))
+        self.tab_to("why")
+        self.browser.press("Tab", "Tab", "Enter")
+        self.assertEqual(self.browser.script("return document.activeElement.tagName"), "TEXTAREA")
+        self.browser.press("Control+Enter")
+        self.wait("#verdict", "wrong commute$")
+
+    def test_stop_by_keyboard(self) -> None:
+        self.browser.choose("dlx/dlx.pipe")
+        self.tab_to("check")
+        self.browser.press("Enter")
+        self.wait("#note", "running")
+        self.tab_to("stop")
+        self.browser.press("Enter")
+        self.wait("#note", "stopped$")
+
+    def test_names(self) -> None:
+        controls = self.browser.script("return [...document.querySelectorAll("
+                                       "'button, input, select, textarea, iframe')]")
+        self.assertGreater(len(controls), 15)
+        hidden = "return arguments[0].checkVisibility()"
+        for control in controls:
+            if self.browser.script(hidden, control):
+                said = self.browser.script("return arguments[0].outerHTML.slice(0, 80)", control)
+                self.assertNotEqual(self.browser.name(control[ELEMENT]), "", said)
+        live = self.browser.script("return ['note', 'verdict', 'riddle-says'].map((id) => "
+                                   "document.getElementById(id).closest('[aria-live=polite]') !== null)")
+        self.assertEqual(live, [True, True, True])
+
+    def narrow(self) -> None:
+        self.browser.devtools("Emulation.setDeviceMetricsOverride", width=390, height=844, deviceScaleFactor=2,
+                              mobile=True)
+        self.browser.devtools("Emulation.setTouchEmulationEnabled", enabled=True)
+        self.addCleanup(self.browser.devtools, "Emulation.clearDeviceMetricsOverride")
+        self.addCleanup(self.browser.devtools, "Emulation.setTouchEmulationEnabled", enabled=False)
+
+    def test_narrow_screen_by_touch(self) -> None:
+        self.narrow()
+        self.browser.choose("riddles/riddle_01.pipe")
+        width = "return document.documentElement.scrollWidth"
+        self.assertEqual(self.browser.script(width), 390)
+        self.browser.tap("#check")
+        self.wait("#verdict", "wrong commute$")
+        seen = "const {top, bottom} = document.getElementById('verdict').getBoundingClientRect();" \
+               "return top >= 0 && bottom <= innerHeight"
+        self.assertTrue(self.browser.script(seen))
+        self.browser.tap("#why")
+        self.until(lambda: bool(self.browser.script("return document.querySelector('.told') !== null")))
+        self.browser.tap(".place")
+        self.assertEqual(self.browser.script("return document.activeElement.tagName"), "TEXTAREA")
+        self.browser.tap("#no-harm")
+        self.wait("#riddle-says", "No\\.")
+        self.assertEqual(self.browser.script(width), 390)
+        small = "return [...document.querySelectorAll('button, select, input[type=number]')].filter((one) => " \
+                "one.checkVisibility() && one.className !== 'place' && one.offsetHeight < 44).map((one) => one.id)"
+        self.assertEqual(self.browser.script(small), [])
+
+    def test_wide_screen_has_the_answer_beside_the_text(self) -> None:
+        self.browser.devtools("Emulation.setDeviceMetricsOverride", width=1280, height=900, deviceScaleFactor=1,
+                              mobile=False)
+        self.addCleanup(self.browser.devtools, "Emulation.clearDeviceMetricsOverride")
+        sides = self.browser.script("return ['texts', 'answer'].map((id) => {"
+                                    "const {left, right, top} = document.getElementById(id).getBoundingClientRect();"
+                                    "return [left, right, top]; })")
+        self.assertLess(sides[0][1], sides[1][0])
+        self.assertEqual(sides[0][2], sides[1][2])
+
+    def test_contrast(self) -> None:
+        """Each colour has the contrast with what it stands on that WCAG 2.1 asks of text, 4.5 to 1, by day and night."""
+        self.browser.choose("riddles/riddle_01.pipe")
+        self.browser.click("#check")
+        self.wait("#verdict", "wrong commute$")
+        self.browser.click("#why")
+        self.until(lambda: bool(self.browser.script("return document.querySelector('.told') !== null")))
+        self.addCleanup(self.browser.devtools, "Emulation.setEmulatedMedia", features=[])
+        for scheme in ("light", "dark"):
+            self.browser.devtools("Emulation.setEmulatedMedia",
+                                  features=[{"name": "prefers-color-scheme", "value": scheme}])
+            for selector, ratio in self.browser.script(CONTRAST):
+                self.assertGreaterEqual(ratio, 4.5, (scheme, selector))
 
 
 if __name__ == "__main__":

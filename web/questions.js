@@ -49,7 +49,7 @@ export async function askBounded(runner, design, cycles) {
 
 /** A fault of the three files as the companion tells it, which reads them before the trail. */
 async function faultInTrail(runner, files, bounded) {
-  const said = await runner.run(["bd_view", "show", "pipe", "spec", "trail", "start"], [...files, ["trail", ""]]);
+  const said = await runner.run(["bd_view", "show", "pipe", "spec", "trail", "start"], [...files, ["trail", "(trail 1)"]]);
   return { ...bounded, text: "", err: FAULT.test(said.err) ? said.err : bounded.err };
 }
 
