@@ -21,13 +21,15 @@ An example is a block, fenced or indented by four spaces, whose first line begin
 
 The commands of a document run one after the other in one new folder, in which the programs and the folders at the top
 of the repository have their names. So paths are those from the top, and a command can save a file that a later one of
-the document reads, without a change to the repository.
+the document reads, without a change to the repository. After the example `$ cd examples` they run in a copy of
+examples/, and paths are those from there.
 
 Where a tool of OTHERS isn't installed, which a script of ASKS wants too, or a program isn't given, the rest of the
 block isn't run, and the last line of the report says so.
 """
 from __future__ import annotations
 
+import argparse
 import difflib
 import os
 import re
@@ -39,11 +41,13 @@ from pathlib import Path
 from typing import Iterator, NamedTuple
 
 ROOT = Path(__file__).resolve().parent.parent
-DOCUMENTS = ("README.md", "docs/*.md", "docs/commands/*.md", "gallery/riddles/ANSWERS.md")
+DOCUMENTS = ("README.md", "docs/*.md", "docs/develop/*.md", "docs/commands/*.md", "gallery/riddles/ANSWERS.md")
 OTHERS = ("cadical", "parallel")
 ASKS = {"tools/prove.py": ("cadical",), "tools/conquer.py": ("cadical", "parallel")}
 PROGRAMS = ("burch_dill", "bd_view")
 PROMPT = "$ "
+DESIGNS = "examples"
+ENTERS = f"cd {DESIGNS}"
 CUT = "..."
 SECONDS = 60
 
@@ -132,8 +136,11 @@ def prepare(folder: Path, programs: dict[str, Path]) -> dict[str, str]:
     for name, program in programs.items():
         (commands / name).symlink_to(program)
     for path in ROOT.iterdir():
-        if path.is_dir() and not path.name.startswith("."):
+        if path.is_dir() and path.name != DESIGNS and not path.name.startswith("."):
             (folder / path.name).symlink_to(path)
+    (folder / DESIGNS).mkdir()
+    for path in (ROOT / DESIGNS).iterdir():
+        shutil.copy(path, folder / DESIGNS)
     return {**os.environ, "PATH": f"{commands}:{os.environ['PATH']}", "LC_ALL": "C", "PYTHONDONTWRITEBYTECODE": "1"}
 
 
@@ -150,7 +157,7 @@ def run(command: str, folder: Path, environment: dict[str, str]) -> list[str]:
 def is_missing(command: str, programs: dict[str, Path]) -> bool:
     """Whether the command is or asks another tool that isn't installed, or begins with a program that isn't given."""
     word = command.split()[0]
-    others = [other for other in ASKS.get(word, (word,)) if other in OTHERS]
+    others = [other for other in ASKS.get(word.removeprefix("../"), (word,)) if other in OTHERS]
     return any(shutil.which(other) is None for other in others) or (word in PROGRAMS and word not in programs)
 
 
@@ -163,6 +170,10 @@ def run_document(document: list[Block], programs: dict[str, Path]) -> list[Resul
         for block in document:
             missing = False
             for example in examples(block):
+                if example.command == ENTERS:
+                    folder = Path(name) / DESIGNS
+                    results.append(Result(example, []))
+                    continue
                 missing = missing or is_missing(example.command, programs)
                 printed = None if missing else run(example.command, folder, environment)
                 results.append(Result(example, printed))
@@ -191,18 +202,24 @@ def name_of(word: str) -> str:
     return Path(word).name if Path(word).name in PROGRAMS else PROGRAMS[0]
 
 
+def asked_for(words: list[str]) -> argparse.Namespace:
+    """The words of a call, whose programs can be run."""
+    parser = argparse.ArgumentParser(prog="doc_examples.py", description=__doc__,
+                                     formatter_class=argparse.RawDescriptionHelpFormatter)
+    parser.add_argument("--write", action="store_true", help="put into the documents what comes out")
+    parser.add_argument("named", nargs="+", metavar="PROGRAM|FILE.md", help="programs and documents")
+    asked = parser.parse_intermixed_args(words)
+    for word in asked.named:
+        if not word.endswith(".md") and not os.access(word, os.X_OK):
+            parser.error(f"{word} can't be run")
+    return asked
+
+
 def main(words: list[str]) -> int:
-    writes = "--write" in words
-    words = [word for word in words if word != "--write"]
-    if not words or words[0].startswith("-"):
-        print(__doc__)
-        return 2
-    programs = {name_of(word): Path(word).resolve() for word in words if not word.endswith(".md")}
-    for program in programs.values():
-        if not os.access(program, os.X_OK):
-            print(f"{program} can't be run")
-            return 2
-    named = [Path(word) for word in words if word.endswith(".md")]
+    """Runs the examples, and gives the status."""
+    asked = asked_for(words)
+    programs = {name_of(word): Path(word).resolve() for word in asked.named if not word.endswith(".md")}
+    named = [Path(word) for word in asked.named if word.endswith(".md")]
     paths = named or [path for pattern in DOCUMENTS for path in sorted(ROOT.glob(pattern))]
     count = left_out = faults = 0
     for path in paths:
@@ -213,7 +230,7 @@ def main(words: list[str]) -> int:
         reports += [difference(name, result) for result in results if result.differs()]
         if reports:
             print("\n".join(reports))
-        if writes:
+        if asked.write:
             write(path, document, results)
         count += len(results)
         left_out += sum(result.printed is None for result in results)

@@ -6,10 +6,10 @@
     tools/documents.py --print [NAME ..]  prints each public definition with its comment, and a table of every call;
                                           or those of the crates, modules, definitions and calls of these names
 
-- docs/MAP.md: the last column of the table of crates, who uses each, follows from crates.txt.
+- docs/develop/MAP.md: the last column of the table of crates, who uses each, follows from crates.txt.
 - docs/PROVED.md: the list of what `correct` rests on, by following the definitions that the promise of that name cites;
   and the calls that can't want memory.
-- docs/DEFINITIONS.md: each definition that a public contract cites, with its module and its source. Contracts are those
+- docs/develop/DEFINITIONS.md: each definition that a public contract cites, with its module and its source. Contracts are those
   of public calls and of the methods of public traits; how a public type is seen counts too.
 
 What the programs take and print stands in users' pages, in examples that are run (`shown.py`).
@@ -19,6 +19,7 @@ leads to, with its heading. So has each call of tools/surface.txt,
 the calls that other programs rely on, with the signature that stands there: a line is a crate and a signature.
 """
 
+import argparse
 import re
 import sys
 import textwrap
@@ -42,7 +43,7 @@ COMMANDS = ("Bounded", "Cases", "Complete", "Completions", "Generate", "Recheck"
 LEFT_OUT = {("bd_app", name) for name in COMMANDS}
 LIST = ("<!-- correct: made by tools/documents.py -->", "<!-- correct: to here -->")
 USE = re.compile(r"(?:pub )?use Rattle\.(bd_\w+)\.specs\.([\w.]+?)(?:\.\{(.*)\})?(?: as (\w+))?$")
-NAMED = re.compile(r"`((?:crates/)?(?:bd_\w+|burch_dill)/[\w/.]+|(?:bench|tools|docs)/[\w.]+)`")
+NAMED = re.compile(r"`((?:crates/)?(?:bd_\w+|burch_dill)/[\w/.]+|(?:bench|tools|docs)/[\w.]+|python/[\w./]+)`")
 MEMORY = ("<!-- without memory: made by tools/documents.py -->", "<!-- without memory: to here -->")
 # what a program's run ends as
 ENDS = {"Ended": "`Ended::Memory`", "ExitCode": "its exit status"}
@@ -57,7 +58,7 @@ HEAD = """# Definitions
 
 The definitions that public contracts cite, crate by crate: a line each, with its module, which is a file of
 `crates/NAME/specs/`, and the public source that is named there. Where none is named the definition is this project's
-own. [PROVED.md](PROVED.md) says in which order to read those behind `correct`.
+own. [PROVED.md](../PROVED.md) says in which order to read those behind `correct`.
 
 `tools/documents.py` makes this page from the code. `tools/documents.py --print IsRight` prints what is said of a
 definition, a module, a crate or a call; without a name, of all public definitions, and a table of every call.
@@ -98,7 +99,7 @@ def map_text():
     """MAP.md with its last column made anew, and the crates that have no row or a row too many."""
     programs, tests = crates()
     lines, rows = [], []
-    for line in (ROOT / "docs/MAP.md").read_text().splitlines():
+    for line in (ROOT / "docs/develop/MAP.md").read_text().splitlines():
         found = re.match(r"\| `(\w+)` \|", line)
         if found and line.count("|") == 5:
             name = found.group(1)
@@ -107,8 +108,8 @@ def map_text():
                 line = "|".join(line.split("|")[:4]) + f"| {users(name, programs, tests)} |"
         lines.append(line)
     wanted = list(programs) + list(tests)
-    faults = [f"docs/MAP.md has no row for {name}" for name in wanted if name not in rows]
-    faults += [f"docs/MAP.md has a row for {name}, which crates.txt lacks" for name in rows if name not in wanted]
+    faults = [f"docs/develop/MAP.md has no row for {name}" for name in wanted if name not in rows]
+    faults += [f"docs/develop/MAP.md has a row for {name}, which crates.txt lacks" for name in rows if name not in wanted]
     return "\n".join(lines) + "\n", faults
 
 
@@ -595,7 +596,7 @@ def missing_calls():
 def missing_files():
     """The files of crates and folders that a document names and that aren't there."""
     faults = []
-    for document in [ROOT / "README.md", *sorted((ROOT / "docs").glob("*.md"))]:
+    for document in [ROOT / "README.md", *sorted((ROOT / "docs").rglob("*.md"))]:
         for name in NAMED.findall(document.read_text()):
             if "NAME" not in name and not (ROOT / name).exists() and not (ROOT / "crates" / name).exists():
                 faults.append(f"{document.relative_to(ROOT)} names {name}, which isn't there")
@@ -637,21 +638,30 @@ def printed(names):
     return 0 if lines else 1
 
 
+def asked_for(words):
+    """The words of a call."""
+    parser = argparse.ArgumentParser(prog="documents.py", description=__doc__,
+                                     formatter_class=argparse.RawDescriptionHelpFormatter)
+    which = parser.add_mutually_exclusive_group()
+    which.add_argument("--check", action="store_true", help="say what is stale, and write nothing")
+    which.add_argument("--print", nargs="*", metavar="NAME", help="print what is said of these names, or of all")
+    return parser.parse_args(words)
+
+
 def main(words):
-    if words[:1] == ["--print"]:
-        return printed(words[1:])
-    if words not in ([], ["--check"]):
-        print(__doc__)
-        return 2
+    """Does what the words ask for, and gives the status."""
+    asked = asked_for(words)
+    if asked.print is not None:
+        return printed(asked.print)
     proved, proved_faults = proved_text()
     mapped, mapped_faults = map_text()
-    made = {"docs/MAP.md": mapped, "docs/PROVED.md": proved, "docs/DEFINITIONS.md": definitions_text()}
+    made = {"docs/develop/MAP.md": mapped, "docs/PROVED.md": proved, "docs/develop/DEFINITIONS.md": definitions_text()}
     faults = mapped_faults + proved_faults + missing_files() + broken_links() + missing_calls()
     faults += shown.missing()
     for path, text in made.items():
         file = ROOT / path
         old = file.read_text() if file.exists() else ""
-        if old != text and words:
+        if old != text and asked.check:
             changed = set(old.splitlines()) ^ set(text.splitlines())
             faults.append(f"{path} is stale: {len(changed)} lines differ")
         elif old != text:
