@@ -1,6 +1,6 @@
 //! Whether a pipeline is right by an abstraction, and whether the abstraction agrees with flushing.
 ghost use Rattle.std.specs.Prelude.{◌≡◌, [], IfOk};
-ghost use Rattle.bd_abstraction.specs.Abstraction.{IsLawfulAbstraction, abstraction_view};
+ghost use Rattle.bd_model.specs.Abstraction.{IsLawfulAbstraction, abstraction_view};
 ghost use Rattle.bd_model.specs.DesignView.{design_view};
 ghost use Rattle.bd_model.specs.Lawful.{IsLawful};
 ghost use Rattle.bd_completion.specs.Answer.{HasWork, IsAnswerSaid, Says};
@@ -8,10 +8,9 @@ ghost use Rattle.bd_completion.specs.Kept.{IsRootBy};
 
 use crate::answer::Complete;
 use crate::judging::judge_by;
-use bd_abstraction::Abstraction;
 use bd_cdcl::HonestSolver;
 use bd_goal::{agree_goal, goal_by};
-use bd_model::Design;
+use bd_model::{Abstraction, Design};
 use bd_terms::{Graph, Id};
 use bd_verify::{Decided, broken, decide, one_cycle};
 use std::alloc::{AllocError, Global};

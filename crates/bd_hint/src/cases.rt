@@ -6,7 +6,7 @@ use crate::file::list_of;
 use crate::lines::Lines;
 use crate::near::nearest_word;
 use crate::view::{FaultView, put_arity, put_described};
-use bd_outline::parts_of;
+use bd_text::outline::parts_of;
 use std::alloc::AllocError;
 
 /// What entries begin with.

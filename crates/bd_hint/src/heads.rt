@@ -5,7 +5,7 @@ use crate::lines::Lines;
 use crate::near::nearest_word;
 use crate::source::{kind_form, kind_of, kind_text};
 use crate::view::FaultView;
-use bd_outline::{atom_of, parts_of};
+use bd_text::outline::{atom_of, parts_of};
 use bd_typer::Text;
 use std::alloc::AllocError;
 

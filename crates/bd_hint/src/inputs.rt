@@ -4,7 +4,7 @@ use crate::declared::{Declaration, Declared};
 use crate::lines::Lines;
 use crate::source::kind_text;
 use crate::view::FaultView;
-use bd_outline::{atom_of, parts_of};
+use bd_text::outline::{atom_of, parts_of};
 use bd_text::Tree;
 use bd_typer::Text;
 use indexmap::IndexMap;

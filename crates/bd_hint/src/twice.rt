@@ -3,7 +3,7 @@
 use crate::file::{Headed, list_of};
 use crate::lines::Lines;
 use crate::view::FaultView;
-use bd_outline::atom_of;
+use bd_text::outline::atom_of;
 use bd_syntax::lists::offset_of;
 use std::alloc::AllocError;
 

@@ -1,7 +1,7 @@
 //! What the lets and conjuncts of an invariant are called where their values are shown: the line of each, with the let's
 //! name or the conjunct's text.
 
-use bd_outline::{atom_at, is_headed, parts_of, trees_of};
+use bd_text::outline::{atom_at, is_headed, parts_of, trees_of};
 use bd_syntax::lists::offset_of;
 use bd_text::Tree;
 use itoa::Buffer;

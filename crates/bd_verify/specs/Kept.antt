@@ -12,7 +12,7 @@ use Rattle.bd_terms.specs.declared.node.Node.{Node}
 use Rattle.bd_terms.specs.Denotation.{World}
 use Rattle.bd_terms.specs.Graph.{HasSort, IsGraph}
 use Rattle.bd_goal.specs.Claims.{Claims}
-use Rattle.bd_abstraction.specs.declared.abstraction.Abstraction.TheVariants as abstraction
+use Rattle.bd_model.specs.declared.abstraction.Abstraction.TheVariants as abstraction
 use Rattle.bd_goal.specs.Formula.{Corresponds, IsOutside, address_count}
 use Rattle.bd_goal.specs.Made.{IsCorrespondence, IsDenial}
 use Rattle.bd_goal.specs.Symbols.{ReachesKnown}

@@ -1,6 +1,6 @@
 //! Parts of an expression in its text.
 
-use bd_outline::parts_of;
+use bd_text::outline::parts_of;
 use bd_text::Tree;
 
 /// The part at the end of a way down: a list's parts count from 0 after its head.

@@ -1,5 +1,5 @@
 use Rattle.std.proofs.Common.{subst}
-use Rattle.bd_abstraction.specs.Abstraction.{abstraction_view}
+use Rattle.bd_model.specs.Abstraction.{abstraction_view}
 use Rattle.bd_model.specs.DesignView.{design_view}
 use Rattle.bd_model.specs.Conditions.{JudgedBy}
 use Rattle.bd_cdcl.specs.declared.solver.Found.TheVariants.{Model, Refuted, Spent}

@@ -1,5 +1,6 @@
 //! The type of abstractions.
-use bd_model::{Exprs, Locals};
+use crate::design::Locals;
+use crate::expr::Exprs;
 
 /// What a state of the pipeline stands for: what is visible once the pipeline is flushed, or one expression for each
 /// visible entry, in the specification's order, over the pipeline's entries and lets of its own.

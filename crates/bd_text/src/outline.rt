@@ -1,12 +1,12 @@
 //! The trees of a text as far as they go, for whoever points into a text that may have a fault.
-#![tactic(auto)]
-
 ghost use Rattle.std.specs.Prelude.{IfOk};
 ghost use Rattle.bd_text.specs.Faults.{HasNoFault};
 ghost use Rattle.bd_text.specs.Grammar.{Spells};
 ghost use Rattle.bd_text.specs.View.{nodes_of};
 
-use bd_text::{TextFault, Tree, Trees, read_trees};
+use crate::fault::TextFault;
+use crate::read::read_trees;
+use crate::tree::{Tree, Trees};
 use std::alloc::{AllocError, Global};
 
 /// The trees of a text, none where it has a fault.

@@ -9,8 +9,8 @@ use Rattle.bd_model.specs.Cycle.{flushed}
 use Rattle.bd_model.specs.Lawful.{Context, HasSort, IsWithinLimits, LetsHaveSorts, inv_context, without_lets}
 use Rattle.bd_model.specs.Conditions as conditions
 use Rattle.bd_model.specs.declared.design.Entry as entry
-use Rattle.bd_abstraction.specs.declared.abstraction.Abstraction.{Abstraction}
-use Rattle.bd_abstraction.specs.declared.abstraction.Abstraction.TheVariants as abstraction
+use Rattle.bd_model.specs.declared.abstraction.Abstraction.{Abstraction}
+use Rattle.bd_model.specs.declared.abstraction.Abstraction.TheVariants as abstraction
 
 -- an abstraction: flushing, or the lets and the expressions that are given
 pub data AbstractionView : Type 0 where
