@@ -1,7 +1,7 @@
 //! Files in memory that fail where they are told to.
 //!
 //! A shelf keeps its files in a list, the first of a name counting. Each call takes the next
-//! number before it does anything else, so a call that answers want of memory is numbered too.
+//! number before it does anything else, so a call that runs out of memory is numbered too.
 ghost use Rattle.std.specs.Prelude.{◌≡◌, ◌+◌, [], ◌∷◌, true, false, Some, None, OnOk, OnErr, IfOk, IsErrOf, IsOkAnd, position, find, take, option_map};
 ghost use Rattle.std.specs.Option.{option_copied};
 ghost use Rattle.std.specs.String.{string_bytes};

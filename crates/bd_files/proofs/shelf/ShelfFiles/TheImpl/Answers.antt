@@ -2,7 +2,7 @@ use Rattle.std.proofs.Common.{rules, ap, ◌∙◌}
 use Rattle.std.proofs.lemmas.Result.{on_ok_weaker}
 use Rattle.bd_files.specs.Shelf.{ShelfState, bytes_of}
 use Rattle.bd_files.proofs.Lookups.{bytes_of-put_file, keeps_others}
-use Rattle.bd_files.proofs.memory_files.ShelfFiles.TheImpl.Goals as goal
+use Rattle.bd_files.proofs.shelf.ShelfFiles.TheImpl.Goals as goal
 
 pub save-tells : goal.save-tells
 save-tells c =

@@ -1,7 +1,7 @@
 use Rattle.std.proofs.Common.{ap, ◌∙◌}
 use Rattle.bd_files.specs.Shelf.{files_of}
 use Rattle.bd_files.proofs.Lookups.{files_of_push_absent}
-use Rattle.bd_files.proofs.memory_files.put_file.Goals as goal
+use Rattle.bd_files.proofs.shelf.put_file.Goals as goal
 
 pub returns-in_ok-push-in-None-clause-ok : goal.returns-in_ok-push-in-None-clause-ok
 returns-in_ok-push-in-None-clause-ok c =
