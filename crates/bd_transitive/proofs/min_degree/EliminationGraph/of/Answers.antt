@@ -2,7 +2,7 @@ use Rattle.std.proofs.Common.{◌==◌, ◌&&◌, ◌||◌, ap, sym, ◌∙◌, 
 use Rattle.std.proofs.Math.Bool.{or_assoc}
 use Rattle.std.proofs.lemmas.List.Folds.{list_any_more}
 use Rattle.bd_transitive.proofs.Ends.{no_edge}
-use Rattle.bd_transitive.proofs.fewest.Left.of.Goals as goal
+use Rattle.bd_transitive.proofs.min_degree.EliminationGraph.of.Goals as goal
 
 pub loop-edge-preserved : goal.loop-edge-preserved
 loop-edge-preserved c =

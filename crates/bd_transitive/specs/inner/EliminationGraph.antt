@@ -8,7 +8,7 @@ use Rattle.std.specs.BTreeSet.{contains}
 use Rattle.std.specs.List.{IsDistinct, list_any}
 use Rattle.std.specs.Set.{is_member}
 use Rattle.bd_transitive.specs.declared.graph.Edge.{Edge}
-use Rattle.bd_transitive.specs.declared.fewest.Left.{Left}
+use Rattle.bd_transitive.specs.declared.min_degree.EliminationGraph.{EliminationGraph}
 
 -- whether the vertex is an end of an edge
 abbrev pub is_end : List Edge → ℕ → Bool
@@ -19,15 +19,15 @@ keys_of None = []
 keys_of (Some s) = s.keys
 
 -- whether a vertex is left
-abbrev pub is_left : Left → ℕ → Bool
+abbrev pub is_left : EliminationGraph → ℕ → Bool
 is_left l v = is_some (get nat_eq l.neighbours v)
 
 -- its neighbours
-abbrev pub neighbours : Left → ℕ → List ℕ
+abbrev pub neighbours : EliminationGraph → ℕ → List ℕ
 neighbours l v = keys_of (get nat_eq l.neighbours v)
 
 -- whether the other one is among its neighbours
-abbrev pub is_neighbour : Left → ℕ → ℕ → Bool
+abbrev pub is_neighbour : EliminationGraph → ℕ → ℕ → Bool
 is_neighbour l v w = is_member nat_eq (neighbours l v) w
 
 -- by degree, and then by number
@@ -35,11 +35,11 @@ abbrev pub entry_cmp : ℕ × ℕ → ℕ × ℕ → Ordering
 entry_cmp x y = ordering_then (nat_cmp x.0 y.0) (nat_cmp x.1 y.1)
 
 -- the vertex stands in the queue by how many neighbours it has
-abbrev pub IsQueued : Left → ℕ → Type 0
+abbrev pub IsQueued : EliminationGraph → ℕ → Type 0
 IsQueued l v = contains entry_cmp l.queue (length (neighbours l v), v) ≡ true
 
 -- no vertex has a neighbour twice, and each that is left stands in the queue
-pub record IsSound (l : Left) : Type 0 where
+pub record IsSound (l : EliminationGraph) : Type 0 where
   pub distinct : (v : ℕ) → IsDistinct nat_eq (neighbours l v)
   pub queued : (v : ℕ) → is_left l v ≡ true → IsQueued l v
 

@@ -1,7 +1,7 @@
 use Rattle.std.proofs.Common.{◌≡◌, ℕ, take}
 use Rattle.bd_transitive.specs.Elimination.{joined_by}
-use Rattle.bd_transitive.specs.inner.Left.{is_end, is_left, is_neighbour, IsSound}
-use Rattle.bd_transitive.proofs.fewest.Left.of.Given as goal
+use Rattle.bd_transitive.specs.inner.EliminationGraph.{is_end, is_left, is_neighbour, IsSound}
+use Rattle.bd_transitive.proofs.min_degree.EliminationGraph.of.Given as goal
 
 abbrev pub invariant-loop-edge : goal.invariant-loop-edge
 invariant-loop-edge l = record {

@@ -1,7 +1,7 @@
 use Rattle.std.proofs.Common.{◌≡◌, ℕ, true}
 use Rattle.std.specs.BTreeSet.{btree_set_len}
-use Rattle.bd_transitive.specs.inner.Left.{is_left, IsQueued}
-use Rattle.bd_transitive.proofs.fewest.Left.next.Given as goal
+use Rattle.bd_transitive.specs.inner.EliminationGraph.{is_left, IsQueued}
+use Rattle.bd_transitive.proofs.min_degree.EliminationGraph.next.Given as goal
 
 abbrev pub invariant-loop-degree : goal.invariant-loop-degree
 invariant-loop-degree l = record {

@@ -2,9 +2,9 @@ use Rattle.std.proofs.Common.{◌≡◌, ℕ, false, sym, ◌∙◌}
 use Rattle.std.specs.Prelude.{IsTrue}
 use Rattle.std.specs.BTreeSet.{contains}
 use Rattle.std.specs.Ordering.{is_gt}
-use Rattle.bd_transitive.specs.inner.Left.{entry_cmp}
+use Rattle.bd_transitive.specs.inner.EliminationGraph.{entry_cmp}
 use Rattle.bd_transitive.proofs.Queues.{first-fewest}
-use Rattle.bd_transitive.proofs.fewest.Left.next.Goals as goal
+use Rattle.bd_transitive.proofs.min_degree.EliminationGraph.next.Goals as goal
 
 pub returns-then-has_degree-clause-fewest : goal.returns-then-has_degree-clause-fewest
 returns-then-has_degree-clause-fewest c =

@@ -6,7 +6,7 @@ ghost use Rattle.std.specs.List.{IsDistinct};
 ghost use Rattle.std.specs.Set.{is_member};
 ghost use Rattle.bd_transitive.specs.Edges.{AreEdges, IsEnd};
 ghost use Rattle.bd_transitive.specs.Elimination.{IsByLeastDegree, joined_by};
-ghost use Rattle.bd_transitive.specs.inner.Left.{is_end, is_left, is_neighbour, neighbours, rejoined, IsQueued, IsSound};
+ghost use Rattle.bd_transitive.specs.inner.EliminationGraph.{is_end, is_left, is_neighbour, neighbours, rejoined, IsQueued, IsSound};
 
 use crate::graph::Edge;
 use indexmap::IndexSet;
@@ -15,21 +15,21 @@ use std::collections::{BTreeSet, HashMap};
 
 /// The vertices that are left, with their neighbours among these.
 #[derive(Drop)]
-pub(crate) struct Left {
+pub(crate) struct EliminationGraph {
     neighbours: HashMap<u64, IndexSet<u64>>,
     /// The vertices by how many neighbours they have or had.
     queue: BTreeSet<(usize, u64)>,
 }
 
-impl Left {
+impl EliminationGraph {
     /// All ends of edges.
-    fn of(alloc: Global, edges: &[Edge]) -> Result<Left, AllocError>
+    fn of(alloc: Global, edges: &[Edge]) -> Result<EliminationGraph, AllocError>
         ensures sound { IfOk result IsSound }
         ensures left { IfOk result (λ l. (v : ℕ) → is_left l v ≡ is_end edges.now v) }
         ensures joined { IfOk result (λ l. (v w : ℕ) →
             is_neighbour l v w ≡ joined_by edges.now v w) }
     {
-        let mut left = Left {
+        let mut left = EliminationGraph {
             neighbours: HashMap::new(alloc),
             queue: BTreeSet::new(alloc),
         };
@@ -174,7 +174,7 @@ pub(crate) fn fewest_first(alloc: Global, edges: &[Edge]) -> Result<Vec<u64>, Al
     ensures distinct { IfOk result (λ vs. IsDistinct nat_eq vs.items) }
     ensures ends { IfOk result (λ vs. (v : ℕ) → Contains vs.items v ↔ IsEnd edges.now v) }
 {
-    let mut left = Left::of(alloc, edges)?;
+    let mut left = EliminationGraph::of(alloc, edges)?;
     let mut order = Vec::with_capacity(alloc, left.neighbours.len())?;
     while let Some(vertex) = left.next() {
         match left.neighbours.remove(&vertex) {

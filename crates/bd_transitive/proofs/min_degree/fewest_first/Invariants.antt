@@ -1,6 +1,6 @@
 use Rattle.std.specs.HashMap.{hash_map_len}
 use Rattle.bd_transitive.proofs.Eliminating.{IsTaken}
-use Rattle.bd_transitive.proofs.fewest.fewest_first.Given as goal
+use Rattle.bd_transitive.proofs.min_degree.fewest_first.Given as goal
 
 abbrev pub invariant-loop-vertex : goal.invariant-loop-vertex
 invariant-loop-vertex l = IsTaken l.edges l.left l.order.items

@@ -2,11 +2,11 @@ use Rattle.std.proofs.Common.{◌≡◌, ◌==◌, ℕ, true, cond, None, nat_eq
 use Rattle.std.proofs.lemmas.Bool.{and_from, not_from_false}
 use Rattle.std.specs.HashMap.{get}
 use Rattle.std.specs.Set.{is_member}
-use Rattle.bd_transitive.specs.declared.fewest.Left.{Left}
-use Rattle.bd_transitive.specs.inner.Left.{keys_of, neighbours, rejoined}
+use Rattle.bd_transitive.specs.declared.min_degree.EliminationGraph.{EliminationGraph}
+use Rattle.bd_transitive.specs.inner.EliminationGraph.{keys_of, neighbours, rejoined}
 use Rattle.bd_transitive.proofs.Eliminating.{IsTaken, ordered-ends, own-others, taken-all, taken-more, taken-none}
 use Rattle.bd_transitive.proofs.Queues.{left-removed, neighbours-removed, sound-taken}
-use Rattle.bd_transitive.proofs.fewest.fewest_first.Goals as goal
+use Rattle.bd_transitive.proofs.min_degree.fewest_first.Goals as goal
 
 pub loop-vertex-init : goal.loop-vertex-init
 loop-vertex-init c =
@@ -20,7 +20,7 @@ join-requires-clause-sound c =
 
 pub join-requires-clause-left : goal.join-requires-clause-left
 join-requires-clause-left c = λ q at.
-    let l : Left = c.loop-vertex.left in
+    let l : EliminationGraph = c.loop-vertex.left in
     let v = c.in-Some.vertex in
     let gone = λ (q : ℕ). c.remove.ensures.updates.0 q ∙ ap (λ m. cond (nat_eq v q) None (get nat_eq m q)) c.in-Some.ensures.same in
     let own_is = c.as_slice.ensures.keys ∙ ap keys_of (sym c.in-Some-remove.is ∙ c.remove.ensures.value ∙ ap (λ m. get nat_eq m v) c.in-Some.ensures.same) in
@@ -29,10 +29,10 @@ join-requires-clause-left c = λ q at.
 
 pub loop-vertex-preserved : goal.loop-vertex-preserved
 loop-vertex-preserved c =
-    let l : Left = c.loop-vertex.left in
+    let l : EliminationGraph = c.loop-vertex.left in
     let v = c.in-Some.vertex in
     let own = c.as_slice.result.now in
-    let mid : Left = record { neighbours = c.remove.new.self; queue = c.next.new.self.queue } in
+    let mid : EliminationGraph = record { neighbours = c.remove.new.self; queue = c.next.new.self.queue } in
     let gone = λ (q : ℕ). c.remove.ensures.updates.0 q ∙ ap (λ m. cond (nat_eq v q) None (get nat_eq m q)) c.in-Some.ensures.same in
     let own_is : own ≡ neighbours l v = c.as_slice.ensures.keys ∙ ap keys_of (sym c.in-Some-remove.is ∙ c.remove.ensures.value ∙ ap (λ m. get nat_eq m v) c.in-Some.ensures.same) in
     let h = c.in_ok-join-in-Some-remove.ensures in

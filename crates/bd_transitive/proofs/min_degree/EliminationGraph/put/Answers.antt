@@ -1,9 +1,9 @@
 use Rattle.std.proofs.Common.{◌≡◌, true, subst}
 use Rattle.std.specs.BTreeSet.{contains}
 use Rattle.std.specs.Ordering.{is_eq}
-use Rattle.bd_transitive.specs.inner.Left.{entry_cmp}
+use Rattle.bd_transitive.specs.inner.EliminationGraph.{entry_cmp}
 use Rattle.bd_transitive.proofs.Queues.{sound-put}
-use Rattle.bd_transitive.proofs.fewest.Left.put.Goals as goal
+use Rattle.bd_transitive.proofs.min_degree.EliminationGraph.put.Goals as goal
 
 pub returns-clause-sound : goal.returns-clause-sound
 returns-clause-sound c =

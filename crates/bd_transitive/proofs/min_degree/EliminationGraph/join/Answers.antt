@@ -3,9 +3,9 @@ use Rattle.std.specs.Set.{is_member}
 use Rattle.std.proofs.lemmas.Bool.{cases_Bool, eqb-true, or_parts}
 use Rattle.std.proofs.lemmas.Cmp.{nat_eq_equiv}
 use Rattle.std.proofs.lemmas.List.Folds.{list_any_more}
-use Rattle.bd_transitive.specs.inner.Left.{is_neighbour, rejoined}
+use Rattle.bd_transitive.specs.inner.EliminationGraph.{is_neighbour, rejoined}
 use Rattle.bd_transitive.proofs.Eliminating.{member-there, not-before, or-false}
-use Rattle.bd_transitive.proofs.fewest.Left.join.Goals as goal
+use Rattle.bd_transitive.proofs.min_degree.EliminationGraph.join.Goals as goal
 
 pub rejoin-requires-clause-left : goal.rejoin-requires-clause-left
 rejoin-requires-clause-left c =

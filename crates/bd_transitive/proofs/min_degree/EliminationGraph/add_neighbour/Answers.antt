@@ -1,6 +1,6 @@
 use Rattle.std.proofs.Common.{refl}
 use Rattle.bd_transitive.proofs.Queues.{sound-removed}
-use Rattle.bd_transitive.proofs.fewest.Left.add_neighbour.Goals as goal
+use Rattle.bd_transitive.proofs.min_degree.EliminationGraph.add_neighbour.Goals as goal
 
 pub put-requires-clause-sound : goal.put-requires-clause-sound
 put-requires-clause-sound c =

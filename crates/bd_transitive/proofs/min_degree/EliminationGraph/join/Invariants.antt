@@ -1,8 +1,8 @@
 use Rattle.std.proofs.Common.{◌≡◌, ℕ, true, false, nat_eq, take}
 use Rattle.std.specs.HashMap.{hash_map_len}
 use Rattle.std.specs.Set.{is_member}
-use Rattle.bd_transitive.specs.inner.Left.{is_left, is_neighbour, neighbours, rejoined, IsSound}
-use Rattle.bd_transitive.proofs.fewest.Left.join.Given as goal
+use Rattle.bd_transitive.specs.inner.EliminationGraph.{is_left, is_neighbour, neighbours, rejoined, IsSound}
+use Rattle.bd_transitive.proofs.min_degree.EliminationGraph.join.Given as goal
 
 abbrev pub invariant-loop-vertex : goal.invariant-loop-vertex
 invariant-loop-vertex l = record {
