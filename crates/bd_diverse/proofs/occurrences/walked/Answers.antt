@@ -10,7 +10,7 @@ use Rattle.bd_terms.proofs.Graphs.{FitsSorts-get}
 use Rattle.bd_terms.proofs.Reaching.{children-inside}
 use Rattle.bd_diverse.specs.inner.Walked.{flows, is_any, no_way, ways_at, with_flows}
 use Rattle.bd_diverse.proofs.Passing.{IsWalked, IsWalked-exact, IsWalked-mark, IsWalked-root}
-use Rattle.bd_diverse.proofs.ways.walked.Goals as goal
+use Rattle.bd_diverse.proofs.occurrences.walked.Goals as goal
 
 pub loop-index-init : goal.loop-index-init
 loop-index-init c =

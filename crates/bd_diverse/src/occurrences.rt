@@ -8,23 +8,23 @@ ghost use Rattle.bd_diverse.specs.inner.Walked.{flows, freely, has_way, is_any, 
 use bd_terms::{Graph, Id, Node};
 use std::alloc::{AllocError, Global};
 
-// A set of ways in which walks come to a term.
+/// A set of ways in which walks come to a term.
 #[derive(Clone, Copy)]
-pub(crate) struct Ways {
-    // To a truth value, under an even number of negations.
+pub(crate) struct Occurrences {
+    /// To a truth value, under an even number of negations.
     pub(crate) even: bool,
-    // To a truth value, under an odd number of negations.
+    /// To a truth value, under an odd number of negations.
     pub(crate) odd: bool,
-    // To a truth value, inside the control of an ite.
+    /// To a truth value, inside the control of an ite.
     pub(crate) control: bool,
-    // To a leaf of a side of an equation that is reached negatively or inside a control.
+    /// To a leaf of a side of an equation that is reached negatively or inside a control.
     pub(crate) compared: bool,
-    // To any other word.
+    /// To any other word.
     pub(crate) free: bool,
 }
 
-impl Ways {
-    const NONE: Ways = Ways {
+impl Occurrences {
+    const NONE: Occurrences = Occurrences {
         even: false,
         odd: false,
         control: false,
@@ -32,7 +32,7 @@ impl Ways {
         free: false,
     };
 
-    const EVEN: Ways = Ways {
+    const EVEN: Occurrences = Occurrences {
         even: true,
         odd: false,
         control: false,
@@ -40,7 +40,7 @@ impl Ways {
         free: false,
     };
 
-    const CONTROL: Ways = Ways {
+    const CONTROL: Occurrences = Occurrences {
         even: false,
         odd: false,
         control: true,
@@ -48,7 +48,7 @@ impl Ways {
         free: false,
     };
 
-    const FREE: Ways = Ways {
+    const FREE: Occurrences = Occurrences {
         even: false,
         odd: false,
         control: false,
@@ -64,10 +64,10 @@ impl Ways {
     }
 
     /// The ways of both, as a term has them that two walks come to.
-    fn joined(self, other: Ways) -> Ways
+    fn joined(self, other: Occurrences) -> Occurrences
         ensures { result ≡ joined self other }
     {
-        Ways {
+        Occurrences {
             even: self.even || other.even,
             odd: self.odd || other.odd,
             control: self.control || other.control,
@@ -77,10 +77,10 @@ impl Ways {
     }
 
     /// The ways in which walks go on below a negation: even and odd change places.
-    fn negated(self) -> Ways
+    fn negated(self) -> Occurrences
         ensures { result ≡ negated_ways self }
     {
-        Ways {
+        Occurrences {
             even: self.odd,
             odd: self.even,
             control: self.control,
@@ -90,10 +90,10 @@ impl Ways {
     }
 
     /// The ways in which walks go on from an equation to its sides.
-    fn sides(self) -> Ways
+    fn sides(self) -> Occurrences
         ensures { result ≡ side_ways self }
     {
-        Ways {
+        Occurrences {
             even: false,
             odd: false,
             control: false,
@@ -104,14 +104,14 @@ impl Ways {
 }
 
 /// The ways in which walks from the root come to each term.
-pub(crate) fn walked(alloc: Global, graph: &Graph, root: Id) -> Result<Vec<Ways>, AllocError>
+pub(crate) fn walked(alloc: Global, graph: &Graph, root: Id) -> Result<Vec<Occurrences>, AllocError>
     requires { root < length graph.now }
     ensures length { IfOk result (λ marks. length marks.items ≡ length graph.now) }
     ensures ways { IfOk result (λ marks. (way : Way) (id : ℕ) →
         (has_way (ways_at marks.items id) way ≡ true) ↔ Walks graph.now root way id) }
 {
-    let mut marks = vec![in alloc; Ways::NONE; graph.len()]?;
-    marks[root.index()] = Ways::EVEN;
+    let mut marks = vec![in alloc; Occurrences::NONE; graph.len()]?;
+    marks[root.index()] = Occurrences::EVEN;
     for index in (0..graph.len()).rev() {
         let ways = marks[index];
         if ways.is_any() {
@@ -122,7 +122,7 @@ pub(crate) fn walked(alloc: Global, graph: &Graph, root: Id) -> Result<Vec<Ways>
 }
 
 /// Marks what walks go on to from a node to which they come in these ways.
-fn mark_steps(marks: &mut [Ways], ways: Ways, node: &Node)
+fn mark_steps(marks: &mut [Occurrences], ways: Occurrences, node: &Node)
     requires { All (λ c. c < length marks.old) (children node.now) }
     ensures { marks.new ≡ with_flows marks.old (flows ways node.now) }
 {
@@ -134,7 +134,7 @@ fn mark_steps(marks: &mut [Ways], ways: Ways, node: &Node)
             mark(marks, *b, ways);
         }
         Node::Ite(control, yes, no) => {
-            mark(marks, *control, Ways::CONTROL);
+            mark(marks, *control, Occurrences::CONTROL);
             mark(marks, *yes, ways);
             mark(marks, *no, ways);
         }
@@ -149,17 +149,17 @@ fn mark_steps(marks: &mut [Ways], ways: Ways, node: &Node)
 }
 
 /// Marks words that no general equation compares.
-fn mark_all(marks: &mut [Ways], ids: &[Id])
+fn mark_all(marks: &mut [Occurrences], ids: &[Id])
     requires { All (λ c. c < length marks.old) ids.now }
     ensures { marks.new ≡ with_flows marks.old (freely ids.now) }
 {
     for id in ids {
-        mark(marks, *id, Ways::FREE);
+        mark(marks, *id, Occurrences::FREE);
     }
 }
 
 /// Joins ways to those that a term has.
-fn mark(marks: &mut [Ways], id: Id, ways: Ways)
+fn mark(marks: &mut [Occurrences], id: Id, ways: Occurrences)
     requires { id < length marks.old }
     ensures { marks.new ≡ with_ways marks.old id ways }
 {

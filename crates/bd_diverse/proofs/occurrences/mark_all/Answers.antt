@@ -1,7 +1,7 @@
 use Rattle.std.proofs.Common.{◌≡◌, ◌<◌, length, sym, ◌∙◌, arith}
 use Rattle.bd_diverse.specs.inner.Walked.{only_free, with_ways}
 use Rattle.bd_diverse.proofs.Passing.{freely-more}
-use Rattle.bd_diverse.proofs.ways.mark_all.Goals as goal
+use Rattle.bd_diverse.proofs.occurrences.mark_all.Goals as goal
 
 pub loop-id-preserved : goal.loop-id-preserved
 loop-id-preserved c =

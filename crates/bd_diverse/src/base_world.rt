@@ -11,13 +11,13 @@ use bd_model::Scalar;
 use bd_terms::{Graph, Id};
 use std::alloc::{AllocError, Global};
 
-// What is known of the world that makes the root false.
+/// What is known of the world that makes the root false.
 #[derive(Drop)]
-pub(crate) struct Old {
-    // What the terms denote there.
+pub(crate) struct BaseWorld {
+    /// What the terms denote there.
     pub(crate) scalars: Vec<Scalar>,
     pub(crate) positive: Positive,
-    // No word there that counts exceeds it.
+    /// No word there that counts exceeds it.
     pub(crate) bound: u64,
 }
 
@@ -27,14 +27,14 @@ pub(crate) fn known(
     graph: &Graph,
     root: Id,
     tables: &[SymTable],
-) -> Result<Old, AllocError>
+) -> Result<BaseWorld, AllocError>
     requires { root < length graph.now }
     ensures { IfOk result (λ old. IsOld (world_of_tables tables.now) graph.now root old) }
 {
     let positive = positive(alloc, graph, root)?;
     let scalars = scalars(alloc, graph, tables)?;
     let bound = greatest_word(&scalars).max(greatest_constant(tables));
-    Ok(Old {
+    Ok(BaseWorld {
         scalars,
         positive,
         bound,
