@@ -111,7 +111,7 @@ fn save_file<D: Disk>(disk: &D, name: &str, bytes: &[u8]) -> Result<(), SaveErro
     }
 }
 
-/// The fault of a load that failed so: want of memory is no fault of the device.
+/// The fault of a load that failed so: running out of memory is no fault of the device.
 fn load_error(error: &Error) -> LoadError
     ensures memory { error_kind error.now ≡ ErrorKind.OutOfMemory → result ≡ LoadError.Memory }
     ensures failed { error_kind error.now ≢ ErrorKind.OutOfMemory → result ≡ LoadError.Failed }
@@ -122,7 +122,7 @@ fn load_error(error: &Error) -> LoadError
     }
 }
 
-/// The fault of a save that failed so: want of memory is no fault of the device.
+/// The fault of a save that failed so: running out of memory is no fault of the device.
 fn save_error(error: &Error) -> SaveError
     ensures memory { error_kind error.now ≡ ErrorKind.OutOfMemory → result ≡ SaveError.Memory }
     ensures failed { error_kind error.now ≢ ErrorKind.OutOfMemory → result ≡ SaveError.Failed }

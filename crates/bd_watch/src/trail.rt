@@ -75,7 +75,7 @@ impl Model for AssignmentTrail {
 
 impl AssignmentTrail {
     /// No literal, with room for those of the variables up to `vars`. More than 2^31 - 1 of them
-    /// end as want of memory.
+    /// end as out of memory.
     pub fn new(alloc: Global, vars: u64) -> Result<AssignmentTrail, AllocError>
         ensures empty { IfOk result (λ t. t ≡ leveled (vars + 1) []) }
         ensures packable { OnOk result (vars < 2 ^ 31) }
