@@ -6,10 +6,10 @@ use crate::lines::Lines;
 use crate::near::nearest_word;
 use crate::source::{kind_form, kind_text};
 use crate::view::FaultView;
-use bd_text::outline::{atom_at, parts_of};
 use bd_syntax::Operator;
 use bd_syntax::lists::offset_of;
 use bd_text::Tree;
+use bd_text::outline::{atom_at, parts_of};
 use bd_typer::Text;
 use std::alloc::AllocError;
 

@@ -29,7 +29,10 @@ use crate::fault::{Text, TypeFault, located};
 use crate::names::{Meaning, NameMap, Outer};
 use crate::scope::{Scope, scope_of};
 use crate::walk::{Typed, start};
-use bd_model::{Abstraction, Design, Distinct, Entries, Exacts, Expr, Exprs, Locals, Machine, Places, Ports, Sort, Symbols};
+use bd_model::{
+    Abstraction, Design, Distinct, Entries, Exacts, Expr, Exprs, Locals, Machine, Places, Ports,
+    Sort, Symbols,
+};
 use bd_syntax::{Ast, CompAst, FormFault, InvAst, Item};
 use std::alloc::{AllocError, Global};
 

@@ -1,8 +1,8 @@
 //! The items of a text: its lets, inputs and next values, each with its tree.
 
 use crate::source::Source;
-use bd_text::outline::{atom_at, is_headed, parts_of, trees_of};
 use bd_syntax::lists::offset_of;
+use bd_text::outline::{atom_at, is_headed, parts_of, trees_of};
 use bd_text::{Tree, Trees};
 use std::alloc::{AllocError, Global};
 

@@ -4,8 +4,8 @@ use crate::telling::{shown, told, told_short};
 use crate::view::{ItemPlace, ListedDesign};
 use crate::words::{push_column, push_name};
 use bd_label::{push_number, push_scalar};
-use bd_text::outline::parts_of;
 use bd_slice::{Column, Reasons, Subject};
+use bd_text::outline::parts_of;
 use indexmap::IndexSet;
 use std::alloc::{AllocError, Global};
 
