@@ -62,8 +62,9 @@ pub fn decide<S: HonestSolver>(
     )
 }
 
-/// Whether a root over the symbols of a design is true in every world that keeps the constants apart, in a mode.
-pub(crate) fn decide_by<S: HonestSolver>(
+/// Whether a root over the symbols of a design, with its inputs once for each cycle, is true in every world that keeps
+/// the constants apart, in this mode.
+pub fn decide_by<S: HonestSolver>(
     alloc: Global,
     solver: &mut S,
     design: &Design,

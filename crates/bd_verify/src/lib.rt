@@ -12,7 +12,7 @@ mod settling;
 mod verdict;
 
 pub use asking::one_cycle;
-pub use deciding::{Decided, decide};
+pub use deciding::{Decided, decide, decide_by};
 pub use formula::{kept, kept_in};
 pub use laws::{kept_decides, positive_have_no_edge, spent_is_bounded, verdicts_agree};
 pub use settling::{Settled, settle};
