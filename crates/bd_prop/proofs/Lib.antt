@@ -5,3 +5,4 @@ pub mod Naming
 pub mod Truths
 pub mod Forms
 pub mod Reaching
+pub mod Insides

@@ -3,3 +3,4 @@ pub mod Truth
 pub mod Graph
 pub mod Form
 pub mod Values
+pub mod Inside

@@ -4,6 +4,7 @@
 mod atom;
 mod choices;
 mod form;
+mod inside;
 mod node;
 mod prop;
 mod reach;
