@@ -6,3 +6,5 @@ pub mod Truths
 pub mod Forms
 pub mod Reaching
 pub mod Insides
+pub mod Gatherings
+pub mod GatheredTruth

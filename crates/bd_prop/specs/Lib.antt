@@ -4,3 +4,5 @@ pub mod Graph
 pub mod Form
 pub mod Values
 pub mod Inside
+pub mod Gathered
+pub mod inner

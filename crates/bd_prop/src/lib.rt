@@ -4,6 +4,7 @@
 mod atom;
 mod choices;
 mod form;
+mod gathering;
 mod inside;
 mod node;
 mod prop;
@@ -11,6 +12,7 @@ mod reach;
 
 pub use atom::{Atom, AtomValues};
 pub use choices::{Choice, Choices};
+pub use gathering::{Gathered, gather};
 pub use node::PropNode;
 pub use prop::Prop;
 pub use reach::{Marks, reached};
