@@ -1,7 +1,6 @@
 pub mod Joined
 pub mod Trees
-pub mod Branches
-pub mod Pushed
+pub mod Reached
 pub mod Numbering
 pub mod Stage
 pub mod Gates

@@ -33,7 +33,7 @@ returns-clause-form c =
     let graph = c.in_ok-parts.ensures.graph in
     let form = c.in_ok-parts.ensures.form in
     let P : ℕ → List (List Literal) → List AtomVar → Type 0 = λ vars clauses rows.
-    (t : IsTseitin prop root vars clauses rows) × ((v : Atom → Bool) → truth_at v prop root ≡ true → Extends prop root v clauses rows t.inside t.literal_of) in
+    (t : IsTseitin prop root vars clauses rows) × ((v : Atom → Bool) → truth_at v prop root ≡ true → Extends prop root v clauses rows t.literal_of) in
     let made : P parts.vars parts.clauses.items parts.atoms.items = (
       form,
       λ v holds. record {
