@@ -12,3 +12,4 @@ pub mod Passes
 pub mod SearchSteps
 pub mod DescentSteps
 pub mod SpentBudgets
+pub mod FoundClauses
