@@ -604,6 +604,23 @@ class Learning(Clicks):
         self.assertEqual(places[:2], [0, 0])
         self.assertGreater(places[2], 0)
 
+    def test_painted_text_lies_under_its_text_area(self) -> None:
+        self.write("pipe", "(pipeline\n (next a b))")
+        places = self.browser.script("""
+            const area = document.querySelector("#pipe textarea");
+            const line = document.createRange();
+            line.selectNodeContents(document.querySelector("#pipe .line"));
+            const { left, top } = line.getBoundingClientRect();
+            const box = area.getBoundingClientRect();
+            const { paddingLeft, paddingTop, lineHeight, fontSize, fontFamily } = getComputedStyle(area);
+            const painted = getComputedStyle(document.querySelector("#pipe .line"));
+            const leading = (parseFloat(lineHeight) - line.getBoundingClientRect().height) / 2;
+            return [Math.abs(box.left + parseFloat(paddingLeft) - left), Math.abs(box.top + parseFloat(paddingTop) + leading - top),
+              painted.lineHeight === lineHeight && painted.fontSize === fontSize && painted.fontFamily === fontFamily];""")
+        self.assertLess(places[0], 0.5)
+        self.assertLess(places[1], 1)
+        self.assertTrue(places[2])
+
     def bounded(self, cycles: int) -> None:
         self.browser.type("#cycles", str(cycles))
         self.browser.click("#bounded")

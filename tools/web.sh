@@ -1,12 +1,16 @@
 #!/usr/bin/env bash
 # Makes the web page: build/web/index.html, one file with the program, its companion and the gallery in it.
 #
-#     tools/web.sh [MODULE.bc]
+#     tools/web.sh [MODULE.bc | --unproved]
 #
 # The kit builds crates/bd_web for x86-64, proved, and its LLVM module is compiled once more, for WebAssembly with 64-bit
-# memory, with the heap of web/heap.c; no proof covers that. With a module handed in, only that is compiled.
+# memory, with the heap of web/heap.c; no proof covers that. With a module handed in, only that is compiled. With
+# --unproved the module is made without any proof, in some minutes: enough to try the page.
 set -euo pipefail
 
+case ${1-} in
+-h | --help) sed -n '2,/^set/{/^set/d;s/^# \{0,1\}//;p}' "$0" && exit ;;
+esac
 top=$(cd "$(dirname "$0")/.." && pwd)
 kit=$(dirname "$(dirname "$(readlink -f "$(command -v rt)")")")
 clang=$kit/toolchain/bin/clang
@@ -15,9 +19,9 @@ work=$(mktemp -d)
 trap 'rm -rf "$work"' EXIT
 mkdir -p "$build"
 
-# The module of bd_web. The toolchain's compiler gets it as a file and leaves nothing of it, so the kit is shadowed by one
-# whose compiler copies what it is given.
-module_of_crate() {
+# A kit whose compiler copies the module that it is given and then does what the command says. The toolchain's compiler
+# gets the module as a file and leaves nothing of it.
+shadow_kit() {
     local shadow=$work/kit
     mkdir -p "$shadow/bin" "$shadow/toolchain/bin"
     ln -s "$kit"/* "$shadow" 2> /dev/null || true
@@ -29,18 +33,49 @@ module_of_crate() {
     cat > "$shadow/toolchain/bin/clang" << EOF
 #!/usr/bin/env bash
 for word in "\$@"; do case \$word in *.bc) cp "\$word" "$work/module.bc" ;; esac; done
-exec -a "\$0" "$clang" "\$@"
+$1
 EOF
     chmod +x "$shadow/toolchain/bin/clang"
-    (cd "$top/crates/bd_web" && rm -f out/libbd_web.a && "$shadow/bin/rt" lib)
 }
 
-if [ $# -gt 0 ]; then cp "$1" "$work/module.bc"; else module_of_crate; fi
+module_of_crate() {
+    shadow_kit "exec -a \"\$0\" \"$clang\" \"\$@\""
+    (cd "$top/crates/bd_web" && rm -f out/libbd_web.a && "$work/kit/bin/rt" lib)
+}
+
+# `rt try` compiles a crate's tests before any proof. So a copy of the crate gets a test that makes the call, and the
+# compiler stops once it has the module.
+unproved_module() {
+    mkdir "$work/copy"
+    tar -C "$top" --exclude='crates/*/out' -cf - crates crates.txt | tar -C "$work/copy" -xf -
+    cat >> "$work/copy/crates/bd_web/src/page.rt" << 'EOF'
+
+#[cfg(test)]
+mod tests {
+    use super::bd_web_run;
+
+    #[test]
+    fn is_called(rt: HostRuntime) {
+        let (mut back, mut lengths, mut count) = ([0u8; 1], [0usize; 1], 0usize);
+        let _ = bd_web_run(rt.alloc(), &[], &[], 0, &mut back, &mut lengths, &mut count);
+    }
+}
+EOF
+    shadow_kit "exit 1"
+    (cd "$work/copy/crates/bd_web" && "$work/kit/bin/rt" try --test) > "$work/try.log" 2>&1 || true
+    [ -s "$work/module.bc" ] || { cat "$work/try.log"; exit 1; }
+}
+
+case ${1-} in
+"") module_of_crate ;;
+--unproved) unproved_module ;;
+*) cp "$1" "$work/module.bc" ;;
+esac
 
 wasm=(--no-default-config --target=wasm64-unknown-unknown -mcpu=lime1)
 
 # The module as a text for the other target: its layout of data, its triple and its processor in the place of x86-64's, no
-# probes of the stack, and the page's call exported.
+# probes of the stack, and the page's call exported. In a module of tests that call is internal, and `main` isn't wanted.
 "$clang" --no-default-config --target=x86_64-unknown-linux-gnu -x ir "$work/module.bc" -S -emit-llvm \
     -Xclang -disable-llvm-passes -o "$work/module.ll" 2> "$work/text.log" || { cat "$work/text.log"; exit 1; }
 echo 'int none(void) { return 0; }' > "$work/none.c"
@@ -50,6 +85,8 @@ triple=$(grep '^target triple' "$work/none.ll")
 sed -i -E "s|^target datalayout.*|$layout|; s|^target triple.*|$triple|
     s/ \"probe-stack\"=\"[^\"]*\"//g; s/ \"stack-probe-size\"=\"[^\"]*\"//g
     s/ \"target-cpu\"=\"[^\"]*\"/ \"target-cpu\"=\"lime1\"/g; s/ \"target-features\"=\"[^\"]*\"//g
+    s/@\"bd_web::page::bd_web_run\"/@bd_web_run/g; s/^define internal (.*@bd_web_run\()/define \1/
+    s/^define i32 @main\(/define internal i32 @main(/
     s/^(define [^@]*@)(bd_web_run)(\(.*\)) (#[0-9]+) \{/\1\2\3 \4 \"wasm-export-name\"=\"\2\" {/" "$work/module.ll"
 grep -q '^define .*"wasm-export-name"="bd_web_run" {' "$work/module.ll" || {
     echo "the module doesn't export bd_web_run" >&2

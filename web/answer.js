@@ -42,7 +42,7 @@ export class Answer {
     at("hint").hidden = true;
     const fault = faultOf(came.err, design);
     if (fault) {
-      at("verdict").textContent = `not read: ${at(`${fault.file}-title`).firstChild.textContent.trim()}`;
+      at("verdict").textContent = `rejected: see ${at(`${fault.file}-title`).firstChild.textContent.trim()}`;
       this.editors[fault.file].show(fault.offset, fault.message);
       return;
     }

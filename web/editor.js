@@ -1,6 +1,13 @@
 // A text area over its painted copy, with line numbers.
 import { Paint, parenthesisAt, partnerOf } from "./paint.js";
 
+/** The values of a line, those of one cycle together. */
+function noteOf(places) {
+  const cycles = Map.groupBy(places, ({ columns }) => columns);
+  const values = (here) => here.map(({ value }) => value).join(", ");
+  return [...cycles].map(([columns, here]) => (columns === "" ? values(here) : `${columns}: ${values(here)}`)).join("; ");
+}
+
 export class Editor {
   /** Fills a section of the page, whose title names it. */
   constructor(section) {
@@ -92,11 +99,12 @@ export class Editor {
     this.paint.mark("told", []);
   }
 
-  /** Marks what is told of lines, each beside its line; lines and columns count from 1. */
+  /** Marks what is told of lines, each beside its line; lines count from 1. */
   tell(places) {
-    this.paint.mark("told", places.flatMap(({ line, from, to, note }) => [
-      { line: line - 1, look: "told", note },
-      ...(to === undefined ? [] : [{ line: line - 1, from, to, look: "because" }]),
+    const lines = Map.groupBy(places, ({ line }) => line - 1);
+    this.paint.mark("told", [...lines].flatMap(([line, here]) => [
+      { line, look: "told", note: noteOf(here) },
+      ...here.filter(({ to }) => to !== undefined).map(({ from, to }) => ({ line, from, to, look: "because" })),
     ]));
   }
 

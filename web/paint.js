@@ -65,8 +65,8 @@ function drawn(line, marks) {
   const made = element("div", ["line", ...whole].join(" "), "");
   const spans = [...looksOf(line), ...marks.filter(({ to }) => to !== undefined)];
   made.append(...pieces(line, spans).map(({ text, looks }) => (looks.length ? element("span", looks.join(" "), text) : text)));
-  const notes = marks.map(({ note }) => note).filter(Boolean);
-  if (notes.length) made.append(element("span", "value", notes.join("; ")));
+  const note = marks.find((mark) => mark.note)?.note;
+  if (note) made.append(element("span", "value", note));
   return made;
 }
 

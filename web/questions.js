@@ -102,19 +102,25 @@ export function linesOf(text) {
   });
 }
 
+/** What an answer says of a place, without its reasons, as the columns of the tables and a value there. */
+function columnAndValue(says) {
+  const [, columns = "", value] = /^: (?:(.*?): )?(.*)$/.exec(says.split(" since ")[0]) ?? ["", "", ""];
+  return { columns, value };
+}
+
 /**
- * What an answer tells of the lines of a design. Below what it says of a line may stand the line itself, moved to the
+ * What an answer tells of the places of a design. Below what it says of a line may stand the line itself, moved to the
  * right, and carets under the part that decides.
  */
 export function toldOf(text, design) {
   const lines = linesOf(text);
   return lines.flatMap(({ place, says }, index) => {
     if (!place) return [];
+    const told = { ...place, ...columnAndValue(says) };
     const [source, carets] = [lines[index + 1]?.line ?? "", lines[index + 2]?.line ?? ""];
     const whole = design[place.file]?.split("\n")[place.line - 1] ?? "";
     const moved = source.length - whole.length;
-    const note = says.replace(/^: /, "").split(" since ")[0];
-    if (whole === "" || !source.endsWith(whole) || !/^ *\^+$/.test(carets)) return [{ ...place, note }];
-    return [{ ...place, note, from: carets.indexOf("^") - moved, to: carets.length - moved }];
+    if (whole === "" || !source.endsWith(whole) || !/^ *\^+$/.test(carets)) return [told];
+    return [{ ...told, from: carets.indexOf("^") - moved, to: carets.length - moved }];
   });
 }
