@@ -28,6 +28,7 @@ PROGRAM, VIEW = (shutil.which(os.environ.get(variable, name)) for variable, name
 RANDOM_DESIGNS = int(os.environ.get("WEB_DESIGNS", "500"))
 ELEMENT = "element-6066-11e4-a52e-4f735466cecf"
 KEYS = {"Tab": "\ue004", "Enter": "\ue007", "Shift": "\ue008", "Control": "\ue009", "Down": "\ue015"}
+STORE_COMPUTES = ("accumulator/store_computes.pipe", "accumulator/accumulator.spec")
 MISSING = "the page isn't built, or Chromium or its driver is missing"
 
 # A run of the page's worker. A file that it saves comes back as a text.
@@ -266,6 +267,15 @@ class Answers(InBrowser):
                 self.same(self.words("bd_view", "why", "pipe", "spec", "case", files=files),
                           [*files, ("case", checked.out)])
 
+    def test_bounded(self) -> None:
+        for name, riddle in web_page.riddles().items():
+            design = next(one for one in web_page.designs() if one.pipe == name)
+            assert isinstance(riddle, dict)
+            files = [*texts_of(design)[:2], ("start", riddle["start"])]
+            came = self.same(["burch_dill", "bounded", "pipe", "spec", "start", "2"], files)
+            if came.status == 1:
+                self.same(["bd_view", "show", "pipe", "spec", "trail", "start"], [*files, ("trail", came.out)])
+
     def test_random_designs(self) -> None:
         source = random.Random(1)
         small = [design for design in web_page.designs() if not design.machine.startswith(("dlx", "everything"))]
@@ -300,6 +310,17 @@ class Clicks(InBrowser):
     def setUp(self) -> None:
         self.browser.go(PAGE.as_uri())
 
+    def works_by(self, source: str) -> None:
+        """The next worker runs another script."""
+        self.browser.script("window.rightSource ??= burchDill.runner.source;"
+                            "burchDill.runner.source = URL.createObjectURL(new Blob([arguments[0]]));", source)
+
+    def never_answers(self) -> None:
+        self.works_by("onmessage = ({data}) => { while (data.words) {} }")
+
+    def answers_again(self) -> None:
+        self.browser.script("burchDill.runner.source = window.rightSource")
+
 
 class Visit(Clicks):
     """What a visitor does."""
@@ -313,21 +334,24 @@ class Visit(Clicks):
         self.browser.choose("accumulator/store_computes.pipe")
         self.browser.click("#check")
         self.wait("#verdict", "wrong commute$")
-        self.assertIn("flushed", self.browser.text("#text"))
+        self.assertIn("after", self.browser.text("#text"))
         self.assertFalse(self.browser.script("return document.getElementById('diagram').hidden"))
         self.browser.click("#why")
-        self.wait("#note", "$")
-        self.assertIn("broken commute", self.browser.text("#text"))
+        self.wait("#text", "(?s).*pipe:")
+        self.assertIn("commute", self.browser.text("#text"))
         self.assertFalse(self.browser.script("return document.getElementById('diagram').hidden"))
 
     def test_why_of_a_value(self) -> None:
         self.browser.choose("accumulator/store_computes.pipe")
         self.browser.click("#check")
         self.wait("#verdict", "wrong commute$")
-        for value, wanted in (("acc@before", r"(?s).*pipeline: acc@before="), ("nowhere", "no such entry; there are pc")):
+        case = self.browser.text("#case pre")
+        for value in ("acc@before", "nowhere"):
+            said = self.browser.run(["bd_view", "why", "pipe", "spec", "case", "--of", value],
+                                    [*texts_of(web_page.Design(*STORE_COMPUTES, None)), ("case", case)])
             self.browser.type("#of", value)
             self.browser.click("#why")
-            self.wait("#text", wanted)
+            self.until(lambda: self.browser.text("#text") == said.err + said.out)
 
     def test_diagram_is_shown_whole(self) -> None:
         self.browser.choose("accumulator/store_computes.pipe")
@@ -352,7 +376,7 @@ class Visit(Clicks):
         self.browser.type("#pipe textarea", "(pipeline\n (latch a bool)\n (next a b)\n (flush 0) (steps 1))")
         self.browser.type("#spec textarea", "(specification (latch a bool) (next a a))")
         self.browser.click("#check")
-        self.wait("#pipe .says", "3:10: E08 unknown name: b\nno declared name is near")
+        self.wait("#pipe .says", "3:10: E08 unknown name: b\n.")
         self.assertEqual(self.browser.text("#pipe .faulty"), " (next a b)")
         self.assertEqual(self.browser.text("#pipe .fault"), "b")
         described = "const area = document.querySelector('#pipe textarea');" \
@@ -441,7 +465,7 @@ class Latest(Clicks):
         self.assertEqual(self.browser.text("#verdict"), "undecided 1")
 
     def test_edit_ends_the_run(self) -> None:
-        self.browser.choose("dlx/dlx.pipe")
+        self.never_answers()
         self.browser.click("#check")
         self.until(lambda: bool(self.browser.script("return burchDill.runner.worker !== null")))
         self.browser.type("#inv textarea", ";")
@@ -474,14 +498,30 @@ class Latest(Clicks):
         self.nothing_is_shown()
 
     def test_stop(self) -> None:
-        self.browser.choose("dlx/dlx.pipe")
+        self.never_answers()
         self.browser.click("#check")
+        self.wait("#note", "running")
         self.browser.click("#stop")
         self.wait("#note", "stopped$")
         self.nothing_is_shown()
-        self.browser.choose("accumulator/accumulator.pipe")
+        self.assertEqual(self.browser.script("return burchDill.runner.worker"), None)
+        self.answers_again()
         self.browser.click("#check")
         self.wait("#verdict", "correct$")
+
+    def test_stop_of_why_leaves_the_case(self) -> None:
+        self.check_wrong()
+        shown = self.shown()
+        self.never_answers()
+        self.browser.script("burchDill.runner.worker.terminate(); burchDill.runner.worker = null;")
+        self.browser.click("#why")
+        self.wait("#note", "running")
+        self.browser.click("#stop")
+        self.wait("#note", "stopped$")
+        self.assertEqual(self.shown(), shown)
+        self.answers_again()
+        self.browser.click("#why")
+        self.until(lambda: bool(self.browser.script("return document.querySelector('.told') !== null")))
 
     def test_late_answer_after_stop(self) -> None:
         self.answers_late("correct\n", 1)
@@ -493,13 +533,12 @@ class Latest(Clicks):
 
     def fails_once(self, source: str, wanted: str) -> None:
         """A worker of another source says that it failed, and the next one answers."""
-        self.browser.script("window.rightSource = burchDill.runner.source;"
-                            "burchDill.runner.source = URL.createObjectURL(new Blob([arguments[0]]));", source)
+        self.works_by(source)
         self.browser.click("#check")
         self.wait("#note", wanted)
         self.nothing_is_shown()
         self.assertTrue(self.browser.script("return document.getElementById('stop').disabled"))
-        self.browser.script("burchDill.runner.source = window.rightSource")
+        self.answers_again()
         self.browser.click("#check")
         self.wait("#verdict", "correct$")
 
@@ -631,7 +670,7 @@ class Learning(Clicks):
         self.wait("#verdict", "correct to 1$")
         self.bounded(2)
         self.wait("#verdict", "wrong commute 2$")
-        self.assertIn("cycle 2: stall=false", self.browser.text("#text"))
+        self.assertIn("cycle 2", self.browser.text("#text"))
         self.assertIn("(trail 2", self.browser.text("#case pre"))
         self.assertTrue(self.browser.script("return document.getElementById('asks-why').hidden"))
 
@@ -744,7 +783,7 @@ class Access(Clicks):
         self.wait("#verdict", "wrong commute$")
 
     def test_stop_by_keyboard(self) -> None:
-        self.browser.choose("dlx/dlx.pipe")
+        self.never_answers()
         self.tab_to("check")
         self.browser.press("Enter")
         self.wait("#note", "running")

@@ -109,18 +109,25 @@ function columnAndValue(says) {
 }
 
 /**
- * What an answer tells of the places of a design. Below what it says of a line may stand the line itself, moved to the
- * right, and carets under the part that decides.
+ * The part of a line that decides, as the columns from which and before which it stands. Below what an answer says of a
+ * place may stand the line itself, moved to the right, and carets under that part.
  */
+function decidingPart(below, whole) {
+  const end = below.findIndex(({ place }) => place);
+  const block = (end < 0 ? below : below.slice(0, end)).map(({ line }) => line);
+  const under = block.findIndex((line) => /^ *\^+$/.test(line));
+  const source = block[under - 1] ?? "";
+  if (whole === "" || !source.endsWith(whole)) return {};
+  const moved = source.length - whole.length;
+  return { from: block[under].indexOf("^") - moved, to: block[under].length - moved };
+}
+
+/** What an answer tells of the places of a design. */
 export function toldOf(text, design) {
   const lines = linesOf(text);
   return lines.flatMap(({ place, says }, index) => {
     if (!place) return [];
-    const told = { ...place, ...columnAndValue(says) };
-    const [source, carets] = [lines[index + 1]?.line ?? "", lines[index + 2]?.line ?? ""];
     const whole = design[place.file]?.split("\n")[place.line - 1] ?? "";
-    const moved = source.length - whole.length;
-    if (whole === "" || !source.endsWith(whole) || !/^ *\^+$/.test(carets)) return [told];
-    return [{ ...told, from: carets.indexOf("^") - moved, to: carets.length - moved }];
+    return [{ ...place, ...columnAndValue(says), ...decidingPart(lines.slice(index + 1), whole) }];
   });
 }
