@@ -98,19 +98,20 @@ fn with_reached(alloc: Global, prop: &Prop, root: usize, pairs: Pairs) -> Result
 {
     let marks = bd_prop::reached(alloc, prop, root)?;
     let mut pairs = pairs;
-    for (id, node) in prop.nodes().iter().enumerate() {
-        add_edge(&mut pairs, *node, marks.as_slice()[id])?;
+    let nodes = prop.nodes();
+    for (id, node) in nodes.iter().enumerate() {
+        add_edge(&mut pairs, node, marks.as_slice()[id])?;
     }
     Ok(pairs)
 }
 
 /// Puts the edge of an atom into the set, if the atom is reached.
-fn add_edge(pairs: &mut Pairs, node: PropNode, is_reached: bool) -> Result<(), AllocError>
+fn add_edge(pairs: &mut Pairs, node: &PropNode, is_reached: bool) -> Result<(), AllocError>
     ensures { OnOk result ((e : TheEdge) → Contains pairs.new e
-        ↔ (Contains pairs.old e ⊎ IsReached is_reached node e)) }
+        ↔ (Contains pairs.old e ⊎ IsReached is_reached node.now e)) }
 {
     if let PropNode::Atom(atom) = node {
-        if let Atom::Edge(from, to) = atom {
+        if let Atom::Edge(from, to) = *atom {
             if is_reached {
                 pairs.insert(from, to)?;
             }
