@@ -7,6 +7,7 @@ pub mod Gates
 pub mod Flat
 pub mod Rising
 pub mod Within
+pub mod Local
 pub mod Laws
 pub mod Decoded
 pub mod Further

@@ -1,14 +1,15 @@
 -- Tseitin's form of a root of a truth graph (Tseitin 1968).
-use Rattle.std.specs.Prelude.{◌≡◌, ◌↔◌, ℕ, ◌+◌, ◌<◌, Bool, true, List, [], ◌∷◌, ◌++◌, length, slice_index, Contains}
+use Rattle.std.specs.Prelude.{◌≡◌, ◌↔◌, ◌⊎◌, ℕ, ◌+◌, ◌<◌, Bool, true, List, [], ◌∷◌, ◌++◌, length, slice_index, All, Contains}
 use Rattle.std.specs.List.{flat_map}
 use Rattle.bd_prop.specs.declared.atom.Atom.{Atom}
 use Rattle.bd_prop.specs.declared.node.PropNode.{PropNode}
 use Rattle.bd_prop.specs.declared.node.PropNode.TheVariants.{Atom as OfAtom, Not}
 use Rattle.bd_prop.specs.Graph.{StandsAt, Reaches}
 use Rattle.bd_prop.specs.Form.{node_at}
+use Rattle.bd_prop.specs.Node.{children}
 use Rattle.bd_prop.specs.Truth.{truth_at}
 use Rattle.bd_cnf.specs.Literal.{Literal, literal, negate, literal_value}
-use Rattle.bd_cnf.specs.Clause.{Satisfies}
+use Rattle.bd_cnf.specs.Clause.{SameLiterals, Satisfies}
 use Rattle.bd_tseitin.specs.declared.row.AtomVar.{AtomVar}
 use Rattle.bd_tseitin.specs.Definition.{is_gate, definition, AreClauses}
 use Rattle.bd_tseitin.specs.Rows.{Agree}
@@ -48,6 +49,24 @@ pub record IsTseitin (nodes : List PropNode) (root vars : ℕ) (clauses : List (
       → literal_of id ≡ negate (literal_of a)
   pub defined : AreClauses (flat_map (definition_at nodes literal_of) gates ++ (literal_of root ∷ []) ∷ []) clauses
   pub rows_are : rows ≡ flat_map (rows_at nodes literal_of) gates
+
+-- the literal is the node's, or a child's, or the negation of one
+abbrev pub IsOf : (ℕ → Literal) → ℕ → PropNode → Literal → Type 0
+IsOf literal_of id node l =
+    (l.var ≡ (literal_of id).var) ⊎ ((child : ℕ) × Contains (children node) child × (l.var ≡ (literal_of child).var))
+
+-- the clause has literals of one reached node and its children alone
+pub record IsLocal (nodes : List PropNode) (root : ℕ) (literal_of : ℕ → Literal) (clause : List Literal) : Type 0 where
+  pub id : ℕ
+  pub node : PropNode
+  pub reached : Reaches nodes root id
+  pub stands : StandsAt nodes id node
+  pub literals : All (IsOf literal_of id node) clause
+
+-- each clause but that of the root's literal
+abbrev pub AreLocal : List PropNode → ℕ → (ℕ → Literal) → List (List Literal) → Type 0
+AreLocal nodes root literal_of clauses =
+    All (λ c. SameLiterals c (literal_of root ∷ []) ⊎ IsLocal nodes root literal_of c) clauses
 
 -- an assignment that satisfies the clauses and agrees with the values, under which the literal of each reached node has
 -- the value that the node denotes

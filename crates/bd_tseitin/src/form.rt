@@ -2,7 +2,7 @@
 //! each node finds its children's literals in a table.
 ghost use Rattle.std.specs.Prelude.{◌≡◌, ◌↔◌, ℕ, Bool, ◌<◌, ◌+◌, ◌++◌, ◌^◌, true, length, IfOk, OnOk};
 ghost use Rattle.bd_tseitin.specs.Definition.{is_gate};
-ghost use Rattle.bd_tseitin.specs.Form.{IsTseitin, Extends, ReachesAtom, rows_of};
+ghost use Rattle.bd_tseitin.specs.Form.{AreLocal, IsTseitin, Extends, ReachesAtom, rows_of};
 ghost use Rattle.bd_prop.specs.declared.atom.Atom.{Atom};
 ghost use Rattle.bd_prop.specs.Graph.{IsGraph, HasOneId};
 ghost use Rattle.bd_prop.specs.Truth.{truth_at};
@@ -102,8 +102,10 @@ fn parts_of(alloc: Global, prop: &Prop, root: usize) -> Result<PartialForm, Allo
 pub fn clauses(alloc: Global, prop: &Prop, root: usize) -> Result<Formula, AllocError>
     requires { root < length prop.now }
 
-    // The form, and that its assignments come from values that make the root true.
+    // The form, whose clauses but the root's each have literals of one node and its children alone, and that
+    // its assignments come from values that make the root true.
     ensures form { IfOk result (λ f. (t : IsTseitin prop.now root f.cnf.vars f.cnf.clauses f.atoms)
+        × AreLocal prop.now root t.literal_of f.cnf.clauses
         × ((v : Atom → Bool) → truth_at v prop.now root ≡ true →
         Extends prop.now root v f.cnf.clauses f.atoms t.literal_of)) }
     ensures different { OnOk result (HasOneId prop.now) }
