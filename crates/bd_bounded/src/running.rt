@@ -1,5 +1,6 @@
 //! Whether a pipeline is right for so many cycles.
-ghost use Rattle.std.specs.Prelude.{◌≡◌, ◌≤◌, ℕ, [], IfOk, length};
+ghost use Rattle.std.specs.Prelude.{◌≡◌, ◌≤◌, ℕ, [], IfOk, OnOk, length};
+ghost use Rattle.bd_cdcl.specs.Asks.{Asks, AsksAtMost};
 ghost use Rattle.bd_model.specs.DesignView.{design_view};
 ghost use Rattle.bd_model.specs.Lawful.{IsLawful};
 ghost use Rattle.bd_model.specs.TrailJudged.{IsTrailJudged};
@@ -30,12 +31,15 @@ pub fn bounded<S: HonestSolver>(
     requires few { cycles ≤ most_cycles }
     ensures says { IfOk result (Says (design_view design.now) cycles) }
     ensures work { IfOk result (HasWork (design_view design.now) cycles budget) }
-    ensures asked { IfOk result (IsAnswerSaid (S.says solver.old) budget) }
+    ensures asked { IfOk result (IsAnswerSaid (S.says solver.old solver.new) budget) }
+    ensures counted { OnOk result (Asks (S.asked solver.old) (S.asked solver.new) 1) }
+    ensures at_most { AsksAtMost (S.asked solver.old) (S.asked solver.new) 1 }
 {
     bounded_by(alloc, solver, design, cycles, budget, Mode::Plain)
 }
 
 /// The same in this mode.
+#[tactic(auto, using(bd_cdcl::proofs::Questions::none_asked))]
 pub fn bounded_by<S: HonestSolver>(
     alloc: Global,
     solver: &mut S,
@@ -48,7 +52,9 @@ pub fn bounded_by<S: HonestSolver>(
     requires few { cycles ≤ most_cycles }
     ensures says { IfOk result (Says (design_view design.now) cycles) }
     ensures work { IfOk result (HasWorkIn (design_view design.now) cycles mode budget) }
-    ensures asked { IfOk result (IsAnswerSaid (S.says solver.old) budget) }
+    ensures asked { IfOk result (IsAnswerSaid (S.says solver.old solver.new) budget) }
+    ensures counted { OnOk result (Asks (S.asked solver.old) (S.asked solver.new) 1) }
+    ensures at_most { AsksAtMost (S.asked solver.old) (S.asked solver.new) 1 }
 {
     trails_decide();
     let mut graph = Graph::new(alloc);

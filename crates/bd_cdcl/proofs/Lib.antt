@@ -13,3 +13,4 @@ pub mod SearchSteps
 pub mod DescentSteps
 pub mod SpentBudgets
 pub mod FoundClauses
+pub mod Questions

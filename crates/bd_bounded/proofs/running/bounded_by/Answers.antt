@@ -60,10 +60,10 @@ returns-clause-work g c =
     run-work d c.requires.lawful c.args.cycles c.run_root.new.graph c.in_ok-root.root (subst IsGraph c.graph.view_is c.graph.invariant.graph) c.in_ok-root.ensures c.args.mode c.args.budget Spent c.in-Spent.work h
 
 pub returns-in-Valid-clause-asked : goal.returns-in-Valid-clause-asked
-returns-in-Valid-clause-asked g c = subst (IsDecisionSaid (g.S.Solver.says c.args.solver.now) c.args.budget) c.in-Valid.is c.in_ok-work.ensures.asked
+returns-in-Valid-clause-asked g c = subst (IsDecisionSaid (g.S.Solver.says c.args.solver.now c.decide_by.new.solver) c.args.budget) c.in-Valid.is c.in_ok-work.ensures.asked
 
 pub returns-in-False-clause-asked : goal.returns-in-False-clause-asked
-returns-in-False-clause-asked g c = subst (IsDecisionSaid (g.S.Solver.says c.args.solver.now) c.args.budget) c.in-False.is c.in_ok-work.ensures.asked
+returns-in-False-clause-asked g c = subst (IsDecisionSaid (g.S.Solver.says c.args.solver.now c.decide_by.new.solver) c.args.budget) c.in-False.is c.in_ok-work.ensures.asked
 
 pub returns-clause-asked : goal.returns-clause-asked
-returns-clause-asked g c = subst (IsDecisionSaid (g.S.Solver.says c.args.solver.now) c.args.budget) c.in-Spent.is c.in_ok-work.ensures.asked
+returns-clause-asked g c = subst (IsDecisionSaid (g.S.Solver.says c.args.solver.now c.decide_by.new.solver) c.args.budget) c.in-Spent.is c.in_ok-work.ensures.asked

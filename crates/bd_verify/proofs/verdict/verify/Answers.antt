@@ -34,9 +34,10 @@ returns-in-ThisCase-clause-says g c =
 pub returns-in-ThisCase-clause-asked_in_turn : goal.returns-in-ThisCase-clause-asked_in_turn
 returns-in-ThisCase-clause-asked_in_turn g c = λ given.
     let d = design_view c.args.design.now in
-    let says = g.S.Solver.says c.args.solver.now in
-    let first = meets-first g.S.Solver.says c.args.solver.now d c.args.mode c.args.budget c.in-ThisCase.case _
-    (λ answer h. g.met.S.HonestSolver.law c.args.solver.now _ c.args.budget answer _ h)
+    let between = c.ask.new.solver in
+    let says = g.S.Solver.says c.args.solver.now between in
+    let first = meets-first g.S.Solver.says c.args.solver.now between d c.args.mode c.args.budget c.in-ThisCase.case _
+    (λ answer h. g.met.S.HonestSolver.law c.args.solver.now between _ c.args.budget answer _ h)
     (subst (IsAnswered d question.Meets c.args.mode c.args.budget) c.in-ThisCase.is c.in_ok-work.ensures.answered)
     (subst (IsAnswerSaid says c.args.budget) c.in-ThisCase.is c.in_ok-work.ensures.said) in
-    in-turn g.S.Solver.says c.args.solver.now c.ask.new.solver d c.args.mode c.args.budget (Some c.in-ThisCase.case) c.breaks-in-ThisCase.result first c.breaks-in-ThisCase.ensures.found c.breaks-in-ThisCase.ensures.said
+    in-turn g.S.Solver.says c.args.solver.now between c.breaks-in-ThisCase.new.solver d c.args.mode c.args.budget (Some c.in-ThisCase.case) c.breaks-in-ThisCase.result first c.breaks-in-ThisCase.ensures.found c.breaks-in-ThisCase.ensures.said
