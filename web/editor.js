@@ -1,11 +1,10 @@
 // A text area over its painted copy, with line numbers.
 import { Paint, parenthesisAt, partnerOf } from "./paint.js";
 
-/** The values of a line, those of one cycle together. */
-function noteOf(places) {
-  const cycles = Map.groupBy(places, ({ columns }) => columns);
-  const values = (here) => here.map(({ value }) => value).join(", ");
-  return [...cycles].map(([columns, here]) => (columns === "" ? values(here) : `${columns}: ${values(here)}`)).join("; ");
+/** The values that are told of a line, by the columns of the tables in which they stand. */
+function valuesOf(places) {
+  return [...Map.groupBy(places, ({ columns }) => columns)]
+    .map(([columns, here]) => ({ columns, values: here.map(({ value }) => value).join(", ") }));
 }
 
 export class Editor {
@@ -103,7 +102,7 @@ export class Editor {
   tell(places) {
     const lines = Map.groupBy(places, ({ line }) => line - 1);
     this.paint.mark("told", [...lines].flatMap(([line, here]) => [
-      { line, look: "told", note: noteOf(here) },
+      { line, look: "told", values: valuesOf(here) },
       ...here.filter(({ to }) => to !== undefined).map(({ from, to }) => ({ line, from, to, look: "because" })),
     ]));
   }

@@ -59,14 +59,25 @@ function element(name, className, text) {
   return made;
 }
 
+/** The values beside a line, each behind its columns. */
+function valuesBeside(told) {
+  const made = element("span", "value", "");
+  told.forEach(({ columns, values }, index) => {
+    if (index > 0) made.append("; ");
+    if (columns !== "") made.append(element("span", "columns", `${columns}: `));
+    made.append(values);
+  });
+  return made;
+}
+
 /** A line as an element. A mark without an end is of the whole line. */
 function drawn(line, marks) {
   const whole = marks.filter(({ to }) => to === undefined).map(({ look }) => look);
   const made = element("div", ["line", ...whole].join(" "), "");
   const spans = [...looksOf(line), ...marks.filter(({ to }) => to !== undefined)];
   made.append(...pieces(line, spans).map(({ text, looks }) => (looks.length ? element("span", looks.join(" "), text) : text)));
-  const note = marks.find((mark) => mark.note)?.note;
-  if (note) made.append(element("span", "value", note));
+  const told = marks.find(({ values }) => values);
+  if (told) made.append(valuesBeside(told.values));
   return made;
 }
 
