@@ -19,8 +19,8 @@ work=$(mktemp -d)
 trap 'rm -rf "$work"' EXIT
 mkdir -p "$build"
 
-# A kit whose compiler copies the module that it is given and then does what the command says. The toolchain's compiler
-# gets the module as a file and leaves nothing of it.
+# A kit whose compiler copies each module that it is given; once it has the one with the call, it does what the command
+# says. The toolchain's compiler gets modules as files and leaves nothing of them.
 shadow_kit() {
     local shadow=$work/kit
     mkdir -p "$shadow/bin" "$shadow/toolchain/bin"
@@ -33,13 +33,14 @@ shadow_kit() {
     cat > "$shadow/toolchain/bin/clang" << EOF
 #!/usr/bin/env bash
 for word in "\$@"; do case \$word in *.bc) cp "\$word" "$work/module.bc" ;; esac; done
-$1
+if grep -qsa bd_web_run "$work/module.bc"; then $1; fi
+exec -a "\$0" "$clang" "\$@"
 EOF
     chmod +x "$shadow/toolchain/bin/clang"
 }
 
 module_of_crate() {
-    shadow_kit "exec -a \"\$0\" \"$clang\" \"\$@\""
+    shadow_kit true
     (cd "$top/crates/bd_web" && rm -f out/libbd_web.a && "$work/kit/bin/rt" lib)
 }
 
