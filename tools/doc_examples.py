@@ -21,7 +21,8 @@ An example is a block, fenced or indented by four spaces, whose first line begin
 
 The commands of a document run one after the other in one new folder, in which the programs and the folders at the top
 of the repository have their names. So paths are those from the top, and a command can save a file that a later one of
-the document reads, without a change to the repository.
+the document reads, without a change to the repository. After the example `$ cd examples` they run in a copy of
+examples/, and paths are those from there.
 
 Where a tool of OTHERS isn't installed, which a script of ASKS wants too, or a program isn't given, the rest of the
 block isn't run, and the last line of the report says so.
@@ -44,6 +45,8 @@ OTHERS = ("cadical", "parallel")
 ASKS = {"tools/prove.py": ("cadical",), "tools/conquer.py": ("cadical", "parallel")}
 PROGRAMS = ("burch_dill", "bd_view")
 PROMPT = "$ "
+DESIGNS = "examples"
+ENTERS = f"cd {DESIGNS}"
 CUT = "..."
 SECONDS = 60
 
@@ -132,8 +135,11 @@ def prepare(folder: Path, programs: dict[str, Path]) -> dict[str, str]:
     for name, program in programs.items():
         (commands / name).symlink_to(program)
     for path in ROOT.iterdir():
-        if path.is_dir() and not path.name.startswith("."):
+        if path.is_dir() and path.name != DESIGNS and not path.name.startswith("."):
             (folder / path.name).symlink_to(path)
+    (folder / DESIGNS).mkdir()
+    for path in (ROOT / DESIGNS).iterdir():
+        shutil.copy(path, folder / DESIGNS)
     return {**os.environ, "PATH": f"{commands}:{os.environ['PATH']}", "LC_ALL": "C", "PYTHONDONTWRITEBYTECODE": "1"}
 
 
@@ -150,7 +156,7 @@ def run(command: str, folder: Path, environment: dict[str, str]) -> list[str]:
 def is_missing(command: str, programs: dict[str, Path]) -> bool:
     """Whether the command is or asks another tool that isn't installed, or begins with a program that isn't given."""
     word = command.split()[0]
-    others = [other for other in ASKS.get(word, (word,)) if other in OTHERS]
+    others = [other for other in ASKS.get(word.removeprefix("../"), (word,)) if other in OTHERS]
     return any(shutil.which(other) is None for other in others) or (word in PROGRAMS and word not in programs)
 
 
@@ -163,6 +169,10 @@ def run_document(document: list[Block], programs: dict[str, Path]) -> list[Resul
         for block in document:
             missing = False
             for example in examples(block):
+                if example.command == ENTERS:
+                    folder = Path(name) / DESIGNS
+                    results.append(Result(example, []))
+                    continue
                 missing = missing or is_missing(example.command, programs)
                 printed = None if missing else run(example.command, folder, environment)
                 results.append(Result(example, printed))

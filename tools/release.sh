@@ -33,7 +33,7 @@ answer=$("$BURCH_DILL" check crates/burch_dill/data/two_stage.pipe crates/burch_
 shared() {
     mkdir -p "$1/crates/burch_dill" "$1/tools"
     cp README.md CHANGELOG.md CONTRIBUTING.md LICENSE-MIT LICENSE-APACHE VERSION pyproject.toml "$1"
-    cp -R docs gallery "$1"
+    cp -R docs examples gallery "$1"
     cp -R crates/burch_dill/data "$1/crates/burch_dill"
     cp -R tools/burch_dill "$1/tools"
     mkdir "$1/bench"

@@ -12,6 +12,7 @@ from unittest import mock
 
 from doc_examples import blocks, examples, main, matches, unmarked
 
+EXAMPLES = Path(__file__).resolve().parent.parent / "examples"
 DOCUMENT = """Text.
 
 ```
@@ -52,6 +53,16 @@ class Reading(unittest.TestCase):
         self.assertTrue(matches([], []))
 
 
+class Folder(unittest.TestCase):
+    def test_the_program_s_examples_are_among_them(self) -> None:
+        """Each design of the program's folder is there too, byte for byte, and no link leads elsewhere."""
+        data = EXAMPLES.parent / "crates" / "burch_dill" / "data"
+        for path in data.iterdir():
+            self.assertEqual((EXAMPLES / path.name).read_bytes(), path.read_bytes(), path.name)
+        links = [path for path in EXAMPLES.iterdir() if path.is_symlink()]
+        self.assertEqual({path.resolve().parent for path in links}, {data})
+
+
 class Running(unittest.TestCase):
     def run_on(self, text: str, *options: str) -> Tuple[int, str, str]:
         """The status, the report and the document after it."""
@@ -75,6 +86,12 @@ class Running(unittest.TestCase):
     def test_write(self) -> None:
         wrong = DOCUMENT.replace("a\nb\n", "b\n").replace("c d\n", "").replace("    e\n", "    f\n")
         self.assertEqual(self.run_on(wrong, "--write")[2], DOCUMENT)
+
+    def test_the_folder_of_examples(self) -> None:
+        before = {path: path.read_bytes() for path in EXAMPLES.iterdir()}
+        text = "```\n$ cd examples\n$ ls deep.pipe\ndeep.pipe\n$ for f in b deep.pipe two_stage.spec; do echo a > $f; done\n```\n"
+        self.assertEqual(self.run_on(text)[0], 0)
+        self.assertEqual({path: path.read_bytes() for path in EXAMPLES.iterdir()}, before)
 
     def test_errors_come_with_the_output(self) -> None:
         self.assertEqual(self.run_on("```\n$ echo e >&2\ne\n```\n")[0], 0)

@@ -1,0 +1,1 @@
+../crates/burch_dill/data/five_stage.comp

@@ -1,0 +1,1 @@
+../crates/burch_dill/data/two_stage.comp

@@ -1,0 +1,1 @@
+../crates/burch_dill/data/write_dropped.comp
