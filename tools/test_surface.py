@@ -50,12 +50,12 @@ class Words(unittest.TestCase):
                 text = (PAGES / f"{program}-{command.name}.md").read_text()
                 section = text.partition("\n## Files\n")[2].partition("\n## ")[0]
                 places = [place for place in command.places + command.optional if surface.pattern(place)]
-                self.assertEqual(re.findall(r"^\| ([A-Z]+) \|", section, re.M), places, command.name)
+                self.assertEqual(re.findall(r"`([A-Z]+)`", section), places, command.name)
 
     def test_tables_of_words(self) -> None:
-        for program, page in (("burch_dill", "README.md"), ("bd_view", "docs/COUNTEREXAMPLES.md")):
-            found = re.findall(r"^\| `([a-z]+ [A-Z]+ [^`]*)` \|", (PAGES.parent.parent / page).read_text(), re.M)
-            self.assertEqual(sorted(found), sorted(command.synopsis() for command in surface.PROGRAMS[program]))
+        for program, commands in surface.PROGRAMS.items():
+            found = re.findall(r"^\| `([a-z]+ [A-Z]+ [^`]*)` \|", (PAGES / f"{program}.md").read_text(), re.M)
+            self.assertEqual(found, [command.synopsis() for command in commands])
 
     def test_each_command_has_its_page(self) -> None:
         wanted = {}
