@@ -17,8 +17,8 @@ ROOT = Path(__file__).resolve().parent.parent
 COMMANDS = ROOT / "docs" / "commands"
 LANGUAGE = ROOT / "docs" / "LANGUAGE.md"
 # heads of columns that go without saying
-PLAIN = ("Means", "Says", "Text", "Does", "File", "Comes where", "Why", "What it asks", "Sort", "What it is", "Line",
-         "How to live with it", "Code and place", "Fault")
+PLAIN = ("Means", "Says", "Text", "Does", "File", "Comes where", "Why", "What they ask", "What they print", "Sort",
+         "What it is", "Line", "Instead", "Code and place", "Fault")
 VERSION = (ROOT / "VERSION").read_text(encoding="ascii").strip()
 
 
