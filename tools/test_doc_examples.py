@@ -89,8 +89,8 @@ class Running(unittest.TestCase):
 
     def test_the_folder_of_examples(self) -> None:
         before = {path: path.read_bytes() for path in EXAMPLES.iterdir()}
-        text = "```\n$ cd examples\n$ ls deep.pipe\ndeep.pipe\n$ for f in b deep.pipe two_stage.spec; do echo a > $f; done\n```\n"
-        self.assertEqual(self.run_on(text)[0], 0)
+        text = "```\n$ cd examples\n$ ls deep.pipe\ndeep.pipe\n$ for f in b deep.pipe; do echo > $f; done\n"
+        self.assertEqual(self.run_on(text + "```\n")[0], 0)
         self.assertEqual({path: path.read_bytes() for path in EXAMPLES.iterdir()}, before)
 
     def test_errors_come_with_the_output(self) -> None:
