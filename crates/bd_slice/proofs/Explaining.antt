@@ -1,7 +1,7 @@
 -- What explains a value, from what explains those that it is made of.
 use Rattle.std.proofs.Common.{◌≡◌, ℕ, zero, suc, ◌<◌, ◌≤◌, ◌+◌, Bool, true, false, List, [], ◌∷◌, ◌++◌, length, map, take, get_or, refl, sym, ap, subst, ◌∙◌, arith}
 use Rattle.std.specs.Prelude.{not, slice_index_or}
-use Rattle.std.specs.List.{AllByRecursion, list_all, list_any}
+use Rattle.std.specs.List.{AllByRecursion}
 use Rattle.bd_model.specs.DesignView.{DesignView}
 use Rattle.bd_model.specs.ExprView.{ExprViews, Entry, Input, Local, Apply}
 use Rattle.bd_model.specs.Table.{at}
@@ -12,7 +12,7 @@ use Rattle.bd_model.specs.declared.table.Value.{Value}
 use Rattle.bd_slice.specs.Reasons.{IsFound, HoldsIn, AllHold}
 use Rattle.bd_slice.specs.Columns.{column_state}
 use Rattle.bd_slice.specs.Run.{subject_value, begins_at, let_values_in, word_at}
-use Rattle.bd_slice.specs.inner.Found.{IsAt, Explains, Explained, ExplainsAfter, Follows, env_at, joined_value, scalar_in, word_in}
+use Rattle.bd_slice.specs.inner.Found.{IsAt, Explains, ExplainsAfter, Follows, env_at, joined_value, scalar_in, word_in}
 use Rattle.bd_slice.specs.declared.subject.Subject.{Subject}
 use Rattle.bd_slice.specs.declared.subject.Subject.TheVariants as subject
 use Rattle.bd_slice.specs.declared.place.Column.{Column}

@@ -1,6 +1,6 @@
 -- Why a value of a run is what it is: the facts on which it rests. A reason is local: where its facts hold in another
 -- case, the value is the same there.
-use Rattle.std.specs.Prelude.{◌≡◌, ⊤, Bool, true, false, ℕ, zero, List}
+use Rattle.std.specs.Prelude.{◌≡◌, ⊤, Bool, true, false, zero, List}
 use Rattle.std.specs.List.{AllByRecursion}
 use Rattle.bd_model.specs.DesignView.{DesignView}
 use Rattle.bd_model.specs.Table.{at}

@@ -1,13 +1,13 @@
 -- What is found of an expression's value, where it is valued in a cycle of a run.
-use Rattle.std.specs.Prelude.{◌≡◌, ⊤, ℕ, Bool, true, false, not, List, length, take}
+use Rattle.std.specs.Prelude.{◌≡◌, ⊤, ℕ, Bool, true, false, List, length, take}
 use Rattle.std.specs.List.{list_all, list_any}
 use Rattle.bd_model.specs.DesignView.{DesignView}
 use Rattle.bd_model.specs.ExprView.{ExprView, ExprViews}
-use Rattle.bd_model.specs.Value.{Env, is_true, scalar_of, value_of, values_of, let_values}
+use Rattle.bd_model.specs.Value.{Env, is_true, scalar_of, value_of, values_of}
 use Rattle.bd_model.specs.declared.case.Case.{Case}
 use Rattle.bd_model.specs.declared.table.Scalar.{Scalar}
 use Rattle.bd_model.specs.declared.table.Value.{Value}
-use Rattle.bd_slice.specs.Run.{begins_at, state_at, lets_of, inputs_in, let_values_in, word_at}
+use Rattle.bd_slice.specs.Run.{state_at, inputs_in, let_values_in, word_at}
 use Rattle.bd_slice.specs.Reasons.{AllHold}
 use Rattle.bd_slice.specs.declared.subject.Cycle.{Cycle}
 use Rattle.bd_slice.specs.declared.subject.Finding.{Finding}

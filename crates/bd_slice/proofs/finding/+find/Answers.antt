@@ -1,20 +1,18 @@
-use Rattle.std.proofs.Common.{◌≡◌, ◌∙◌, ◌<◌, ◌≤◌, Bool, refl, sym, ap, subst, rules, true, false, length, map, take, arith}
+use Rattle.std.proofs.Common.{◌≡◌, ◌∙◌, ◌<◌, ◌≤◌, Bool, refl, sym, ap, subst, rules, true, false, length, map, arith}
 use Rattle.std.specs.Prelude.{not, ◌==◌, ◌||◌}
 use Rattle.std.proofs.lemmas.List.{take_all}
 use Rattle.std.proofs.lemmas.Simd.{map-map}
 use Rattle.std.proofs.lemmas.Bool.{eq-eqb, ne_eqb}
-use Rattle.bd_model.specs.ExprView.{ExprView, expr_view, expr_views, Truth, Write}
+use Rattle.bd_model.specs.ExprView.{expr_view, expr_views, Truth}
 use Rattle.bd_model.specs.Table.{read}
-use Rattle.bd_model.specs.Value.{Env, value_of, values_of, is_true, word_of, scalar_of, scalar_word, scalar_truth, memory_of}
+use Rattle.bd_model.specs.Value.{value_of, values_of, is_true, word_of, scalar_of, scalar_word, scalar_truth, memory_of}
 use Rattle.bd_model.specs.declared.expr.Expr.{the_lemmas}
 use Rattle.bd_model.specs.declared.table.Scalar.{Scalar}
-use Rattle.bd_model.specs.declared.table.Scalar.TheVariants as scalar
-use Rattle.bd_model.specs.declared.table.Value.{Value}
 use Rattle.bd_model.proofs.Views.{values_of-expr_views}
 use Rattle.bd_slice.proofs.Following.{ite_true, ite_false, mapped_more, read_written}
-use Rattle.bd_slice.proofs.Explaining.{explains_nothing, explains_same, explains_both, explains_told, explains_after, explains_then, explains_made, explains_applied, undecided_more, undecided_none, decided_at, hold_both, hold_front, hold_back, hold_none}
+use Rattle.bd_slice.proofs.Explaining.{explains_nothing, explains_same, explains_both, explains_told, explains_after, explains_then, explains_made, explains_applied, undecided_more, undecided_none, decided_at, hold_both, hold_front, hold_back}
 use Rattle.bd_slice.specs.Run.{word_at}
-use Rattle.bd_slice.specs.inner.Found.{Explained, Follows, env_at, scalar_in, word_in, parts_in, joined_value}
+use Rattle.bd_slice.specs.inner.Found.{Follows, env_at, scalar_in, word_in, joined_value}
 use Rattle.bd_slice.proofs.finding.+find.Goals as goal
 
 pub find-returns-in-Bool : goal.find-returns-in-Bool
