@@ -141,7 +141,7 @@ def keeps(view, files, case, inv):
     """Whether a case that is made small shows the same differences. Where the invariant is broken, only that is kept."""
     judged, whole = differences(printed(view, "show", *files, case, *inv, "--whole"))
     small = differences(printed(view, "show", *files, case, *inv))
-    return small[0] == judged and (judged.startswith("broken invariant") or small[1] == whole != set())
+    return small[0] == judged and (judged.startswith("invariant broken") or small[1] == whole != set())
 
 
 def main():
