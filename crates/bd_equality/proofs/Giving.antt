@@ -7,7 +7,7 @@ use Rattle.bd_terms.specs.declared.node.Node.{Node}
 use Rattle.bd_terms.proofs.Places.{get-push}
 use Rattle.bd_prop.specs.declared.atom.Atom.TheVariants.{Edge as EdgeOf, Truth as TruthOf}
 use Rattle.bd_prop.specs.declared.node.PropNode.{PropNode}
-use Rattle.bd_prop.specs.declared.node.PropNode.TheVariants.{True, Atom as AtomOf, Not, And, Or, Ite}
+use Rattle.bd_prop.specs.declared.node.PropNode.TheVariants.{True, Atom as AtomOf, Not, And, Or, Ite, Tree}
 use Rattle.bd_prop.specs.Form.{Adds, HasForm, node_at, not_form, and_form, or_form, ite_form, is_true, is_false}
 use Rattle.bd_prop.specs.Graph.{Extends}
 use Rattle.bd_prop.specs.Truth.{truth_at}
@@ -36,6 +36,7 @@ module _ (p p' : List PropNode) (id : ℕ) where
   adds_not_by a (And b c) e h = (rw e at h).1
   adds_not_by a (Or b c) e h = (rw e at h).1
   adds_not_by a (Ite b c d) e h = (rw e at h).1
+  adds_not_by a (Tree items) e h = (rw e at h).1
 
   pub adds_not : (a : ℕ) → HasForm p (not_form p a) p' id → Adds p (Not a) p'
   adds_not a h = adds_not_by a (node_at p a) refl h
