@@ -1,8 +1,8 @@
 #!/usr/bin/env python3
 """Runs the built program on wrong twins of the machines that the field measures by, and on other ways to write them.
 
-The machines are those of `dlx.py` and `vliw.py`, asked by `check --diverse`; the right ones are in the tables of
-`measure.py`. With --twins the table has all wrong twins of each machine, with --ways some machines written in other
+The machines are those of `dlx` and `vliw` of the Python package, asked by `check --diverse`; the right ones are in the
+tables of `measure.py`. With --twins the table has all wrong twins of each machine, with --ways some machines written in other
 ways: what the program says, its processor seconds, how many clauses it learned, and the size of the formula.
 
 Seconds are medians of --runs runs; what takes more than half a minute runs once. With --counts each thing runs once and
@@ -18,11 +18,14 @@ import argparse
 import os
 import re
 import statistics
+import sys
 import tempfile
 
-import dlx
-import vliw
-from bench import added_clauses, formula_size, run
+from bench import HERE, added_clauses, formula_size, run
+
+sys.path.append(os.path.join(os.path.dirname(HERE), "python", "src"))
+
+from burch_dill.machines import dlx, vliw  # noqa: E402
 
 MACHINES = ("1xDLX-C", "1xDLX-C-MC-EX-BP", "2xDLX-CA", "2xDLX-CA-MC-EX-BP", "2xDLX-CC", "2xDLX-CC-MC", "2xDLX-CC-EX",
             "2xDLX-CC-BP", "2xDLX-CC-MC-EX-BP", "4VLIW-MC", "4VLIW-MC-BP", "9VLIW-MC", "9VLIW-MC-BP")

@@ -1,8 +1,8 @@
 #!/usr/bin/env python3
 """Measures the program beside other solvers, for the first tables of BENCH, in one run that may be interrupted.
 
-Each row is a design and a mode of `check`: the machines that the field measures by (`dlx.py`, `vliw.py`), scoreboards
-(`scoreboard.py`), superscalars (`superscalar.py`), the five stages of DLX, and formulas written as designs
+Each row is a design and a mode of `check`: the machines that the field measures by and scoreboards (the Python
+package's `machines`), superscalars (`superscalar.py`), the five stages of DLX, and formulas written as designs
 (`formula.py`). The program is asked within its default budget, and saves its formula and log; the other solvers get
 that formula. A second table (`rules`) has solvers on one formula with one technique more or less, which says what the
 rules of a log cost; with --view a third one (`prove`) has the steps of `tools/prove.py` on one machine, in seconds of
@@ -30,14 +30,17 @@ import subprocess
 import sys
 import time
 from collections import defaultdict
+from functools import partial
 from pathlib import Path
-from typing import Any, Dict, Iterator, List, NamedTuple, Optional
+from typing import Any, Callable, Dict, Iterator, List, NamedTuple, Optional, Sequence, Union
 
-import dlx
-import vliw
 from bench import HERE, MODES, added_clauses, answer_of, formula_size, run
 
 ROOT = Path(HERE).parent
+sys.path.append(str(ROOT / "python" / "src"))
+
+from burch_dill.machines import dlx, scoreboard, vliw  # noqa: E402
+
 OWN, PROVE = "ours", "prove.py"
 SOLVERS = {"minisat": ["minisat"], "cadical": ["cadical"],
            "cadical --plain --reduce=0": ["cadical", "--plain", "--reduce=0"]}
@@ -72,11 +75,11 @@ Found = Dict[str, Any]  # of one run: its seconds, answer, conflicts and propaga
 
 
 class Row(NamedTuple):
-    """A design in a mode of `check`, and what writes its texts."""
+    """A design in a mode of `check`, and what writes its texts: a script of this folder, or a function."""
 
     design: str
     mode: str
-    script: Optional[List[str]]
+    script: Union[None, List[str], Callable[[], Sequence[Optional[str]]]]
 
     @property
     def name(self) -> str:
@@ -88,15 +91,14 @@ class Row(NamedTuple):
         if self.script is None:
             return [str(ROOT / "crates" / "burch_dill" / "data" / f"five_stage.{part}") for part in ("pipe", "spec")]
         kept = [str(file_of(self, folder, f".{part}")) for part in ("pipe", "spec", "inv")]
-        if self.script[0] in ("dlx.py", "vliw.py"):
-            made = (vliw if self.script[0] == "vliw.py" else dlx).design(self.design)
-            for name, text in zip(kept, made):
-                if text is not None:
-                    Path(name).write_text(text, encoding="ascii")
-            return [name for name, text in zip(kept, made) if text is not None]
-        names = kept if self.script[0] == "scoreboard.py" else kept[:2]
-        subprocess.run([sys.executable, str(Path(HERE) / self.script[0]), *self.script[1:], *names], check=True)
-        return names
+        if isinstance(self.script, list):
+            subprocess.run([sys.executable, str(Path(HERE) / self.script[0]), *self.script[1:], *kept[:2]], check=True)
+            return kept[:2]
+        made = self.script()
+        for name, text in zip(kept, made):
+            if text is not None:
+                Path(name).write_text(text, encoding="ascii")
+        return [name for name, text in zip(kept, made) if text is not None]
 
 
 class Task(NamedTuple):
@@ -110,8 +112,8 @@ class Task(NamedTuple):
 
 def rows(only: str) -> List[Row]:
     """All rows, or those whose name has a word in it."""
-    found = [Row(name, "diverse", ["vliw.py" if "VLIW" in name else "dlx.py"]) for name in MACHINES]
-    found += [Row(f"scoreboard of {units}", "diverse", ["scoreboard.py", units]) for units in ("4", "6")]
+    found = [Row(name, "diverse", partial((vliw if "VLIW" in name else dlx).design, name)) for name in MACHINES]
+    found += [Row(f"scoreboard of {units}", "diverse", partial(scoreboard.design, units)) for units in (4, 6)]
     found += [Row("five stages of DLX", mode, None) for mode in BOTH]
     found += [Row("generated, 12 stages", mode, ["generator.py", "12", "0"]) for mode in BOTH]
     found += [Row(design, mode, ["superscalar.py", *design.split(" x ")]) for design, modes in SUPERSCALARS

@@ -42,7 +42,7 @@ COMMANDS = ("Bounded", "Cases", "Complete", "Completions", "Generate", "Recheck"
 LEFT_OUT = {("bd_app", name) for name in COMMANDS}
 LIST = ("<!-- correct: made by tools/documents.py -->", "<!-- correct: to here -->")
 USE = re.compile(r"(?:pub )?use Rattle\.(bd_\w+)\.specs\.([\w.]+?)(?:\.\{(.*)\})?(?: as (\w+))?$")
-NAMED = re.compile(r"`((?:crates/)?(?:bd_\w+|burch_dill)/[\w/.]+|(?:bench|tools|docs)/[\w.]+)`")
+NAMED = re.compile(r"`((?:crates/)?(?:bd_\w+|burch_dill)/[\w/.]+|(?:bench|tools|docs)/[\w.]+|python/[\w./]+)`")
 MEMORY = ("<!-- without memory: made by tools/documents.py -->", "<!-- without memory: to here -->")
 # what a program's run ends as
 ENDS = {"Ended": "`Ended::Memory`", "ExitCode": "its exit status"}

@@ -24,7 +24,8 @@ for program in "$BURCH_DILL" "$BD_VIEW"; do
     [ -x "$program" ] || { echo "no program $program: run rt ci first" >&2; exit 1; }
 done
 # the words of the completions and the pages are those of these programs
-(cd tools && python3 -m unittest -q test_surface test_package)
+(cd tools && python3 -m unittest -q test_surface)
+PYTHONPATH=python/src python3 -m unittest discover -q -s python/tests -p test_package.py
 answer=$("$BURCH_DILL" check crates/burch_dill/data/two_stage.pipe crates/burch_dill/data/two_stage.spec)
 [ "$answer" = correct ] || { echo "two_stage: $answer" >&2; exit 1; }
 
@@ -35,11 +36,10 @@ shared() {
     cp README.md CHANGELOG.md CONTRIBUTING.md LICENSE-MIT LICENSE-APACHE VERSION pyproject.toml "$1"
     cp -R docs examples gallery "$1"
     cp -R crates/burch_dill/data "$1/crates/burch_dill"
-    cp -R tools/burch_dill "$1/tools"
-    mkdir "$1/bench"
-    cp bench/dlx.py bench/vliw.py "$1/bench"
+    mkdir "$1/python"
+    cp -R python/src "$1/python"
     find tools -maxdepth 1 -name '*.py' -exec cp {} "$1/tools" \; -o -name '*.c' -exec cp {} "$1/tools" \;
-    find "$1" -name __pycache__ -prune -exec rm -rf {} +
+    find "$1" \( -name __pycache__ -o -name '*.egg-info' \) -prune -exec rm -rf {} +
 }
 
 completions() {
@@ -87,7 +87,7 @@ if command -v dpkg-deb > /dev/null; then
     cp -R "$top/share/man" "$root/usr/share/man"
     find "$root/usr/share/man" -type f -exec gzip -9n {} +
     completions "$root/usr/share" vendor-completions
-    cp -R "$top/tools/burch_dill" "$root/usr/lib/python3/dist-packages"
+    cp -R "$top/python/src/burch_dill" "$root/usr/lib/python3/dist-packages"
     gzip -9nc CHANGELOG.md > "$root/usr/share/doc/burch-dill/changelog.gz"
     {
         echo "burch_dill $version, by the burch_dill authors. MIT or Apache-2.0, as you like."
@@ -119,7 +119,7 @@ Description: verifier of pipelined processors, proved to mean what it says
  burch_dill, the documents and a gallery of machines, in /usr/share/burch-dill.
 END
     chmod 644 "$root/DEBIAN/control"
-    printf '#!/bin/sh\nrm -rf /usr/lib/python3/dist-packages/burch_dill/__pycache__\n' > "$root/DEBIAN/prerm"
+    printf '#!/bin/sh\nfind /usr/lib/python3/dist-packages/burch_dill -name __pycache__ -prune -exec rm -rf {} +\n' > "$root/DEBIAN/prerm"
     chmod 755 "$root/DEBIAN/prerm"
     settled "$root"
     SOURCE_DATE_EPOCH=$epoch dpkg-deb --root-owner-group -Zxz --build "$root" \

@@ -3,9 +3,9 @@ from __future__ import annotations
 
 import re
 import textwrap
+from collections.abc import Iterable, Iterator, Mapping, Sequence
 from contextlib import contextmanager
-from typing import Any, Callable, ClassVar, Dict, Iterable, Iterator, List, Mapping, Optional, Sequence, Set, Tuple
-from typing import Type, TypeVar, Union
+from typing import Any, Callable, ClassVar, TypeVar, Union
 
 from .errors import DesignError
 from .expressions import FALSE, TRUE, AnyBundle, Bool, Expression, Function, Group, Memory, Predicate, Scalar, Sorted
@@ -15,10 +15,10 @@ from .trees import WIDTH, Tree, laid_out, written
 NAME = re.compile(r"[A-Za-z_][A-Za-z0-9_.-]{0,63}")
 RESERVED = frozenset("true false not and or implies iff ite read write let".split())
 
-Index = TypeVar("Index", bound=Union[int, str, Tuple[int, ...]])
+Index = TypeVar("Index", bound=Union[int, str, tuple[int, ...]])
 
 
-def grid(stages: Iterable[int], slots: Iterable[int]) -> List[Tuple[int, int]]:
+def grid(stages: Iterable[int], slots: Iterable[int]) -> list[tuple[int, int]]:
     """The pairs of a stage and a slot, stage by stage: indices for `latches` and `groups`."""
     listed = list(slots)
     return [(stage, slot) for stage in stages for slot in listed]
@@ -30,7 +30,7 @@ def _in_range(what: str, number: int, most: int) -> str:
     return str(number)
 
 
-def _new_name(name: str, names: Set[str]) -> str:
+def _new_name(name: str, names: set[str]) -> str:
     """The name, which is put among the others."""
     if not NAME.fullmatch(name) or name in RESERVED:
         raise DesignError(f"{name!r} isn't a name")
@@ -40,13 +40,13 @@ def _new_name(name: str, names: Set[str]) -> str:
     return name
 
 
-def _scalar(sort: Type[Expression]) -> str:
+def _scalar(sort: type[Expression]) -> str:
     if sort not in (Word, Bool):
         raise DesignError(f"a latch or an input is a Word or a Bool, and not {sort!r}")
     return sort.sort
 
 
-def _indexed(name: str, index: Union[int, str, Tuple[int, ...]]) -> str:
+def _indexed(name: str, index: int | str | tuple[int, ...]) -> str:
     return name + ("_".join(map(str, index)) if isinstance(index, tuple) else str(index))
 
 
@@ -70,16 +70,16 @@ class Declarations:
     """Functions, predicates, latches and memories, in the order of the calls. Each name is declared once."""
 
     def __init__(self) -> None:
-        self._items: List[Tree] = []  # an atom is a comment
-        self._names: Set[str] = set()
-        self._entries: Dict[str, Type[Expression]] = {}
+        self._items: list[Tree] = []  # an atom is a comment
+        self._names: set[str] = set()
+        self._entries: dict[str, type[Expression]] = {}
 
     def function(self, name: str, arity: int) -> Function:
         """An unknown function of 0 to 8 words to a word."""
         self._declare("function", name, _in_range("an arity", arity, 8))
         return Function(name, arity)
 
-    def functions(self, **arities: int) -> Tuple[Function, ...]:
+    def functions(self, **arities: int) -> tuple[Function, ...]:
         """Unknown functions by name, each with its number of words: `inc, alu = both.functions(inc=1, alu=2)`."""
         return tuple(self.function(name, arity) for name, arity in arities.items())
 
@@ -96,7 +96,7 @@ class Declarations:
         """Keeps constants apart: no two of them have one value."""
         self._items.append(("distinct", *(_constant_name(constant) for constant in constants)))
 
-    def latch(self, name: str, sort: Type[Scalar]) -> Scalar:
+    def latch(self, name: str, sort: type[Scalar]) -> Scalar:
         """A register, of sort `Word` or `Bool`."""
         self._declare("latch", name, _scalar(sort))
         self._entries[name] = sort
@@ -108,23 +108,23 @@ class Declarations:
         self._entries[name] = Memory
         return Memory(name)
 
-    def latches(self, name: str, indices: Iterable[Index], sort: Type[Scalar]) -> Dict[Index, Scalar]:
+    def latches(self, name: str, indices: Iterable[Index], sort: type[Scalar]) -> dict[Index, Scalar]:
         """An array of latches, named by the name and the index: `v2`, `v3`; `v2_0` where the index is `(2, 0)`."""
         return {index: self.latch(_indexed(name, index), sort) for index in indices}
 
-    def memories(self, name: str, indices: Iterable[Index]) -> Dict[Index, Memory]:
+    def memories(self, name: str, indices: Iterable[Index]) -> dict[Index, Memory]:
         """An array of memories, named like latches."""
         return {index: self.memory(_indexed(name, index)) for index in indices}
 
-    def vector(self, name: str, length: int, sort: Type[Scalar]) -> Vector[Scalar]:
+    def vector(self, name: str, length: int, sort: type[Scalar]) -> Vector[Scalar]:
         """A vector of so many latches, named by the name and the place, from 0."""
         return Vector(self.latch(_indexed(name, place), sort) for place in range(length))
 
-    def group(self, index: Union[int, str, Tuple[int, ...]] = "", **sorts: Type[Expression]) -> Group:
+    def group(self, index: int | str | tuple[int, ...] = "", **sorts: type[Expression]) -> Group:
         """A group of latches, each with its sort, named by the field and the index: `group(2, v=Bool)` has `v2`."""
         return Group(**{name: self.latch(_indexed(name, index), sort) for name, sort in sorts.items()})  # type: ignore
 
-    def groups(self, indices: Iterable[Index], **sorts: Type[Expression]) -> Dict[Index, Group]:
+    def groups(self, indices: Iterable[Index], **sorts: type[Expression]) -> dict[Index, Group]:
         """A group for each stage, or for each stage and slot (`grid`): `groups(range(2, 5), v=Bool, d=Word)`."""
         return {index: self.group(index, **sorts) for index in indices}
 
@@ -161,15 +161,15 @@ class Machine(Declarations):
 
     head: ClassVar[str]
 
-    def __init__(self, shared: Optional[Declarations] = None) -> None:
+    def __init__(self, shared: Declarations | None = None) -> None:
         super().__init__()
-        self._nexts: Set[str] = set()
+        self._nexts: set[str] = set()
         if shared is not None:
             self._items += shared._items
             self._names |= shared._names
             self._entries.update(shared._entries)
 
-    def let(self, name: str, value: Union[AnyBundle, Callable[[], AnyBundle]]) -> AnyBundle:
+    def let(self, name: str, value: AnyBundle | Callable[[], AnyBundle]) -> AnyBundle:
         """A name for a value, which is written once: a value that is used often should have one.
 
         A vector or a group has a let for each part: `name0`, or `name_field`. The value may be a function of no
@@ -216,7 +216,7 @@ class Machine(Declarations):
             raise DesignError(f"no next value: {', '.join(missing)}")
         return _file_text(self.head, [*self._items, *self._ending()])
 
-    def _ending(self) -> List[Tree]:
+    def _ending(self) -> list[Tree]:
         return []
 
 
@@ -225,7 +225,7 @@ class Pipeline(Machine):
 
     head = "pipeline"
 
-    def __init__(self, shared: Optional[Declarations] = None, *, flush: int, steps: int) -> None:
+    def __init__(self, shared: Declarations | None = None, *, flush: int, steps: int) -> None:
         super().__init__(shared)
         self._flush, self._steps = _in_range("flush", flush, 64), _in_range("steps", steps, 8)
 
@@ -240,7 +240,7 @@ class Pipeline(Machine):
         with _within(f"exact {count}"):
             self._items.append(("exact", _in_range("a number of steps", count, 8), tree_of(condition, Bool)))
 
-    def _ending(self) -> List[Tree]:
+    def _ending(self) -> list[Tree]:
         return [("flush", self._flush), ("steps", self._steps)]
 
 
@@ -256,10 +256,10 @@ class OfStates:
     head: ClassVar[str]
 
     def __init__(self) -> None:
-        self._lets: List[Tree] = []
-        self._names: Set[str] = set()
+        self._lets: list[Tree] = []
+        self._names: set[str] = set()
 
-    def let(self, name: str, value: Union[AnyBundle, Callable[[], AnyBundle]]) -> AnyBundle:
+    def let(self, name: str, value: AnyBundle | Callable[[], AnyBundle]) -> AnyBundle:
         """A name for a value, which is written once; of a vector or a group for each part."""
         named: AnyBundle = _lets(self._let, name, value)
         return named
@@ -277,7 +277,7 @@ class Premise(OfStates):
 
     def __init__(self, *claims: Bool) -> None:
         super().__init__()
-        self._claims: List[Bool] = []
+        self._claims: list[Bool] = []
         for claim in claims:
             self.require(claim)
 
@@ -309,7 +309,7 @@ class Completion(OfStates):
 
     def __init__(self) -> None:
         super().__init__()
-        self._values: Dict[str, Tree] = {}
+        self._values: dict[str, Tree] = {}
 
     def abstract(self, entry: Sorted, value: Sorted) -> None:
         """The value of a latch or memory of the specification; each has one."""
@@ -320,7 +320,7 @@ class Completion(OfStates):
 
     def text(self) -> str:
         """The file."""
-        abstracts: List[Tree] = [("abstract", name, value) for name, value in self._values.items()]
+        abstracts: list[Tree] = [("abstract", name, value) for name, value in self._values.items()]
         return _file_text(self.head, [*self._lets, *abstracts])
 
 

@@ -1,4 +1,3 @@
-#!/usr/bin/env python3
 """The pipelines of DLX that the field measures by, and their wrong twins, as texts for `burch_dill check`.
 
 They follow the published descriptions by Velev and Bryant (CHARME 1999, DAC 2000 and 2001): five stages for seven
@@ -11,21 +10,20 @@ A design may be written in other ways, which ask the same question at a higher p
 decode also in cycles without a fetch, --late latches the instruction's word and takes its fields in decode, and
 --ordered has a memory that is read after write for data, in place of a device of which nothing is known.
 
-usage: dlx.py MACHINE [--wrong TWIN] [--idle] [--late] [--ordered] PIPE SPEC [INV]
-       dlx.py --list
+    python3 -m burch_dill.machines.dlx MACHINE [--wrong TWIN] [--idle] [--late] [--ordered] PIPE SPEC [INV]
+    python3 -m burch_dill.machines.dlx --list
 """
+from __future__ import annotations
+
 import argparse
-import os
 import re
-import sys
+from collections.abc import Iterator, Sequence
 from dataclasses import dataclass, replace
 from types import SimpleNamespace
-from typing import Any, Callable, Dict, Iterator, List, NamedTuple, Optional, Sequence, Tuple
+from typing import Any, Callable, NamedTuple
 
-sys.path.append(os.path.join(os.path.dirname(os.path.dirname(os.path.abspath(__file__))), "tools"))
-
-from burch_dill import FALSE, TRUE, Bool, Declarations, Group, Invariant, Memory, Pipeline
-from burch_dill import Specification, Word, all_of, any_of, conj, disj, held, ite
+from .. import FALSE, TRUE, Bool, Declarations, Group, Invariant, Memory, Pipeline
+from .. import Specification, Word, all_of, any_of, conj, disj, held, ite
 
 NAME = re.compile(r"(1xDLX-C|2xDLX-CA|2xDLX-CC)(-MC)?(-EX)?(-BP)?")
 
@@ -53,7 +51,7 @@ class Form:
     late: bool = False
     ordered: bool = False
 
-    def fields(self) -> Iterator[Tuple[str, str, Any]]:
+    def fields(self) -> Iterator[tuple[str, str, Any]]:
         """The fields that an instruction has here."""
         return (field for field in FIELDS if self.exceptions or field[0] != "rfe")
 
@@ -65,7 +63,7 @@ class Twin(NamedTuple):
     fits: Callable[[Form], bool] = lambda form: True
 
 
-TWINS: Dict[str, Twin] = {
+TWINS: dict[str, Twin] = {
     "path_left_out": Twin("the first operand isn't forwarded from the first instruction in memory"),
     "older_result_first": Twin("where write back and memory both have a result for an operand, the older one is taken"),
     "no_interlock": Twin("no instruction waits for a load"),
@@ -99,16 +97,16 @@ def form_of(name: str, **ways: object) -> Form:
         raise SystemExit(f"no machine {name}: {', '.join(machines())}")
     slots, whole = {"1xDLX-C": (1, 1), "2xDLX-CA": (2, 1), "2xDLX-CC": (2, 2)}[found[1]]
     form = Form(slots, whole, bool(found[2]), bool(found[3]), bool(found[4]))
-    return replace(form, **ways)  # type: ignore[arg-type]
+    return replace(form, **ways)
 
 
-def machines() -> List[str]:
+def machines() -> list[str]:
     """The names of all machines."""
     return [f"{base}{slow}{exceptions}{prediction}" for base in ("1xDLX-C", "2xDLX-CA", "2xDLX-CC")
             for slow in ("", "-MC") for exceptions in ("", "-EX") for prediction in ("", "-BP")]
 
 
-def twins(name: str) -> List[str]:
+def twins(name: str) -> list[str]:
     """The names of a machine's wrong twins."""
     form = form_of(name)
     return [twin for twin, about in TWINS.items() if about.fits(form)]
@@ -117,10 +115,10 @@ def twins(name: str) -> List[str]:
 # ---- what both machines have
 
 
-def declared(form: Form) -> Tuple[Declarations, SimpleNamespace]:
+def declared(form: Form) -> tuple[Declarations, SimpleNamespace]:
     """What both machines declare, and what is declared by name."""
     both = Declarations()
-    names: Dict[str, object] = dict(zip(FUNCTIONS, both.functions(**FUNCTIONS)))
+    names: dict[str, object] = dict(zip(FUNCTIONS, both.functions(**FUNCTIONS)))
     predicates = {**PREDICATES, **(EXCEPTIONS if form.exceptions else {})}
     names.update((name, both.predicate(name, arity)) for name, arity in predicates.items())
     names.update(pc=both.latch("pc", Word), rf=both.memory("rf"))
@@ -160,7 +158,7 @@ def specification(form: Form) -> Specification:
 # ---- the pipeline
 
 
-def unless(*bars: Bool) -> List[Bool]:
+def unless(*bars: Bool) -> list[Bool]:
     """That none of these is true; what is never true isn't written."""
     return [~bar for bar in bars if bar is not FALSE]
 
@@ -179,15 +177,15 @@ class Parts:
         self.stall = self.pipe.input("stall", TRUE)
         slow = ["imem_done", "mem_done", *(f"alu_done{slot}" for slot in self.slots)] if form.slow else []
         self.done = {name: self.pipe.input(name, TRUE) for name in slow}
-        self.latches: Dict[int, List[Group]] = {}
+        self.latches: dict[int, list[Group]] = {}
         for stage, name in ((2, "decode"), (3, "execute"), (4, "memory"), (5, "write back")):
             self.pipe.comment(f"in {name}")
             self.latches[stage] = [self.pipe.group(f"{stage}_{slot}", **sorts(form, stage, slot))
                                    for slot in self.slots]
         self.mem_hold = self.ex_hold = self.excepted = self.redirects = self.squash = FALSE
-        self.kept: List[Dict[str, Word]] = []  # of each slot in execute, where it waits
-        self.after: List[Tuple[Bool, Word]] = []  # whether fetch went elsewhere, and where it should have gone
-        self.leave: List[Bool] = []  # whether the instruction of each slot leaves decode
+        self.kept: list[dict[str, Word]] = []  # of each slot in execute, where it waits
+        self.after: list[tuple[Bool, Word]] = []  # whether fetch went elsewhere, and where it should have gone
+        self.leave: list[Bool] = []  # whether the instruction of each slot leaves decode
 
     def has(self, wrong: str) -> bool:
         """Whether this is that wrong twin."""
@@ -206,7 +204,7 @@ class Parts:
         return ~self.done[name] if self.form.slow else FALSE
 
 
-def sorts(form: Form, stage: int, slot: int) -> Dict[str, Any]:
+def sorts(form: Form, stage: int, slot: int) -> dict[str, Any]:
     """The latches that a slot has before a stage, with their sorts."""
     whole = slot < form.whole_slots
     words = {2: "pc", 3: "op s t d a b imm pc", 4: "x d", 5: "x d"}[stage]
@@ -220,7 +218,7 @@ def sorts(form: Form, stage: int, slot: int) -> Dict[str, Any]:
         words += (" pc" if stage == 4 else "") + (" op" if stage == 4 and whole else "")
     if form.prediction and (stage == 2 or (stage == 3 and whole)):
         words, bools = words + " pg", bools + " pt"
-    found: Dict[str, Any] = {**dict.fromkeys(bools.split(), Bool), **dict.fromkeys(words.split(), Word)}  # type: ignore
+    found: dict[str, Any] = {**dict.fromkeys(bools.split(), Bool), **dict.fromkeys(words.split(), Word)}
     if stage == 2:
         found.update([("i", Word)] if form.late else [(name, sort) for name, _, sort in form.fields()])
     return found
@@ -240,7 +238,7 @@ def pipeline(form: Form) -> Pipeline:
 def write_back(parts: Parts) -> Memory:
     """The registers with the results of write back, which are next."""
     parts.pipe.comment("write back")
-    after = parts.f.rf
+    after: Memory = parts.f.rf
     for slot, held_back in enumerate(parts.latches[5]):
         after = parts.pipe.let(f"rf5_{slot}", ite(held_back.v, after.write(held_back.d, held_back.x), after))
     parts.pipe.next(parts.f.rf, after)
@@ -277,12 +275,14 @@ def memory(parts: Parts) -> None:
 def exception(parts: Parts, slot: int) -> Bool:
     """Whether the instruction of a slot in memory is an exception."""
     here = parts.latches[4][slot]
-    if not parts.is_whole(slot):
-        return here.v & here.f
-    return here.v & (here.f | ((here.ld | here.st) & parts.f.dfault(here.op, here.x)))
+    faults: Bool = here.f
+    if parts.is_whole(slot):
+        faults |= (here.ld | here.st) & parts.f.dfault(here.op, here.x)
+    valid: Bool = here.v
+    return valid & faults
 
 
-def operands(parts: Parts, slot: int, letter: str, register: Word) -> Tuple[Word, Word]:
+def operands(parts: Parts, slot: int, letter: str, register: Word) -> tuple[Word, Word]:
     """An operand in execute with the results of write back, and with those of memory too."""
     let, here = parts.pipe.let, parts.latches[3][slot]
     kept: Any = here[letter]
@@ -301,7 +301,7 @@ def operands(parts: Parts, slot: int, letter: str, register: Word) -> Tuple[Word
     return kept, whole
 
 
-def misses(parts: Parts, slot: int, a: Word) -> Tuple[Bool, Word]:
+def misses(parts: Parts, slot: int, a: Word) -> tuple[Bool, Word]:
     """Whether fetch didn't go on where the instruction of a slot in execute leads, and where that is."""
     f, let, here = parts.f, parts.pipe.let, parts.latches[3][slot]
     taken = let(f"taken_{slot}", here.j | (here.br & f.takes(here.op, a)))
@@ -324,7 +324,7 @@ def execute(parts: Parts) -> None:
     stage, form = parts.latches[3], parts.form
     busy = [here.v & parts.waits(f"alu_done{slot}") for slot, here in enumerate(stage)] if form.slow else []
     parts.ex_hold = let("ex_hold", any_of([parts.mem_hold, *busy])) if form.slow else FALSE
-    missed: List[Bool] = []
+    missed: list[Bool] = []
     for slot, here in enumerate(stage):
         (a5, a), (b5, b) = operands(parts, slot, "a", here.s), operands(parts, slot, "b", here.t)
         y = let(f"y_{slot}", ite(here.ui, here.imm, b))
@@ -343,7 +343,7 @@ def execute(parts: Parts) -> None:
     parts.squash = let("squash", parts.redirects | parts.excepted) if form.exceptions else parts.redirects
 
 
-def undone(parts: Parts) -> List[Bool]:
+def undone(parts: Parts) -> list[Bool]:
     """What undoes the instructions in execute."""
     return [] if parts.has("execute_not_undone") else [parts.excepted]
 
@@ -353,9 +353,9 @@ def reads(instruction: Group, register: Word) -> Bool:
     return register.equals(instruction.s) | register.equals(instruction.t)
 
 
-def leaving(parts: Parts, decoded: Sequence[Group]) -> List[Bool]:
+def leaving(parts: Parts, decoded: Sequence[Group]) -> list[Bool]:
     """Whether the instruction of each slot leaves decode: the second only with the first."""
-    leave: List[Bool] = []
+    leave: list[Bool] = []
     for slot, here in enumerate(decoded):
         loads = [conj(load.v, load.ld, reads(here, load.d)) for load in parts.whole(parts.latches[3])]
         loads = loads[:1] if parts.has("second_load_forgotten") else [] if parts.has("no_interlock") else loads
@@ -372,7 +372,7 @@ def leaving(parts: Parts, decoded: Sequence[Group]) -> List[Bool]:
 def decode(parts: Parts, registers: Memory) -> None:
     """Instructions leave with their operands, or wait; an exception undoes them, and a branch that went elsewhere."""
     parts.pipe.comment("decode: an instruction waits for a load in execute; the second also for the first of its pair")
-    f, form = parts.f, parts.form
+    form = parts.form
     decoded = [fields(parts, here, here.i) if form.late else here for here in parts.latches[2]]
     parts.leave = leaving(parts, decoded)
     squash = parts.excepted if parts.has("decode_not_squashed") else parts.squash
@@ -388,11 +388,11 @@ def fields(parts: Parts, group: Group, i: Word) -> Group:
     return group.having(**{name: getattr(parts.f, function)(i) for name, function, _ in parts.form.fields()})
 
 
-def fetched(parts: Parts, go: Bool) -> Tuple[List[Group], List[Word]]:
+def fetched(parts: Parts, go: Bool) -> tuple[list[Group], list[Word]]:
     """What is fetched for each slot, and where fetch goes on after each."""
     f, form, let, place = parts.f, parts.form, parts.pipe.let, parts.f.pc
-    groups: List[Group] = []
-    after: List[Word] = []
+    groups: list[Group] = []
+    after: list[Word] = []
     for slot in parts.slots:
         i = let(f"f_i{slot}", f.imem(place))
         group, following = Group(v=go, pc=place), f.inc(place)
@@ -443,10 +443,13 @@ def followed(parts: Parts, following: Word) -> Word:
     for mis, after in reversed(first):
         restart = ite(mis, after, restart)
     following = ite(parts.redirects, restart, following)
-    return ite(parts.excepted, parts.f.handler, following) if parts.form.exceptions else following
+    if not parts.form.exceptions:
+        return following
+    handler: Word = parts.f.handler
+    return ite(parts.excepted, handler, following)
 
 
-def invariant(form: Form) -> Optional[Invariant]:
+def invariant(form: Form) -> Invariant | None:
     """No instruction in execute reads what a load in memory writes. Where nothing waits there, it needn't be said."""
     if not form.slow:
         return None
@@ -458,7 +461,7 @@ def invariant(form: Form) -> Optional[Invariant]:
 # ---- the words
 
 
-def design(name: str, **ways: object) -> Tuple[str, str, Optional[str]]:
+def design(name: str, **ways: object) -> tuple[str, str, str | None]:
     """The texts of a machine: its pipeline, its specification, and its invariant where it has one."""
     form = form_of(name, **ways)
     inv = invariant(form)
@@ -467,7 +470,8 @@ def design(name: str, **ways: object) -> Tuple[str, str, Optional[str]]:
 
 def main() -> None:
     """Writes the files, or lists the machines and their wrong twins."""
-    parser = argparse.ArgumentParser(description="The pipelines of DLX that the field measures by.")
+    parser = argparse.ArgumentParser(prog="python3 -m burch_dill.machines.dlx",
+                                     description="The pipelines of DLX that the field measures by.")
     parser.add_argument("--list", action="store_true", help="name the machines and their wrong twins")
     parser.add_argument("--wrong", default="", metavar="TWIN", help="write this wrong twin")
     for way in ("idle", "late", "ordered"):

@@ -1,4 +1,3 @@
-#!/usr/bin/env python3
 """VLIW machines with predicated instructions, and their wrong twins, as texts for `burch_dill check`.
 
 They follow the published descriptions by Velev and Bryant (CAV and DAC 2000) of a machine that is like the Itanium: a
@@ -9,22 +8,22 @@ recovery where a store came between. Fetch, the integer and floating-point units
 Four stages: fetch, registers, execute, write back. With -BP branches are predicted. The fields of a packet are
 functions of its address.
 
-usage: vliw.py MACHINE [--wrong TWIN] PIPE SPEC
-       vliw.py --list
+    python3 -m burch_dill.machines.vliw MACHINE [--wrong TWIN] PIPE SPEC
+    python3 -m burch_dill.machines.vliw --list
+
 MACHINE is 4VLIW-MC to 9VLIW-MC, with -BP or without.
 """
+from __future__ import annotations
+
 import argparse
-import os
 import re
-import sys
+from collections.abc import Iterator, Sequence
 from dataclasses import dataclass
 from types import SimpleNamespace
-from typing import Any, Callable, Dict, Iterator, List, Sequence, Tuple
+from typing import Any, Callable
 
-sys.path.append(os.path.join(os.path.dirname(os.path.dirname(os.path.abspath(__file__))), "tools"))
-
-from burch_dill import FALSE, TRUE, Bool, Declarations, Group, Memory, Pipeline, Specification, Word
-from burch_dill import any_of, conj, first_of, held, ite
+from .. import FALSE, TRUE, Bool, Declarations, Group, Memory, Pipeline, Specification, Word
+from .. import any_of, conj, first_of, held, ite
 
 Let = Callable[[str, Any], Any]
 
@@ -68,7 +67,7 @@ class Form:
     prediction: bool
     wrong: str = ""
 
-    def kinds(self) -> List[str]:
+    def kinds(self) -> list[str]:
         """What each slot does: a third branches, a quarter floating-point, the rest integers, half of them memory."""
         branches, floating = self.width // 3, self.width // 4
         integers = self.width - branches - floating
@@ -85,12 +84,12 @@ def form_of(name: str, wrong: str = "") -> Form:
     return Form(int(found[1]), bool(found[2]), wrong)
 
 
-def machines() -> List[str]:
+def machines() -> list[str]:
     """The names of all machines."""
     return [f"{width}VLIW-MC{prediction}" for width in range(4, 10) for prediction in ("", "-BP")]
 
 
-def twins(name: str) -> List[str]:
+def twins(name: str) -> list[str]:
     """The names of a machine's wrong twins."""
     return [*TWINS, *(GUESSING_TWINS if form_of(name).prediction else ())]
 
@@ -105,13 +104,13 @@ class Parts:
         self.form, self.kinds, self.both = form, form.kinds(), Declarations()
         self.fields = [{**self.declared(slot, kind, 0), **self.declared(slot, kind, 1)}
                        for slot, kind in enumerate(self.kinds)]
-        names: Dict[str, Any] = dict(zip(FUNCTIONS, self.both.functions(**FUNCTIONS)))
+        names: dict[str, Any] = dict(zip(FUNCTIONS, self.both.functions(**FUNCTIONS)))
         names.update(isset=self.both.predicate("isset", 1), ahit=self.both.predicate("ahit", 2))
         names.update((name, self.both.latch(name, Word)) for name in ("pc", "cfm", "alat", "data"))
         names.update((name, self.both.memory(name)) for name in FILES)
         self.f = SimpleNamespace(**names)
 
-    def declared(self, slot: int, kind: str, sort: int) -> Dict[str, Any]:
+    def declared(self, slot: int, kind: str, sort: int) -> dict[str, Any]:
         """The functions or predicates that give a slot's fields."""
         declare = (self.both.function, self.both.predicate)[sort]
         return {field: declare(f"{field}_{slot}", 1) for field in KINDS[kind][sort].split()}
@@ -120,12 +119,12 @@ class Parts:
         """The fields of a slot of the packet at pc."""
         return Group(**{name: field(self.f.pc) for name, field in self.fields[slot].items()})
 
-    def of_kind(self, *kinds: str) -> List[int]:
+    def of_kind(self, *kinds: str) -> list[int]:
         """The slots of these kinds."""
         return [slot for slot, kind in enumerate(self.kinds) if kind in kinds]
 
 
-def results(parts: Parts, let: Let, slots: Sequence[Group], wrong: str = "") -> Tuple[List[Group], SimpleNamespace]:
+def results(parts: Parts, let: Let, slots: Sequence[Group], wrong: str = "") -> tuple[list[Group], SimpleNamespace]:
     """What a packet does whose slots have operands: each slot's results, and what becomes of data, frame and pc."""
     f, data, alat, done = parts.f, parts.f.data, parts.f.alat, []
     on = [let(f"en_{slot}", f.isset(here.p)) for slot, here in enumerate(slots)]
@@ -149,7 +148,7 @@ def results(parts: Parts, let: Let, slots: Sequence[Group], wrong: str = "") -> 
     return done, SimpleNamespace(on=on, data=data, alat=alat, **branches(parts, let, slots, on))
 
 
-def branches(parts: Parts, let: Let, slots: Sequence[Group], on: Sequence[Bool]) -> Dict[str, object]:
+def branches(parts: Parts, let: Let, slots: Sequence[Group], on: Sequence[Bool]) -> dict[str, object]:
     """Whether a packet branches and where, and its frame: a check that fails comes first, then the first branch."""
     f = parts.f
     fails = [conj(on[slot], slots[slot].chk, ~f.ahit(f.alat, slots[slot].d)) for slot in parts.of_kind("memory")]
@@ -171,18 +170,18 @@ def writers(parts: Parts, letter: str) -> Iterator[int]:
 
 def writes(kind: str, letter: str, here: Group) -> Bool:
     """Whether a slot writes a register file, its predicate apart."""
-    if letter == "i":
-        return here.wi | here.ld if kind == "memory" else here.wi
-    if letter == "f":
-        return here.ldf if kind == "memory" else here.wf
-    return here.wp if letter == "p" else here.wb
+    if letter == "i" and kind == "memory":
+        either: Bool = here.wi | here.ld
+        return either
+    bit: Bool = getattr(here, "ldf" if letter == "f" and kind == "memory" else f"w{letter}")
+    return bit
 
 
 def destination(kind: str, letter: str, here: Any) -> Word:
     """The register of a register file that a slot writes, renamed."""
-    if letter == "f" and kind == "memory":
-        return here.fd
-    return getattr(here, {"i": "d", "f": "d", "p": "pd", "b": "bd"}[letter])
+    floats = {"memory": "fd"}.get(kind, "d")
+    register: Word = getattr(here, {"i": "d", "f": floats, "p": "pd", "b": "bd"}[letter])
+    return register
 
 
 def renamed(parts: Parts, kind: str, here: Group, frame: Word) -> Group:
@@ -196,7 +195,7 @@ def renamed(parts: Parts, kind: str, here: Group, frame: Word) -> Group:
     return here.having(**fields)
 
 
-def operands(parts: Parts, kind: str, here: Group, files: Dict[str, Memory]) -> Group:
+def operands(parts: Parts, kind: str, here: Group, files: dict[str, Memory]) -> Group:
     """A slot with what its registers hold."""
     here = here.having(p=files["prf"].read(here.qp))
     if kind == "branch":
@@ -229,7 +228,7 @@ def specification(form: Form) -> Specification:
 # ---- the pipeline
 
 
-def sorts(words: str, bools: str) -> Dict[str, type]:
+def sorts(words: str, bools: str) -> dict[str, type]:
     """Fields with their sorts."""
     return {**dict.fromkeys(words.split(), Word), **dict.fromkeys(bools.split(), Bool)}
 
@@ -248,8 +247,8 @@ class Pipe(Parts):
         self.hold = FALSE
         self.done = {name: self.pipe.input(f"{name}_done", TRUE) for name in ("imem", "int", "fp", "mem")}
         whole = sorts("pc" + " pg" * form.prediction, "v" + " pt" * form.prediction)
-        self.packets: Dict[int, Group] = {}
-        self.latches: Dict[int, List[Group]] = {}
+        self.packets: dict[int, Group] = {}
+        self.latches: dict[int, list[Group]] = {}
         for stage, name in ((2, "registers"), (3, "execute")):
             self.pipe.comment(f"in {name}")
             self.packets[stage] = self.pipe.group(stage, **whole)
@@ -260,7 +259,7 @@ class Pipe(Parts):
                                                                     f"{letter}x": Word})
                               for slot in writers(self, letter)} for letter in "ifpb"}
 
-    def held_by(self, stage: int, kind: str) -> Dict[str, type]:
+    def held_by(self, stage: int, kind: str) -> dict[str, type]:
         """The latches that a slot has before a stage: before execute its operands too."""
         fields = sorts(*KINDS[kind])
         if stage == 3:
@@ -284,13 +283,13 @@ def pipeline(form: Form) -> Pipeline:
     return parts.pipe
 
 
-def of_back(latches: Group) -> Tuple[Any, Any, Any]:
+def of_back(latches: Group) -> tuple[Any, Any, Any]:
     """Whether a slot of write back writes a register file, where and what."""
     valid, at, word = latches.values()
     return valid, at, word
 
 
-def write_back(parts: Pipe) -> Dict[str, Memory]:
+def write_back(parts: Pipe) -> dict[str, Memory]:
     """The register files with the results of write back, which are next."""
     parts.pipe.comment("write back")
     files = {}
@@ -328,7 +327,7 @@ def seen(parts: Pipe, slot: int, kind: str, here: Group) -> Group:
     return parts.let(f"w_{slot}", Group(**found))
 
 
-def execute(parts: Pipe) -> Tuple[List[Group], Bool, SimpleNamespace]:
+def execute(parts: Pipe) -> tuple[list[Group], Bool, SimpleNamespace]:
     """What each slot keeps while a unit isn't done, whether fetch went elsewhere, and the packet's results."""
     parts.pipe.comment("execute")
     f, let, packet = parts.f, parts.let, parts.packets[3]
@@ -354,15 +353,16 @@ def execute(parts: Pipe) -> Tuple[List[Group], Bool, SimpleNamespace]:
 
 def missed(parts: Pipe, state: SimpleNamespace) -> Bool:
     """Whether fetch didn't go on where the packet in execute leads."""
+    taken: Bool = state.taken
     if not parts.form.prediction:
-        return state.taken
+        return taken
     packet = parts.packets[3]
-    causes = {"": state.taken & ~packet.pt, "guess_not_undone": ~state.taken & packet.pt,
-              "target_not_compared": conj(state.taken, packet.pt, ~state.target.equals(packet.pg))}
+    causes = {"": taken & ~packet.pt, "guess_not_undone": ~taken & packet.pt,
+              "target_not_compared": conj(taken, packet.pt, ~state.target.equals(packet.pg))}
     return any_of(cause for wrong, cause in causes.items() if not wrong or not parts.has(wrong))
 
 
-def registers(parts: Pipe, files: Dict[str, Memory], kept: Sequence[Group], squash: Bool, frame: Word) -> None:
+def registers(parts: Pipe, files: dict[str, Memory], kept: Sequence[Group], squash: Bool, frame: Word) -> None:
     """Registers are renamed and read; what waits in execute keeps what is forwarded to it."""
     parts.pipe.comment("registers")
     goes = parts.packets[2].v if parts.has("squash_forgotten") else parts.packets[2].v & ~squash
@@ -400,7 +400,7 @@ def fetch(parts: Pipe, squash: Bool, state: SimpleNamespace) -> None:
 # ---- the words
 
 
-def design(name: str, wrong: str = "") -> Tuple[str, str]:
+def design(name: str, wrong: str = "") -> tuple[str, str]:
     """The texts of a machine: its pipeline and its specification; it needs no invariant."""
     form = form_of(name, wrong)
     return pipeline(form).text(), specification(form).text()
@@ -408,7 +408,8 @@ def design(name: str, wrong: str = "") -> Tuple[str, str]:
 
 def main() -> None:
     """Writes the files, or lists the machines and their wrong twins."""
-    parser = argparse.ArgumentParser(description="VLIW machines with predicated instructions.")
+    parser = argparse.ArgumentParser(prog="python3 -m burch_dill.machines.vliw",
+                                     description="VLIW machines with predicated instructions.")
     parser.add_argument("--list", action="store_true", help="name the machines and their wrong twins")
     parser.add_argument("--wrong", default="", metavar="TWIN", help="write this wrong twin")
     parser.add_argument("names", nargs="*", metavar="MACHINE PIPE SPEC")

@@ -1,9 +1,10 @@
 """What the programs answer, as data."""
 from __future__ import annotations
 
+from collections.abc import Mapping
 from dataclasses import dataclass
 from enum import Enum
-from typing import Mapping, NamedTuple, Optional, Tuple
+from typing import NamedTuple
 
 from .cases import Case, Trail
 
@@ -32,8 +33,8 @@ class Verdict:
     """
 
     outcome: Outcome
-    case: Optional[Case] = None
-    learned: Optional[int] = None
+    case: Case | None = None
+    learned: int | None = None
     seeks_state: bool = False
 
     @property
@@ -60,16 +61,16 @@ class Bounded:
     """
 
     outcome: Outcome
-    trail: Optional[Trail] = None
-    broken: Optional[int] = None
-    learned: Optional[int] = None
+    trail: Trail | None = None
+    broken: int | None = None
+    learned: int | None = None
 
 
 class Retraced(NamedTuple):
     """What `retrace` says of a trail, and the number of the first broken cycle, from 1, where there is one."""
 
     judgement: Judgement
-    broken: Optional[int] = None
+    broken: int | None = None
 
 
 class Generated(NamedTuple):
@@ -99,8 +100,8 @@ class Checked:
     """
 
     outcome: Outcome
-    shown: Optional[Shown]
-    learned: Optional[int]
+    shown: Shown | None
+    learned: int | None
     seeks_state: bool
     text: str
 
@@ -134,7 +135,7 @@ class Explained:
     """
 
     judgement: Judgement
-    reasons: Tuple[Reason, ...]
+    reasons: tuple[Reason, ...]
     text: str
 
     def __str__(self) -> str:
@@ -150,9 +151,9 @@ class About:
     thing changed; with an invariant also whether reset meets it. `text` is all of it, which printing gives.
     """
 
-    compared: Tuple[str, ...]
-    not_compared: Tuple[str, ...]
-    unread: Tuple[str, ...]
+    compared: tuple[str, ...]
+    not_compared: tuple[str, ...]
+    unread: tuple[str, ...]
     findings: Mapping[str, str]
     text: str
 

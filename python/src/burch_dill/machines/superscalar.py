@@ -1,4 +1,3 @@
-#!/usr/bin/env python3
 """A superscalar pipeline by stages and slots, as an example of `burch_dill`'s groups and vectors.
 
 Each cycle may fetch up to WIDTH instructions, and each stage has a slot for each of them. An operand is read after the
@@ -7,25 +6,26 @@ reads what an earlier one of its group writes waits for the next cycle, with all
 result of the last stage isn't forwarded, which is wrong. It prints the verdict by positive equality; with --text the
 two files instead.
 
-usage: BURCH_DILL=PROGRAM superscalar.py WIDTH DEPTH [--miss] [--text]
+    python3 -m burch_dill.machines.superscalar WIDTH DEPTH [--miss] [--text]
 """
+from __future__ import annotations
+
 import argparse
 import sys
-from typing import Dict, List, Tuple
 
-from burch_dill import TRUE, Bool, Declarations, Group, Pipeline, Specification, Word
-from burch_dill import any_of, check, first_of, grid, ite
+from .. import TRUE, Bool, Declarations, Group, Pipeline, Specification, Word
+from .. import any_of, check, first_of, grid, ite
 
-Place = Tuple[int, int]
+Place = tuple[int, int]
 
 
-def youngest_first(width: int, depth: int, miss: bool) -> List[Place]:
+def youngest_first(width: int, depth: int, miss: bool) -> list[Place]:
     """The stages and slots that forward, from the youngest instruction to the oldest."""
     places = [(stage, slot) for stage in range(2, depth + 1) for slot in reversed(range(width))]
     return [place for place in places if not (miss and place == (depth, width - 1))]
 
 
-def machines(width: int, depth: int, miss: bool = False) -> Tuple[Pipeline, Specification]:
+def machines(width: int, depth: int, miss: bool = False) -> tuple[Pipeline, Specification]:
     """The pipeline and its specification."""
     both = Declarations()
     inc, dst, op, src, alu = both.functions(inc=1, dst=1, op=1, src=1, alu=2)
@@ -40,7 +40,7 @@ def machines(width: int, depth: int, miss: bool = False) -> Tuple[Pipeline, Spec
     pipe.comment("in stage 2 an operation and its operand, and in the others a result")
     first = pipe.groups(grid([2], slots), v=Bool, d=Word, o=Word, a=Word)
     later = pipe.groups(grid(range(3, depth + 1), slots), v=Bool, d=Word, x=Word)
-    stages: Dict[Place, Group] = {place: Group(v=held.v, d=held.d, x=pipe.let(f"x2_{place[1]}", alu(held.o, held.a)))
+    stages: dict[Place, Group] = {place: Group(v=held.v, d=held.d, x=pipe.let(f"x2_{place[1]}", alu(held.o, held.a)))
                                   for place, held in first.items()}
     stages.update(later)
 
@@ -75,7 +75,8 @@ def machines(width: int, depth: int, miss: bool = False) -> Tuple[Pipeline, Spec
 
 def main() -> int:
     """Prints the verdict or the files."""
-    parser = argparse.ArgumentParser(description="A superscalar pipeline by stages and slots.")
+    parser = argparse.ArgumentParser(prog="python3 -m burch_dill.machines.superscalar",
+                                     description="A superscalar pipeline by stages and slots.")
     parser.add_argument("width", type=int, choices=range(1, 9), metavar="WIDTH")
     parser.add_argument("depth", type=int, choices=range(2, 17), metavar="DEPTH")
     parser.add_argument("--miss", action="store_true", help="leave one forwarding path out")

@@ -23,30 +23,40 @@ Stages and slots have indices: `latches` and `memories` make arrays, `groups` on
 with `grid`, for each stage and slot, and `vector` a `Vector`. `let`, `next`, `ite` and `equal` take groups and vectors
 whole; `advance` gives a group its next values, with a condition that holds it and one that squashes it.
 
-`check`, `gen`, `replay`, `run`, `recheck`, `bounded`, `retrace` and `complete` run the built program, once a call; it
-is the argument `program`, else the environment's `BURCH_DILL`, else `burch_dill` on the path. `check_and_show`, `show`,
-`why`, `shrink` and `about` run `bd_view`, which `BD_VIEW` names. Where a file is wanted (`Source`), a path from
-`pathlib` names a file, and so does a `str` that is the name of one; any other `str`, and `bytes`, is the text itself.
-A `str` without a parenthesis that names no file is a mistake, and is said to be one (`NoFile`). Printing a `Case` or a
-`Trail` gives its text.
+A `Client` calls the built programs, once a question: `check`, `gen`, `replay`, `run`, `recheck`, `bounded`, `retrace`
+and `complete` ask `burch_dill`; `check_and_show`, `show`, `why`, `shrink`, `about`, and `recheck` by positive equality
+ask `bd_view`. The functions of these names are those of `Client()`, which takes the programs that the environment names
+by `BURCH_DILL` and `BD_VIEW`, else those on the path; `Client(program, view, timeout)` takes others.
+
+Where a file is wanted (`Source`), a path from `pathlib` names a file, and so does a `str` that is the name of one; any
+other `str`, and `bytes`, is the text itself. A `str` without a parenthesis that names no file is a mistake, and is said
+to be one (`NoFile`). Printing a `Case` or a `Trail` gives its text.
 
 What is raised: `DesignError` where a design can't be written, which names the let or the next value that is being
 defined; `Fault` for the first fault of a file, with its item; `NoAnswer` where the program ends without an answer; all
 of them and `NoFile` are `BurchDillError`; and `subprocess.TimeoutExpired` where `timeout` seconds have passed.
+
+The package `burch_dill.machines` writes machines of many stages, slots and units.
 """
 from .answers import About, Bounded, Checked, Explained, Generated, Judgement, Outcome, Reason, Retraced, Shown
 from .answers import Verdict
 from .cases import Case, Content, Row, State, Table, Trail, Value
+from .client import Client
+from .designs import Completion, Declarations, Invariant, Machine, Pipeline, Specification, Start, grid
 from .errors import BurchDillError, DesignError, Fault, NoAnswer, NoFile
 from .expressions import FALSE, TRUE, Bool, Expression, Function, Group, Memory, Predicate, Vector, Word, all_of, any_of
 from .expressions import conj, disj, equal, first_of, held, iff, implies, ite, xor
-from .machines import Completion, Declarations, Invariant, Machine, Pipeline, Specification, Start, grid
-from .program import File, Source, about, bounded, check, check_and_show, complete, gen, line_and_column, recheck
-from .program import replay, retrace, run, show, shrink, why
+from .programs import File, Source, line_and_column
 from .trees import WIDTH, read_trees
 
+_client = Client()  # of the programs that the environment names, or the path has
+check, gen, replay, run, recheck = _client.check, _client.gen, _client.replay, _client.run, _client.recheck
+bounded, retrace, complete = _client.bounded, _client.retrace, _client.complete
+check_and_show, why, show = _client.check_and_show, _client.why, _client.show
+shrink, about = _client.shrink, _client.about
+
 __all__ = [
-    "About", "Bool", "Bounded", "BurchDillError", "Case", "Checked", "Completion", "Content", "Declarations",
+    "About", "Bool", "Bounded", "BurchDillError", "Case", "Checked", "Client", "Completion", "Content", "Declarations",
     "DesignError", "Explained", "Expression", "FALSE", "Fault", "File", "Function", "Generated", "Group",
     "Invariant", "Judgement", "Machine", "Memory", "NoAnswer", "NoFile", "Outcome", "Pipeline", "Predicate",
     "Reason", "Retraced", "Row", "Shown", "Source", "Specification", "Start", "State", "TRUE", "Table", "Trail",

@@ -1,8 +1,6 @@
 """What this package raises."""
 from __future__ import annotations
 
-from typing import Optional
-
 
 class BurchDillError(Exception):
     """What this package raises."""
@@ -19,11 +17,11 @@ class NoFile(BurchDillError, FileNotFoundError):
 class NoAnswer(BurchDillError):
     """The program ended without an answer. `status` is its exit status, `line` what it wrote to its error output.
 
-    By status: 2, the words aren't taken; 5, a device failed; 6, want of memory; None, no program was found; 0, this
+    By status: 2, the words aren't taken; 5, a device failed; 6, out of memory; None, no program was found; 0, this
     package doesn't know the answer; and what else an operating system makes of a program that ends early.
     """
 
-    def __init__(self, status: Optional[int], line: str) -> None:
+    def __init__(self, status: int | None, line: str) -> None:
         super().__init__(line or f"the program ended with status {status}")
         self.status, self.line = status, line
 
@@ -37,7 +35,7 @@ class Fault(BurchDillError):
     fault in it, by its head and its name, as `let rf2`; it is empty where the fault is in none.
     """
 
-    def __init__(self, file: str, name: str, offset: Optional[int], line: int, column: int,
+    def __init__(self, file: str, name: str, offset: int | None, line: int, column: int,
                  code: str, text: str, item: str = "") -> None:
         super().__init__(f"{name}:{line}:{column}: {code} {text}" + (f", in ({item} ..)" if item else ""))
         self.file, self.name, self.offset = file, name, offset

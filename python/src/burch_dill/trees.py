@@ -2,11 +2,11 @@
 from __future__ import annotations
 
 import re
-from typing import List, Tuple, Union
+from typing import Union
 
 WIDTH = 100  # columns of a text that is laid out
 
-Tree = Union[str, Tuple["Tree", ...]]
+Tree = Union[str, tuple["Tree", ...]]
 
 
 def written(tree: Tree) -> str:
@@ -14,7 +14,7 @@ def written(tree: Tree) -> str:
     return tree if isinstance(tree, str) else f"({' '.join(map(written, tree))})"
 
 
-def laid_out(tree: Tree, indent: int, after: int = 0) -> List[str]:
+def laid_out(tree: Tree, indent: int, after: int = 0) -> list[str]:
     """The lines of a tree that begins in a column and has so many `)` after it; parts that don't fit go below."""
     if isinstance(tree, str) or indent + len(written(tree)) + after <= WIDTH:
         return [" " * indent + written(tree)]
@@ -30,9 +30,9 @@ def laid_out(tree: Tree, indent: int, after: int = 0) -> List[str]:
     return lines
 
 
-def read_trees(text: str) -> List[Tree]:
+def read_trees(text: str) -> list[Tree]:
     """The trees of a text, without its comments. Raises `ValueError` where a parenthesis has no other."""
-    open_lists: List[List[Tree]] = [[]]
+    open_lists: list[list[Tree]] = [[]]
     for token in re.findall(r"[()]|[^\s();]+", re.sub(r";[^\n]*", "", text)):
         if token == "(":
             open_lists.append([])

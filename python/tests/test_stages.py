@@ -1,7 +1,9 @@
 """Tests of what `burch_dill` has for stages and slots, and of its mistakes. What asks a program is left out without it.
 
-    cd tools && BURCH_DILL=PROGRAM BD_VIEW=VIEW python3 -m unittest
+    PYTHONPATH=python/src BURCH_DILL=PROGRAM BD_VIEW=VIEW python3 -m unittest discover -s python/tests
 """
+from __future__ import annotations
+
 import os
 import shutil
 import subprocess
@@ -10,14 +12,14 @@ import tempfile
 import unittest
 from pathlib import Path
 
-import example
-import superscalar
 from burch_dill import FALSE, TRUE, Bool, Case, Declarations, DesignError, Fault, Function, Group, Invariant, Judgement
 from burch_dill import NoAnswer, NoFile, Outcome, Pipeline, Specification, Vector, Word, about, check, check_and_show
 from burch_dill import conj, disj, equal, first_of, gen, grid, held, ite, replay, show, shrink, why, xor
+from burch_dill.machines import forwarding, superscalar
 from burch_dill.trees import item_at
 
-DATA = Path(__file__).resolve().parent.parent / "crates" / "burch_dill" / "data"
+ROOT = Path(__file__).resolve().parent.parent.parent
+DATA = ROOT / "crates" / "burch_dill" / "data"
 TWO_STAGE, STALE, SPEC = (DATA / name for name in ("two_stage.pipe", "stale_operand.pipe", "two_stage.spec"))
 IS_THERE = shutil.which(os.environ.get("BURCH_DILL", "burch_dill")) is not None
 VIEW_IS_THERE = IS_THERE and shutil.which(os.environ.get("BD_VIEW", "bd_view")) is not None
@@ -229,7 +231,7 @@ class Generators(unittest.TestCase):
 
     def test_the_same_formula_as_by_hand(self) -> None:
         """A generator in `bench/` writes the same design as text: from both comes one formula."""
-        script = Path(__file__).resolve().parent.parent / "bench" / "superscalar.py"
+        script = ROOT / "bench" / "superscalar.py"
         with tempfile.TemporaryDirectory() as folder:
             pipe, spec, first, second = (Path(folder, name) for name in ("p", "s", "1.cnf", "2.cnf"))
             subprocess.run([sys.executable, str(script), "2", "4", str(pipe), str(spec)], check=True)
@@ -238,21 +240,21 @@ class Generators(unittest.TestCase):
             self.assertEqual(first.read_bytes(), second.read_bytes())
 
     def test_machines_of_the_field(self) -> None:
-        """What `bench/` writes of DLX and of VLIW machines is right, in each way of writing; its twins are wrong."""
-        for words, outcome in ((["dlx.py", "1xDLX-C"], Outcome.CORRECT),
-                               (["dlx.py", "1xDLX-C", "--idle", "--late", "--ordered"], Outcome.CORRECT),
-                               (["dlx.py", "1xDLX-C-MC-EX-BP"], Outcome.CORRECT),
-                               (["dlx.py", "1xDLX-C-EX", "--wrong", "faulting_store"], Outcome.WRONG_COMMUTE),
-                               (["dlx.py", "1xDLX-C-MC", "--wrong", "no_interlock"], Outcome.WRONG_COMMUTE),
-                               (["vliw.py", "4VLIW-MC-BP", "--wrong", "not_renamed"], Outcome.WRONG_COMMUTE)):
+        """What is written of DLX and of VLIW machines is right, in each way of writing; its twins are wrong."""
+        for words, outcome in ((["dlx", "1xDLX-C"], Outcome.CORRECT),
+                               (["dlx", "1xDLX-C", "--idle", "--late", "--ordered"], Outcome.CORRECT),
+                               (["dlx", "1xDLX-C-MC-EX-BP"], Outcome.CORRECT),
+                               (["dlx", "1xDLX-C-EX", "--wrong", "faulting_store"], Outcome.WRONG_COMMUTE),
+                               (["dlx", "1xDLX-C-MC", "--wrong", "no_interlock"], Outcome.WRONG_COMMUTE),
+                               (["vliw", "4VLIW-MC-BP", "--wrong", "not_renamed"], Outcome.WRONG_COMMUTE)):
             with self.subTest(words), tempfile.TemporaryDirectory() as folder:
                 files = [Path(folder, name) for name in ("p", "s", "i")[:3 if "DLX-C-MC" in words[1] else 2]]
-                script = Path(__file__).resolve().parent.parent / "bench" / words[0]
-                subprocess.run([sys.executable, str(script), *words[1:], *map(str, files)], check=True)
+                module = [sys.executable, "-m", f"burch_dill.machines.{words[0]}"]
+                subprocess.run([*module, *words[1:], *map(str, files)], check=True)
                 self.assertEqual(check(*files, diverse=True).outcome, outcome)
 
-    def test_example_runs(self) -> None:
-        self.assertEqual(len(list(example.verdicts(3))), 3)
+    def test_forwarding_paths(self) -> None:
+        self.assertEqual(len(list(forwarding.verdicts(3))), 3)
 
 
 if __name__ == "__main__":

@@ -1,22 +1,24 @@
 """Tests of the package `burch_dill`. What asks the program is left out where there is none.
 
-    cd tools && BURCH_DILL=PROGRAM python3 -m unittest
+    PYTHONPATH=python/src BURCH_DILL=PROGRAM BD_VIEW=VIEW python3 -m unittest discover -s python/tests
 """
+from __future__ import annotations
+
 import os
 import shutil
 import tempfile
 import unittest
 from dataclasses import replace
 from pathlib import Path
-from typing import Dict
 
-import example
-from burch_dill import FALSE, TRUE, WIDTH, Bool, Case, Completion, Declarations, DesignError, Fault, Function, Invariant
-from burch_dill import Judgement, Memory, NoAnswer, Outcome, Pipeline, Predicate, Retraced, Row, Specification, Start
+from burch_dill import FALSE, TRUE, WIDTH, Bool, Case, Client, Completion, Declarations, DesignError, Fault, Function
+from burch_dill import Invariant, Judgement, Memory, NoAnswer, Outcome, Pipeline, Predicate, Retraced, Row
+from burch_dill import Specification, Start
 from burch_dill import Table, Trail, Word, all_of, any_of, bounded, check, complete, iff, implies, ite, line_and_column
 from burch_dill import read_trees, recheck, replay, retrace, run
+from burch_dill.machines import forwarding
 
-PROGRAM = Path(__file__).resolve().parent.parent / "crates" / "burch_dill"
+PROGRAM = Path(__file__).resolve().parent.parent.parent / "crates" / "burch_dill"
 DATA = PROGRAM / "data"
 TWO_STAGE, STALE, SPEC = (DATA / name for name in ("two_stage.pipe", "stale_operand.pipe", "two_stage.spec"))
 TWIN, TWIN_INV, NO_STATE = (DATA / name for name in ("twin_valid_bits.pipe", "twin_valid_bits.inv", "no_state.inv"))
@@ -26,7 +28,7 @@ IS_THERE = shutil.which(os.environ.get("BURCH_DILL", "burch_dill")) is not None
 HAS_COMPANION = shutil.which(os.environ.get("BD_VIEW", "bd_view")) is not None
 
 
-def functions(both: Declarations) -> Dict[str, Function]:
+def functions(both: Declarations) -> dict[str, Function]:
     arities = {"inc": 1, "src": 1, "dst": 1, "op": 1, "alu": 2}
     return {name: both.function(name, arity) for name, arity in arities.items()}
 
@@ -249,7 +251,7 @@ class Answers(unittest.TestCase):
         self.assertEqual(check(TWO_STAGE, SPEC, NO_STATE).outcome, Outcome.VOID)
 
     def test_budget(self) -> None:
-        verdict = check(*example.machines(4), budget=0)
+        verdict = check(*forwarding.machines(4), budget=0)
         self.assertEqual((verdict.outcome, verdict.learned, verdict.seeks_state), (Outcome.UNDECIDED, 0, False))
 
     def test_constants(self) -> None:
@@ -334,8 +336,8 @@ class Answers(unittest.TestCase):
         with self.assertRaisesRegex(Fault, "^comp:1:1: E12"):
             complete(TWO_STAGE, SPEC, "(completion (abstract pc pc))")
 
-    def test_example(self) -> None:
-        outcomes = {left_out: verdict.outcome for left_out, verdict in example.verdicts(4)}
+    def test_forwarding(self) -> None:
+        outcomes = {left_out: verdict.outcome for left_out, verdict in forwarding.verdicts(4)}
         wrong, right = Outcome.WRONG_COMMUTE, Outcome.CORRECT
         self.assertEqual(outcomes, {None: right, 2: wrong, 3: wrong, 4: right})
 
@@ -375,8 +377,8 @@ class Faults(unittest.TestCase):
                             (2, lambda: check(TWO_STAGE, SPEC, budget=-1)),
                             (2, lambda: bounded(TWO_STAGE, SPEC, Start(), 17)),
                             (5, lambda: check(DATA / "absent.pipe", SPEC)),
-                            (0, lambda: check(TWO_STAGE, SPEC, program=shutil.which("true"))),
-                            (None, lambda: check(TWO_STAGE, SPEC, program="/absent/burch_dill"))):
+                            (0, lambda: Client(shutil.which("true")).check(TWO_STAGE, SPEC)),
+                            (None, lambda: Client("/absent/burch_dill").check(TWO_STAGE, SPEC))):
             with self.subTest(status), self.assertRaises(NoAnswer) as raised:
                 ask()
             self.assertEqual(raised.exception.status, status)

@@ -5,9 +5,9 @@ names of its fields; `ite`, `equal`, `held` and the calls of machines take them 
 """
 from __future__ import annotations
 
+from collections.abc import Iterable, Iterator, Mapping, Sequence
 from dataclasses import dataclass
-from typing import Any, Callable, ClassVar, Dict, Generic, Iterable, Iterator, List, Mapping, NoReturn, Sequence, Tuple
-from typing import Type, TypeVar, Union, overload
+from typing import Any, Callable, ClassVar, Generic, NoReturn, TypeVar, Union, overload
 
 from .errors import DesignError
 from .trees import Tree, written
@@ -85,7 +85,7 @@ Scalar = TypeVar("Scalar", Word, Bool)
 TRUE, FALSE = Bool("true"), Bool("false")
 
 
-def tree_of(part: Expression, sort: Type[Expression]) -> Tree:
+def tree_of(part: Expression, sort: type[Expression]) -> Tree:
     """The tree of a part that has to be of this sort."""
     if not isinstance(part, sort):
         found = f"a {part.sort}" if isinstance(part, Expression) else "no expression"
@@ -94,7 +94,7 @@ def tree_of(part: Expression, sort: Type[Expression]) -> Tree:
     return part.tree
 
 
-def _joined(operator: str, left: Bool) -> Tuple[Tree, ...]:
+def _joined(operator: str, left: Bool) -> tuple[Tree, ...]:
     """The operator with its parts so far: `p & q & r` is `(and p q r)`."""
     return left.tree if isinstance(left.tree, tuple) and left.tree[0] == operator else (operator, left.tree)
 
@@ -119,7 +119,7 @@ class Vector(Generic[Sorted], Sequence[Sorted]):
     @overload
     def __getitem__(self, index: slice) -> Vector[Sorted]: ...
 
-    def __getitem__(self, index: Union[int, slice]) -> Union[Sorted, Vector[Sorted]]:
+    def __getitem__(self, index: int | slice) -> Sorted | Vector[Sorted]:
         return Vector(self._parts[index]) if isinstance(index, slice) else self._parts[index]
 
     def __str__(self) -> str:
@@ -288,7 +288,7 @@ def _many(operator: str, none: Bool, parts: Iterable[Bool]) -> Bool:
     return Bool((operator, *listed)) if len(listed) > 1 else Bool(listed[0]) if listed else none
 
 
-def first_of(choices: Iterable[Tuple[Bool, AnyBundle]], otherwise: AnyBundle) -> AnyBundle:
+def first_of(choices: Iterable[tuple[Bool, AnyBundle]], otherwise: AnyBundle) -> AnyBundle:
     """The value of the first choice whose condition is true, else the last argument."""
     value = otherwise
     for condition, choice in reversed(list(choices)):

@@ -1,22 +1,23 @@
-#!/usr/bin/env python3
 """Which forwarding paths does a pipeline need? An example of what the package `burch_dill` is for.
 
 It writes a pipeline of DEPTH stages (3 to 12, 4 where none is given), once with all its paths and once without each,
 and asks the program about all of them. Of the first that is wrong it shows what its case says, and asks about a case
 that differs in one value. With --text it prints the two files instead.
 
-usage: BURCH_DILL=PROGRAM example.py [DEPTH] [--text]
+    python3 -m burch_dill.machines.forwarding [DEPTH] [--text]
 """
+from __future__ import annotations
+
 import argparse
 import sys
+from collections.abc import Iterator
 from dataclasses import replace
-from typing import Iterator, List, Optional, Tuple
 
-from burch_dill import TRUE, Bool, Case, Declarations, Group, Pipeline, Specification, Table, Verdict, Word
-from burch_dill import check, first_of, ite, replay, run
+from .. import TRUE, Bool, Case, Declarations, Group, Pipeline, Specification, Table, Verdict, Word
+from .. import check, first_of, ite, replay, run
 
 
-def machines(depth: int, left_out: Optional[int] = None) -> Tuple[Pipeline, Specification]:
+def machines(depth: int, left_out: int | None = None) -> tuple[Pipeline, Specification]:
     """A pipeline without the path from one stage, and its specification."""
     both = Declarations()
     inc, src, dst, op, alu = both.functions(inc=1, src=1, dst=1, op=1, alu=2)
@@ -49,13 +50,13 @@ def machines(depth: int, left_out: Optional[int] = None) -> Tuple[Pipeline, Spec
     return pipe, spec
 
 
-def verdicts(depth: int) -> Iterator[Tuple[Optional[int], Verdict]]:
+def verdicts(depth: int) -> Iterator[tuple[int | None, Verdict]]:
     """The verdict with all paths, and without the path from each stage."""
     for left_out in (None, *range(2, depth + 1)):
         yield left_out, check(*machines(depth, left_out))
 
 
-def source(case: Case) -> Tuple[Table, int, int]:
+def source(case: Case) -> tuple[Table, int, int]:
     """The table of sources, the address of the instruction that is fetched, and the register that it reads."""
     table, pc = case.symbols["src"], case.state["pc"]
     assert isinstance(table, Table) and isinstance(pc, int)
@@ -68,7 +69,7 @@ def moved(case: Case) -> Case:
     return replace(case, symbols={**case.symbols, "src": table.having(register + 1, pc)})
 
 
-def shown(depth: int, left_out: int, case: Case) -> List[str]:
+def shown(depth: int, left_out: int, case: Case) -> list[str]:
     """What is in a case that breaks the pipeline without a path."""
     pipe, spec = machines(depth, left_out)
     before, after = run(pipe, spec, case, 1)
@@ -82,14 +83,15 @@ def shown(depth: int, left_out: int, case: Case) -> List[str]:
 
 
 def main() -> int:
-    parser = argparse.ArgumentParser(description="Which forwarding paths does a pipeline need?")
+    parser = argparse.ArgumentParser(prog="python3 -m burch_dill.machines.forwarding",
+                                     description="Which forwarding paths does a pipeline need?")
     parser.add_argument("depth", type=int, nargs="?", default=4, choices=range(3, 13), metavar="DEPTH")
     parser.add_argument("--text", action="store_true", help="print the two files, and ask nothing")
     words = parser.parse_args()
     if words.text:
         print(*(machine.text() for machine in machines(words.depth)), sep="\n", end="")
         return 0
-    lines: List[str] = []
+    lines: list[str] = []
     for left_out, verdict in verdicts(words.depth):
         print(f"{'with all paths' if left_out is None else f'without stage {left_out}':17} {verdict.outcome.value}")
         if not lines and left_out is not None and verdict.case is not None:

@@ -1,8 +1,9 @@
 """Cases and trails as data: what each symbol, latch, memory and input is."""
 from __future__ import annotations
 
+from collections.abc import Mapping, Sequence
 from dataclasses import dataclass
-from typing import Dict, Mapping, NamedTuple, Sequence, Tuple, Union
+from typing import NamedTuple, Union
 
 from .errors import DesignError
 from .trees import Tree, read_trees, written
@@ -15,7 +16,7 @@ Value = Union[int, bool]
 class Row(NamedTuple):
     """A row of a table: a value at these arguments."""
 
-    arguments: Tuple[int, ...]
+    arguments: tuple[int, ...]
     value: Value
 
 
@@ -27,7 +28,7 @@ class Table:
     """
 
     default: Value
-    rows: Tuple[Row, ...] = ()
+    rows: tuple[Row, ...] = ()
 
     def __call__(self, *arguments: int) -> Value:
         return next((value for at, value in self.rows if at == arguments), self.default)
@@ -39,7 +40,7 @@ class Table:
 
 
 Content = Union[int, bool, Table]
-State = Dict[str, Content]
+State = dict[str, Content]
 
 
 @dataclass(frozen=True)
@@ -50,7 +51,7 @@ class Case:
     design keeps apart. Of `state`, a table is a memory, and a value a latch. `dataclasses.replace` makes others of it.
     """
 
-    symbols: Mapping[str, Union[int, Table]]
+    symbols: Mapping[str, int | Table]
     state: Mapping[str, Content]
     inputs: Mapping[str, Value]
 
@@ -83,9 +84,9 @@ class Trail:
     Each input has a value for each of the `cycles`.
     """
 
-    symbols: Mapping[str, Union[int, Table]]
+    symbols: Mapping[str, int | Table]
     state: Mapping[str, Content]
-    inputs: Mapping[str, Tuple[Value, ...]]
+    inputs: Mapping[str, tuple[Value, ...]]
     cycles: int
 
     def __str__(self) -> str:
@@ -111,8 +112,8 @@ class Trail:
         return Trail(*_contents(trees[0][2:], int(count)), int(count))
 
 
-def _content_text(head: str, symbols: Mapping[str, Union[int, Table]], state: Mapping[str, Content],
-                  inputs: Mapping[str, Tuple[Value, ...]]) -> str:
+def _content_text(head: str, symbols: Mapping[str, int | Table], state: Mapping[str, Content],
+                  inputs: Mapping[str, tuple[Value, ...]]) -> str:
     """The text of a case or a trail."""
     entries = [_entry(_symbol_head(content), name, content) for name, content in symbols.items()]
     entries += [_entry("memory" if isinstance(content, Table) else "latch", name, content)
@@ -122,7 +123,7 @@ def _content_text(head: str, symbols: Mapping[str, Union[int, Table]], state: Ma
 
 
 def _contents(entries: Sequence[Tree], cycles: int) \
-        -> Tuple[Dict[str, Union[int, Table]], Dict[str, Content], Dict[str, Tuple[Value, ...]]]:
+        -> tuple[dict[str, int | Table], dict[str, Content], dict[str, tuple[Value, ...]]]:
     """The symbols, the state and the inputs of a case or of a trail of so many cycles."""
     inputs = {str(entry[1]): tuple(map(_value, entry[2:])) for entry in entries if _is_input(entry, cycles)}
     others = [named_content(entry) for entry in entries if not _is_input(entry, cycles)]
@@ -136,7 +137,7 @@ def _is_input(entry: Tree, cycles: int) -> bool:
     return not isinstance(entry, str) and entry[:1] == ("input",) and len(entry) == cycles + 2
 
 
-def _symbol_head(content: Union[int, Table]) -> str:
+def _symbol_head(content: int | Table) -> str:
     if not isinstance(content, Table):
         return "constant"
     return "predicate" if isinstance(content.default, bool) else "function"
@@ -165,7 +166,7 @@ def _value(tree: Tree) -> Value:
     return int(tree)
 
 
-def named_content(entry: Tree) -> Tuple[str, str, Content]:
+def named_content(entry: Tree) -> tuple[str, str, Content]:
     """The head, the name and the content of an entry of a case or a state."""
     if isinstance(entry, str) or len(entry) < 3 or not isinstance(entry[0], str) or not isinstance(entry[1], str):
         raise ValueError(f"{written(entry)} isn't an entry")

@@ -1,0 +1,236 @@
+"""Calls of the two programs: `burch_dill`, which decides, and its companion `bd_view`, which shows."""
+from __future__ import annotations
+
+import os
+import re
+from dataclasses import dataclass
+from typing import TypeVar
+
+from .answers import About, Bounded, Checked, Explained, Generated, Judgement, Outcome, Reason, Retraced, Shown
+from .answers import Verdict
+from .cases import Case, State, Trail, named_content
+from .errors import NoAnswer
+from .programs import NOTHING_BROKEN, VERIFIER, VIEWER, File, Printed, Source, Sources, ask, name_of
+from .trees import read_trees
+
+Answer = TypeVar("Answer", Outcome, Judgement)
+
+REASON = re.compile(r":(\d+):(\d+): (.*)")
+FINDINGS = ("as it is", "one flush less", "one flush more", "one step more", "no invariant", "reset (all 0)",
+            "(exact 0 true)")
+
+
+@dataclass(frozen=True)
+class Client:
+    """Where the two programs are, and how many seconds a call may take.
+
+    `program` is `burch_dill`, `view` is `bd_view`. One that isn't given is named by the environment, `BURCH_DILL` or
+    `BD_VIEW`, or else found on the path. Without `timeout` a call takes as long as it takes; after it
+    `subprocess.TimeoutExpired` is raised.
+    """
+
+    program: File | None = None
+    view: File | None = None
+    timeout: float | None = None
+
+    # ---- verdicts
+
+    def check(self, pipe: Source, spec: Source, inv: Source | None = None, *, budget: int | None = None,
+              diverse: bool = False, formula: File | None = None, proof: File | None = None) -> Verdict:
+        """Whether a pipeline is right in every state that meets the invariant.
+
+        `budget` is how many clauses may be learned (the program's own is 200,000); `diverse` asks by positive equality;
+        the formula is saved to the file `formula` as DIMACS, its proof to `proof` as LRAT.
+        """
+        options = [*_value("--budget", budget), *_flag("--diverse", diverse), *_saved("--cnf", formula)]
+        options += _saved("--lrat", proof)
+        return _verdict(self._decided("check", {"pipe": pipe, "spec": spec, "inv": inv}, *options))
+
+    def gen(self, depth: int, drop: int = 0) -> Generated:
+        """A generated pipeline of 2 to 12 stages, without the forwarding path of that number (0: with all of them)."""
+        line = self._decided("gen", {}, str(depth), str(drop))
+        found = re.match(r"gen \d+ \d+ latches (\d+) (.*\n)", line)
+        if not found:
+            raise _unknown(line)
+        return Generated(int(found[1]), _verdict(found[2]))
+
+    def replay(self, pipe: Source, spec: Source, case: Source, inv: Source | None = None) -> Judgement:
+        """What a case shows: whether it breaks a condition, or lies outside the invariant."""
+        line = self._decided("replay", {"pipe": pipe, "spec": spec, "case": case, "inv": inv})
+        return _answer(Judgement, line.rstrip("\n"))
+
+    def run(self, pipe: Source, spec: Source, case: Source, cycles: int) -> list[State]:
+        """The case's state, and the states after each of so many cycles (0 to 1000) with the case's inputs."""
+        printed = self._decided("run", {"pipe": pipe, "spec": spec, "case": case}, str(cycles))
+        states = re.split(r"^cycle \d+\n", printed, flags=re.MULTILINE)[1:]
+        return [{name: content for _, name, content in map(named_content, read_trees(state))} for state in states]
+
+    def recheck(self, pipe: Source, spec: Source, proof: Source, inv: Source | None = None, *,
+                diverse: bool = False) -> Verdict:
+        """Whether a proof in LRAT from elsewhere shows that a pipeline is right. A proof that doesn't is a `Fault`.
+
+        With `diverse` the proof is one over the formula of positive equality, which `bd_view` makes.
+        """
+        files = {"pipe": pipe, "spec": spec, "proof": proof, "inv": inv}
+        if diverse:
+            return _verdict(self._shown("recheck", files, "--diverse").text)
+        return _verdict(self._decided("recheck", files))
+
+    def bounded(self, pipe: Source, spec: Source, start: Source, cycles: int, *,
+                budget: int | None = None) -> Bounded:
+        """Whether a pipeline is right for so many cycles (0 to 16) from each state in which the start is true.
+
+        `budget` is how many clauses may be learned (the program's own is 200,000). Nothing is said of whether there is
+        such a state.
+        """
+        files = {"pipe": pipe, "spec": spec, "start": start}
+        line, _, trail = self._decided("bounded", files, str(cycles), *_value("--budget", budget)).partition("\n")
+        found = re.fullmatch(r"(correct) to \d+|(wrong commute) (\d+)|(undecided) (\d+)", line)
+        if not found:
+            raise _unknown(line)
+        broken, learned = (int(number) if number else None for number in found.group(3, 5))
+        outcome = Outcome(found[1] or found[2] or found[4])
+        return Bounded(outcome, Trail.read(trail) if trail else None, broken, learned)
+
+    def retrace(self, pipe: Source, spec: Source, trail: Source, start: Source) -> Retraced:
+        """What a trail shows: the first of its cycles that is wrong, or that it doesn't begin where the start is true.
+        """
+        files = {"pipe": pipe, "spec": spec, "trail": trail, "start": start}
+        line = self._decided("retrace", files).rstrip("\n")
+        words, _, cycle = line.rpartition(" ") if line[-1:].isdigit() else (line, "", "")
+        return Retraced(_answer(Judgement, words), int(cycle) if cycle else None)
+
+    def complete(self, pipe: Source, spec: Source, comp: Source, inv: Source | None = None, *, agree: bool = False,
+                 budget: int | None = None) -> Verdict:
+        """Whether a pipeline is right where a completion function stands in the place of flushing.
+
+        With `agree`, whether the two are the same in every state that meets the invariant: `AGREES` or `DIFFERS`.
+        """
+        files = {"pipe": pipe, "spec": spec, "comp": comp, "inv": inv}
+        return _verdict(self._decided("complete", files, *_flag("--agree", agree), *_value("--budget", budget)))
+
+    # ---- for people
+
+    def check_and_show(self, pipe: Source, spec: Source, inv: Source | None = None, *, budget: int | None = None,
+                       diverse: bool = False) -> Checked:
+        """What `check` asks, and where the answer is wrong, what `show` prints of the case.
+
+        It gives no case and saves no formula; for those ask `check`.
+        """
+        options = [*_value("--budget", budget), *_flag("--diverse", diverse)]
+        text = self._shown("check", {"pipe": pipe, "spec": spec, "inv": inv}, *options).text
+        line, _, tables = text.partition("\n")
+        verdict = _verdict(line)
+        shown = Shown(_judgement(tables), tables) if tables else None
+        return Checked(verdict.outcome, shown, verdict.learned, verdict.seeks_state, text)
+
+    def why(self, pipe: Source, spec: Source, case: Source, inv: Source | None = None, *, of: str | None = None,
+            whole: bool = False) -> Explained | None:
+        """Why a value of a case is what it is, line by line of the files.
+
+        `of` names the value, as the option of `bd_view why` does: `"a2"`, `"rf[8]@after.1"`. If it isn't given, that is
+        the first value that differs, or the invariant after the cycle; and where the case breaks nothing the answer is
+        None. The case is made small first, unless `whole` says that it stays as it is.
+        """
+        sources = {"pipe": pipe, "spec": spec, "case": case, "inv": inv}
+        printed = self._shown("why", sources, *_value("--of", of), *_flag("--whole", whole))
+        return None if printed.status == NOTHING_BROKEN else _explained(printed, sources)
+
+    def show(self, pipe: Source, spec: Source, case: Source, inv: Source | None = None, *, whole: bool = False,
+             page: File | None = None) -> Shown:
+        """Both ways round a case's diagram, as tables: the case made small, or with `whole` as it is.
+
+        The same is saved to the file `page` as a page with a drawing.
+        """
+        files = {"pipe": pipe, "spec": spec, "case": case, "inv": inv}
+        text = self._shown("show", files, *_flag("--whole", whole), *_saved("--html", page)).text
+        return Shown(_judgement(text), text)
+
+    def shrink(self, pipe: Source, spec: Source, case: Source, inv: Source | None = None) -> Case | None:
+        """A small case that breaks the same condition, or None where the case breaks none."""
+        printed = self._shown("shrink", {"pipe": pipe, "spec": spec, "case": case, "inv": inv})
+        return None if printed.status == NOTHING_BROKEN else Case.read(printed.text)
+
+    def about(self, pipe: Source, spec: Source, inv: Source | None = None) -> About:
+        """What can be said of a design without a case."""
+        text = self._shown("about", {"pipe": pipe, "spec": spec, "inv": inv}).text
+        lines = [re.split(r"  +", line, maxsplit=1) for line in text.splitlines()]
+        pairs = [(line[0], line[1]) for line in lines if len(line) == 2]
+        said = dict(pairs)
+        findings = {head: said[head] for head in FINDINGS if head in said}
+        return About(_names(said.get("compared", "")), _names(said.get("not compared", "")),
+                     tuple(what for head, what in pairs if head == "read by nothing"), findings, text)
+
+    # ---- how they are asked
+
+    def _decided(self, command: str, sources: Sources, *options: str) -> str:
+        """What `burch_dill` prints of its answer."""
+        return ask(VERIFIER, self.program, command, sources, options, self.timeout).text
+
+    def _shown(self, command: str, sources: Sources, *options: str) -> Printed:
+        """What `bd_view` prints of its answer."""
+        return ask(VIEWER, self.view, command, sources, options, self.timeout)
+
+
+# ---- the words that they take
+
+
+def _flag(name: str, is_set: bool) -> list[str]:
+    return [name] if is_set else []
+
+
+def _value(name: str, value: object) -> list[str]:
+    return [] if value is None else [name, str(value)]
+
+
+def _saved(name: str, file: File | None) -> list[str]:
+    return [] if file is None else [name, os.path.abspath(file)]
+
+
+# ---- what they print
+
+
+def _verdict(printed: str) -> Verdict:
+    line, _, case = printed.partition("\n")
+    undecided = re.fullmatch(r"undecided (\d+)( meets)?", line)
+    if undecided:
+        return Verdict(Outcome.UNDECIDED, None, int(undecided[1]), bool(undecided[2]))
+    return Verdict(_answer(Outcome, line), Case.read(case) if case else None)
+
+
+def _answer(answers: type[Answer], line: str) -> Answer:
+    """The answer that a line is."""
+    for answer in answers:
+        if answer.value == line:
+            return answer
+    raise _unknown(line)
+
+
+def _judgement(text: str) -> Judgement:
+    """The judgement that a text of `bd_view` begins with."""
+    for judgement in Judgement:
+        if text.startswith(judgement.value + ":"):
+            return judgement
+    raise _unknown(text)
+
+
+def _unknown(printed: str) -> NoAnswer:
+    return NoAnswer(0, f"this answer isn't known: {printed!r}")
+
+
+def _explained(printed: Printed, sources: Sources) -> Explained:
+    """The explanation that `bd_view` prints, with the files by the names that were given."""
+    reasons, lines = [], []
+    for line in printed.text.split("\n"):
+        for word, file in printed.files.items():
+            found = REASON.match(line, len(file)) if line.startswith(file) else None
+            if found:
+                reasons.append(Reason(word, int(found[1]), int(found[2]), found[3]))
+                line = name_of(word, sources[word]) + line[len(file):]
+                break
+        lines.append(line)
+    return Explained(_judgement(printed.text), tuple(reasons), "\n".join(lines))
+
+
+def _names(listed: str) -> tuple[str, ...]:
+    return () if listed in ("", "nothing") else tuple(listed.split(", "))
