@@ -14,13 +14,13 @@ With --dimacs the formula itself is written, for solvers of such formulas.
 usage: formula.py FAMILY NUMBER .. PIPE SPEC
        formula.py --dimacs FAMILY NUMBER .. FILE
 """
+import argparse
 import random
-import sys
 
 
 def formula_design(variables, clauses):
-    def literal(l):
-        return f"x{l}" if l > 0 else f"(not x{-l})"
+    def literal(number):
+        return f"x{number}" if number > 0 else f"(not x{-number})"
 
     items = ["(latch wrong bool)", "(flush 0)", "(steps 0)"]
     for v in range(1, variables + 1):
@@ -85,6 +85,7 @@ def parity(variables, seed):
 
 
 FAMILIES = {"pigeons": pigeons, "random": random_formula, "parity": parity}
+COUNTS = {"pigeons": 1, "random": 2, "parity": 2}  # how many numbers each takes
 
 
 def write(name, text):
@@ -93,15 +94,18 @@ def write(name, text):
 
 
 def main():
-    words = sys.argv[1:]
-    is_dimacs = words[:1] == ["--dimacs"]
-    family, *rest = words[is_dimacs:] or [""]
-    files = 1 if is_dimacs else 2
-    if family not in FAMILIES or len(rest) <= files:
-        sys.exit(__doc__)
-    formula = FAMILIES[family](*map(int, rest[:-files]))
-    texts = [dimacs(*formula)] if is_dimacs else formula_design(*formula)
-    for name, text in zip(rest[-files:], texts):
+    """Writes the files."""
+    parser = argparse.ArgumentParser(description=__doc__, formatter_class=argparse.RawDescriptionHelpFormatter)
+    parser.add_argument("--dimacs", action="store_true", help="write the formula itself, to one file")
+    parser.add_argument("family", choices=FAMILIES, metavar="FAMILY", help=", ".join(FAMILIES))
+    parser.add_argument("rest", nargs="+", metavar="NUMBER|FILE", help="the family's numbers, then the files")
+    words = parser.parse_intermixed_args()
+    files = 1 if words.dimacs else 2
+    numbers, names = words.rest[:-files], words.rest[-files:]
+    if len(numbers) != COUNTS[words.family] or not all(number.isdecimal() for number in numbers):
+        parser.error(f"{words.family} wants {COUNTS[words.family]} numbers, and {files} files")
+    formula = FAMILIES[words.family](*map(int, numbers))
+    for name, text in zip(names, [dimacs(*formula)] if words.dimacs else formula_design(*formula)):
         write(name, text)
 
 

@@ -29,6 +29,7 @@ block isn't run, and the last line of the report says so.
 """
 from __future__ import annotations
 
+import argparse
 import difflib
 import os
 import re
@@ -201,18 +202,24 @@ def name_of(word: str) -> str:
     return Path(word).name if Path(word).name in PROGRAMS else PROGRAMS[0]
 
 
+def asked_for(words: list[str]) -> argparse.Namespace:
+    """The words of a call, whose programs can be run."""
+    parser = argparse.ArgumentParser(prog="doc_examples.py", description=__doc__,
+                                     formatter_class=argparse.RawDescriptionHelpFormatter)
+    parser.add_argument("--write", action="store_true", help="put into the documents what comes out")
+    parser.add_argument("named", nargs="+", metavar="PROGRAM|FILE.md", help="programs and documents")
+    asked = parser.parse_intermixed_args(words)
+    for word in asked.named:
+        if not word.endswith(".md") and not os.access(word, os.X_OK):
+            parser.error(f"{word} can't be run")
+    return asked
+
+
 def main(words: list[str]) -> int:
-    writes = "--write" in words
-    words = [word for word in words if word != "--write"]
-    if not words or words[0].startswith("-"):
-        print(__doc__)
-        return 2
-    programs = {name_of(word): Path(word).resolve() for word in words if not word.endswith(".md")}
-    for program in programs.values():
-        if not os.access(program, os.X_OK):
-            print(f"{program} can't be run")
-            return 2
-    named = [Path(word) for word in words if word.endswith(".md")]
+    """Runs the examples, and gives the status."""
+    asked = asked_for(words)
+    programs = {name_of(word): Path(word).resolve() for word in asked.named if not word.endswith(".md")}
+    named = [Path(word) for word in asked.named if word.endswith(".md")]
     paths = named or [path for pattern in DOCUMENTS for path in sorted(ROOT.glob(pattern))]
     count = left_out = faults = 0
     for path in paths:
@@ -223,7 +230,7 @@ def main(words: list[str]) -> int:
         reports += [difference(name, result) for result in results if result.differs()]
         if reports:
             print("\n".join(reports))
-        if writes:
+        if asked.write:
             write(path, document, results)
         count += len(results)
         left_out += sum(result.printed is None for result in results)

@@ -19,6 +19,7 @@ leads to, with its heading. So has each call of tools/surface.txt,
 the calls that other programs rely on, with the signature that stands there: a line is a crate and a signature.
 """
 
+import argparse
 import re
 import sys
 import textwrap
@@ -637,12 +638,21 @@ def printed(names):
     return 0 if lines else 1
 
 
+def asked_for(words):
+    """The words of a call."""
+    parser = argparse.ArgumentParser(prog="documents.py", description=__doc__,
+                                     formatter_class=argparse.RawDescriptionHelpFormatter)
+    which = parser.add_mutually_exclusive_group()
+    which.add_argument("--check", action="store_true", help="say what is stale, and write nothing")
+    which.add_argument("--print", nargs="*", metavar="NAME", help="print what is said of these names, or of all")
+    return parser.parse_args(words)
+
+
 def main(words):
-    if words[:1] == ["--print"]:
-        return printed(words[1:])
-    if words not in ([], ["--check"]):
-        print(__doc__)
-        return 2
+    """Does what the words ask for, and gives the status."""
+    asked = asked_for(words)
+    if asked.print is not None:
+        return printed(asked.print)
     proved, proved_faults = proved_text()
     mapped, mapped_faults = map_text()
     made = {"docs/MAP.md": mapped, "docs/PROVED.md": proved, "docs/DEFINITIONS.md": definitions_text()}
@@ -651,7 +661,7 @@ def main(words):
     for path, text in made.items():
         file = ROOT / path
         old = file.read_text() if file.exists() else ""
-        if old != text and words:
+        if old != text and asked.check:
             changed = set(old.splitlines()) ^ set(text.splitlines())
             faults.append(f"{path} is stale: {len(changed)} lines differ")
         elif old != text:

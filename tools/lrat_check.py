@@ -3,17 +3,24 @@
 
 usage: lrat_check.py FORMULA.cnf PROOF.lrat
 """
-import sys
+from __future__ import annotations
+
+import argparse
+from collections.abc import Iterable, Mapping, Sequence
+from os import PathLike
+from typing import Union
+
+File = Union[str, "PathLike[str]"]
 
 
-def clauses(name):
+def clauses(name: File) -> dict[int, list[int]]:
     """The clauses of a formula, by their numbers from 1."""
     with open(name, encoding="ascii") as file:
         lines = [line for line in file if line[0] not in "pc"]
     return {number: [int(word) for word in line.split()[:-1]] for number, line in enumerate(lines, 1)}
 
 
-def is_accepted(clause, hints, standing):
+def is_accepted(clause: Iterable[int], hints: Iterable[int], standing: Mapping[int, Sequence[int]]) -> bool:
     """Whether unit propagation along the hints, from the clause's literals made false, ends in a conflict."""
     true = {-literal for literal in clause}
     for hint in hints:
@@ -26,7 +33,7 @@ def is_accepted(clause, hints, standing):
     return False
 
 
-def check(formula, proof):
+def check(formula: File, proof: File) -> str:
     """What is found of a proof: the first line that isn't accepted, or whether it refutes the formula."""
     standing, is_refuted = clauses(formula), False
     with open(proof, encoding="ascii") as file:
@@ -46,7 +53,14 @@ def check(formula, proof):
     return "accepted, and refutes the formula" if is_refuted else "accepted, without the empty clause"
 
 
+def main() -> None:
+    """Prints what is found of a proof."""
+    parser = argparse.ArgumentParser(description=__doc__, formatter_class=argparse.RawDescriptionHelpFormatter)
+    parser.add_argument("formula", metavar="FORMULA.cnf", help="the formula, in DIMACS")
+    parser.add_argument("proof", metavar="PROOF.lrat", help="the proof, in textual LRAT")
+    words = parser.parse_args()
+    print(check(words.formula, words.proof))
+
+
 if __name__ == "__main__":
-    if len(sys.argv) != 3:
-        sys.exit(__doc__)
-    print(check(sys.argv[1], sys.argv[2]))
+    main()

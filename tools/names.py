@@ -6,9 +6,13 @@ usage: tools/names.py
 In the sight of a crate are the types that it declares, and those that the crates on which it stands export. A line is
 the crate, the name, and where its types are declared. The status is 1 where a line is printed, and 0 where none is.
 """
+from __future__ import annotations
+
+import argparse
 import re
 import sys
 from collections import defaultdict
+from collections.abc import Iterator, Mapping, Sequence
 from pathlib import Path
 
 import documents
@@ -20,38 +24,39 @@ DECLARED = re.compile(r"^(?:pub(?:\(crate\))? )?(?:struct|enum|type|trait) (\w+)
 EXPORTED = re.compile(r"^pub use (\w+)[\w:]*?(?:::\{([^{}]*)\}|::(\w+));", re.MULTILINE)
 
 
-def declared(folder):
+def declared(folder: Path) -> dict[str, set[str]]:
     """The types of a crate, each with the files that declare it."""
-    found = defaultdict(set)
+    found: dict[str, set[str]] = defaultdict(set)
     for file in sorted((folder / "src").rglob("*.rt")):
         for name in DECLARED.findall(file.read_text(encoding="utf-8")):
             found[name].add(f"{folder.name}/{file.relative_to(folder)}")
     return found
 
 
-def exported(folder):
+def exported(folder: Path) -> dict[str, str]:
     """What a crate exports: each name with the crate or the module that it comes from."""
     library = folder / "src" / "lib.rt"
-    found = {}
+    found: dict[str, str] = {}
     for source, names, name in EXPORTED.findall(library.read_text(encoding="utf-8") if library.exists() else ""):
         found.update(dict.fromkeys(re.findall(r"\w+", names) or [name], source))
     return found
 
 
-def declarations(crate, name, types, exports):
+def declarations(crate: str, name: str, types: Mapping[str, Mapping[str, set[str]]],
+                 exports: Mapping[str, Mapping[str, str]]) -> set[str]:
     """The files that declare a name which a crate exports: none for a call, or for what isn't ours."""
     if name in types[crate]:
         return types[crate][name]
-    source = exports[crate].get(name)
+    source = exports[crate].get(name, "")
     return declarations(source, name, types, exports) if source in types else set()
 
 
-def doubled(stands_on, folder=CRATES):
+def doubled(stands_on: Mapping[str, Sequence[str]], folder: Path = CRATES) -> Iterator[tuple[str, str, list[str]]]:
     """The names of two types in a crate's sight, for crates and what each stands on, as (crate, name, files)."""
     types = {crate: declared(folder / crate) for crate in stands_on}
     exports = {crate: exported(folder / crate) for crate in stands_on}
     for crate, others in stands_on.items():
-        sight = defaultdict(set)
+        sight: dict[str, set[str]] = defaultdict(set)
         for name, files in types[crate].items():
             sight[name] |= files
         for other in others:
@@ -60,8 +65,10 @@ def doubled(stands_on, folder=CRATES):
         yield from ((crate, name, sorted(files)) for name, files in sorted(sight.items()) if len(files) > 1)
 
 
-def main():
+def main(words: Sequence[str] = ()) -> int:
     """Prints what is found, and gives the status."""
+    argparse.ArgumentParser(prog="names.py", description=__doc__,
+                            formatter_class=argparse.RawDescriptionHelpFormatter).parse_args(words)
     programs, tests = documents.crates()
     found = [line for line in doubled({**programs, **tests}) if line[1] not in KEPT]
     for crate, name, files in found:
@@ -70,4 +77,4 @@ def main():
 
 
 if __name__ == "__main__":
-    sys.exit(main())
+    sys.exit(main(sys.argv[1:]))

@@ -8,6 +8,7 @@ compares it with the programs' own usage texts and with the pages of docs/comman
 """
 from __future__ import annotations
 
+import argparse
 import sys
 from typing import Dict, List, NamedTuple, Optional, Sequence, Tuple
 
@@ -229,10 +230,10 @@ SHELLS = {"bash": bash, "zsh": zsh, "fish": fish}
 
 def main(words: Sequence[str]) -> int:
     """Prints a completion."""
-    if len(words) != 1 or words[0] not in SHELLS:
-        print(__doc__)
-        return 2
-    print(SHELLS[words[0]](), end="")
+    parser = argparse.ArgumentParser(prog="surface.py", description=__doc__,
+                                     formatter_class=argparse.RawDescriptionHelpFormatter)
+    parser.add_argument("shell", choices=SHELLS, help="the shell that is to complete words")
+    print(SHELLS[parser.parse_args(words).shell](), end="")
     return 0
 
 

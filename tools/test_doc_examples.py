@@ -108,9 +108,11 @@ class Running(unittest.TestCase):
             self.assertEqual(self.run_on(text)[:2], (0, "3 examples, 2 not run, 0 faults\n"))
 
     def test_usage(self) -> None:
-        with contextlib.redirect_stdout(io.StringIO()):
-            self.assertEqual(main([]), 2)
-            self.assertEqual(main(["no-such-program"]), 2)
+        for words, status in (([], 2), (["no-such-program"], 2), (["--help"], 0)):
+            with self.subTest(words), contextlib.redirect_stdout(io.StringIO()), \
+                    contextlib.redirect_stderr(io.StringIO()), self.assertRaises(SystemExit) as ended:
+                main(words)
+            self.assertEqual(ended.exception.code, status)
 
 
 if __name__ == "__main__":
