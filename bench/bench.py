@@ -13,53 +13,30 @@ the other programs don't say the same.
 
 usage: bench.py PROGRAM [--limit SECONDS] [--smt SECONDS] [--only WORD] [--long]
 """
+from __future__ import annotations
+
 import argparse
 import itertools
 import os
 import re
-import resource
 import shutil
 import subprocess
 import sys
 import tempfile
+from collections.abc import Iterator, Sequence
+from typing import Optional
 
 from inside import inside
+from shared import HERE, MODES, added_clauses, answer_of, formula_size, run
 
-HERE = os.path.dirname(os.path.abspath(__file__))
+Answers = dict[Optional[str], str]  # who gave each answer
+
 HEAD = ("design", "mode", "answer", "read", "reduce", "encode", "solve", "whole", "MB", "terms", "left", "edges",
         "triangles", "variables", "clauses", "learned", "proof MB", "minisat", "its conflicts", "cadical",
         "its conflicts", "z3", "cvc5")
-MODES = {"plain": [], "diverse": ["--diverse"]}
 
 
-def run(words, limit):
-    """The output, status, processor time and peak memory in MB of a command, or None where it takes too long."""
-    read, write = os.pipe()
-    child = os.fork()
-    if child == 0:
-        os.close(read)
-        resource.setrlimit(resource.RLIMIT_CPU, (limit, limit))
-        os.dup2(write, 1)
-        os.dup2(os.open(os.devnull, os.O_WRONLY), 2)
-        os.execvp(words[0], words)
-    os.close(write)
-    with os.fdopen(read, errors="replace") as pipe:
-        output = pipe.read()
-    _, status, usage = os.wait4(child, 0)
-    if os.WIFSIGNALED(status):
-        return None
-    return output, os.WEXITSTATUS(status), usage.ru_utime + usage.ru_stime, usage.ru_maxrss / 1024
-
-
-def answer_of(text):
-    """What another program's answer says of the design, if it is one."""
-    words = text.lower().split()
-    if "unsat" in words or "unsatisfiable" in words:
-        return "correct"
-    return "wrong" if "sat" in words or "satisfiable" in words else None
-
-
-def timed(words, limit, own, answers):
+def timed(words: Sequence[str], limit: int, own: float, answers: Answers) -> tuple[str, str]:
     """The cell of another program: its seconds, and how many times the row's own time that is; and its output."""
     if shutil.which(words[0]) is None:
         return "-", ""
@@ -70,37 +47,28 @@ def timed(words, limit, own, answers):
     return f"{done[2]:.3f} ({done[2] / own:.1f})", done[0]
 
 
-def conflicts(text):
+def conflicts(text: str) -> str:
+    """How many conflicts a solver says it had."""
     found = re.search(r"conflicts\s*:\s*(\d+)", text)
     return found.group(1) if found else "-"
 
 
-def formula_size(name):
-    with open(name) as file:
-        _, _, variables, clauses = file.readline().split()
-    return variables, clauses
-
-
-def is_triangle(clauses):
+def is_triangle(clauses: Sequence[Sequence[int]]) -> bool:
     """Whether clauses over the same variables are three of three literals, each with another positive one."""
     positive = [[literal for literal in clause if literal > 0] for clause in clauses]
     return (len(clauses) == 3 and all(len(clause) == 3 for clause in clauses)
             and all(len(part) == 1 for part in positive) and len({part[0] for part in positive}) == 3)
 
 
-def triangles(name):
+def triangles(name: str) -> int:
+    """How many triangles of equations a formula in DIMACS has clauses for."""
     with open(name) as file:
         clauses = [[int(word) for word in line.split()[:-1]] for line in file if line[0] != "p"]
-    groups = itertools.groupby(clauses, key=lambda clause: sorted(map(abs, clause)))
+    groups = itertools.groupby(clauses, key=lambda clause: sorted(abs(literal) for literal in clause))
     return sum(is_triangle(list(group)) for _, group in groups)
 
 
-def added_clauses(name):
-    with open(name) as file:
-        return sum(1 for line in file if " d " not in line)
-
-
-def part_cells(command, limit):
+def part_cells(command: Sequence[str], limit: int) -> tuple[list[str], list[str]]:
     """The cells of the parts' times, and of the terms and edges."""
     seen = inside(command, limit)
     times = [f"{seen[part]:.4f}" if part in seen else "-" for part in ("read", "reduce", "encode", "solve")]
@@ -108,7 +76,8 @@ def part_cells(command, limit):
     return times, [str(terms[0]), str(terms[-1]), str(seen.get("edges", "-"))]
 
 
-def mode_row(program, name, mode, pipe, spec, limit, folder, answers):
+def mode_row(program: str, name: str, mode: str, pipe: str, spec: str, limit: int, folder: str,
+             answers: Answers) -> tuple[list[str], float]:
     """The cells of a mode, but for those of `z3` and `cvc5`, and the whole time."""
     cnf, proof = (os.path.join(folder, part) for part in ("kept.cnf", "proof.lrat"))
     check = [program, "check", pipe, spec, *MODES[mode]]
@@ -128,8 +97,10 @@ def mode_row(program, name, mode, pipe, spec, limit, folder, answers):
             conflicts(also)], time
 
 
-def rows(program, name, pipe, spec, limit, smt_limit, folder):
-    smt, answers = os.path.join(folder, "question.smt2"), {}
+def rows(program: str, name: str, pipe: str, spec: str, limit: int, smt_limit: int, folder: str) -> Iterator[list[str]]:
+    """The rows of a design, one for each mode."""
+    answers: Answers = {}
+    smt = os.path.join(folder, "question.smt2")
     with open(smt, "w") as file:
         subprocess.run([sys.executable, os.path.join(HERE, "smtlib.py"), pipe, spec], stdout=file, check=True)
     for mode in MODES:
@@ -142,13 +113,15 @@ def rows(program, name, pipe, spec, limit, smt_limit, folder):
         raise SystemExit(f"{name}: they don't say the same: {answers}")
 
 
-def generated():
+def generated() -> Iterator[tuple[str, list[str]]]:
+    """The generated pipelines, each with what writes it."""
     for depth in range(2, 13):
         for drop in (0, depth - 1):
             yield f"gen {depth} {drop}", ["generator.py", str(depth), str(drop)]
 
 
-def superscalars(long):
+def superscalars(long: bool) -> Iterator[tuple[str, list[str]]]:
+    """The superscalar pipelines, each with what writes it."""
     sizes = [(2, 3), (2, 5), (4, 3), (4, 4)] + ([(4, 8), (6, 5), (6, 8), (8, 3), (8, 4), (8, 5)] if long else [])
     for width, depth in sizes:
         yield f"{width} x {depth}", ["superscalar.py", str(width), str(depth)]
@@ -156,13 +129,15 @@ def superscalars(long):
         yield f"{width} x {depth}, one path missing", ["superscalar.py", "--miss", str(width), str(depth)]
 
 
-def formulas():
+def formulas() -> Iterator[tuple[str, list[str]]]:
+    """The formulas, each with what writes it as a design."""
     for numbers in ("pigeons 6", "pigeons 7", "pigeons 8", "random 100 2", "random 150 1", "random 200 1",
                     "random 200 2", "parity 16 1", "parity 24 1", "parity 32 1"):
         yield numbers, ["formula.py", *numbers.split()]
 
 
-def main():
+def main() -> None:
+    """Prints the table."""
     parser = argparse.ArgumentParser(description="Runs the built program and others on families of pipelines.")
     parser.add_argument("program")
     parser.add_argument("--limit", type=int, default=600, help="processor seconds for each run")

@@ -2,8 +2,8 @@
 """Runs the built program on wrong twins of the machines that the field measures by, and on other ways to write them.
 
 The machines are those of `dlx` and `vliw` of the Python package, asked by `check --diverse`; the right ones are in the
-tables of `measure.py`. With --twins the table has all wrong twins of each machine, with --ways some machines written in other
-ways: what the program says, its processor seconds, how many clauses it learned, and the size of the formula.
+tables of `measure.py`. With --twins the table has all wrong twins of each machine, with --ways some machines written in
+other ways: what the program says, its processor seconds, how many clauses it learned, and the size of the formula.
 
 Seconds are medians of --runs runs; what takes more than half a minute runs once. With --counts each thing runs once and
 no seconds are printed, which serves where other work is done beside. `>N` didn't end within the limit, of N processor
@@ -21,7 +21,7 @@ import statistics
 import sys
 import tempfile
 
-from bench import HERE, added_clauses, formula_size, run
+from shared import HERE, added_clauses, formula_size, run
 
 sys.path.append(os.path.join(os.path.dirname(HERE), "python", "src"))
 

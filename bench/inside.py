@@ -6,11 +6,15 @@ call of `reached` the second argument is a graph of terms, which begins with the
 `work` a reduction, whose formula has the list of its clauses from word 43. A list is three words: where it lies, its
 length, and its room.
 """
+from __future__ import annotations
+
 import json
 import os
 import shutil
 import subprocess
 import tempfile
+from collections.abc import Sequence
+from typing import Any
 
 WORD = 8
 PARTS = {
@@ -20,7 +24,7 @@ PARTS = {
 }
 
 
-def inside(command, limit):
+def inside(command: Sequence[str], limit: float) -> dict[str, Any]:
     """The processor seconds of each part, the terms of each graph, the edges and clauses, or nothing without `gdb`."""
     if shutil.which("gdb") is None:
         return {}
@@ -31,7 +35,8 @@ def inside(command, limit):
         try:
             subprocess.run(words, env=env, stdout=subprocess.DEVNULL, stderr=subprocess.DEVNULL, timeout=limit)
             with open(name) as file:
-                return json.load(file)
+                seen: dict[str, Any] = json.load(file)
+                return seen
         except (subprocess.TimeoutExpired, OSError):
             return {}
 

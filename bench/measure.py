@@ -34,7 +34,7 @@ from functools import partial
 from pathlib import Path
 from typing import Any, Callable, Dict, Iterator, List, NamedTuple, Optional, Sequence, Union
 
-from bench import HERE, MODES, added_clauses, answer_of, formula_size, run
+from shared import HERE, MODES, added_clauses, answer_of, formula_size, run
 
 ROOT = Path(HERE).parent
 sys.path.append(str(ROOT / "python" / "src"))

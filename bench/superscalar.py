@@ -10,17 +10,22 @@ two sides stand the other way round where an operand's register is compared with
 
 usage: superscalar.py WIDTH DEPTH [--operands N] [--miss] [--turned] [--shuffle SEED] PIPE SPEC
 """
+from __future__ import annotations
+
 import argparse
 import random
 import re
+from collections.abc import Iterator, Sequence
 
 
-def functions(operands):
+def functions(operands: int) -> str:
+    """The declarations of the unknown functions."""
     sources = " ".join(f"(function src{n} 1)" for n in range(operands))
     return f" (function inc 1) (function dst 1) (function op 1) {sources} (function alu {operands + 1})"
 
 
-def specification(operands):
+def specification(operands: int) -> str:
+    """The text of the specification."""
     reads = " ".join(f"(read rf (src{n} pc))" for n in range(operands))
     return "\n".join([
         "(specification",
@@ -31,7 +36,8 @@ def specification(operands):
     ]) + "\n"
 
 
-def latches(width, depth, operands):
+def latches(width: int, depth: int, operands: int) -> Iterator[str]:
+    """The latches of all slots and stages."""
     for slot in range(width):
         yield f" (latch o_{slot} word)"
         yield from (f" (latch a{n}_{slot} word)" for n in range(operands))
@@ -41,7 +47,7 @@ def latches(width, depth, operands):
             yield f" (latch x{stage}_{slot} word)"
 
 
-def results(width, depth, operands):
+def results(width: int, depth: int, operands: int) -> Iterator[str]:
     """The result of each instruction in flight: computed in stage 2, carried through the stages after it."""
     for slot in range(width):
         parts = " ".join(f"a{n}_{slot}" for n in range(operands))
@@ -49,7 +55,7 @@ def results(width, depth, operands):
         yield from (f" (let r{stage}_{slot} word x{stage}_{slot})" for stage in range(3, depth + 1))
 
 
-def fetched(width, operands, turned):
+def fetched(width: int, operands: int, turned: bool) -> Iterator[str]:
     """Where the instructions of the group stand, what they read and write, and which of them go."""
     yield " (let pc_0 word pc)"
     yield from (f" (let pc_{slot + 1} word (inc pc_{slot}))" for slot in range(width))
@@ -64,7 +70,7 @@ def fetched(width, operands, turned):
         yield f" (let go_{slot} bool (and go_{slot - 1} (not {any_clash})))"
 
 
-def operand(slot, n, width, depth, miss):
+def operand(slot: int, n: int, width: int, depth: int, miss: bool) -> Iterator[str]:
     """The youngest result in flight for a source, else what the registers hold."""
     source = f"s{n}_{slot}"
     older = f"q{n}_{slot}_r"
@@ -80,7 +86,8 @@ def operand(slot, n, width, depth, miss):
     yield f" (let q{n}_{slot} word {older})"
 
 
-def nexts(width, depth, operands):
+def nexts(width: int, depth: int, operands: int) -> Iterator[str]:
+    """The next values."""
     place = "pc"
     for slot in range(width):
         place = f"(ite go_{slot} pc_{slot + 1} {place})"
@@ -100,7 +107,8 @@ def nexts(width, depth, operands):
             yield f" (next x{stage}_{slot} r{before}_{slot})"
 
 
-def pipeline(width, depth, operands, miss, turned=False):
+def pipeline(width: int, depth: int, operands: int, miss: bool, turned: bool = False) -> str:
+    """The text of the pipeline."""
     lines = ["(pipeline", functions(operands), " (latch pc word) (memory rf)"]
     lines += latches(width, depth, operands)
     lines += [" (input stall bool true)"]
@@ -114,7 +122,7 @@ def pipeline(width, depth, operands, miss, turned=False):
     return "\n".join(lines) + "\n"
 
 
-def items_of(text):
+def items_of(text: str) -> Iterator[str]:
     """The items of a pipeline's text."""
     depth, start = 0, 0
     for place, letter in enumerate(text):
@@ -127,7 +135,7 @@ def items_of(text):
                 yield text[start:place + 1]
 
 
-def in_some_order(lets, rng):
+def in_some_order(lets: Sequence[str], rng: random.Random) -> Iterator[str]:
     """Lets in some order in which each comes after those that it uses."""
     names = {item.split()[1] for item in lets}
     waits = {item: set(re.findall(r"[\w.]+", item)[2:]) & names for item in lets}
@@ -140,10 +148,12 @@ def in_some_order(lets, rng):
         yield item
 
 
-def shuffled(text, seed):
+def shuffled(text: str, seed: int) -> str:
+    """A pipeline's text in another order."""
     rng = random.Random(seed)
     items = list(items_of(text))
-    kinds = {kind: [item for item in items if item.startswith(f"({kind} ")] for kind in ("let", "next", "flush", "steps")}
+    kinds = {kind: [item for item in items if item.startswith(f"({kind} ")]
+             for kind in ("let", "next", "flush", "steps")}
     declared = [item for item in items if not any(item in kind for kind in kinds.values())]
     rng.shuffle(declared)
     rng.shuffle(kinds["next"])
@@ -151,7 +161,8 @@ def shuffled(text, seed):
     return "\n ".join(["(pipeline", *lines]) + ")\n"
 
 
-def main():
+def main() -> None:
+    """Writes the files."""
     parser = argparse.ArgumentParser(description="A superscalar pipeline and its specification.")
     parser.add_argument("width", type=int)
     parser.add_argument("depth", type=int)
