@@ -207,9 +207,10 @@ def _answer(answers: type[Answer], line: str) -> Answer:
 
 
 def _judgement(text: str) -> Judgement:
-    """The judgement that a text of `bd_view` begins with."""
+    """The judgement that a text of `bd_view` begins with; it says first what is broken."""
     for judgement in Judgement:
-        if text.startswith(judgement.value + ":"):
+        words = " ".join(reversed(judgement.value.split()))
+        if text.startswith(words + ":"):
             return judgement
     raise _unknown(text)
 
