@@ -41,7 +41,7 @@ from pathlib import Path
 from typing import Iterator, NamedTuple
 
 ROOT = Path(__file__).resolve().parent.parent
-DOCUMENTS = ("README.md", "docs/*.md", "docs/commands/*.md", "gallery/riddles/ANSWERS.md")
+DOCUMENTS = ("README.md", "docs/*.md", "docs/develop/*.md", "docs/commands/*.md", "gallery/riddles/ANSWERS.md")
 OTHERS = ("cadical", "parallel")
 ASKS = {"tools/prove.py": ("cadical",), "tools/conquer.py": ("cadical", "parallel")}
 PROGRAMS = ("burch_dill", "bd_view")

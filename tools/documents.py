@@ -6,10 +6,10 @@
     tools/documents.py --print [NAME ..]  prints each public definition with its comment, and a table of every call;
                                           or those of the crates, modules, definitions and calls of these names
 
-- docs/MAP.md: the last column of the table of crates, who uses each, follows from crates.txt.
+- docs/develop/MAP.md: the last column of the table of crates, who uses each, follows from crates.txt.
 - docs/PROVED.md: the list of what `correct` rests on, by following the definitions that the promise of that name cites;
   and the calls that can't want memory.
-- docs/DEFINITIONS.md: each definition that a public contract cites, with its module and its source. Contracts are those
+- docs/develop/DEFINITIONS.md: each definition that a public contract cites, with its module and its source. Contracts are those
   of public calls and of the methods of public traits; how a public type is seen counts too.
 
 What the programs take and print stands in users' pages, in examples that are run (`shown.py`).
@@ -99,7 +99,7 @@ def map_text():
     """MAP.md with its last column made anew, and the crates that have no row or a row too many."""
     programs, tests = crates()
     lines, rows = [], []
-    for line in (ROOT / "docs/MAP.md").read_text().splitlines():
+    for line in (ROOT / "docs/develop/MAP.md").read_text().splitlines():
         found = re.match(r"\| `(\w+)` \|", line)
         if found and line.count("|") == 5:
             name = found.group(1)
@@ -108,8 +108,8 @@ def map_text():
                 line = "|".join(line.split("|")[:4]) + f"| {users(name, programs, tests)} |"
         lines.append(line)
     wanted = list(programs) + list(tests)
-    faults = [f"docs/MAP.md has no row for {name}" for name in wanted if name not in rows]
-    faults += [f"docs/MAP.md has a row for {name}, which crates.txt lacks" for name in rows if name not in wanted]
+    faults = [f"docs/develop/MAP.md has no row for {name}" for name in wanted if name not in rows]
+    faults += [f"docs/develop/MAP.md has a row for {name}, which crates.txt lacks" for name in rows if name not in wanted]
     return "\n".join(lines) + "\n", faults
 
 
@@ -596,7 +596,7 @@ def missing_calls():
 def missing_files():
     """The files of crates and folders that a document names and that aren't there."""
     faults = []
-    for document in [ROOT / "README.md", *sorted((ROOT / "docs").glob("*.md"))]:
+    for document in [ROOT / "README.md", *sorted((ROOT / "docs").rglob("*.md"))]:
         for name in NAMED.findall(document.read_text()):
             if "NAME" not in name and not (ROOT / name).exists() and not (ROOT / "crates" / name).exists():
                 faults.append(f"{document.relative_to(ROOT)} names {name}, which isn't there")
@@ -655,7 +655,7 @@ def main(words):
         return printed(asked.print)
     proved, proved_faults = proved_text()
     mapped, mapped_faults = map_text()
-    made = {"docs/MAP.md": mapped, "docs/PROVED.md": proved, "docs/DEFINITIONS.md": definitions_text()}
+    made = {"docs/develop/MAP.md": mapped, "docs/PROVED.md": proved, "docs/develop/DEFINITIONS.md": definitions_text()}
     faults = mapped_faults + proved_faults + missing_files() + broken_links() + missing_calls()
     faults += shown.missing()
     for path, text in made.items():

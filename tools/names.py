@@ -18,7 +18,7 @@ from pathlib import Path
 import documents
 
 CRATES = documents.ROOT / "crates"
-# names that keep two meanings in one sight: docs/DECISIONS.md says why
+# names that keep two meanings in one sight: docs/develop/DECISIONS.md says why
 KEPT = {"Ended", "Fault", "Line"}
 DECLARED = re.compile(r"^(?:pub(?:\(crate\))? )?(?:struct|enum|type|trait) (\w+)", re.MULTILINE)
 EXPORTED = re.compile(r"^pub use (\w+)[\w:]*?(?:::\{([^{}]*)\}|::(\w+));", re.MULTILINE)

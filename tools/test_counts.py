@@ -20,17 +20,17 @@ class Words(unittest.TestCase):
         self.assertEqual(word_counts.words_of("PAGE.md", page), len("# One two three ## Last".split()))
 
     def test_pages_that_do_not_count(self) -> None:
-        self.assertEqual(word_counts.words_of("DEFINITIONS.md", "one"), 0)
+        self.assertEqual(word_counts.words_of("develop/DEFINITIONS.md", "one"), 0)
         self.assertEqual(word_counts.words_of("TUTORIAL_SOLUTIONS.md", "one"), 0)
 
     def test_only_the_documents_are_counted(self) -> None:
         with tempfile.TemporaryDirectory() as name:
             root = Path(name)
-            for path in ("README.md", "docs/MAP.md", "docs/develop/GATE.md", "gallery/dlx/README.md", "docs/a.pipe"):
+            for path in ("README.md", "docs/develop/MAP.md", "docs/develop/GATE.md", "gallery/dlx/README.md", "docs/a.pipe"):
                 (root / path).parent.mkdir(parents=True, exist_ok=True)
                 (root / path).write_text("one two\n", encoding="utf-8")
             counts = {page.as_posix(): count for page, count in word_counts.counts_of(root).items()}
-        self.assertEqual(counts, {"README.md": 2, "docs/MAP.md": 2, "docs/develop/GATE.md": 2})
+        self.assertEqual(counts, {"README.md": 2, "docs/develop/MAP.md": 2, "docs/develop/GATE.md": 2})
 
     def test_a_page_counts_for_its_budget_and_for_all(self) -> None:
         counts = {Path("docs/commands/bd_view.md"): 3, Path("docs/develop/MAP.md"): 4, Path("README.md"): 5}

@@ -17,7 +17,7 @@ from typing import Iterable, NamedTuple
 ROOT = Path(__file__).resolve().parent.parent
 PAGES = ("README.md", "CONTRIBUTING.md", "CHANGELOG.md", "docs/**/*.md")
 # Pages that a script writes as a whole.
-MADE = ("DEFINITIONS.md",)
+MADE = ("develop/DEFINITIONS.md",)
 MADE_PART = re.compile(r"<!-- ([^\n]*?): made by [^\n]*? -->.*?<!-- \1: to here -->", re.DOTALL)
 SOLUTIONS = re.compile(r"^## Solutions$.*?(?=^## |\Z)", re.DOTALL | re.MULTILINE)
 
@@ -39,12 +39,12 @@ BUDGETS = (
     Budget("CONTRIBUTING", 1_100, ("CONTRIBUTING.md",)),
     Budget("CHANGELOG", 500, ("CHANGELOG.md",)),
     Budget("PROVED", 5_500, ("PROVED.md",)),
-    Budget("DECISIONS", 4_000, ("DECISIONS.md",)),
+    Budget("DECISIONS", 4_000, ("develop/DECISIONS.md",)),
     Budget("TUTORIAL, both parts", 10_000, ("TUTORIAL*.md",)),
-    Budget("MAP", 2_500, ("MAP.md",)),
-    Budget("GATE", 800, ("GATE.md",)),
+    Budget("MAP", 2_500, ("develop/MAP.md",)),
+    Budget("GATE", 800, ("develop/GATE.md",)),
     Budget("LANGUAGE", 3_500, ("LANGUAGE.md",)),
-    Budget("EXPERIMENTS", 2_500, ("EXPERIMENTS.md",)),
+    Budget("EXPERIMENTS", 2_500, ("develop/EXPERIMENTS.md",)),
     Budget("BENCH", 3_500, ("BENCH.md",)),
     Budget("COUNTEREXAMPLES", 2_500, ("COUNTEREXAMPLES.md",)),
     Budget("pages of commands", 7_000, ("docs/commands/*.md",)),
