@@ -6,11 +6,14 @@ seconds, peak memory, and the answer. Terms are counted under `gdb`, where it is
 
 usage: bounded.py PROGRAM [--seconds N] [--most C]
 """
+from __future__ import annotations
+
 import argparse
 import os
 import subprocess
 import tempfile
 import time
+from collections.abc import Sequence
 
 from inside import inside
 from superscalar import pipeline, specification
@@ -19,7 +22,7 @@ HERE = os.path.dirname(os.path.abspath(__file__))
 DATA = os.path.join(HERE, "..", "crates", "burch_dill", "data")
 
 
-def asked(command, limit):
+def asked(command: Sequence[str], limit: float) -> tuple[str, float, float] | None:
     """The first line of the answer, processor seconds and peak memory in MB, or nothing where it takes too long."""
     process = subprocess.Popen(command, stdout=subprocess.PIPE, stderr=subprocess.STDOUT, text=True)
     end = time.monotonic() + limit
@@ -32,12 +35,13 @@ def asked(command, limit):
             os.wait4(process.pid, 0)
             return None
         time.sleep(0.002)
-    line = process.stdout.read().split("\n")[0]
-    return line, used.ru_utime + used.ru_stime, used.ru_maxrss / 1024
+    output = process.communicate()[0]
+    return output.split("\n")[0], used.ru_utime + used.ru_stime, used.ru_maxrss / 1024
 
 
-def main():
-    parser = argparse.ArgumentParser(description=__doc__.split("\n")[0])
+def main() -> None:
+    """Prints the table."""
+    parser = argparse.ArgumentParser(description=__doc__, formatter_class=argparse.RawDescriptionHelpFormatter)
     parser.add_argument("program")
     parser.add_argument("--seconds", type=float, default=60)
     parser.add_argument("--most", type=int, default=16)

@@ -14,12 +14,18 @@ With --dimacs the formula itself is written, for solvers of such formulas.
 usage: formula.py FAMILY NUMBER .. PIPE SPEC
        formula.py --dimacs FAMILY NUMBER .. FILE
 """
+from __future__ import annotations
+
 import argparse
 import random
+from collections.abc import Callable
+
+Clauses = list[list[int]]
 
 
-def formula_design(variables, clauses):
-    def literal(number):
+def formula_design(variables: int, clauses: Clauses) -> tuple[str, str]:
+    """The texts of the design and of its specification."""
+    def literal(number: int) -> str:
         return f"x{number}" if number > 0 else f"(not x{-number})"
 
     items = ["(latch wrong bool)", "(flush 0)", "(steps 0)"]
@@ -36,13 +42,15 @@ def formula_design(variables, clauses):
     return pipe, "(specification (latch wrong bool) (next wrong wrong))\n"
 
 
-def dimacs(variables, clauses):
+def dimacs(variables: int, clauses: Clauses) -> str:
+    """The text of the formula in DIMACS."""
     lines = [" ".join(map(str, sorted(clause, key=abs))) + " 0\n" for clause in clauses]
     return f"p cnf {variables} {len(clauses)}\n" + "".join(lines)
 
 
-def pigeons(holes):
-    def at(pigeon, hole):
+def pigeons(holes: int) -> tuple[int, Clauses]:
+    """One pigeon more than there are holes."""
+    def at(pigeon: int, hole: int) -> int:
         return pigeon * holes + hole + 1
 
     clauses = [[at(p, h) for h in range(holes)] for p in range(holes + 1)]
@@ -52,21 +60,23 @@ def pigeons(holes):
     return (holes + 1) * holes, clauses
 
 
-def random_formula(variables, seed):
+def random_formula(variables: int, seed: int) -> tuple[int, Clauses]:
+    """Clauses of three literals each."""
     source = random.Random(seed)
-    clauses = []
+    clauses: Clauses = []
     for _ in range(round(4.26 * variables)):
         chosen = source.sample(range(1, variables + 1), 3)
         clauses.append([v if source.random() < 0.5 else -v for v in chosen])
     return variables, clauses
 
 
-def parity(variables, seed):
+def parity(variables: int, seed: int) -> tuple[int, Clauses]:
+    """Two chains over the same variables."""
     source = random.Random(seed)
-    clauses = []
+    clauses: Clauses = []
     count = variables
 
-    def chain(order):
+    def chain(order: list[int]) -> int:
         nonlocal count
         sum_of = order[0]
         for v in order[1:]:
@@ -84,16 +94,18 @@ def parity(variables, seed):
     return count, clauses
 
 
-FAMILIES = {"pigeons": pigeons, "random": random_formula, "parity": parity}
+Family = Callable[..., tuple[int, Clauses]]
+FAMILIES: dict[str, Family] = {"pigeons": pigeons, "random": random_formula, "parity": parity}
 COUNTS = {"pigeons": 1, "random": 2, "parity": 2}  # how many numbers each takes
 
 
-def write(name, text):
+def write(name: str, text: str) -> None:
+    """Saves a text."""
     with open(name, "w", encoding="ascii") as file:
         file.write(text)
 
 
-def main():
+def main() -> None:
     """Writes the files."""
     parser = argparse.ArgumentParser(description=__doc__, formatter_class=argparse.RawDescriptionHelpFormatter)
     parser.add_argument("--dimacs", action="store_true", help="write the formula itself, to one file")

@@ -318,7 +318,8 @@ def slope(pairs: list[tuple[float, float]]) -> Optional[float]:
     if len(logs) < 2:
         return None
     middle, level = (sum(part) / len(logs) for part in zip(*logs))
-    return (sum((x - middle) * (y - level) for x, y in logs) / sum((x - middle) ** 2 for x, _ in logs))
+    rise = sum((x - middle) * (y - level) for x, y in logs)
+    return float(rise / sum((x - middle) ** 2 for x, _ in logs))
 
 
 def exponents(points: list[Point]) -> tuple[Optional[float], Optional[float]]:

@@ -365,7 +365,7 @@ class Tried:
         yield "|" + "---|" * (len(names) + 3)
         for row, fault in sorted(ends, key=lambda key: KINDS.index(key[0]) if kinds else 0):
             found = ends[row, fault]
-            cells = [row, fault, f"{found.total():,}", *(f"{found[name]:,}" for name in names)]
+            cells = [row, fault, f"{sum(found.values()):,}", *(f"{found[name]:,}" for name in names)]
             yield "| " + " | ".join(cells) + " |"
 
 

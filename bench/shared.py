@@ -4,7 +4,9 @@ from __future__ import annotations
 import os
 import resource
 from collections.abc import Sequence
-from typing import NamedTuple
+from typing import NamedTuple, Union
+
+File = Union[str, "os.PathLike[str]"]
 
 HERE = os.path.dirname(os.path.abspath(__file__))
 MODES: dict[str, list[str]] = {"plain": [], "diverse": ["--diverse"]}
@@ -46,14 +48,14 @@ def answer_of(text: str) -> str | None:
     return "wrong" if "sat" in words or "satisfiable" in words else None
 
 
-def formula_size(name: str) -> tuple[str, str]:
+def formula_size(name: File) -> tuple[str, str]:
     """How many variables and clauses a formula in DIMACS has."""
     with open(name, encoding="ascii") as file:
         _, _, variables, clauses = file.readline().split()
     return variables, clauses
 
 
-def added_clauses(name: str) -> int:
+def added_clauses(name: File) -> int:
     """How many clauses a proof in LRAT adds."""
     with open(name, encoding="ascii") as file:
         return sum(1 for line in file if " d " not in line)
