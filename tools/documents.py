@@ -58,7 +58,7 @@ HEAD = """# Definitions
 
 The definitions that public contracts cite, crate by crate: a line each, with its module, which is a file of
 `crates/NAME/specs/`, and the public source that is named there. Where none is named the definition is this project's
-own. [PROVED.md](PROVED.md) says in which order to read those behind `correct`.
+own. [PROVED.md](../PROVED.md) says in which order to read those behind `correct`.
 
 `tools/documents.py` makes this page from the code. `tools/documents.py --print IsRight` prints what is said of a
 definition, a module, a crate or a call; without a name, of all public definitions, and a table of every call.
