@@ -65,10 +65,10 @@ def explained(view, twin, case):
 
 def of_gallery():
     """The wrong pipelines of the gallery that have a right machine beside them."""
-    for pipe, files, inv, verdicts in listed():
+    for pipe, files, inv, verdict in listed():
         folder = os.path.dirname(files[1])
         right = os.path.join(folder, os.path.basename(os.path.normpath(folder)) + ".pipe")
-        if verdicts[0].startswith("wrong") and os.path.exists(right):
+        if verdict == "wrong" and os.path.exists(right):
             yield Twin(pipe, files, inv, text_of(right))
 
 
