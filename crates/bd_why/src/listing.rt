@@ -99,6 +99,20 @@ impl<'a> Listing<'a> {
         None
     }
 
+    /// The function of this name.
+    pub fn symbol_of(&self, name: &[u8]) -> Option<ListedItem<'_>> {
+        for part in list_of(&self.trees) {
+            if is_headed(part, b"function") {
+                if let Some(item) = item_of(part) {
+                    if item.name == name {
+                        return Some(item);
+                    }
+                }
+            }
+        }
+        None
+    }
+
     /// The number of flush cycles.
     pub fn flush(&self) -> Option<ListedItem<'_>> {
         for part in list_of(&self.trees) {
