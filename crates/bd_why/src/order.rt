@@ -316,25 +316,39 @@ impl ToldLists {
 
     /// Tells that a value stays what it was, as one with a hold that it continues.
     fn hold(&mut self, met: Met, from: Subject) -> Result<(), AllocError> {
-        let list = if met.decides() {
-            &mut self.shifts
+        if met.decides() {
+            add_hold(&mut self.shifts, met.subject, from)
         } else {
-            &mut self.fresh
-        };
-        for told in list.iter_mut() {
-            if let Told::Hold { first, .. } = told {
-                if *first == met.subject {
-                    *first = from;
-                    return Ok(());
-                }
+            add_hold(&mut self.fresh, met.subject, from)
+        }
+    }
+}
+
+/// Adds that a value stays what it was to a list, as one with a hold that it continues.
+fn add_hold(list: &mut Vec<Told>, subject: Subject, from: Subject) -> Result<(), AllocError> {
+    match hold_from(list.as_slice(), subject) {
+        Some((place, last)) => {
+            if let Some(told) = list.get_mut(place) {
+                *told = Told::Hold { first: from, last };
             }
         }
-        list.push(Told::Hold {
+        None => list.push(Told::Hold {
             first: from,
-            last: met.subject,
-        })?;
-        Ok(())
+            last: subject,
+        })?,
     }
+    Ok(())
+}
+
+/// The place of the hold that begins with a value, and the value that it ends with.
+fn hold_from(list: &[Told], subject: Subject) -> Option<(usize, Subject)> {
+    for (place, told) in list.iter().enumerate() {
+        match told {
+            Told::Hold { first, last } if *first == subject => return Some((place, *last)),
+            _ => {}
+        }
+    }
+    None
 }
 
 /// Whether a value is worked out in a step of the specification.

@@ -146,10 +146,20 @@ fn push_cut(out: &mut Vec<u8>, text: &[u8], room: usize) -> Result<(), AllocErro
         return out.extend_from_slice(text);
     }
     let kept = text.get(..room.saturating_sub(2)).unwrap_or(b"");
-    let end = kept.iter().rposition(|byte| *byte == b' ');
-    let kept = kept.get(..end.unwrap_or(0)).unwrap_or(b"");
+    let kept = kept.get(..last_space(kept)).unwrap_or(b"");
     out.extend_from_slice(kept)?;
     out.extend_from_slice(b" ..")
+}
+
+/// Where the last space of a text stands; the beginning where there is none.
+fn last_space(text: &[u8]) -> usize {
+    let mut last = 0;
+    for (place, byte) in text.iter().enumerate() {
+        if *byte == b' ' {
+            last = place;
+        }
+    }
+    last
 }
 
 /// The line of a value that stays what it was from another one on.
@@ -357,9 +367,8 @@ const EXCERPT: usize = WIDTH - 2;
 /// Puts a line of a text from a byte on, indented by two spaces, as far as there is room.
 fn push_line(out: &mut Vec<u8>, line: &[u8], shift: usize) -> Result<(), AllocError> {
     out.extend_from_slice(b"  ")?;
-    for byte in line.iter().skip(shift).take(EXCERPT) {
-        out.push(*byte)?;
-    }
+    let end = shift.saturating_add(EXCERPT).min(line.len());
+    out.extend_from_slice(line.get(shift..end).unwrap_or(b""))?;
     out.push(b'\n')?;
     Ok(())
 }

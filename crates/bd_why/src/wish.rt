@@ -195,22 +195,26 @@ fn other_address(other: &Reasons, ours: u64, word: u64) -> Option<u64> {
 
 /// Where the other side writes, if that isn't this address.
 fn passing(other: &Reasons, address: u64) -> Option<u64> {
-    let mut facts = other
-        .as_slice()
-        .iter()
-        .flat_map(|reason| reason.facts.iter());
-    facts.find_map(|fact| match fact.finding {
-        Finding::Passed(passed, written) if passed == address => Some(written),
-        _ => None,
-    })
+    for reason in other.as_slice() {
+        for fact in &reason.facts {
+            match fact.finding {
+                Finding::Passed(passed, written) if passed == address => return Some(written),
+                _ => {}
+            }
+        }
+    }
+    None
 }
 
 /// Whether the other side writes at an address.
 fn meets(other: &Reasons, address: u64) -> bool {
-    let mut facts = other
-        .as_slice()
-        .iter()
-        .flat_map(|reason| reason.facts.iter());
+    let mut reasons = other.as_slice().iter();
+    reasons.any(|reason| writes_at(reason, address))
+}
+
+/// Whether a value is of a write at an address.
+fn writes_at(reason: &Reason, address: u64) -> bool {
+    let mut facts = reason.facts.iter();
     facts.any(|fact| matches!(fact.finding, Finding::Met(met) if met == address))
 }
 
