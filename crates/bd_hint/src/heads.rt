@@ -111,12 +111,8 @@ fn without_list(view: &FaultView<'_>, out: &mut Lines, word: &[u8]) -> Result<()
 
 /// Whether a comment of another language begins at the fault.
 fn is_other_comment(view: &FaultView<'_>) -> bool {
-    let text = view
-        .file
-        .source
-        .text
-        .get(view.fault.offset..)
-        .unwrap_or(&[]);
+    let source = view.file.source;
+    let text = source.text.get(view.fault.offset..).unwrap_or(&[]);
     let marks: [&[u8]; 5] = [b"#", b"//", b"/*", b"--", b"%"];
     marks.iter().any(|mark| text.starts_with(mark))
 }
