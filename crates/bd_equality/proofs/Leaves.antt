@@ -6,9 +6,12 @@ use Rattle.std.proofs.lemmas.Option.{slice_get_within}
 use Rattle.bd_model.specs.declared.design.Sort.TheVariants as sort
 use Rattle.bd_model.specs.declared.table.Scalar.{Scalar}
 use Rattle.bd_model.specs.Value.{scalar_word}
+use Rattle.bd_terms.specs.declared.node.Sym.{Sym}
 use Rattle.bd_terms.specs.declared.node.Node.{Node}
+use Rattle.bd_terms.specs.declared.node.Node.TheVariants.{App}
 use Rattle.bd_terms.specs.Graph.{HasSort, IsGraph}
 use Rattle.bd_terms.specs.Denotation.{word}
+use Rattle.bd_terms.proofs.Graphs.{sort_at-get}
 use Rattle.bd_function.specs.declared.flat.FlatSym.{FlatSym}
 use Rattle.bd_function.specs.Flat.{IsFlat, under}
 use Rattle.bd_prop.specs.declared.atom.Atom.{Atom}
@@ -21,7 +24,7 @@ use Rattle.bd_prop.specs.Truth.{truth_at}
 use Rattle.bd_equality.specs.Encoding.{IsVariable, KeepsMarkedApart, atom_value, has_mark}
 use Rattle.bd_equality.specs.Edges.{IsEdge}
 use Rattle.bd_equality.specs.inner.Split.{IsWhole}
-use Rattle.bd_equality.specs.Made.{IsVariableWord, head, node_head, Words, Itself, OneVariable, Marked, HasEdge, negated, plainly}
+use Rattle.bd_equality.specs.Made.{IsVariableWord, head, node_head, Words, Itself, OneVariable, Marked, HasEdge, negated, plainly, symbol_variable}
 use Rattle.bd_equality.specs.inner.Means.{Gives, IsAny, edge, node_variable, value_of}
 use Rattle.bd_equality.specs.inner.Rows.{IsLeaf}
 use Rattle.bd_equality.proofs.Flats.{word_is}
@@ -38,6 +41,11 @@ leaf_of nodes g root syms flat id node h there none x e =
       word = record { symbol = is.2.0; args = is.2.1; there = there ∙ ap Some is.2.2; is = ap node_variable is.2.2 };
     } in
     subst (IsLeaf nodes id) (sym e) leaf
+
+-- an application is a variable
+pub leaf_at : (nodes : List Node) → IsGraph nodes → (root : ℕ) (syms : List FlatSym) → IsFlat nodes root syms → (id : ℕ) (s : Sym) (args : List ℕ) (x : ℕ) → slice_get nodes id ≡ Some (App s args) → symbol_variable s ≡ x → IsLeaf nodes id x
+leaf_at nodes g root syms flat id s args x there is =
+    leaf_of nodes g root syms flat id (App s args) (record { inside = slice_get_within nodes id (App s args) there; sorted = sort_at-get nodes g id (App s args) there }) there (ap node_head there) x (sym is)
 
 -- one word is equal to itself
 pub Gives-itself : {E : Type 0} (nodes : List Node) (syms : List FlatSym) (marked : Option (List ℕ)) (p p' : List PropNode) (a b : ℕ) (r : Result ℕ E) → a ≡ b → Extends p p' → IfOk r (λ id. id < length p')
@@ -138,5 +146,5 @@ module _ (nodes : List Node) (syms : List FlatSym) (marked : Option (List ℕ)) 
       let fits : IsEdge nodes marked (edge low high) = subst (λ z. IsEdge nodes marked (edge z high)) (sym l) (subst (λ z. IsEdge nodes marked (edge (min x y) z)) (sym h) (is_edge other plain.0 plain.1)) in
       Gives-adds nodes syms marked IsAny p p' (AtomOf (EdgeOf low high)) id (Words a b) fits e inside has.1
       (λ v k. is (atom_value v) ∙ (λ i. scalar_word (v (l i)) == scalar_word (v (h i))) ∙ ordered v ∙ sym (equal_is v))
-      (λ ways h. HasEdge a b x y id la.word lb.word other m (comes p p' [] (plainly (AtomOf (EdgeOf (min x y) (max x y)))) id tt
+      (λ ways any. HasEdge a b x y id la.word lb.word other m (comes p p' [] (plainly (AtomOf (EdgeOf (min x y) (max x y)))) id tt
       (subst (λ z. plainly (AtomOf (EdgeOf z (max x y))) p p' id) l (subst (λ z. plainly (AtomOf (EdgeOf low z)) p p' id) h has))))

@@ -4,10 +4,12 @@ pub mod Making
 pub mod Giving
 pub mod Leaves
 pub mod Rowing
+pub mod Equalities
 pub mod Truths
 pub mod Settling
 pub mod Passing
 pub mod Stepping
+pub mod Finishing
 pub mod Known
 pub mod PairEq
 pub mod Finding

@@ -1,7 +1,8 @@
 -- Passes over rows, symbols and lists of words.
-use Rattle.std.proofs.Common.{◌≡◌, ◌≢◌, ℕ, zero, suc, ◌+◌, ◌<◌, ◌≤◌, ◌⊎◌, inl, inr, Bool, true, false, List, [], ◌∷◌, ◌++◌, Option, None, Some, Contains, length, map, take, slice_get, slice_index_or, refl, ap, sym, ◌∙◌, subst, arith, append_assoc, get_or_append_left, get_or-append_seam}
+use Rattle.std.proofs.Common.{◌≡◌, ◌≢◌, ℕ, zero, suc, ◌+◌, ◌<◌, ◌≤◌, ◌⊎◌, inl, inr, Bool, true, false, List, [], ◌∷◌, ◌++◌, Option, None, Some, Contains, length, map, take, slice_get, slice_index_or, refl, ap, sym, ◌∙◌, subst, arith, append_assoc}
+use Rattle.std.specs.Option.{option_flatten, unwrap_or}
 use Rattle.std.proofs.lemmas.Bool.{cases_lt, false≢true}
-use Rattle.std.proofs.lemmas.List.{get_or_past, length_push, map-append}
+use Rattle.std.proofs.lemmas.List.{get_or_append_left, get_or-append_seam, get_or_past, length_push, map-append}
 use Rattle.std.proofs.lemmas.Option.{none-some, same_Some, slice_get-get_or, slice_get_within}
 use Rattle.bd_list.proofs.Numbers.{below_last}
 use Rattle.bd_model.specs.declared.design.Sort.TheVariants as sort
@@ -106,3 +107,14 @@ pub visits_push : (old now new : List Visit) (left right : List ℕ) (i a b : �
 visits_push old now new left right i a b is made l r =
     made ∙ ap (λ v. v ++ Enter (between a b) ∷ []) is ∙ append_assoc old (map Enter (equations (take i left) (take i right))) (Enter (between a b) ∷ [])
     ∙ ap (λ z. old ++ z) (sym (map-append Enter (equations (take i left) (take i right)) (between a b ∷ [])) ∙ ap (map Enter) (sym (equations_push left right i a b l r)))
+
+-- what is said of a symbol, and the tail that a term is
+pub said_at : (said : List Bool) (i : ℕ) → unwrap_or (slice_get said i) false ≡ true → slice_index_or said i false ≡ true
+said_at [] i h = absurd (false≢true h)
+said_at (x ∷ xs) zero h = h
+said_at (x ∷ xs) (suc i) h = said_at xs i h
+
+pub tail_there : (tails : List (Option Tail)) (i : ℕ) (tail : Tail) → option_flatten (slice_get tails i) ≡ Some tail → slice_index_or tails i None ≡ Some tail
+tail_there [] i tail h = absurd (none-some tail h)
+tail_there (x ∷ xs) zero tail h = h
+tail_there (x ∷ xs) (suc i) tail h = tail_there xs i tail h

@@ -209,7 +209,7 @@ module _ (nodes : List Node) (g : IsGraph nodes) (syms : List FlatSym) (root : �
       let one = weight-cons k (Enter p) [] in
       let none = weight-none k in
       let enter = weight_of-enter k p in
-      let all = ap (weight_all k) h.3 ∙ weight_append k (rest ++ Finish p w ∷ []) more in
+      let all = ap (weight_all k) h.2 ∙ weight_append k (rest ++ Finish p w ∷ []) more in
       let front = weight_append k rest (Finish p w ∷ []) in
       let last = weight-cons k (Finish p w) [] in
       let finish = weight_of-finish k p w in
@@ -315,8 +315,10 @@ module _ (nodes : List Node) (g : IsGraph nodes) (syms : List FlatSym) (root : �
   entered_at (y ∷ xs) x (suc i, lt, e) = let r = entered_at xs x (i, omega arith, e) in record { place = suc r.place; there = r.there }
 
   get-back : (xs ys : List Visit) (i : ℕ) (v : Visit) → slice_get ys i ≡ Some v → slice_get (xs ++ ys) (length xs + i) ≡ Some v
-  get-back [] ys i v h = h
-  get-back (x ∷ xs) ys i v h = get-back xs ys i v h
+  get-back [] ys i v h = let e : i ≡ 0 + i = omega arith in subst (λ n. slice_get ys n ≡ Some v) e h
+  get-back (x ∷ xs) ys i v h =
+      let e : suc (length xs + i) ≡ length (x ∷ xs) + i = omega arith in
+      subst (λ n. slice_get (x ∷ (xs ++ ys)) n ≡ Some v) e (get-back xs ys i v h)
 
   get-either : (xs ys : List Visit) (i : ℕ) (v : Visit) → slice_get (xs ++ ys) i ≡ Some v → (slice_get xs i ≡ Some v) ⊎ ((j : ℕ) × (slice_get ys j ≡ Some v))
   get-either [] ys i v h = inr (i, h)
@@ -393,7 +395,7 @@ module _ (nodes : List Node) (g : IsGraph nodes) (syms : List FlatSym) (root : �
       → IsSettling nodes syms marked settled visits q → IsSettling nodes syms marked settled new q
   IsSettling-enters settled visits rest new p q is (inl n) h =
       subst (λ l. IsSettling nodes syms marked settled l q) (sym n.0) (IsSettling-settled settled settled visits rest (Enter p) q is (λ x k. k) n.1 h)
-  IsSettling-enters settled visits rest new p q is (inr n) h = IsSettling-enter settled visits rest new p n.0 q is n.1 n.3 h
+  IsSettling-enters settled visits rest new p q is (inr n) h = IsSettling-enter settled visits rest new p n.0 q is n.1 n.2 h
 
   -- at first it is to be entered
   pub IsSettling-start : (settled : List (Wanted × Done)) (visits : List Visit) (q : Wanted) → visits ≡ Enter q ∷ [] → IsWanted nodes q → IsSettling nodes syms marked settled visits q

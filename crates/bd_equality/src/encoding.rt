@@ -2,18 +2,18 @@
 //! root asks for has a node, and each is settled once.
 ghost use Rattle.std.specs.Prelude.{◌≡◌, ℕ, [], List, Option, IfOk, OnOk, option_copied, slice_get};
 ghost use Rattle.bd_model.specs.declared.design.Sort.TheVariants as sort;
-ghost use Rattle.bd_terms.specs.Graph.{HasSort};
+ghost use Rattle.bd_terms.specs.Graph.{HasSort, IsGraph};
 ghost use Rattle.bd_equality.specs.Made.{AreTakenApart, Pairs, Term, Words};
 ghost use Rattle.bd_equality.specs.inner.Means.{Gives};
 ghost use Rattle.bd_equality.specs.inner.Rows.{AreTails};
-ghost use Rattle.bd_equality.specs.inner.Split.{AreAlike, IsControl, IsWanted, IsWay, arguments_at, equations, node_parts, parts, subject_of};
+ghost use Rattle.bd_equality.specs.inner.Split.{AreAlike, IsControl, IsPair, IsWanted, IsWay, arguments_at, equations, node_parts, parts, subject_of};
 ghost use Rattle.bd_equality.specs.inner.Steps.{AreInside, AreKnown, Enters, GivesNever, Include, IncludeWith, IsEncoding, Settles};
 
 use crate::leaf::{leaf, symbol_variable};
 use crate::trees::Trees;
-use crate::parts::push_parts;
+use crate::parts::{push, push_parts};
 use crate::rows::{RowWords, arguments_at};
-use crate::settled::{Done, Settled};
+use crate::settled::Settled;
 use crate::split::sides;
 use crate::wanted::{RowPair, Visit, Wanted, Way, between};
 use crate::ways::way;
@@ -53,6 +53,7 @@ impl Encoding {
         wanted: &Wanted,
     ) -> Result<(), AllocError>
         requires wanted { IsWanted flat.now.graph wanted.now }
+        requires graph { IsGraph flat.now.graph }
         requires rows { AreTails flat.now.graph flat.now.syms (option_copied marked)
             rows.now.tails.items }
         requires encoding { IsEncoding flat.now.graph flat.now.syms (option_copied marked)
@@ -93,7 +94,7 @@ impl Encoding {
             return Ok(());
         }
         let way = way(flat, marked, rows, trees, wanted)?;
-        visits.push(Visit::Finish(*wanted, way))?;
+        push(visits, *wanted, Some(way))?;
         push_parts(visits, flat, wanted, &way)
     }
 
@@ -105,6 +106,7 @@ impl Encoding {
         wanted: &Wanted,
         way: &Way,
     ) -> Result<(), AllocError>
+        requires graph { IsGraph flat.now.graph }
         requires wanted { IsWanted flat.now.graph wanted.now }
         requires way { IsWay flat.now.graph flat.now.syms (option_copied marked)
             wanted.now way.now }
@@ -119,7 +121,7 @@ impl Encoding {
             return Ok(());
         }
         let node = make(&mut self.prop, flat, marked, &self.settled, wanted, way)?;
-        self.settled.keep(wanted, Done { way: *way, node })
+        self.settled.keep(wanted, *way, node)
     }
 }
 
@@ -132,6 +134,7 @@ fn make(
     wanted: &Wanted,
     way: &Way,
 ) -> Result<usize, AllocError>
+    requires graph { IsGraph flat.now.graph }
     requires wanted { IsWanted flat.now.graph wanted.now }
     requires way { IsWay flat.now.graph flat.now.syms (option_copied marked) wanted.now way.now }
     requires parts { AreKnown settled.now (parts flat.now.graph flat.now.syms wanted.now way.now) }
@@ -195,6 +198,7 @@ fn chosen(
     left: Id,
     right: Id,
 ) -> Result<usize, AllocError>
+    requires pair { IsPair flat.now.graph left right }
     requires way { AreTakenApart flat.now.graph left right }
     requires control { IsControl flat.now.graph left right control }
     requires parts { AreKnown settled.now (parts flat.now.graph flat.now.syms

@@ -1,6 +1,6 @@
 //! On what rests what is wanted.
 ghost use Rattle.std.specs.Prelude.{◌≡◌, ◌<◌, ◌++◌, ◌∷◌, [], true, false, OnOk, length, map, slice_get};
-ghost use Rattle.bd_equality.specs.inner.Split.{AreAlike, IsWanted, arguments_at, equations, node_parts, part, parts};
+ghost use Rattle.bd_equality.specs.inner.Split.{AreAlike, IsWanted, arguments_at, equations, node_parts, part, parts, visit_of};
 
 use crate::rows::arguments_at;
 use crate::split::sides;
@@ -8,6 +8,21 @@ use crate::wanted::{RowPair, Visit, Wanted, Way, between};
 use bd_function::Flat;
 use bd_terms::{Graph, Id, Node};
 use std::alloc::AllocError;
+
+/// Puts a visit on the stack: one that makes a node in this way, or one that looks at what is wanted.
+pub(crate) fn push(
+    visits: &mut Vec<Visit>,
+    wanted: Wanted,
+    way: Option<Way>,
+) -> Result<(), AllocError>
+    ensures { OnOk result (visits.new.items ≡ visits.old.items ++ visit_of wanted way ∷ []) }
+{
+    match way {
+        Some(way) => visits.push(Visit::Finish(wanted, way))?,
+        None => visits.push(Visit::Enter(wanted))?,
+    }
+    Ok(())
+}
 
 /// Puts on the stack what the wanted rests on.
 pub(crate) fn push_parts(
@@ -38,21 +53,21 @@ fn push_truths(visits: &mut Vec<Visit>, graph: &Graph, id: Id) -> Result<(), All
         ≡ visits.old.items ++ map Visit.Enter (node_parts (slice_get graph.now id))) }
 {
     match graph.node(id) {
-        Node::Not(a) => visits.push(Visit::Enter(Wanted::Truth(*a)))?,
+        Node::Not(a) => push(visits, Wanted::Truth(*a), None)?,
         Node::And(a, b) => {
-            visits.push(Visit::Enter(Wanted::Truth(*b)))?;
-            visits.push(Visit::Enter(Wanted::Truth(*a)))?;
+            push(visits, Wanted::Truth(*b), None)?;
+            push(visits, Wanted::Truth(*a), None)?;
         }
         Node::Or(a, b) => {
-            visits.push(Visit::Enter(Wanted::Truth(*b)))?;
-            visits.push(Visit::Enter(Wanted::Truth(*a)))?;
+            push(visits, Wanted::Truth(*b), None)?;
+            push(visits, Wanted::Truth(*a), None)?;
         }
         Node::Ite(control, yes, no) => {
-            visits.push(Visit::Enter(Wanted::Truth(*no)))?;
-            visits.push(Visit::Enter(Wanted::Truth(*yes)))?;
-            visits.push(Visit::Enter(Wanted::Truth(*control)))?;
+            push(visits, Wanted::Truth(*no), None)?;
+            push(visits, Wanted::Truth(*yes), None)?;
+            push(visits, Wanted::Truth(*control), None)?;
         }
-        Node::Eq(a, b) => visits.push(Visit::Enter(between(*a, *b)))?,
+        Node::Eq(a, b) => push(visits, between(*a, *b), None)?,
         _ => {}
     }
     Ok(())
@@ -73,9 +88,9 @@ fn push_sides(
         ∷ Visit.Enter (part graph.now true control left right) ∷ []) }
 {
     let (yes, no) = sides(graph, control, left, right);
-    visits.push(Visit::Enter(Wanted::Truth(control)))?;
-    visits.push(Visit::Enter(no))?;
-    visits.push(Visit::Enter(yes))?;
+    push(visits, Wanted::Truth(control), None)?;
+    push(visits, no, None)?;
+    push(visits, yes, None)?;
     Ok(())
 }
 
@@ -90,7 +105,7 @@ fn push_arguments(visits: &mut Vec<Visit>, flat: &Flat, pair: RowPair) -> Result
     let left = arguments_at(flat, pair.symbol, pair.left);
     let right = arguments_at(flat, pair.symbol, pair.right);
     for index in 0..left.len() {
-        visits.push(Visit::Enter(between(left[index], right[index])))?;
+        push(visits, between(left[index], right[index]), None)?;
     }
     Ok(())
 }

@@ -1,6 +1,7 @@
 //! Which words of a flat formula are the nested ites of the rows of marked symbols.
 ghost use Rattle.std.specs.Prelude.{◌≡◌, ◌<◌, ℕ, true, List, Option, Some, IfOk, length, option_copied, option_map, slice_get};
 ghost use Rattle.bd_model.specs.declared.design.Sort.TheVariants as sort;
+ghost use Rattle.bd_terms.specs.Graph.{IsGraph};
 ghost use Rattle.bd_terms.specs.declared.node.Node.{Node as TheNode};
 ghost use Rattle.bd_terms.specs.declared.node.Node.TheVariants.{Ite};
 ghost use Rattle.bd_function.specs.declared.flat.FlatSym.{FlatSym as TheSymbol};
@@ -165,7 +166,8 @@ fn is_marked_row(
 
 /// Whether a term is this variable, as a word.
 fn is_variable(flat: &Flat, id: Id, variable: u64) -> bool
-    ensures { result ≡ true → IsLeaf flat.now.graph id variable }
+    ensures leaf { result ≡ true → IsLeaf flat.now.graph id variable }
+    ensures graph { IsGraph flat.now.graph }
 {
     if id.index() >= flat.graph.len() {
         return false;

@@ -1,7 +1,7 @@
 //! The nodes that are made.
 ghost use Rattle.std.specs.Prelude.{◌≡◌, [], Some, OnOk, if◌then◌else◌};
 ghost use Rattle.bd_equality.specs.declared.wanted.Wanted.{Wanted as TheWanted};
-ghost use Rattle.bd_equality.specs.inner.Sets.{is_wanted, known};
+ghost use Rattle.bd_equality.specs.inner.Sets.{done_in, is_wanted, known};
 ghost use Rattle.bd_equality.specs.inner.Steps.{IsKnown, IsNode};
 
 use crate::wanted::{Wanted, Way};
@@ -60,12 +60,17 @@ impl Settled {
         }
     }
 
-    /// Keeps a node.
-    pub(crate) fn keep(&mut self, wanted: &Wanted, done: Done) -> Result<(), AllocError>
+    /// Keeps a node, and the way in which it was made.
+    pub(crate) fn keep(
+        &mut self,
+        wanted: &Wanted,
+        way: Way,
+        node: usize,
+    ) -> Result<(), AllocError>
         ensures { OnOk result ((w : TheWanted) → known self.new w
-            ≡ (if is_wanted wanted.now w then Some done else known self.old w)) }
+            ≡ (if is_wanted wanted.now w then Some (done_in way node) else known self.old w)) }
     {
-        self.nodes.insert(*wanted, done)?;
+        self.nodes.insert(*wanted, Done { way, node })?;
         Ok(())
     }
 }

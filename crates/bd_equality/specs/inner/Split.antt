@@ -8,6 +8,8 @@ use Rattle.bd_function.specs.declared.flat.FlatRow.{FlatRow}
 use Rattle.bd_function.specs.declared.flat.FlatSym.{FlatSym}
 use Rattle.bd_equality.specs.Made.{AreDifferent, AreRows, AreTakenApart, ByArguments, ByControl, Never, Subject, Term, Words, Way, Ways, branch, head}
 use Rattle.bd_equality.specs.declared.wanted.RowPair.{RowPair}
+use Rattle.bd_equality.specs.declared.wanted.Visit.{Visit}
+use Rattle.bd_equality.specs.declared.wanted.Visit.TheVariants.{Enter, Finish}
 use Rattle.bd_equality.specs.declared.wanted.Wanted.{Wanted}
 use Rattle.bd_equality.specs.declared.wanted.Wanted.TheVariants.{Truth, Equation}
 use Rattle.bd_equality.specs.declared.wanted.Way.TheVariants as way
@@ -84,7 +86,7 @@ pub record AreCompared (nodes : List Node) (syms : List FlatSym) (marked : Optio
 
 -- the way of what is wanted
 abbrev pub IsWay : List Node → List FlatSym → Option (List ℕ) → Wanted → TheWay → Type 0
-IsWay nodes syms marked (Truth i) w = Unit {0}
+IsWay nodes syms marked (Truth i) w = w ≡ way.Plain
 IsWay nodes syms marked (Equation a b) way.Plain = IsWhole nodes a b
 IsWay nodes syms marked (Equation a b) (way.Control c) = AreTakenApart nodes a b × IsControl nodes a b c
 IsWay nodes syms marked (Equation a b) (way.Arguments p) =
@@ -97,6 +99,11 @@ way_of syms way.Plain = None
 way_of syms (way.Control c) = Some (ByControl c)
 way_of syms (way.Arguments p) = Some (ByArguments (arguments_at syms p.symbol p.left) (arguments_at syms p.symbol p.right))
 way_of syms way.Never = Some Never
+
+-- the visit that makes a node in a way, or that looks at what is wanted
+abbrev pub visit_of : Wanted → Option TheWay → Visit
+visit_of wanted (Some w) = Finish wanted w
+visit_of wanted None = Enter wanted
 
 -- the equations between two lists of words, pair by pair
 abbrev pub equations : List ℕ → List ℕ → List Wanted

@@ -2,7 +2,6 @@
 use Rattle.std.specs.Prelude.{◌≡◌, ◌<◌, ◌≤◌, ◌+◌, ◌⊎◌, ℕ, false, List, [], ◌∷◌, ◌++◌, Contains, Option, Some, length, map, slice_get}
 use Rattle.bd_model.specs.declared.table.Scalar.{Scalar}
 use Rattle.bd_terms.specs.declared.node.Node.{Node}
-use Rattle.bd_terms.specs.Graph.{IsGraph}
 use Rattle.bd_function.specs.declared.flat.FlatSym.{FlatSym}
 use Rattle.bd_prop.specs.declared.node.PropNode.{PropNode}
 use Rattle.bd_equality.specs.declared.settled.Done.{Done}
@@ -96,4 +95,4 @@ pub record IsSettling (nodes : List Node) (syms : List FlatSym) (marked : Option
 abbrev pub Enters : List Node → List FlatSym → Option (List ℕ) → List (Wanted × Done) → List Visit → List Visit → Wanted → Type 0
 Enters nodes syms marked settled old new p =
     ((new ≡ old) × IsKnown settled p)
-    ⊎ ((w : TheWay) × IsWay nodes syms marked p w × IsGraph nodes × (new ≡ (old ++ Finish p w ∷ []) ++ map Enter (parts nodes syms p w)))
+    ⊎ ((w : TheWay) × IsWay nodes syms marked p w × (new ≡ (old ++ Finish p w ∷ []) ++ map Enter (parts nodes syms p w)))

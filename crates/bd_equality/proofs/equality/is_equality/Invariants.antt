@@ -8,5 +8,5 @@ use Rattle.bd_equality.proofs.equality.is_equality.Given as goal
 abbrev pub invariant-loop-index : goal.invariant-loop-index
 invariant-loop-index l = record {
   inside : IsRestInside l.graph l.rest;
-  goes : (v : ℕ → Scalar) → RestIs l.graph l.rest v (equal_words l.graph v (drop l.index l.left) (drop l.index l.right)) → truth (under v) l.graph l.id ≡ equal_words l.graph v l.left l.right;
+  goes : (v : ℕ → Scalar) → RestIs l.graph l.rest v (equal_words l.graph v (drop l.index l.left) (drop l.index l.right)) → truth (under v) l.graph l.fn.id ≡ equal_words l.graph v l.left l.right;
 }

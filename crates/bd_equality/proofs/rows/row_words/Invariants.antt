@@ -5,5 +5,5 @@ use Rattle.bd_equality.proofs.rows.row_words.Given as goal
 abbrev pub invariant-loop-index : goal.invariant-loop-index
 invariant-loop-index l = record {
   count : length l.tails.items ≡ l.index;
-  tails : AreTails l.flat.graph l.flat.syms (option_copied l.marked) l.tails.items;
+  tails : AreTails l.flat.graph l.flat.syms (option_copied l.fn.marked) l.tails.items;
 }
