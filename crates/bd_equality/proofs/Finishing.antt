@@ -1,8 +1,9 @@
 -- What a visit makes that is finished.
-use Rattle.std.proofs.Common.{◌≡◌, ℕ, ◌<◌, not, if◌then◌else◌, false, Bool, true, List, [], ◌∷◌, Option, None, Some, Result, Ok, Err, IfOk, length, slice_get, refl, ap, sym, ◌∙◌, subst, arith}
+use Rattle.std.proofs.Common.{◌≡◌, ℕ, zero, suc, ◌+◌, ◌<◌, ◌≤◌, ◌&&◌, ◌++◌, inr, not, drop, map, if◌then◌else◌, false, Bool, true, List, [], ◌∷◌, Option, None, Some, Result, Ok, Err, IfOk, length, slice_get, refl, ap, sym, ◌∙◌, subst, arith}
 use Rattle.std.specs.Option.{is_some}
 use Rattle.std.proofs.lemmas.Bool.{true≢false}
-use Rattle.std.proofs.lemmas.Option.{slice_get_within}
+use Rattle.std.proofs.lemmas.Option.{none-some, same_Some, slice_get_within}
+use Rattle.std.proofs.lemmas.List.{drop_all}
 use Rattle.std.proofs.lemmas.Result.{IfOk-weaker}
 use Rattle.bd_terms.specs.declared.node.Node.{Node}
 use Rattle.bd_terms.specs.Graph.{IsGraph}
@@ -11,25 +12,27 @@ use Rattle.bd_function.specs.Flat.{IsFlat}
 use Rattle.bd_prop.specs.declared.atom.Atom.{Atom}
 use Rattle.bd_prop.specs.declared.node.PropNode.{PropNode}
 use Rattle.bd_prop.specs.declared.node.PropNode.TheVariants as prop
-use Rattle.bd_prop.specs.Form.{Adds as AddsNode, HasForm, ite_form, not_form}
+use Rattle.bd_prop.specs.Form.{Adds as AddsNode, HasForm, and_form, ite_form, not_form}
 use Rattle.bd_prop.specs.Graph.{Extends, StandsAt}
 use Rattle.bd_prop.specs.Truth.{truth_at}
 use Rattle.bd_equality.specs.declared.settled.Done.{Done}
 use Rattle.bd_equality.specs.declared.wanted.RowPair.{RowPair}
+use Rattle.bd_equality.specs.declared.wanted.Visit.{Visit}
+use Rattle.bd_equality.specs.declared.wanted.Visit.TheVariants.{Enter, Finish}
 use Rattle.bd_equality.specs.declared.wanted.Wanted.{Wanted}
 use Rattle.bd_equality.specs.declared.wanted.Wanted.TheVariants.{Truth, Equation}
 use Rattle.bd_equality.specs.declared.wanted.Way.TheVariants as way
 use Rattle.bd_equality.specs.declared.wanted.Way.{Way as TheWay}
 use Rattle.bd_equality.specs.Encoding.{atom_value}
 use Rattle.bd_equality.specs.Made.{AreTakenApart, Different, Never, Pairs, Term, Words, negated, plainly}
-use Rattle.bd_equality.specs.inner.Split.{IsControl, IsWay, arguments_at, node_parts, part, parts, subject_of}
+use Rattle.bd_equality.specs.inner.Split.{IsControl, IsWay, arguments_at, between, equations, node_parts, part, parts, subject_of}
 use Rattle.bd_equality.specs.inner.Means.{Gives, IsAny}
 use Rattle.bd_equality.specs.inner.Sets.{known}
-use Rattle.bd_equality.specs.inner.Steps.{AreInside, AreKnown, GivesNever, Include, IncludeWith, IsEncoding, IsNode}
+use Rattle.bd_equality.specs.inner.Steps.{AreInside, AreKnown, Enters, GivesNever, Include, IncludeWith, IsEncoding, IsKnown, IsNode}
 use Rattle.bd_equality.proofs.Giving.{Gives-kind, adds_not, atoms-adds}
 use Rattle.bd_equality.proofs.Making.{Comes-Extends, Extends-trans, comes}
-use Rattle.bd_equality.proofs.Rowing.{never_equal}
-use Rattle.bd_equality.proofs.Stepping.{Gives-chosen, Gives-compared}
+use Rattle.bd_equality.proofs.Rowing.{drop_at, never_equal}
+use Rattle.bd_equality.proofs.Stepping.{Gives-chosen, Gives-compared, Gives-none, Gives-pair}
 
 -- a node that is kept stands in the graph
 pub node_inside : (p : List PropNode) (settled : List (Wanted × Done)) (w : Wanted) (node : ℕ) → AreInside p settled → IsNode settled w node → node < length p
@@ -39,6 +42,15 @@ node_inside p settled w node h is = subst (λ k. k < length p) (sym is.same) (h.
 pub unknown : (settled : List (Wanted × Done)) (w : Wanted) (o : Option Done) → o ≡ known settled w → is_some o ≡ false → known settled w ≡ None
 unknown settled w None e f = sym e
 unknown settled w (Some d) e f = absurd (true≢false f)
+
+pub known_of : (settled : List (Wanted × Done)) (w : Wanted) (o : Option Done) → o ≡ known settled w → is_some o ≡ true → IsKnown settled w
+known_of settled w None e f = absurd (true≢false (sym f))
+known_of settled w (Some d) e f = record { done = d; known = sym e }
+
+-- what is entered, with what it rests on above it
+pub entered_of : (nodes : List Node) (syms : List FlatSym) (marked : Option (List ℕ)) (settled : List (Wanted × Done)) (old mid new : List Visit) (p : Wanted) (w : TheWay) → IsWay nodes syms marked p w → mid ≡ old ++ Finish p w ∷ []
+    → new ≡ mid ++ map Enter (parts nodes syms p w) → Enters nodes syms marked settled old new p
+entered_of nodes syms marked settled old mid new p w is e f = inr (w, is, f ∙ ap (λ l. l ++ map Enter (parts nodes syms p w)) e)
 
 -- the parts of a truth value, by its node
 pub node_known : (settled : List (Wanted × Done)) (o : Option Node) (node : Node) → o ≡ Some node → AreKnown settled (node_parts o) → AreKnown settled (node_parts (Some node))
@@ -122,3 +134,27 @@ pub chosen_of : {E : Type 0} (nodes : List Node) → IsGraph nodes → (syms : L
     → IfOk r (λ id. Gives nodes syms marked (IncludeWith syms settled (Equation a b) (way.Control c)) p p' id (Words a b))
 chosen_of nodes g syms marked settled p p' a b c w x y (Err z) apart is h nc ny nn e inside form truth = tt
 chosen_of nodes g syms marked settled p p' a b c w x y (Ok id) apart is h nc ny nn e inside form truth = Gives-chosen nodes syms marked g settled p p' a b c w x y id apart is h nc ny nn e inside form truth
+
+-- the equations of pairs, from the last on
+pub known_at : (settled : List (Wanted × Done)) (left right : List ℕ) (k a b : ℕ) → slice_get left k ≡ Some a → slice_get right k ≡ Some b → AreKnown settled (equations left right) → IsKnown settled (between a b)
+known_at settled [] right k a b l r h = absurd (none-some a l)
+known_at settled (x ∷ xs) [] k a b l r h = absurd (none-some b r)
+known_at settled (x ∷ xs) (y ∷ ys) zero a b l r h = subst (λ z. IsKnown settled (between z b)) (same_Some x a l) (subst (λ z. IsKnown settled (between x z)) (same_Some y b r) h.0)
+known_at settled (x ∷ xs) (y ∷ ys) (suc k) a b l r h = known_at settled xs ys k a b l r h.1
+
+module _ (nodes : List Node) (syms : List FlatSym) (marked : Option (List ℕ)) (settled : List (Wanted × Done)) (left right : List ℕ) where
+  abbrev pub GivesPairs : List PropNode → List PropNode → ℕ → ℕ → Type 0
+  GivesPairs p p' id n = Gives nodes syms marked (Include syms settled) p p' id (Pairs (drop n left) (drop n right))
+
+  pub pairs_start : (p p' : List PropNode) (id n : ℕ) → length left ≤ n → length right ≤ n → Extends p p' → id < length p' → StandsAt p' id prop.True × AddsNode p prop.True p'
+      → ((v : Atom → Bool) → truth_at v p' id ≡ true) → GivesPairs p p' id n
+  pairs_start p p' id n l r e inside has is =
+      subst (λ z. Gives nodes syms marked (Include syms settled) p p' id (Pairs z (drop n right))) (sym (drop_all n left l))
+      (subst (λ z. Gives nodes syms marked (Include syms settled) p p' id (Pairs [] z)) (sym (drop_all n right r)) (Gives-none nodes syms marked (Include syms settled) p p' id e inside has is))
+
+  pub pairs_more : (p q r : List PropNode) (k a b x y id : ℕ) → slice_get left k ≡ Some a → slice_get right k ≡ Some b → IsEncoding nodes syms marked p settled → IsNode settled (between a b) x → GivesPairs p q y (k + 1)
+      → Extends q r → id < length r → HasForm q (and_form q x y) r id → ((v : Atom → Bool) → truth_at v r id ≡ (truth_at v q x && truth_at v q y)) → GivesPairs p r id k
+  pairs_more p q r k a b x y id l m h n g e inside form truth =
+      subst (λ z. Gives nodes syms marked (Include syms settled) p r id (Pairs z (drop k right))) (sym (drop_at left k a l))
+      (subst (λ z. Gives nodes syms marked (Include syms settled) p r id (Pairs (a ∷ drop (k + 1) left) z)) (sym (drop_at right k b m))
+      (Gives-pair nodes syms marked settled p q r a b x y id (drop (k + 1) left) (drop (k + 1) right) h n g e inside form truth))

@@ -7,6 +7,7 @@ use Rattle.std.proofs.lemmas.Option.{none-some, same_Some, slice_get-get_or, sli
 use Rattle.bd_list.proofs.Numbers.{below_last}
 use Rattle.bd_model.specs.declared.design.Sort.TheVariants as sort
 use Rattle.bd_terms.specs.declared.node.Node.{Node}
+use Rattle.bd_terms.specs.declared.node.Node.TheVariants.{Not, And, Or, Ite, Eq}
 use Rattle.bd_function.specs.declared.flat.FlatRow.{FlatRow}
 use Rattle.bd_function.specs.declared.flat.FlatSym.{FlatSym}
 use Rattle.bd_equality.specs.declared.rows.Tail.{Tail}
@@ -16,7 +17,7 @@ use Rattle.bd_equality.specs.declared.wanted.Wanted.{Wanted}
 use Rattle.bd_equality.specs.Encoding.{IsVariable, has_mark}
 use Rattle.bd_equality.specs.Made.{IsMarkedSymbol}
 use Rattle.bd_equality.specs.inner.Rows.{AreMarkedSymbols, AreTails, IsTail}
-use Rattle.bd_equality.specs.inner.Split.{StandBefore, between, equations}
+use Rattle.bd_equality.specs.inner.Split.{StandBefore, between, equations, node_parts}
 
 -- the words before one
 pub before_of : (xs : List ℕ) (id : ℕ) → ((k x : ℕ) → slice_get xs k ≡ Some x → x < id) → StandBefore xs id
@@ -118,3 +119,22 @@ pub tail_there : (tails : List (Option Tail)) (i : ℕ) (tail : Tail) → option
 tail_there [] i tail h = absurd (none-some tail h)
 tail_there (x ∷ xs) zero tail h = h
 tail_there (x ∷ xs) (suc i) tail h = tail_there xs i tail h
+
+-- visits that are pushed
+pub two_pushed : (old mid new : List Visit) (x y : Visit) → mid ≡ old ++ x ∷ [] → new ≡ mid ++ y ∷ [] → new ≡ old ++ x ∷ y ∷ []
+two_pushed old mid new x y e f = f ∙ ap (λ l. l ++ y ∷ []) e ∙ append_assoc old (x ∷ []) (y ∷ [])
+
+pub three_pushed : (old mid late new : List Visit) (x y z : Visit) → mid ≡ old ++ x ∷ [] → late ≡ mid ++ y ∷ [] → new ≡ late ++ z ∷ [] → new ≡ old ++ x ∷ y ∷ z ∷ []
+three_pushed old mid late new x y z e f g = g ∙ ap (λ l. l ++ z ∷ []) (two_pushed old mid late x y e f) ∙ append_assoc old (x ∷ y ∷ []) (z ∷ [])
+
+pub pushed_parts : (old new : List Visit) (o : Option Node) (node : Node) → o ≡ Some node → new ≡ old ++ map Enter (node_parts (Some node)) → new ≡ old ++ map Enter (node_parts o)
+pushed_parts old new o node there e = e ∙ ap (λ z. old ++ map Enter (node_parts z)) (sym there)
+
+-- a term that rests on nothing
+pub no_parts : (node : Node) → ((a : ℕ) → node ≡ Not a → ⊥) → ((a b : ℕ) → node ≡ And a b → ⊥) → ((a b : ℕ) → node ≡ Or a b → ⊥) → ((c a b : ℕ) → node ≡ Ite c a b → ⊥) → ((a b : ℕ) → node ≡ Eq a b → ⊥) → node_parts (Some node) ≡ []
+no_parts (Not a) nn na nr ni ne = absurd (nn a refl)
+no_parts (And a b) nn na nr ni ne = absurd (na a b refl)
+no_parts (Or a b) nn na nr ni ne = absurd (nr a b refl)
+no_parts (Ite c a b) nn na nr ni ne = absurd (ni c a b refl)
+no_parts (Eq a b) nn na nr ni ne = absurd (ne a b refl)
+no_parts node nn na nr ni ne = refl

@@ -22,14 +22,14 @@ use Rattle.bd_function.specs.Flat.{IsFlat, arguments, first_value, under}
 use Rattle.bd_equality.specs.declared.rows.RowPlace.{RowPlace}
 use Rattle.bd_equality.specs.declared.rows.Tail.{Tail}
 use Rattle.bd_equality.specs.Encoding.{IsVariable, KeepsMarkedApart, has_mark}
-use Rattle.bd_equality.specs.Made.{AreDifferent, AreRows, IsMarkedSymbol, IsRow, IsRowOf, IsUnmarkedWord, IsVariableWord, Pairs, RowFirst, RowSecond, TwoSymbols, Words}
+use Rattle.bd_equality.specs.Made.{AreDifferent, AreRows, AreTakenApart, IsMarkedSymbol, IsRow, IsRowOf, IsUnmarkedWord, IsVariableWord, Pairs, RowFirst, RowSecond, TwoSymbols, Words}
 use Rattle.bd_equality.specs.inner.Means.{value_of}
 use Rattle.bd_equality.specs.inner.Rows.{AreMarkedSymbols, IsLeaf, IsRowAt, IsTail, equal_words}
 use Rattle.bd_equality.specs.declared.wanted.Wanted.{Wanted}
 use Rattle.bd_equality.specs.declared.wanted.Wanted.TheVariants.{Truth, Equation}
 use Rattle.bd_equality.specs.declared.wanted.Way.TheVariants as way
 use Rattle.bd_equality.specs.declared.wanted.Way.{Way as TheWay}
-use Rattle.bd_equality.specs.inner.Split.{AreAlike, AreCompared, IsRowWay, IsWay, StandBefore, args_of, arguments_at, row_at, row_of_symbol}
+use Rattle.bd_equality.specs.inner.Split.{AreAlike, AreCompared, IsControl, IsRowWay, IsWay, StandBefore, args_of, arguments_at, row_at, row_of_symbol}
 use Rattle.bd_equality.proofs.Flats.{word_is, word_ite}
 use Rattle.bd_equality.proofs.Leaves.{unequal}
 
@@ -245,6 +245,18 @@ module _ (nodes : List Node) (syms : List FlatSym) (marked : Option (List ℕ)) 
   pub row_second : (p : RowPlace) (a b : ℕ) (r : Option TheWay) → IsRowAt nodes syms marked p b → IfSome r (λ w. (w ≡ way.Never) × IsUnmarkedWord nodes marked a) → IfSome r (IsRowWay nodes syms marked a b)
   row_second p a b None x h = tt
   row_second p a b (Some w) x h = subst (IsRowWay nodes syms marked a b) (sym h.0) (RowSecond x.holder h.1 (row_among p b x))
+
+  -- two words of which one has a control, and how rows are taken apart
+  pub apart_of : (a b c : ℕ) → a ≤ b → (a == b) ≡ false → IsControl nodes a b c → AreTakenApart nodes a b
+  apart_of a b c le other is =
+      let ne : a ≢ b = λ e. true≢false (sym (eq-eqb a b e) ∙ other) in
+      record { before = omega (arith, le, ne); nested = λ n. elim is [ inl h ↦ none-some c (sym n.0 ∙ h) | inr h ↦ none-some c (sym n.1 ∙ h) ] }
+
+  pub row_way_is : (a b : ℕ) (w : TheWay) → AreTakenApart nodes a b → IsRowWay nodes syms marked a b w → IsWay nodes syms marked (Equation a b) w
+  row_way_is a b way.Plain apart h = absurd h
+  row_way_is a b (way.Control c) apart h = absurd h
+  row_way_is a b (way.Arguments p) apart h = (apart, h)
+  row_way_is a b way.Never apart h = (apart, h)
 
   -- a way of rows compares as many arguments
   pub alike_of : (p : Wanted) (w : TheWay) → IsWay nodes syms marked p w → AreAlike syms w

@@ -53,24 +53,23 @@ fn push_truths(visits: &mut Vec<Visit>, graph: &Graph, id: Id) -> Result<(), All
         ≡ visits.old.items ++ map Visit.Enter (node_parts (slice_get graph.now id))) }
 {
     match graph.node(id) {
-        Node::Not(a) => push(visits, Wanted::Truth(*a), None)?,
+        Node::Not(a) => push(visits, Wanted::Truth(*a), None),
         Node::And(a, b) => {
             push(visits, Wanted::Truth(*b), None)?;
-            push(visits, Wanted::Truth(*a), None)?;
+            push(visits, Wanted::Truth(*a), None)
         }
         Node::Or(a, b) => {
             push(visits, Wanted::Truth(*b), None)?;
-            push(visits, Wanted::Truth(*a), None)?;
+            push(visits, Wanted::Truth(*a), None)
         }
         Node::Ite(control, yes, no) => {
             push(visits, Wanted::Truth(*no), None)?;
             push(visits, Wanted::Truth(*yes), None)?;
-            push(visits, Wanted::Truth(*control), None)?;
+            push(visits, Wanted::Truth(*control), None)
         }
-        Node::Eq(a, b) => push(visits, between(*a, *b), None)?,
-        _ => {}
+        Node::Eq(a, b) => push(visits, between(*a, *b), None),
+        _ => Ok(()),
     }
-    Ok(())
 }
 
 /// Puts a control and the equations of what two words are under it on the stack.
@@ -90,8 +89,7 @@ fn push_sides(
     let (yes, no) = sides(graph, control, left, right);
     push(visits, Wanted::Truth(control), None)?;
     push(visits, no, None)?;
-    push(visits, yes, None)?;
-    Ok(())
+    push(visits, yes, None)
 }
 
 /// Puts the equations of the arguments of two rows on the stack.
