@@ -2,7 +2,7 @@
 use Rattle.std.proofs.Common.{◌≡◌, ◌≢◌, ℕ, zero, suc, ◌+◌, ◌<◌, ◌≤◌, ◌⊎◌, inl, inr, Bool, true, false, List, [], ◌∷◌, ◌++◌, Option, None, Some, Contains, length, map, take, slice_get, slice_index_or, refl, ap, sym, ◌∙◌, subst, arith, append_assoc}
 use Rattle.std.specs.Option.{option_flatten, unwrap_or}
 use Rattle.std.proofs.lemmas.Bool.{cases_lt, false≢true}
-use Rattle.std.proofs.lemmas.List.{get_or_append_left, get_or-append_seam, get_or_past, length_push, map-append}
+use Rattle.std.proofs.lemmas.List.{get_or_append_left, get_or-append_seam, get_or_past, length_push, map-append, take_all}
 use Rattle.std.proofs.lemmas.Option.{none-some, same_Some, slice_get-get_or, slice_get_within}
 use Rattle.bd_list.proofs.Numbers.{below_last}
 use Rattle.bd_model.specs.declared.design.Sort.TheVariants as sort
@@ -13,11 +13,15 @@ use Rattle.bd_function.specs.declared.flat.FlatSym.{FlatSym}
 use Rattle.bd_equality.specs.declared.rows.Tail.{Tail}
 use Rattle.bd_equality.specs.declared.wanted.Visit.{Visit}
 use Rattle.bd_equality.specs.declared.wanted.Visit.TheVariants.{Enter}
+use Rattle.bd_equality.specs.declared.wanted.RowPair.{RowPair}
 use Rattle.bd_equality.specs.declared.wanted.Wanted.{Wanted}
+use Rattle.bd_equality.specs.declared.wanted.Wanted.TheVariants.{Equation}
+use Rattle.bd_equality.specs.declared.wanted.Way.TheVariants as way
+use Rattle.bd_equality.specs.declared.wanted.Way.{Way as TheWay}
 use Rattle.bd_equality.specs.Encoding.{IsVariable, has_mark}
 use Rattle.bd_equality.specs.Made.{IsMarkedSymbol}
 use Rattle.bd_equality.specs.inner.Rows.{AreMarkedSymbols, AreTails, IsTail}
-use Rattle.bd_equality.specs.inner.Split.{StandBefore, between, equations, node_parts}
+use Rattle.bd_equality.specs.inner.Split.{StandBefore, between, equations, node_parts, parts}
 
 -- the words before one
 pub before_of : (xs : List ℕ) (id : ℕ) → ((k x : ℕ) → slice_get xs k ≡ Some x → x < id) → StandBefore xs id
@@ -138,3 +142,17 @@ no_parts (Or a b) nn na nr ni ne = absurd (nr a b refl)
 no_parts (Ite c a b) nn na nr ni ne = absurd (ni c a b refl)
 no_parts (Eq a b) nn na nr ni ne = absurd (ne a b refl)
 no_parts node nn na nr ni ne = refl
+
+-- an equation that is plain, or never holds, rests on nothing
+pub no_rest : (nodes : List Node) (syms : List FlatSym) (a b : ℕ) (w : TheWay) → ((c : ℕ) → w ≡ way.Control c → ⊥) → ((p : RowPair) → w ≡ way.Arguments p → ⊥) → parts nodes syms (Equation a b) w ≡ []
+no_rest nodes syms a b (way.Control c) nc na = absurd (nc c refl)
+no_rest nodes syms a b (way.Arguments p) nc na = absurd (na p refl)
+no_rest nodes syms a b way.Plain nc na = refl
+no_rest nodes syms a b way.Never nc na = refl
+
+-- the equations of all pairs
+pub pushed_all : (old now : List Visit) (left right xs ys : List ℕ) (n : ℕ) → length left ≤ n → length right ≤ n → left ≡ xs → right ≡ ys → now ≡ old ++ map Enter (equations (take n left) (take n right)) → now ≡ old ++ map Enter (equations xs ys)
+pushed_all old now left right xs ys n l r p q e =
+    let a : take n left ≡ xs = take_all n left l ∙ p in
+    let b : take n right ≡ ys = take_all n right r ∙ q in
+    e ∙ (λ i. old ++ map Enter (equations (a i) (b i)))
