@@ -5,7 +5,7 @@ use Rattle.bd_equality.proofs.Equalities.{words_end, words_more}
 use Rattle.bd_equality.proofs.equality.is_equality.Goals as goal
 
 pub loop-index-init : goal.loop-index-init
-loop-index-init c = record { inside = c.requires; goes = λ v h. h }
+loop-index-init c = record { inside = c.requires.inside; goes = λ v h. h }
 
 pub rest_after-rest-requires : goal.rest_after-rest-requires
 rest_after-rest-requires c = c.loop-index.invariant.inside

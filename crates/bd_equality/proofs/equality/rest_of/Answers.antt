@@ -25,5 +25,5 @@ returns-then-is_equation-clause-follows c =
 pub returns-then-is_equation-2 : goal.returns-then-is_equation-2
 returns-then-is_equation-2 c = record {
   inside = tt;
-  follows = rest_last c.args.graph.now c.args.id c.args.a c.args.b (c.is_equation-2.ensures c.if-is_equation-2.true);
+  follows = rest_last c.args.graph.now c.args.id c.args.a c.args.b (c.is_equation-in_default.ensures c.if-is_equation-2.true);
 }
