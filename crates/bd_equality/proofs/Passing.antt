@@ -1,8 +1,9 @@
 -- Passes over rows, symbols and lists of words.
 use Rattle.std.proofs.Common.{◌≡◌, ◌≢◌, ℕ, zero, suc, ◌+◌, ◌<◌, ◌≤◌, ◌⊎◌, inl, inr, Bool, true, false, List, [], ◌∷◌, ◌++◌, Option, None, Some, Contains, length, map, take, slice_get, slice_index_or, refl, ap, sym, ◌∙◌, subst, arith, append_assoc}
+use Rattle.std.proofs.Math.Seq.{get_or-append_seam}
 use Rattle.std.specs.Option.{option_flatten, unwrap_or}
 use Rattle.std.proofs.lemmas.Bool.{cases_lt, false≢true}
-use Rattle.std.proofs.lemmas.List.{get_or_append_left, get_or-append_seam, get_or_past, length_push, map-append, take_all}
+use Rattle.std.proofs.lemmas.List.{get_or_append_left, get_or_past, length_push, map-append, take_all}
 use Rattle.std.proofs.lemmas.Option.{none-some, same_Some, slice_get-get_or, slice_get_within}
 use Rattle.bd_list.proofs.Numbers.{below_last}
 use Rattle.bd_model.specs.declared.design.Sort.TheVariants as sort

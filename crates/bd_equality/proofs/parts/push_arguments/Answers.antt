@@ -1,5 +1,6 @@
-use Rattle.std.proofs.Common.{◌≡◌, ◌<◌, Some, length, slice_get, ap, sym, ◌∙◌, arith, append-nil}
+use Rattle.std.proofs.Common.{◌≡◌, ◌<◌, ◌++◌, ◌∷◌, [], Some, length, slice_get, ap, sym, ◌∙◌, arith, append-nil}
 use Rattle.std.proofs.lemmas.Option.{slice_get-get_or}
+use Rattle.bd_equality.specs.declared.wanted.Visit.TheVariants.{Enter}
 use Rattle.bd_equality.proofs.Passing.{pushed_all, visits_push}
 use Rattle.bd_equality.proofs.parts.push_arguments.Goals as goal
 
@@ -15,7 +16,8 @@ loop-index-preserved c =
     let at_left : slice_get left k ≡ Some c.index-left-index.result = slice_get-get_or left k _ (omega arith) ∙ ap Some (sym c.index-left-index.is) in
     let inside : k < length right = omega (arith, alike) in
     let at_right : slice_get right k ≡ Some c.index-right-index.result = slice_get-get_or right k _ inside ∙ ap Some (sym c.index-right-index.is) in
-    visits_push c.args.visits.now.items c.loop-index.visits.items c.push.new.visits.items left right k c.index-left-index.result c.index-right-index.result c.loop-index.invariant ? at_left at_right
+    visits_push c.args.visits.now.items c.loop-index.visits.items c.push.new.visits.items left right k c.index-left-index.result c.index-right-index.result c.loop-index.invariant
+    (c.in_ok-push.ensures ∙ (λ i. c.loop-index.visits.items ++ Enter (c.between.ensures i) ∷ [])) at_left at_right
 
 pub returns : goal.returns
 returns c =

@@ -9,5 +9,5 @@ returns-in-Some-None c =
 
 pub returns-in-None-Some : goal.returns-in-None-Some
 returns-in-None-Some c =
-    row_second c.args.flat.now.graph c.args.flat.now.syms (option_copied c.args.marked) c.in-None-Some.field-1-0 c.args.left c.args.right c.with_variable-in-None-Some.result
-    (c.row-2.ensures c.args.flat.now.graph c.args.flat.now.syms (option_copied c.args.marked) c.requires.rows c.in-None-Some.field-1-0 c.in-None-Some.is-1) c.with_variable-in-None-Some.ensures
+    row_second c.args.flat.now.graph c.args.flat.now.syms (option_copied c.args.marked) c.in-None-Some.field-0-1 c.args.left c.args.right c.with_variable-in-None-Some.result
+    (c.row-2.ensures c.args.flat.now.graph c.args.flat.now.syms (option_copied c.args.marked) c.requires.rows c.in-None-Some.field-0-1 c.in-None-Some.is-1) c.with_variable-in-None-Some.ensures

@@ -6,4 +6,4 @@ use Rattle.bd_equality.proofs.rows.RowWords.row.Goals as goal
 
 pub returns-then-tail-eq0 : goal.returns-then-tail-eq0
 returns-then-tail-eq0 c = λ nodes syms marked tails place e.
-    subst (λ p. IsRowAt nodes syms marked p c.args.id) (same_Some _ place e) (row_of_tail nodes syms marked c.in-Some-Some.tail.now c.args.id c.if-tail-eq0.true ?)
+    subst (λ p. IsRowAt nodes syms marked p c.args.id) (same_Some _ place e) (row_of_tail nodes syms marked c.in-Some-Some.tail c.args.id c.if-tail-eq0.true (tails.each c.args.id c.in-Some-Some.tail ?))
