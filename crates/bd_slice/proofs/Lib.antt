@@ -2,3 +2,4 @@ mod Following
 mod Cycles
 mod Marked
 mod Followings
+mod Explaining

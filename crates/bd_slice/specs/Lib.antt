@@ -1,3 +1,5 @@
 pub mod Places
 pub mod Columns
+pub mod Run
+pub mod Reasons
 pub mod inner

@@ -2,3 +2,4 @@ pub mod Followed
 pub mod Env
 pub mod Runs
 pub mod Lines
+pub mod Found

@@ -170,9 +170,9 @@ impl<'a> Run<'a> {
         let here = Here {
             alloc: self.alloc,
             case: self.case,
-            column: cycle.begins_at(),
             cycle,
             moment,
+            lets: moment.lets.as_slice(),
         };
         let mut path = Path::new(self.alloc);
         match address {

@@ -1,4 +1,7 @@
 //! Values of a run, and what they come from.
+ghost use Rattle.std.specs.Prelude.{◌≡◌};
+ghost use Rattle.bd_slice.specs.Run.{begins_at};
+
 use crate::place::Column;
 use bd_model::{Scalar, Words};
 use std::alloc::AllocError;
@@ -56,7 +59,9 @@ impl Column {
 
 impl Cycle {
     /// The column in which a cycle begins.
-    pub fn begins_at(self) -> Column {
+    pub fn begins_at(self) -> Column
+        ensures { result ≡ begins_at self }
+    {
         match self {
             Cycle::Case => Column::Before(0),
             Cycle::FlushBefore(cycles) => Column::Before(cycles),
