@@ -3,3 +3,4 @@ pub mod Env
 pub mod Runs
 pub mod Lines
 pub mod Found
+pub mod History
