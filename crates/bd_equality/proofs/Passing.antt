@@ -1,5 +1,5 @@
 -- Passes over rows, symbols and lists of words.
-use Rattle.std.proofs.Common.{◌≡◌, ◌≢◌, ℕ, zero, suc, ◌+◌, ◌<◌, ◌≤◌, ◌⊎◌, inl, inr, Bool, true, false, List, [], ◌∷◌, ◌++◌, Option, None, Some, Contains, length, map, take, slice_get, slice_index_or, refl, ap, sym, ◌∙◌, subst, arith, append_assoc}
+use Rattle.std.proofs.Common.{◌≡◌, ◌≢◌, ℕ, zero, suc, ◌+◌, ◌<◌, ◌≤◌, ◌⊎◌, inl, inr, Bool, true, false, List, [], ◌∷◌, ◌++◌, Option, None, Some, Bor, IfSome, MatchOption, get_or, option_copied, Contains, length, map, take, slice_get, slice_index_or, refl, ap, sym, ◌∙◌, subst, arith, append_assoc}
 use Rattle.std.proofs.Math.Seq.{get_or-append_seam}
 use Rattle.std.specs.Option.{option_flatten, unwrap_or}
 use Rattle.std.proofs.lemmas.Bool.{cases_lt, false≢true}
@@ -157,3 +157,9 @@ pushed_all old now left right xs ys n l r p q e =
     let a : take n left ≡ xs = take_all n left l ∙ p in
     let b : take n right ≡ ys = take_all n right r ∙ q in
     e ∙ (λ i. old ++ map Enter (equations (a i) (b i)))
+
+-- what a place of a list lends
+pub lent : {X : Type 0} (P : Bor X → Type 0) (xs : List X) (i : ℕ) (r : Option (Bor X)) → IfSome r (λ x. x.now ≡ get_or xs i x.now) → MatchOption r (length xs ≤ i) (λ x. (i < length xs) × P x)
+    → slice_get xs i ≡ option_copied r
+lent P xs i None same at = slice_get_past xs i at
+lent P xs i (Some x) same at = slice_get_read xs (length xs) i x.now refl at.0 same

@@ -1,6 +1,6 @@
 use Rattle.std.proofs.Common.{length, ap, sym, subst, arith, option_copied}
 use Rattle.std.proofs.lemmas.List.{length_push}
-use Rattle.bd_equality.specs.inner.Rows.{IsTail}
+use Rattle.bd_equality.specs.inner.Rows.{AreMarkedSymbols, AreTails, IsTail}
 use Rattle.bd_equality.proofs.Passing.{AreTails-none, AreTails-push}
 use Rattle.bd_equality.proofs.rows.row_words.Goals as goal
 
@@ -18,7 +18,12 @@ loop-index-preserved c =
       count = omega (arith, ap length c.in_ok-push.ensures.items, length_push old c.tail_of-tail.result, inv.count);
       tails =
           AreTails-push c.args.flat.now.graph c.args.flat.now.syms (option_copied c.args.marked) old c.push.new.self.items c.loop-index.index c.tail_of-tail.result inv.count c.in_ok-push.ensures.items
-          ? inv.tails;
+          (λ tail e.
+          subst (IsTail c.args.flat.now.graph c.args.flat.now.syms (option_copied c.args.marked) tail) c.id.ensures
+          (c.tail_of-tail.ensures (option_copied c.args.marked)
+          (subst (AreMarkedSymbols c.args.flat.now.graph c.args.flat.now.syms (option_copied c.args.marked)) (sym c.deref.ensures.value) c.in_ok-symbols.ensures)
+          (subst (AreTails c.args.flat.now.graph c.args.flat.now.syms (option_copied c.args.marked)) (sym c.deref-in-loop-index.ensures.value) inv.tails) tail e))
+          inv.tails;
     }
 
 pub returns : goal.returns
