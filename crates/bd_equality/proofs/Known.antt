@@ -1,5 +1,5 @@
 -- Look-ups of what is wanted.
-use Rattle.std.proofs.Common.{◌≡◌, ℕ, Bool, cond, List, [], ◌∷◌, Some, refl}
+use Rattle.std.proofs.Common.{◌≡◌, Bool, cond, List, [], ◌∷◌, Some, refl}
 use Rattle.std.specs.Map.{lookup}
 use Rattle.bd_equality.specs.declared.settled.Done.{Done}
 use Rattle.bd_equality.specs.declared.wanted.Wanted.{Wanted}

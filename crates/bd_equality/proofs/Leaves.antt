@@ -21,7 +21,7 @@ use Rattle.bd_prop.specs.declared.node.PropNode.TheVariants.{True, Atom as AtomO
 use Rattle.bd_prop.specs.Form.{Adds, HasForm, not_form}
 use Rattle.bd_prop.specs.Graph.{Extends, StandsAt}
 use Rattle.bd_prop.specs.Truth.{truth_at}
-use Rattle.bd_equality.specs.Encoding.{IsVariable, KeepsMarkedApart, atom_value, has_mark}
+use Rattle.bd_equality.specs.Encoding.{KeepsMarkedApart, atom_value, has_mark}
 use Rattle.bd_equality.specs.Edges.{IsEdge}
 use Rattle.bd_equality.specs.inner.Split.{IsWhole}
 use Rattle.bd_equality.specs.Made.{IsVariableWord, head, node_head, Words, Itself, OneVariable, Marked, HasEdge, negated, plainly, symbol_variable}

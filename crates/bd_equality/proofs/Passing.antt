@@ -1,5 +1,5 @@
 -- Passes over rows, symbols and lists of words.
-use Rattle.std.proofs.Common.{◌≡◌, ◌≢◌, ℕ, zero, suc, ◌+◌, ◌<◌, ◌≤◌, ◌⊎◌, inl, inr, Bool, true, false, List, [], ◌∷◌, ◌++◌, Option, None, Some, Bor, IfSome, MatchOption, get_or, option_copied, Contains, length, map, take, slice_get, slice_index_or, refl, ap, sym, ◌∙◌, subst, arith, append_assoc}
+use Rattle.std.proofs.Common.{◌≡◌, ℕ, zero, suc, ◌+◌, ◌<◌, ◌≤◌, ◌⊎◌, inl, inr, Bool, true, false, List, [], ◌∷◌, ◌++◌, Option, None, Some, Bor, IfSome, MatchOption, get_or, option_copied, length, map, take, slice_get, slice_index_or, refl, ap, sym, ◌∙◌, subst, arith, append_assoc}
 use Rattle.std.proofs.Math.Seq.{get_or-append_seam}
 use Rattle.std.specs.Option.{option_flatten, unwrap_or}
 use Rattle.std.proofs.lemmas.Bool.{cases_lt, false≢true}
@@ -15,7 +15,6 @@ use Rattle.bd_equality.specs.declared.rows.Tail.{Tail}
 use Rattle.bd_equality.specs.declared.wanted.Visit.{Visit}
 use Rattle.bd_equality.specs.declared.wanted.Visit.TheVariants.{Enter}
 use Rattle.bd_equality.specs.declared.wanted.RowPair.{RowPair}
-use Rattle.bd_equality.specs.declared.wanted.Wanted.{Wanted}
 use Rattle.bd_equality.specs.declared.wanted.Wanted.TheVariants.{Equation}
 use Rattle.bd_equality.specs.declared.wanted.Way.TheVariants as way
 use Rattle.bd_equality.specs.declared.wanted.Way.{Way as TheWay}

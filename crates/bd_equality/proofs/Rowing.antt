@@ -1,8 +1,8 @@
 -- The words of rows under values of the variables.
 use lib.Pointwise.{pointwise}
-use Rattle.std.proofs.Common.{◌≡◌, ◌≢◌, ℕ, zero, suc, ◌+◌, ◌<◌, ◌≤◌, inl, inr, ◌==◌, ◌&&◌, Bool, true, false, nat_eq, List, [], ◌∷◌, Option, None, Some, IfSome, Contains, drop, map, length, slice_get, slice_index_or, refl, ap, sym, ◌∙◌, subst, arith, eq-eqb, eqb-true, if◌then◌else◌}
+use Rattle.std.proofs.Common.{◌≡◌, ◌≢◌, ℕ, zero, suc, ◌+◌, ◌<◌, ◌≤◌, inl, inr, ◌==◌, Bool, true, false, nat_eq, List, [], ◌∷◌, Option, None, Some, IfSome, Contains, drop, length, slice_get, slice_index_or, refl, ap, sym, ◌∙◌, subst, arith, eq-eqb, eqb-true, if◌then◌else◌}
 use Rattle.std.specs.Cmp.Lexicographic.{same_text}
-use Rattle.std.proofs.lemmas.Bool.{true≢false, false≢true}
+use Rattle.std.proofs.lemmas.Bool.{true≢false}
 use Rattle.std.proofs.lemmas.Cmp.{nat_list_eq_equiv}
 use Rattle.std.proofs.lemmas.Option.{none-some, same_Some}
 use Rattle.bd_list.proofs.Membership.{Contains-cons, first, third}
@@ -22,7 +22,7 @@ use Rattle.bd_function.specs.Flat.{IsFlat, arguments, first_value, under}
 use Rattle.bd_equality.specs.declared.rows.RowPlace.{RowPlace}
 use Rattle.bd_equality.specs.declared.rows.Tail.{Tail}
 use Rattle.bd_equality.specs.Encoding.{IsVariable, KeepsMarkedApart, has_mark}
-use Rattle.bd_equality.specs.Made.{AreDifferent, AreRows, AreTakenApart, IsMarkedSymbol, IsRow, IsRowOf, IsUnmarkedWord, IsVariableWord, Pairs, RowFirst, RowSecond, TwoSymbols, Words}
+use Rattle.bd_equality.specs.Made.{AreDifferent, AreRows, AreTakenApart, IsRow, IsRowOf, IsUnmarkedWord, Pairs, RowFirst, RowSecond, TwoSymbols, Words}
 use Rattle.bd_equality.specs.inner.Means.{value_of}
 use Rattle.bd_equality.specs.inner.Rows.{AreMarkedSymbols, IsLeaf, IsRowAt, IsTail, equal_words}
 use Rattle.bd_equality.specs.declared.wanted.Wanted.{Wanted}

@@ -1,8 +1,7 @@
 -- A stack of visits settles what is wanted: each visit keeps what the stack owes, and makes the stack smaller.
-use Rattle.std.proofs.Common.{◌≡◌, ℕ, zero, suc, ◌+◌, ◌<◌, ◌≤◌, ◌⊎◌, inl, inr, List, [], ◌∷◌, ◌++◌, Option, Some, Contains, length, map, slice_get, refl, ap, sym, ◌∙◌, subst, arith, length-append, append_assoc}
+use Rattle.std.proofs.Common.{◌≡◌, ℕ, zero, suc, ◌+◌, ◌<◌, ◌≤◌, ◌⊎◌, inl, inr, List, [], ◌∷◌, ◌++◌, Option, Some, Contains, length, map, slice_get, refl, ap, sym, ◌∙◌, subst, arith}
 use Rattle.std.proofs.lemmas.List.{length_push}
 use Rattle.std.proofs.lemmas.Option.{none-some, slice_get_within}
-use Rattle.bd_list.proofs.Membership.{Contains-cons}
 use Rattle.bd_terms.specs.declared.node.Node.{Node}
 use Rattle.bd_terms.specs.Graph.{IsGraph}
 use Rattle.bd_terms.proofs.Places.{get-front, get-push}
@@ -16,9 +15,9 @@ use Rattle.bd_equality.specs.declared.wanted.Wanted.{Wanted}
 use Rattle.bd_equality.specs.declared.wanted.Wanted.TheVariants.{Truth, Equation}
 use Rattle.bd_equality.specs.declared.wanted.Way.TheVariants as way
 use Rattle.bd_equality.specs.declared.wanted.Way.{Way as TheWay}
-use Rattle.bd_equality.specs.inner.Split.{IsWanted, IsWay, arguments_at, args_of, equations, node_parts, parts, row_at}
+use Rattle.bd_equality.specs.inner.Split.{IsWanted, IsWay, arguments_at, args_of, equations, node_parts, parts}
 use Rattle.bd_equality.specs.inner.Steps.{AreKnown, Enters, IsAwaited, IsKnown, IsOwed, IsSettling, wanted_of}
-use Rattle.bd_equality.proofs.Splits.{APart, ArePreceding, NoPart, parts_precede, rank}
+use Rattle.bd_equality.proofs.Splits.{APart, ArePreceding, parts_precede, rank}
 use Rattle.bd_terms.specs.declared.node.Node.TheVariants.{Not, And, Or, Ite, Eq}
 
 -- a number added as often

@@ -1,8 +1,7 @@
 -- One step more of the encoding.
-use Rattle.std.proofs.Common.{◌≡◌, ℕ, ◌<◌, if◌then◌else◌, ◌==◌, ◌&&◌, inl, inr, Bool, true, false, List, [], ◌∷◌, Option, None, Some, length, slice_get, refl, ap, sym, ◌∙◌, subst, arith, eqb-true, eq-eqb}
-use Rattle.std.proofs.lemmas.Bool.{and_parts, false≢true, true≢false}
+use Rattle.std.proofs.Common.{◌≡◌, ℕ, ◌<◌, if◌then◌else◌, ◌==◌, ◌&&◌, inl, inr, Bool, true, false, List, [], ◌∷◌, Option, None, Some, length, slice_get, refl, ap, sym, ◌∙◌, subst, eqb-true, eq-eqb}
+use Rattle.std.proofs.lemmas.Bool.{and_parts, false≢true}
 use Rattle.std.proofs.lemmas.Option.{none-some, same_Some}
-use Rattle.bd_model.specs.declared.table.Scalar.{Scalar}
 use Rattle.bd_terms.specs.declared.node.Node.{Node}
 use Rattle.bd_terms.specs.declared.node.Node.TheVariants.{Eq}
 use Rattle.bd_terms.specs.Graph.{IsGraph}
@@ -19,13 +18,12 @@ use Rattle.bd_equality.specs.declared.wanted.RowPair.{RowPair}
 use Rattle.bd_equality.specs.declared.wanted.Wanted.{Wanted}
 use Rattle.bd_equality.specs.declared.wanted.Wanted.TheVariants.{Truth, Equation}
 use Rattle.bd_equality.specs.declared.wanted.Way.TheVariants as way
-use Rattle.bd_equality.specs.declared.wanted.Way.{Way as TheWay}
-use Rattle.bd_equality.specs.Encoding.{KeepsMarkedApart, atom_value}
+use Rattle.bd_equality.specs.Encoding.{atom_value}
 use Rattle.bd_equality.specs.Made.{APair, AreTakenApart, Chosen, Compared, Made, NoPair, OfEq, Pairs, Subject, Term, Way, Ways, Words, branch, conjoined, plainly, selected}
 use Rattle.bd_equality.specs.inner.Split.{AreCompared, IsControl, arguments_at, between, part, subject_of, way_of}
-use Rattle.bd_equality.specs.inner.Means.{Gives, HasAtoms, IsAny, Means, value_of}
+use Rattle.bd_equality.specs.inner.Means.{Gives, Means}
 use Rattle.bd_equality.specs.inner.Sets.{is_wanted, known}
-use Rattle.bd_equality.specs.inner.Steps.{AreInside, HasWay, Include, IncludeWith, IsEncoding, IsKnown, IsNode, Settles}
+use Rattle.bd_equality.specs.inner.Steps.{AreInside, HasWay, Include, IncludeWith, IsEncoding, IsNode, Settles}
 use Rattle.bd_equality.proofs.Flats.{truth_is}
 use Rattle.bd_equality.proofs.Giving.{Gives-adds, Means-Extends, Means-kind, Means-turned, adds_and, adds_ite}
 use Rattle.bd_equality.proofs.Making.{Extends-self, Extends-trans, MadeBy-Extends, comes}

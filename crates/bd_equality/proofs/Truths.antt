@@ -1,14 +1,12 @@
 -- The node of a truth value has the value of its connective over its parts.
-use Rattle.std.proofs.Common.{◌≡◌, ℕ, ◌<◌, ◌&&◌, ◌||◌, not, if◌then◌else◌, Bool, true, List, [], ◌∷◌, Option, Some, Result, Ok, Err, IfOk, length, slice_get, Contains, refl, ap, sym, ◌∙◌, subst, arith}
+use Rattle.std.proofs.Common.{◌≡◌, ℕ, ◌<◌, ◌&&◌, ◌||◌, not, if◌then◌else◌, Bool, true, List, [], ◌∷◌, Option, Some, Result, Ok, Err, IfOk, length, slice_get, refl, ap, sym, ◌∙◌, subst}
 use Rattle.bd_model.specs.declared.design.Sort.TheVariants as sort
 use Rattle.bd_model.specs.Value.{scalar_truth}
 use Rattle.bd_terms.specs.declared.node.Sym.{Sym}
 use Rattle.bd_terms.specs.declared.node.Node.{Node}
 use Rattle.bd_terms.specs.declared.node.Node.TheVariants.{True, Not, And, Or, Ite, Eq, App, Pred, Read, Write, Init}
-use Rattle.bd_terms.specs.Graph.{IsGraph, children, sort_at}
-use Rattle.bd_terms.specs.Reaches.{Reaches, Child}
+use Rattle.bd_terms.specs.Graph.{IsGraph, sort_at}
 use Rattle.bd_terms.proofs.Graphs.{sort_at-get}
-use Rattle.bd_terms.proofs.Reaching.{children-below}
 use Rattle.bd_function.specs.declared.flat.FlatSym.{FlatSym}
 use Rattle.bd_function.specs.Flat.{IsFlat}
 use Rattle.bd_prop.specs.declared.atom.Atom.{Atom}

@@ -1,5 +1,5 @@
 -- The words of rows, from their ends.
-use Rattle.std.specs.Prelude.{◌≡◌, ◌<◌, ◌==◌, ◌&&◌, ℕ, Bool, true, false, nat_eq, length, List, Contains, Option, None, Some, drop, slice_get, slice_index_or}
+use Rattle.std.specs.Prelude.{◌≡◌, ◌<◌, ◌==◌, ◌&&◌, ℕ, Bool, true, false, nat_eq, length, List, Option, None, Some, drop, slice_get, slice_index_or}
 use lib.Pointwise.{pointwise}
 use Rattle.bd_model.specs.declared.design.Sort.TheVariants as sort
 use Rattle.bd_model.specs.declared.table.Scalar.{Scalar}

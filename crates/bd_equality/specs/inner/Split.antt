@@ -6,8 +6,7 @@ use Rattle.bd_terms.specs.declared.node.Node.TheVariants.{Not, And, Or, Ite, Eq}
 use Rattle.bd_terms.specs.Graph.{HasSort}
 use Rattle.bd_function.specs.declared.flat.FlatRow.{FlatRow}
 use Rattle.bd_function.specs.declared.flat.FlatSym.{FlatSym}
-use Rattle.bd_equality.specs.Made.{AreDifferent, AreRows, AreTakenApart, ByArguments, ByControl, Never, Subject, Term, Words, Way, Ways, branch, head}
-use Rattle.bd_equality.specs.declared.wanted.RowPair.{RowPair}
+use Rattle.bd_equality.specs.Made.{AreDifferent, AreRows, AreTakenApart, ByArguments, ByControl, Never, Subject, Term, Words, Way, branch, head}
 use Rattle.bd_equality.specs.declared.wanted.Visit.{Visit}
 use Rattle.bd_equality.specs.declared.wanted.Visit.TheVariants.{Enter, Finish}
 use Rattle.bd_equality.specs.declared.wanted.Wanted.{Wanted}

@@ -1,7 +1,4 @@
-use Rattle.std.proofs.Common.{◌<◌, sym, subst}
-use Rattle.std.proofs.lemmas.Result.{IfOk-weaker}
-use Rattle.bd_prop.specs.Form.{HasForm, ite_form}
-use Rattle.bd_equality.specs.inner.Split.{part}
+use Rattle.std.proofs.Common.{subst}
 use Rattle.bd_equality.specs.inner.Steps.{IsNode}
 use Rattle.bd_equality.proofs.Finishing.{chosen_of}
 use Rattle.bd_equality.proofs.encoding.chosen.Goals as goal

@@ -1,6 +1,6 @@
-use Rattle.std.proofs.Common.{◌≡◌, ◌<◌, ◌≤◌, ◌+◌, ◌-◌, ℕ, Some, length, slice_get, ap, sym, ◌∙◌, subst, arith}
+use Rattle.std.proofs.Common.{◌≡◌, ◌<◌, ◌+◌, ◌-◌, ℕ, Some, length, slice_get, ap, sym, ◌∙◌, subst, arith}
 use Rattle.std.proofs.lemmas.Option.{slice_get-get_or}
-use Rattle.bd_equality.specs.inner.Split.{arguments_at, between, equations}
+use Rattle.bd_equality.specs.inner.Split.{arguments_at, equations}
 use Rattle.bd_equality.specs.inner.Steps.{AreKnown, IsKnown, IsNode}
 use Rattle.bd_equality.proofs.Finishing.{GivesPairs, known_at, pairs_more, pairs_start}
 use Rattle.bd_equality.proofs.Making.{Extends-trans}

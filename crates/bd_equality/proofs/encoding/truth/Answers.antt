@@ -1,5 +1,4 @@
-use Rattle.std.proofs.Common.{Some, ap, sym, ◌∙◌, subst}
-use Rattle.bd_terms.specs.declared.node.Node.TheVariants.{Not, And, Or, Ite, Eq}
+use Rattle.std.proofs.Common.{Some, ap, ◌∙◌, subst}
 use Rattle.bd_equality.specs.declared.wanted.Wanted.TheVariants.{Truth}
 use Rattle.bd_equality.specs.Made.{Term}
 use Rattle.bd_equality.specs.inner.Split.{between}

@@ -1,5 +1,4 @@
-use Rattle.std.proofs.Common.{◌<◌, ◌∷◌, [], Some, ap, ◌∙◌, arith}
-use Rattle.std.proofs.lemmas.Option.{slice_get_within}
+use Rattle.std.proofs.Common.{◌∷◌, [], Some, ap, ◌∙◌, arith}
 use Rattle.bd_list.proofs.Membership.{first, second}
 use Rattle.bd_terms.specs.declared.node.Node.TheVariants.{And}
 use Rattle.bd_terms.proofs.Reaching.{children-below}

@@ -1,4 +1,4 @@
-use Rattle.std.proofs.Common.{◌≡◌, ℕ, ◌++◌, map, take}
+use Rattle.std.proofs.Common.{◌≡◌, ◌++◌, map, take}
 use Rattle.bd_equality.specs.declared.wanted.Visit.TheVariants.{Enter}
 use Rattle.bd_equality.specs.inner.Split.{equations}
 use Rattle.bd_equality.proofs.parts.push_arguments.Given as goal

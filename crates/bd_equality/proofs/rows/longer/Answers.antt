@@ -1,4 +1,4 @@
-use Rattle.std.proofs.Common.{◌≡◌, ◌+◌, sym, arith, ◌∙◌, subst}
+use Rattle.std.proofs.Common.{◌≡◌, ◌+◌, sym, arith, subst}
 use Rattle.std.proofs.lemmas.Option.{same_Some}
 use Rattle.bd_equality.specs.inner.Rows.{IsTail}
 use Rattle.bd_equality.proofs.Rowing.{tail_longer}

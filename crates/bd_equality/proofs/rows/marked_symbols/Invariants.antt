@@ -1,4 +1,4 @@
-use Rattle.std.proofs.Common.{ℕ, option_copied}
+use Rattle.std.proofs.Common.{option_copied}
 use Rattle.bd_equality.proofs.Passing.{AreSaid}
 use Rattle.bd_equality.proofs.rows.marked_symbols.Given as goal
 

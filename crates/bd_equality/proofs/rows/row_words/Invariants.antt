@@ -1,4 +1,4 @@
-use Rattle.std.proofs.Common.{◌≡◌, ℕ, length, option_copied}
+use Rattle.std.proofs.Common.{◌≡◌, length, option_copied}
 use Rattle.bd_equality.specs.inner.Rows.{AreTails}
 use Rattle.bd_equality.proofs.rows.row_words.Given as goal
 

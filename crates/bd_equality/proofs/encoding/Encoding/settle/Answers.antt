@@ -1,4 +1,4 @@
-use Rattle.std.proofs.Common.{◌≡◌, ◌++◌, ◌∷◌, [], refl, ap, sym, ◌∙◌, subst, arith, option_copied}
+use Rattle.std.proofs.Common.{◌≡◌, ◌++◌, ◌∷◌, [], ap, ◌∙◌, arith, option_copied}
 use Rattle.std.proofs.lemmas.Grind.{common_steps}
 use Rattle.bd_equality.specs.declared.wanted.Visit.TheVariants.{Enter, Finish}
 use Rattle.bd_equality.proofs.Settling.{IsSettling-end, IsSettling-enters, IsSettling-settled, IsSettling-start, smaller-enter, smaller-top, top_parts, top_wanted, top_way, width}

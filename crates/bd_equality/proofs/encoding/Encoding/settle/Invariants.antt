@@ -1,4 +1,4 @@
-use Rattle.std.proofs.Common.{ℕ, option_copied}
+use Rattle.std.proofs.Common.{option_copied}
 use Rattle.bd_equality.specs.declared.wanted.Wanted.{Wanted}
 use Rattle.bd_equality.specs.inner.Steps.{IsEncoding, IsKnown, IsSettling}
 use Rattle.bd_equality.proofs.Settling.{weight_all, width}
