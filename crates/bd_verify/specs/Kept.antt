@@ -137,7 +137,7 @@ pub record IsEncoded (d : DesignView) (nodes : List Node) (root : ℕ) (syms : L
     (prop : List PropNode) (prop_root : ℕ) (edges apart : List Edge) : Type 0 where
   pub graph : IsPropGraph prop
   pub inside : prop_root < length prop
-  pub made : Made nodes marked prop (FlatTerm root) prop_root
+  pub made : Made nodes syms marked prop (FlatTerm root) prop_root
   pub denotes : Encodes nodes root marked prop prop_root
   pub by_edges : EncodesByEdges nodes root marked edges prop prop_root
   pub simple : AreEdges edges
