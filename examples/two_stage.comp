@@ -1,1 +1,4 @@
-../crates/burch_dill/data/two_stage.comp
+; What the two stages stand for: the write that is pending is done.
+(completion
+ (abstract pc pc)
+ (abstract rf (ite v (write rf d (alu o a)) rf)))

@@ -1,1 +1,4 @@
-../crates/burch_dill/data/write_dropped.comp
+; The same, but the write that is pending is left out.
+(completion
+ (abstract pc pc)
+ (abstract rf rf))

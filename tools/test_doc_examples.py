@@ -55,12 +55,11 @@ class Reading(unittest.TestCase):
 
 class Folder(unittest.TestCase):
     def test_the_program_s_examples_are_among_them(self) -> None:
-        """Each design of the program's folder is there too, byte for byte, and no link leads elsewhere."""
+        """Each design of the program's folder is there too, byte for byte, as a file: the gate refuses links."""
         data = EXAMPLES.parent / "crates" / "burch_dill" / "data"
         for path in data.iterdir():
             self.assertEqual((EXAMPLES / path.name).read_bytes(), path.read_bytes(), path.name)
-        links = [path for path in EXAMPLES.iterdir() if path.is_symlink()]
-        self.assertEqual({path.resolve().parent for path in links}, {data})
+        self.assertFalse([path.name for path in EXAMPLES.iterdir() if path.is_symlink()])
 
 
 class Running(unittest.TestCase):
