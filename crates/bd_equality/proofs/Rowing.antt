@@ -287,7 +287,7 @@ tail_longer nodes g syms tail from control on q r left right next at own l m lea
       is = λ v.
           let equal : truth (under v) nodes control ≡ equal_words nodes v q.args t.row.args = same v ∙ (λ i. equal_words nodes v (l i) (m i)) ∙ ap (λ (z : FlatRow). equal_words nodes v q.args z.args) (sym one) in
           let rest : word (under v) nodes off ≡ scalar_word (first_value v nodes (drop (from + 1) t.holder.rows) (arguments v nodes t.row)) =
-              t.is v ∙ ap (λ n. scalar_word (first_value v nodes (drop n t.holder.rows) (arguments v nodes t.row))) next in
+          t.is v ∙ ap (λ n. scalar_word (first_value v nodes (drop n t.holder.rows) (arguments v nodes t.row))) next in
           word_ite nodes g id control on off node v
           ∙ (λ i. if equal i then leaf.value v i else rest i)
           ∙ choice (equal_words nodes v q.args t.row.args) (v q.var) (first_value v nodes (drop (from + 1) t.holder.rows) (arguments v nodes t.row))

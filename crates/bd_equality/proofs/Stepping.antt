@@ -110,9 +110,9 @@ module _ (nodes : List Node) (syms : List FlatSym) (marked : Option (List ℕ)) 
   Gives-pair settled p q r a b x y id left right h n m e inside form truth =
       let mx = Means-Extends nodes syms marked (Include syms settled) p q x (Words a b) m.extends (Means-between (Include syms settled) p a b x (part_means p settled h (between a b) x n)) in
       let step = Gives-adds nodes syms marked (Include syms settled) q r (prop.And x y) id (Pairs (a ∷ left) (b ∷ right)) tt e inside (adds_and q r id x y form)
-          (λ v k. truth (atom_value v) ∙ (λ j. mx.is v k j && m.means.is v k j))
-          (λ ways k. APair a b left right x y id (MadeBy-Extends nodes syms marked ways q r e _ x (mx.made ways k)) (MadeBy-Extends nodes syms marked ways q r e _ y (m.means.made ways k))
-          (comes q r (x ∷ y ∷ []) (conjoined x y) id (mx.inside, (m.means.inside, tt)) form)) in
+      (λ v k. truth (atom_value v) ∙ (λ j. mx.is v k j && m.means.is v k j))
+      (λ ways k. APair a b left right x y id (MadeBy-Extends nodes syms marked ways q r e _ x (mx.made ways k)) (MadeBy-Extends nodes syms marked ways q r e _ y (m.means.made ways k))
+      (comes q r (x ∷ y ∷ []) (conjoined x y) id (mx.inside, (m.means.inside, tt)) form)) in
       record { extends = Extends-trans p q r m.extends e; atoms = λ k. step.atoms (m.atoms k); means = step.means }
 
   -- a node is kept

@@ -10,11 +10,11 @@ ghost use Rattle.bd_equality.specs.inner.Split.{AreAlike, IsControl, IsPair, IsW
 ghost use Rattle.bd_equality.specs.inner.Steps.{AreInside, AreKnown, Enters, GivesNever, Include, IncludeWith, IsEncoding, Settles};
 
 use crate::leaf::{leaf, symbol_variable};
-use crate::trees::Trees;
 use crate::parts::{push, push_parts};
 use crate::rows::{RowWords, arguments_at};
 use crate::settled::Settled;
 use crate::split::sides;
+use crate::trees::Trees;
 use crate::wanted::{RowPair, Visit, Wanted, Way, between};
 use crate::ways::way;
 use bd_function::{Flat, Marked};

@@ -61,12 +61,7 @@ impl Settled {
     }
 
     /// Keeps a node, and the way in which it was made.
-    pub(crate) fn keep(
-        &mut self,
-        wanted: &Wanted,
-        way: Way,
-        node: usize,
-    ) -> Result<(), AllocError>
+    pub(crate) fn keep(&mut self, wanted: &Wanted, way: Way, node: usize) -> Result<(), AllocError>
         ensures { OnOk result ((w : TheWanted) → known self.new w
             ≡ (if is_wanted wanted.now w then Some (done_in way node) else known self.old w)) }
     {

@@ -7,9 +7,9 @@ ghost use Rattle.bd_equality.specs.inner.Rows.{AreTails, IsRowAt};
 ghost use Rattle.bd_equality.specs.inner.Split.{IsPair, IsRowWay, IsWanted, IsWay};
 
 use crate::leaf::{has_mark, symbol_variable};
-use crate::trees::Trees;
 use crate::rows::{RowPlace, RowWords, arguments_at};
 use crate::split::head;
+use crate::trees::Trees;
 use crate::wanted::{RowPair, Wanted, Way};
 use bd_function::{Flat, Marked};
 use bd_terms::{Id, Node};
