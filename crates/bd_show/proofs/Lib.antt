@@ -4,5 +4,6 @@ pub mod Readable
 pub mod Refusals
 pub mod Answers
 pub mod Trails
+pub mod Runs
 pub mod Asked
 pub mod Joins

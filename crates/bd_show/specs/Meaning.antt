@@ -31,6 +31,7 @@ use Rattle.bd_about.specs.AllLines.{about_lines}
 use Rattle.bd_about.specs.Conjuncts.{AreConjuncts}
 use Rattle.bd_about.specs.Unread.{IsUnread}
 use Rattle.bd_about.specs.declared.asking.Finding.{Finding}
+use Rattle.bd_about.specs.declared.asking.Finding.TheVariants as finding
 use Rattle.bd_about.specs.declared.asking.Findings.{Findings}
 use Rattle.bd_about.specs.declared.counting.Applications.{Applications}
 use Rattle.bd_about.specs.declared.unread.Unread.{Unread as AllUnread}
@@ -38,6 +39,10 @@ use Rattle.bd_about.specs.declared.unread_lines.LetNames.{LetNames}
 use Rattle.bd_files.specs.Devices.{Held, Holds as IsHeld, Rose, saving}
 use Rattle.bd_picture.specs.Page.{IsPage}
 use Rattle.bd_picture.specs.Sentence.{compared_sentence, completed_sentence, sentence}
+use Rattle.bd_bounded.specs.Answer.{HasWorkIn, Says as SaysOfRuns}
+use Rattle.bd_bounded.specs.declared.answer.Bounded.{Bounded}
+use Rattle.bd_bounded.specs.declared.answer.Bounded.TheVariants as run
+use Rattle.bd_app.specs.Bounded.{bounded_words}
 use Rattle.bd_app.specs.Completions.{abstraction_by}
 use Rattle.bd_app.specs.Files.{IsFirstLong, KeepsAllBut, loads}
 use Rattle.bd_app.specs.Meaning.{Called, CalledFirst, FilesSeen, LoadedUpTo}
@@ -59,12 +64,19 @@ use Rattle.bd_show.specs.LetNames.{AreLetNames}
 use Rattle.bd_show.specs.declared.answer.Ended.{Ended}
 use Rattle.bd_show.specs.declared.answer.Ended.TheVariants.{Checked, Shown, Completed, Compared, Traced, Shrunk, Explained, Unknown, Unbroken, Described, Proved, BadProof, Refused, TooLong, Unread, Unsaved, Memory}
 
--- what is asked: whether a design is right, in a mode and with a budget; what a case shows, all of it or what is left
+-- what is asked: whether a design is right, in a mode and with a budget, or so for a number of cycles from a start, which
+-- stands in the place of an invariant; what a case shows, all of it or what is left
 -- of it, maybe with a page; what is left of a case; why a value of a case, all of it or what is left of it, is what it
 -- is; what can be said of a design without a case; or whether a text over the formula that is kept in a mode proves a
 -- design right
 pub record Check : Type 0 where
   pub names : Names
+  pub mode : Mode
+  pub budget : ℕ
+
+pub record BoundedCheck : Type 0 where
+  pub names : Names
+  pub cycles : ℕ
   pub mode : Mode
   pub budget : ℕ
 
@@ -84,6 +96,7 @@ pub record Recheck : Type 0 where
 
 pub data Question : Type 0 where
   check : Check → Question
+  bounded : BoundedCheck → Question
   show : Show → Question
   shrink : Names → Question
   explain : Explain → Question
@@ -92,6 +105,7 @@ pub data Question : Type 0 where
 
 abbrev pub asked_names : Question → Names
 asked_names (check q) = q.names
+asked_names (bounded q) = q.names
 asked_names (show q) = q.names
 asked_names (shrink names) = names
 asked_names (explain q) = q.names
@@ -100,6 +114,7 @@ asked_names (recheck q) = q.names
 
 abbrev pub asked_page : Question → Option Name
 asked_page (check q) = None
+asked_page (bounded q) = None
 asked_page (show q) = q.page
 asked_page (shrink names) = None
 asked_page (explain q) = None
@@ -198,6 +213,29 @@ pub record IsChecked (asked : Asked) (d : DesignView) (found : Finding) (text : 
   pub is_shown : IsShownOf d verdict shown
   pub lines : text ≡ (verdict_words asked.budget verdict ++ 10 ∷ []) ++ shown
 
+-- what was found over so many cycles, without its trail and its work
+abbrev pub run_finding : Bounded → Finding
+run_finding (run.Kept work) = finding.Right
+run_finding (run.Broken cycle t work) = finding.Wrong Commute
+run_finding (run.Undecided work) = finding.Undecided
+
+-- what is shown of the trail that breaks, of a design without its start; nothing of another answer
+abbrev pub IsRunShown : DesignView → Bounded → List ℕ → Type 0
+IsRunShown d (run.Broken cycle t work) text = IsTrailShown d t (trail.Broken cycle) text
+IsRunShown d found text = text ≡ []
+
+-- what was found of so many cycles from the start is true of the design, and has its work; the text is its line, and
+-- what is shown of its trail
+pub record IsBoundedChecked (q : BoundedCheck) (d : DesignView) (found : Finding)
+    (text : List ℕ) : Type 0 where
+  pub answer : Bounded
+  pub says : SaysOfRuns d q.cycles answer
+  pub work : HasWorkIn d q.cycles q.mode q.budget answer
+  pub finding : found ≡ run_finding answer
+  pub shown : List ℕ
+  pub is_shown : IsRunShown (unstarted d) answer shown
+  pub lines : text ≡ (bounded_words q.cycles q.budget answer ++ 10 ∷ []) ++ shown
+
 -- the text is a small case that breaks the same condition, and reads back as that case
 pub record IsSmaller (d : DesignView) (c : Case) (k : Condition) (text : List ℕ) : Type 0 where
   pub is_judged : IsJudged d c (Broken k)
@@ -261,6 +299,9 @@ OfDesign texts P = (d : DesignView) × AreDesign texts (Ok d) × P d
 abbrev pub OfCase : Texts → (DesignView → Case → Type 0) → Type 0
 OfCase texts P = (d : DesignView) × (c : Case) × AreCase texts d c × P d c
 
+abbrev pub OfStarted : Texts → (DesignView → Type 0) → Type 0
+OfStarted texts P = (d : DesignView) × AreStarted texts (Ok d) × P d
+
 abbrev pub OfTrail : Texts → (DesignView → Trail → Type 0) → Type 0
 OfTrail texts P = (d : DesignView) × (t : Trail) × AreTrail texts d t × P d t
 
@@ -280,6 +321,7 @@ IsShownFault (Some comp) texts file offset code = IsJoinedFault texts file offse
 abbrev pub IsAskedFault : Question → Texts → Text → ℕ → Code → Type 0
 IsAskedFault (show q) texts file offset code = IsShownFault texts.comp texts file offset code
 IsAskedFault (check q) texts file offset code = IsTextFault texts file offset code
+IsAskedFault (bounded q) texts file offset code = IsStartedFault texts file offset code
 IsAskedFault (shrink names) texts file offset code = IsTextFault texts file offset code
 IsAskedFault (explain q) texts file offset code = IsTextFault texts file offset code
 IsAskedFault (about names) texts file offset code = IsTextFault texts file offset code
@@ -298,6 +340,8 @@ Says q texts (Refused file offset code) text =
     × IsRefusedText (asked_names q) texts file offset code text
 Says (check q) texts (Checked found) text =
     OfDesign texts (λ d. IsChecked (asked_of q) d found text)
+Says (bounded q) texts (Checked found) text =
+    OfStarted texts (λ d. IsBoundedChecked q d found text)
 Says (show q) texts (Shown j) text =
     (texts.comp ≡ None) × OfCase texts (λ d c. IsShownOfText texts.case q.whole d c j text)
 Says (show q) texts (Completed j) text =

@@ -3,6 +3,7 @@
 
 mod about;
 mod answer;
+mod bounding;
 mod checking;
 mod claim;
 mod claim_names;
