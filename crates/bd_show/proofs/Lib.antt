@@ -5,5 +5,6 @@ pub mod Refusals
 pub mod Answers
 pub mod Trails
 pub mod Runs
+pub mod Checks
 pub mod Asked
 pub mod Joins

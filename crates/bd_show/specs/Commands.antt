@@ -14,12 +14,12 @@ use Rattle.bd_app.specs.Words.{budget_option, flag, flag_at, in_range, machines_
 use Rattle.bd_show.specs.Files.{Names}
 use Rattle.bd_show.specs.Meaning.{BoundedCheck, Check, Explain, Question, Recheck, Show, bounded, check, show, shrink, explain, about, recheck}
 
--- check PIPE SPEC [INV] [--diverse] [--budget N] [--start START] [--cycles C]
+-- check PIPE SPEC [INV] [--diverse] [--budget N] [--start START] [--cycles C] [--case FILE]
 abbrev pub check_command : Shape
 check_command =
     machines_command (codes "check") (new_rule (codes "INV") ∷ flag (codes "diverse")
     ∷ budget_option ∷ option (codes "start")
-    ∷ in_range 0 most_cycles (option (codes "cycles")) ∷ [])
+    ∷ in_range 0 most_cycles (option (codes "cycles")) ∷ option (codes "case") ∷ [])
 
 -- show PIPE SPEC CASE [INV] [--whole] [--comp COMP] [--html FILE]
 abbrev pub show_command : Shape
@@ -71,6 +71,7 @@ check_question rows = record {
   names = design_names rows;
   mode = mode_at (codes "diverse") rows;
   budget = number_of (codes "budget") rows;
+  case = first_of (codes "case") rows;
 }
 
 abbrev pub bounded_question : ℕ → List Row → BoundedCheck
@@ -79,6 +80,7 @@ bounded_question cycles rows = record {
   cycles = min cycles most_cycles;
   mode = mode_at (codes "diverse") rows;
   budget = number_of (codes "budget") rows;
+  trail = first_of (codes "case") rows;
 }
 
 -- a start and a number of cycles stand together, and not with an invariant

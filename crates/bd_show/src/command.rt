@@ -100,6 +100,7 @@ fn check_command<'a>(alloc: Global) -> Result<clap::Command<'a>, AllocError>
     let command = with(command, described(budget(alloc), BUDGET))?;
     let command = with(command, described(option(alloc, "start"), START))?;
     let command = with(command, described(cycles(alloc), CYCLES))?;
+    let command = with(command, described(option(alloc, "case"), CASE))?;
     Ok(explained(command, LEGEND))
 }
 
@@ -205,6 +206,8 @@ const START: &str = "Asks of runs that begin where START is true, with --cycles 
 
 const CYCLES: &str = "How many cycles from there, 0 to 16";
 
+const CASE: &str = "Saves the case or the trail that breaks, as burch_dill prints it";
+
 const WHOLE: &str = "The case as it is, with all of its values";
 
 const COMP: &str = "By this completion function, in place of flushing; after `differ`, beside it";
@@ -276,6 +279,7 @@ fn check_question<'a>(matches: &ArgMatches<'a>) -> Option<Command<'a>>
             names: design_names(matches),
             mode: mode_at(matches, "diverse"),
             budget: required_number(matches, "budget"),
+            case: word_at(matches, "case"),
         })),
         Some(cycles) if start.is_some() && inv.is_none() => {
             Some(Command::Bounded(BoundedOptions {
@@ -286,6 +290,7 @@ fn check_question<'a>(matches: &ArgMatches<'a>) -> Option<Command<'a>>
                 cycles: cycles.min(MOST_CYCLES),
                 mode: mode_at(matches, "diverse"),
                 budget: required_number(matches, "budget"),
+                trail: word_at(matches, "case"),
             }))
         }
         _ => None,
@@ -373,5 +378,5 @@ pub fn command_of<'a>(alloc: Global, words: &'a [String]) -> Result<Command<'a>,
 }
 
 const NONE: &[u8] =
-    b"usage: bd_view check PIPE SPEC [INV] [--diverse] or PIPE SPEC --start START --cycles C, show|shrink|why PIPE SPEC CASE [INV], \
-about PIPE SPEC [INV], or recheck PIPE SPEC PROOF [INV] [--diverse]; --help says more\n";
+    b"usage: bd_view check PIPE SPEC [INV | --start START --cycles C] [--diverse], \
+show|shrink|why PIPE SPEC CASE [INV], about PIPE SPEC [INV], or recheck PIPE SPEC PROOF [INV] [--diverse]; --help says more\n";

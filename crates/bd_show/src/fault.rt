@@ -189,7 +189,8 @@ pub fn refused_start(
     fault: DesignFault,
 ) -> Result<Answer, AllocError>
     requires { IsRefusedBy (IsStartedFault (texts_view texts.now)) fault }
-    ensures { IfOk result (λ a. (q : BoundedCheck) → q.names ≡ names_of names.entry →
+    ensures ended { IfOk result (λ a. IsRefusal a.ended) }
+    ensures says { IfOk result (λ a. (q : BoundedCheck) → q.names ≡ names_of names.entry →
         Says (Question.bounded q) (texts_view texts.now) a.ended a.text.items) }
 {
     fault_answer(alloc, names, texts, fault)

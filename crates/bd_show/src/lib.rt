@@ -12,6 +12,7 @@ mod completed;
 mod fault;
 mod load;
 mod names;
+mod next;
 mod open;
 mod place;
 mod program;

@@ -25,7 +25,9 @@ use Rattle.bd_app.specs.declared.loading.LoadFault.TheVariants.{Failed, TooLong,
 use Rattle.bd_picture.specs.Page.{IsPage}
 use Rattle.bd_picture.specs.Sentence.{compared_sentence, completed_sentence, sentence}
 use Rattle.bd_show.specs.Files.{AreStarted, BlamesSave, Names, Texts, has_trail, name_in, names_of, or_none}
-use Rattle.bd_show.specs.Meaning.{AreJoinedDesign, BoundedCheck, Check, Explain, IsAnswered, IsBoundedChecked, IsChecked, IsRunShown, IsCompared, IsCompleted, IsBadProof, IsDescribed, IsProved, IsShown, IsSmaller, IsTrailShown, IsUnbroken, OfDesign, OfStarted, Question, Recheck, Says, Show, asked_of, bounded, nothing_to_explain, nothing_to_shrink, show}
+use Rattle.bd_show.specs.Meaning.{AreJoinedDesign, BoundedCheck, Check, Explain, IsAnswered, IsBoundedChecked, IsCaseText, IsChecked, IsRunShown, IsTrailText, IsCompared, IsCompleted, IsBadProof, IsDescribed, IsProved, IsShown, IsSmaller, IsTrailShown, IsUnbroken, OfDesign, OfStarted, Question, Recheck, Says, Show, bounded, check, nothing_to_explain, nothing_to_shrink, run_finding, show}
+use Rattle.bd_about.specs.declared.asking.Finding.TheVariants as finding
+use Rattle.bd_show.specs.Next.{goes_on}
 use Rattle.bd_show.specs.Trails.{cycle_case}
 use Rattle.bd_show.specs.declared.answer.Answer.{Answer}
 use Rattle.bd_show.specs.declared.answer.Ended.{Ended}
@@ -39,8 +41,12 @@ use Rattle.bd_show.specs.declared.why.WhyOptions.{WhyOptions}
 
 -- the question of these options
 abbrev pub check_of : CheckOptions → Check
-check_of options =
-    record { names = names_of options.names; mode = options.mode; budget = options.budget }
+check_of options = record {
+  names = names_of options.names;
+  mode = options.mode;
+  budget = options.budget;
+  case = given options.case;
+}
 
 abbrev pub bounded_of : BoundedOptions → BoundedCheck
 bounded_of options = record {
@@ -48,6 +54,7 @@ bounded_of options = record {
   cycles = options.cycles;
   mode = options.mode;
   budget = options.budget;
+  trail = given options.trail;
 }
 
 -- there are at most 16 cycles
@@ -104,8 +111,19 @@ IsUnloaded names Memory e text = ⊥
 
 -- what `check` says of a design
 abbrev pub IsOfVerdict : Check → DesignView → Ended → List ℕ → Type 0
-IsOfVerdict q d (ended.Checked found) text = IsChecked (asked_of q) d found text
+IsOfVerdict q d (ended.Checked found) text = IsChecked q d found text
 IsOfVerdict q d e text = ⊥
+
+-- the text of the case of `wrong`, as it is saved; another answer has none
+abbrev pub IsCaseSaved : DesignView → Ended → Option (List ℕ) → Type 0
+IsCaseSaved d (ended.Checked (finding.Wrong k)) bytes = MatchOption bytes ⊥ (IsCaseText d k)
+IsCaseSaved d e bytes = bytes ≡ None
+
+-- the same of the trail of so many cycles
+abbrev pub IsTrailSaved : ℕ → DesignView → Ended → Option (List ℕ) → Type 0
+IsTrailSaved cycles d (ended.Checked (finding.Wrong k)) bytes =
+    MatchOption bytes ⊥ (IsTrailText d cycles)
+IsTrailSaved cycles d e bytes = bytes ≡ None
 
 -- what `shrink` says of a case
 abbrev pub IsOfCase : DesignView → Case → Ended → List ℕ → Type 0
@@ -158,11 +176,12 @@ IsBreakingRun d (run.Broken cycle t work) =
 IsBreakingRun d _ = Unit {0}
 
 -- the text of an answer on so many cycles, in a design without its start
-pub record IsRunText (cycles budget : ℕ) (d : DesignView) (found : Bounded) (text : List ℕ) :
+pub record IsRunText (q : BoundedCheck) (d : DesignView) (found : Bounded) (text : List ℕ) :
     Type 0 where
   pub shown : List ℕ
   pub is_shown : IsRunShown d found shown
-  pub lines : text ≡ (bounded_words cycles budget found ++ 10 ∷ []) ++ shown
+  pub lines : text ≡ ((bounded_words q.cycles q.budget found ++ 10 ∷ []) ++ shown)
+      ++ goes_on (codes "show") q.names q.trail (run_finding found)
 
 -- what `check` says of a design with a start
 abbrev pub IsOfRun : BoundedCheck → DesignView → Ended → List ℕ → Type 0
@@ -199,6 +218,25 @@ IsDrawn texts (ended.Compared same) page =
 IsDrawn texts (ended.Traced j) page =
     OfStarted texts (λ d. IsTrailPage d j page)
 IsDrawn texts e page = page ≡ None
+
+-- the case of `wrong` is one of the design of texts
+abbrev pub IsCaseKept : Texts → Ended → Option (List ℕ) → Type 0
+IsCaseKept texts (ended.Checked (finding.Wrong k)) bytes =
+    OfDesign texts (λ d. MatchOption bytes ⊥ (IsCaseText d k))
+IsCaseKept texts e bytes = bytes ≡ None
+
+-- and the trail one of the design with its start
+abbrev pub IsTrailKept : ℕ → Texts → Ended → Option (List ℕ) → Type 0
+IsTrailKept cycles texts (ended.Checked (finding.Wrong k)) bytes =
+    OfStarted texts (λ d. MatchOption bytes ⊥ (IsTrailText d cycles))
+IsTrailKept cycles texts e bytes = bytes ≡ None
+
+-- what is to be saved is that of the answer to a question
+abbrev pub IsToSave : Question → Texts → Ended → Option (List ℕ) → Type 0
+IsToSave (check q) texts e bytes = IsCaseKept texts e bytes
+IsToSave (bounded q) texts e bytes = IsTrailKept q.cycles texts e bytes
+IsToSave (show q) texts e bytes = IsDrawn texts e bytes
+IsToSave q texts e bytes = bytes ≡ None
 
 -- what is shown has the answer and the text that `show` gives on the texts
 abbrev pub HasAnswer : ShowOptions → Texts → Showing → Type 0
