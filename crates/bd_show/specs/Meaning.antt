@@ -182,9 +182,10 @@ pub record IsTraced (d : DesignView) (t : Trail) (judged : TrailJudged) (text : 
 abbrev pub asked_of : Check → Asked
 asked_of q = record { budget = q.budget; mode = q.mode; given = is_some q.names.inv }
 
--- what is shown of the case of `wrong`, made small; nothing of another verdict
+-- what is shown of `wrong`: a case that breaks the same condition, made small; nothing of another verdict
 abbrev pub IsShownOf : DesignView → Verdict → List ℕ → Type 0
-IsShownOf d (verdict.Wrong k c work) text = IsShown false d c (Broken k) text
+IsShownOf d (verdict.Wrong k c work) text =
+    (simple : Case) × Fits d simple × IsJudged d simple (Broken k) × IsShown false d simple (Broken k) text
 IsShownOf d v text = text ≡ []
 
 -- what was found is a verdict that may come and is true of the design, with its work; the text is its line, and what

@@ -1,7 +1,10 @@
 //! `check`: whether a pipeline is right, and where it isn't, what a case shows.
 ghost use Rattle.std.specs.Prelude.{◌≡◌, IfOk};
 ghost use Rattle.bd_model.specs.DesignView.{design_view};
+ghost use Rattle.bd_model.specs.Conditions.{IsJudged};
+ghost use Rattle.bd_model.specs.Fits.{Fits};
 ghost use Rattle.bd_model.specs.Lawful.{IsLawful};
+ghost use Rattle.bd_model.specs.declared.case.Judged.TheVariants.{Broken};
 ghost use Rattle.bd_app.specs.Meaning.{files_seen};
 ghost use Rattle.bd_app.specs.Verdicts.{IsVerdict};
 ghost use Rattle.bd_show.specs.LetNames.{AreReadable};
@@ -17,10 +20,12 @@ use crate::names::machine_lets;
 use crate::read::design;
 use crate::show::pictured_text;
 use bd_about::finding_of;
+use bd_app::loading::loaded_slice;
 use bd_app::{Asked, decide, verdict_report};
 use bd_files::Files;
-use bd_model::{Design, Judged};
+use bd_model::{Case, Condition, Design, Judged};
 use bd_picture::ShownNames;
+use bd_simplest::{DesignTexts, simplest};
 use bd_syntax::Kind;
 use bd_verify::{Mode, Verdict};
 use std::alloc::{AllocError, Global};
@@ -44,6 +49,33 @@ fn asked(options: CheckOptions<'_>) -> Asked
     }
 }
 
+/// A case that breaks the same condition, with as few instructions in flight as may be where that is the diagram.
+fn simple_case(
+    alloc: Global,
+    options: CheckOptions<'_>,
+    texts: &Texts,
+    design: &Design,
+    condition: Condition,
+    case: &Case,
+) -> Result<Case, AllocError>
+    requires few { AreFew (texts_view texts.now) }
+    requires lawful { IsLawful (design_view design.now) }
+    requires fits { Fits (design_view design.now) case.now }
+    requires broken { IsJudged (design_view design.now) case.now (Broken condition) }
+    ensures fits { IfOk result (Fits (design_view design.now)) }
+    ensures broken { IfOk result (λ c. IsJudged (design_view design.now) c (Broken condition)) }
+{
+    if condition == Condition::Invariant {
+        return case.clone();
+    }
+    let design_texts = DesignTexts {
+        pipe: texts.pipe.as_slice(),
+        spec: texts.spec.as_slice(),
+        inv: loaded_slice(&texts.inv),
+    };
+    simplest(alloc, design_texts, design, case, options.mode)
+}
+
 /// What is shown of the case of `wrong`, made small. Another verdict has none to show.
 fn shown_case(
     alloc: Global,
@@ -53,6 +85,7 @@ fn shown_case(
     verdict: &Verdict,
 ) -> Result<Vec<u8>, AllocError>
     requires lawful { IsLawful (design_view design.now) }
+    requires few { AreFew (texts_view texts.now) }
     requires verdict { IsVerdict (design_view design.now)
         (asked_of (check_of options)) verdict.now }
     requires readable { AreReadable (texts_view texts.now) }
@@ -68,8 +101,8 @@ fn shown_case(
                 steps: steps.as_slice(),
                 claims: claims.as_slice(),
             };
-            let judged = Judged::Broken(*condition);
-            pictured_text(alloc, design, case, judged, names)
+            let simple = simple_case(alloc, options, texts, design, *condition, case)?;
+            pictured_text(alloc, design, &simple, Judged::Broken(*condition), names)
         }
         _ => Ok(Vec::new(alloc)),
     }
@@ -84,6 +117,7 @@ fn report(
     verdict: &Verdict,
 ) -> Result<Answer, AllocError>
     requires lawful { IsLawful (design_view design.now) }
+    requires few { AreFew (texts_view texts.now) }
     requires verdict { IsVerdict (design_view design.now)
         (asked_of (check_of options)) verdict.now }
     requires readable { AreReadable (texts_view texts.now) }
@@ -104,6 +138,7 @@ fn on_design(
     texts: &Texts,
     design: &Design,
 ) -> Result<Answer, AllocError>
+    requires few { AreFew (texts_view texts.now) }
     requires lawful { IsLawful (design_view design.now) }
     requires readable { AreReadable (texts_view texts.now) }
     ensures { IfOk result (λ a. IsOfVerdict (check_of options.entry) (design_view design.now)
