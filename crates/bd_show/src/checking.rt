@@ -52,7 +52,6 @@ fn asked(options: CheckOptions<'_>) -> Asked
 /// A case that breaks the same condition, with as few instructions in flight as may be where that is the diagram.
 fn simple_case(
     alloc: Global,
-    options: CheckOptions<'_>,
     texts: &Texts,
     design: &Design,
     condition: Condition,
@@ -73,7 +72,7 @@ fn simple_case(
         spec: texts.spec.as_slice(),
         inv: loaded_slice(&texts.inv),
     };
-    simplest(alloc, design_texts, design, case, options.mode)
+    simplest(alloc, design_texts, design, case)
 }
 
 /// What is shown of the case of `wrong`, made small. Another verdict has none to show.
@@ -101,7 +100,7 @@ fn shown_case(
                 steps: steps.as_slice(),
                 claims: claims.as_slice(),
             };
-            let simple = simple_case(alloc, options, texts, design, *condition, case)?;
+            let simple = simple_case(alloc, texts, design, *condition, case)?;
             pictured_text(alloc, design, &simple, Judged::Broken(*condition), names)
         }
         _ => Ok(Vec::new(alloc)),

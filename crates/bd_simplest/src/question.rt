@@ -27,7 +27,7 @@ pub struct DesignTexts<'a> {
 }
 
 /// The most clauses that a solver may add for one question: what is easy to find is wanted.
-const MOST_CLAUSES: u32 = 2000;
+const MOST_CLAUSES: u32 = 1000;
 
 /// The most bytes of a text.
 const LONGEST_TEXT: usize = 1_048_576;
@@ -40,12 +40,12 @@ fn trail_of(answer: Bounded) -> Option<Trail> {
     }
 }
 
-/// A trail of one cycle that breaks the diagram, from a state in which these latches are false.
+/// A trail of one cycle that breaks the diagram, from a state in which these latches are false. The question is asked by
+/// positive equality, which is fast, and gives values that differ from one another.
 fn broken_trail(
     alloc: Global,
     texts: DesignTexts<'_>,
     design: &Design,
-    mode: Mode,
     latches: &[usize],
 ) -> Result<Option<Trail>, AllocError>
     requires pipe { length texts.pipe.now ≤ longest_text }
@@ -60,7 +60,7 @@ fn broken_trail(
     match design_of(alloc, texts.pipe, texts.spec, Some(inv.as_slice())) {
         Ok(narrow) => {
             let mut solver = Cdcl::new(alloc);
-            let answer = bounded_by(alloc, &mut solver, &narrow, 1, MOST_CLAUSES, mode)?;
+            let answer = bounded_by(alloc, &mut solver, &narrow, 1, MOST_CLAUSES, Mode::Diverse)?;
             Ok(trail_of(answer))
         }
         Err(DesignFault::Memory) => Err(AllocError),
@@ -110,7 +110,6 @@ pub(crate) fn ask(
     alloc: Global,
     texts: DesignTexts<'_>,
     design: &Design,
-    mode: Mode,
     latches: &[usize],
 ) -> Result<Option<Case>, AllocError>
     requires lawful { IsLawful (design_view design.now) }
@@ -120,7 +119,7 @@ pub(crate) fn ask(
     ensures broken { IfOk result (λ found. IfSome found (λ c.
         IsJudged (design_view design.now) c (Broken Commute))) }
 {
-    match broken_trail(alloc, texts, design, mode, latches)? {
+    match broken_trail(alloc, texts, design, latches)? {
         Some(trail) => replayed(alloc, design, &trail),
         None => Ok(None),
     }

@@ -11,11 +11,10 @@ ghost use Rattle.bd_model.specs.declared.case.Judged.TheVariants.{Broken};
 use crate::latches::{is_true, truth_latches};
 use crate::question::{DesignTexts, ask};
 use bd_model::{Case, Design};
-use bd_verify::Mode;
 use std::alloc::{AllocError, Global};
 
 /// The most latches that are asked about one by one.
-const MOST_LATCHES: usize = 24;
+const MOST_LATCHES: usize = 8;
 
 /// A case that breaks the diagram as this one does, in which as many truth latches as could be had are false, those that
 /// stand first in the text before others.
@@ -24,7 +23,6 @@ pub fn simplest(
     texts: DesignTexts<'_>,
     design: &Design,
     case: &Case,
-    mode: Mode,
 ) -> Result<Case, AllocError>
     requires lawful { IsLawful (design_view design.now) }
     requires fits { Fits (design_view design.now) case.now }
@@ -38,10 +36,10 @@ pub fn simplest(
     if !latches.iter().any(|place| is_true(case, *place)) {
         return case.clone();
     }
-    if let Some(found) = ask(alloc, texts, design, mode, latches.as_slice())? {
+    if let Some(found) = ask(alloc, texts, design, latches.as_slice())? {
         return Ok(found);
     }
-    one_by_one(alloc, texts, design, case, mode, latches.as_slice())
+    one_by_one(alloc, texts, design, case, latches.as_slice())
 }
 
 /// The same, latch by latch: one that is false stays so, and of each other it is asked whether it can be.
@@ -50,7 +48,6 @@ fn one_by_one(
     texts: DesignTexts<'_>,
     design: &Design,
     case: &Case,
-    mode: Mode,
     latches: &[usize],
 ) -> Result<Case, AllocError>
     requires lawful { IsLawful (design_view design.now) }
@@ -68,7 +65,7 @@ fn one_by_one(
         fixed.push(*place)?;
         if is_true(&best, *place) {
             let found = if asked < MOST_LATCHES {
-                ask(alloc, texts, design, mode, fixed.as_slice())?
+                ask(alloc, texts, design, fixed.as_slice())?
             } else {
                 None
             };
