@@ -131,11 +131,7 @@ struct Found {
 }
 
 /// What a design is found to be, with the text of its trail.
-fn found(
-    alloc: Global,
-    options: BoundedOptions<'_>,
-    design: &Design,
-) -> Result<Found, AllocError>
+fn found(alloc: Global, options: BoundedOptions<'_>, design: &Design) -> Result<Found, AllocError>
     requires lawful { IsLawful (design_view design.now) }
     requires few { HasFewCycles options }
     ensures says { IfOk result (λ f.
