@@ -20,3 +20,11 @@ pub(crate) fn is_true(case: &Case, place: usize) -> bool {
         _ => false,
     }
 }
+
+/// How many of the latches are true in a case.
+pub(crate) fn count_true(case: &Case, latches: &[usize]) -> usize {
+    latches
+        .iter()
+        .filter(|place| is_true(case, **place))
+        .count()
+}
