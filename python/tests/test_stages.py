@@ -172,12 +172,16 @@ class Shown(unittest.TestCase):
         assert said is not None
         self.assertEqual(said.judgement, Judgement.BROKEN_COMMUTE)
         self.assertEqual([(line.file, line.line) for line in said.reasons],
-                         [("pipe", line) for line in (9, 7, 13, 10, 11, 12)] + [("spec", 6), ("pipe", 8), ("pipe", 6)])
-        self.assertIn(f"\n{STALE}:13:2: before to after: a=10 since ", str(said))
+                         [("pipe", line) for line in (9, 7, 13, 10, 11, 12, 7, 9)]
+                         + [("spec", 6), ("pipe", 8), ("pipe", 6)])
+        self.assertIn(f"\n{STALE}:13:2: before to after: a=10", str(said))
+        self.assertEqual(said.reasons[1].text, "after to f1: rf2[8]=12 since v=true, d=8, alu(2,10)=12, o=2, a=10"
+                         " (15 would do)")
         operand = why(STALE.read_text(), SPEC, case, of="a", whole=True)
         assert operand is not None
         self.assertEqual([(line.file, line.line, line.column) for line in operand.reasons], [("pipe", 13, 2)])
-        self.assertIn("\npipe:13:2: before to after: a=10 since ", operand.text)
+        self.assertIn("\npipe:13:2: before to after: a=10", operand.text)
+        self.assertRegex(operand.reasons[0].text, "^before to after: a=10 since src")
         self.assertIsNone(why(TWO_STAGE, SPEC, case))
         with self.assertRaises(NoAnswer) as no:
             why(STALE, SPEC, case, of="zz")
