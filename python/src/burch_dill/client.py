@@ -171,7 +171,7 @@ class Client:
 
     def _shown(self, command: str, sources: Sources, *options: str) -> Printed:
         """What `bd_view` prints of its answer."""
-        return ask(VIEWER, self.view, command, sources, options, self.timeout)
+        return ask(VIEWER, self.view, command, sources, options, self.timeout, by_words=command == "why")
 
 
 # ---- the words that they take
