@@ -122,7 +122,7 @@ fn explained(
     };
     let mut report = ToldLines::new(alloc);
     if !is_asked {
-        add_first(alloc, &mut report, view, run)?;
+        add_first(alloc, &mut report, view, run, target)?;
     }
     match target {
         Target::Nothing => report.put(b"nothing differs\n")?,
@@ -135,17 +135,21 @@ fn explained(
     Ok(report.into_text())
 }
 
-/// Adds what is said first: that one flush cycle more would do, or that constants are the same word.
+/// Adds what is said first: that one flush cycle more would do where both sides differ, or that constants are the same
+/// word.
 fn add_first(
     alloc: Global,
     report: &mut ToldLines,
     view: &ListedDesign<'_, '_>,
     run: Run<'_>,
+    target: &Target,
 ) -> Result<(), AllocError>
     requires lawful { IsLawful (design_view view.now.design.now) }
 {
-    if is_short(alloc, view.design, run.case, run.diagram)? {
-        report.short_flush(alloc, view)?;
+    if let Target::Both(_) = target {
+        if is_short(alloc, view.design, run.case, run.diagram)? {
+            report.short_flush(alloc, view)?;
+        }
     }
     match coincidence_of(alloc, view.design, run.case)? {
         Some(coincidence) => report.coincidence(alloc, view, coincidence),
