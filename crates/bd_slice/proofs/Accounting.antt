@@ -1,27 +1,31 @@
 -- What the facts of a value of a run account for, from what is found of its expression.
-use Rattle.std.proofs.Common.{◌≡◌, ℕ, zero, suc, ◌<◌, ◌≤◌, ◌+◌, false, List, [], ◌∷◌, ◌++◌, length, map, take, slice_get, Option, None, Some, refl, sym, ap, subst, ◌∙◌, arith, length-append, append_assoc, append-nil}
-use Rattle.std.specs.Prelude.{slice_index_or, unwrap_or}
+use Rattle.std.proofs.Common.{◌≡◌, ℕ, zero, suc, ◌<◌, ◌≤◌, ◌+◌, Bool, true, false, List, [], ◌∷◌, ◌++◌, length, map, take, slice_get, Option, None, Some, refl, sym, ap, subst, ◌∙◌, arith, length-append, append_assoc, append-nil}
+use Rattle.std.specs.Prelude.{slice_index_or, unwrap_or, option_map}
 use Rattle.std.proofs.lemmas.List.{take_at, take_all}
-use Rattle.std.proofs.lemmas.Option.{none-some}
+use Rattle.std.proofs.lemmas.Option.{none-some, slice_get-get_or, slice_get-map}
+use Rattle.std.proofs.lemmas.Bool.{false≢true}
 use Rattle.bd_list.specs.Grown.{grown}
 use Rattle.bd_list.proofs.Grown.{grown-append, get-grown_at, length-grown}
 use Rattle.bd_model.specs.DesignView.{DesignView, MachineView, LocalView, PortView}
 use Rattle.bd_model.specs.ExprView.{ExprView}
 use Rattle.bd_model.specs.Cycle.{step}
-use Rattle.bd_model.specs.Lawful.{IsLawful, uses_input, input_flags}
+use Rattle.bd_model.specs.Lawful.{IsLawful, IsLawfulPort, uses_input, input_flags}
+use Rattle.std.specs.List.{AllByRecursion}
 use Rattle.bd_model.specs.Value.{Env, env_of, value_of, let_value, scalar_of, truth}
 use Rattle.bd_model.specs.declared.case.Case.{Case}
 use Rattle.bd_model.specs.declared.table.Scalar.{Scalar}
 use Rattle.bd_model.specs.declared.table.Value.{Value}
 use Rattle.bd_model.proofs.NoInput.{value_of-whatever_inputs}
 use Rattle.bd_slice.specs.Columns.{column_state}
-use Rattle.bd_slice.specs.History.{moment_in}
-use Rattle.bd_slice.specs.Reasons.{AllHold, IsReason}
+use Rattle.bd_slice.specs.History.{HasColumn, HasCycle, moment_in}
+use Rattle.bd_slice.specs.Reasons.{AllHold, IsFound, IsReason, is_given}
 use Rattle.bd_slice.specs.Run.{state_at, inputs_in, let_values_in, lets_of, env_in, subject_value}
-use Rattle.bd_slice.specs.inner.Accounts.{Accounts, IsFlushCycle, IsReasonFor, entry_in, env_after, machine_in, part_of}
+use Rattle.bd_slice.specs.inner.Accounts.{Accounts, IsFlushCycle, IsReasonFor, entry_in, entry_subject, env_after, let_subject, machine_in, part_of}
 use Rattle.bd_slice.specs.inner.Found.{IsAt, Explained, env_at}
 use Rattle.bd_slice.specs.inner.Leads.{LeadsTo}
 use Rattle.bd_slice.specs.declared.finding.Found.{Found}
+use Rattle.bd_slice.specs.declared.subject.Fact.{Fact}
+use Rattle.bd_slice.specs.declared.subject.Finding.TheVariants as finding
 use Rattle.bd_slice.specs.declared.finding.Here.{Here}
 use Rattle.bd_slice.specs.declared.moment.Moment.{Moment}
 use Rattle.bd_slice.specs.declared.place.Column.{Column}
@@ -202,3 +206,116 @@ entry_seen d o i place h = mapped_item (λ (j : ℕ). slice_index_or (column_sta
 
 pub entry_unseen : (d : DesignView) (o : Case) (i : ℕ) → slice_get d.visible i ≡ None → slice_index_or (column_state d o (column.Steps 0)) i (truth false) ≡ truth false
 entry_unseen d o i h = mapped_past (λ (j : ℕ). slice_index_or (column_state d o (column.Before d.flush)) j (truth false)) d.visible i (truth false) h
+
+-- ---- so these are reasons
+let_part : (d : DesignView) (o : Case) (which : Cycle) (i : ℕ) (part : Option ℕ) → subject_value d o (let_subject which i part) ≡ part_of part (slice_index_or (let_values_in d o which) i (truth false))
+let_part d o which i None = refl
+let_part d o which i (Some a) = refl
+
+pub let_reason : (d : DesignView) (c : Case) (which : Cycle) (i : ℕ) (part : Option ℕ) (l : LocalView) (e : ExprView) (f : Found) → slice_get (lets_of d which) i ≡ Some l → l.value ≡ e
+    → Accounts d c (λ o. part_of part (value_of (env_after d o which i) e)) f → IsReasonFor d c (let_subject which i part) f
+let_reason d c which i part l e f at is by =
+    reason_of d c (let_subject which i part) f (accounts_same d c (λ o. part_of part (value_of (env_after d o which i) e)) (λ o. subject_value d o (let_subject which i part)) f
+        (λ o. let_part d o which i part ∙ ap (part_of part) (let_at d o which i l at ∙ ap (value_of (env_after d o which i)) is)) by)
+
+pub no_let_reason : (d : DesignView) (c : Case) (which : Cycle) (i : ℕ) (part : Option ℕ) (f : Found) → slice_get (lets_of d which) i ≡ None → f.facts.items ≡ [] → f.value ≡ part_of part (truth false) → IsReasonFor d c (let_subject which i part) f
+no_let_reason d c which i part f past none is =
+    reason_of d c (let_subject which i part) f (accounts_nothing d c (λ o. subject_value d o (let_subject which i part)) f none (λ o. let_part d o which i part ∙ ap (part_of part) (let_past d o which i past) ∙ sym is))
+
+entry_part : (d : DesignView) (o : Case) (k : Column) (i : ℕ) (part : Option ℕ) → subject_value d o (entry_subject k i part) ≡ entry_in d o k i part
+entry_part d o k i None = refl
+entry_part d o k i (Some a) = refl
+
+pub entry_reason : (d : DesignView) (c : Case) (k : Column) (i : ℕ) (part : Option ℕ) (f : Found) → Accounts d c (λ o. entry_in d o k i part) f → IsReasonFor d c (entry_subject k i part) f
+entry_reason d c k i part f by = reason_of d c (entry_subject k i part) f (accounts_same d c (λ o. entry_in d o k i part) (λ o. subject_value d o (entry_subject k i part)) f (λ o. entry_part d o k i part) by)
+
+given_entry : (i : ℕ) (part : Option ℕ) → is_given (entry_subject (column.Before 0) i part) ≡ true
+given_entry i None = refl
+given_entry i (Some a) = refl
+
+-- the case's own
+pub given_reason : (d : DesignView) (c : Case) (s : Subject) (f : Found) → is_given s ≡ true → f.facts.items ≡ [] → subject_value d c s ≡ f.value → IsReasonFor d c s f
+given_reason d c s f given none is = record {
+  value = is;
+  facts = subst (AllHold d c) (sym none) tt;
+  local = λ not o all. absurd (false≢true (sym not ∙ given));
+}
+
+pub given_entry_reason : (d : DesignView) (c : Case) (k : Column) (i : ℕ) (part : Option ℕ) (f : Found) → k ≡ column.Before 0 → f.facts.items ≡ [] → f.value ≡ part_of part (slice_index_or c.state i (truth false)) → IsReasonFor d c (entry_subject k i part) f
+given_entry_reason d c k i part f first none is =
+    subst (λ (j : Column). IsReasonFor d c (entry_subject j i part) f) (sym first) (given_reason d c (entry_subject (column.Before 0) i part) f (given_entry i part) none (entry_part d c (column.Before 0) i part ∙ sym is))
+
+pub next_accounts : (d : DesignView) (c : Case) (which : Cycle) (k : Column) (count i : ℕ) (part : Option ℕ) (e : ExprView) (f : Found) → LeadsTo which k → count ≡ length (lets_of d which) → slice_get (machine_in d which).nexts i ≡ Some e
+    → Accounts d c (λ o. part_of part (value_of (env_after d o which count) e)) f → Accounts d c (λ o. entry_in d o k i part) f
+next_accounts d c which k count i part e f leads is at by =
+    accounts_same d c (λ o. part_of part (value_of (env_after d o which count) e)) (λ o. entry_in d o k i part) f (λ o. ap (part_of part) (entry_next d o which k count i e leads is at)) by
+
+pub no_next_accounts : (d : DesignView) (c : Case) (which : Cycle) (k : Column) (i : ℕ) (part : Option ℕ) (f : Found) → LeadsTo which k → slice_get (machine_in d which).nexts i ≡ None → f.facts.items ≡ [] → f.value ≡ part_of part (truth false)
+    → Accounts d c (λ o. entry_in d o k i part) f
+no_next_accounts d c which k i part f leads past none is =
+    accounts_nothing d c (λ o. entry_in d o k i part) f none (λ o. ap (part_of part) (entry_past d o which k i leads past) ∙ sym is)
+
+pub idle_reason : (d : DesignView) (c : Case) (which : Cycle) (count i : ℕ) (p : PortView) (e : ExprView) (f : Found) → IsLawful d → IsFlushCycle which → count ≡ length d.pipe.locals → slice_get d.pipe.ports i ≡ Some p → p.idle ≡ e
+    → Accounts d c (λ o. scalar_of (value_of (env_after d o which count) e)) f → IsReasonFor d c (subject.Input which i) f
+idle_reason d c which count i p e f lawful flushes is at same by =
+    reason_of d c (subject.Input which i) f (accounts_same d c (λ o. scalar_of (value_of (env_after d o which count) e)) (λ o. subject_value d o (subject.Input which i)) f
+        (λ o. input_idle d o which count i p flushes is at (port_at d.pipe.ports i p lawful.ports at) ∙ ap (λ x. scalar_of (value_of (env_after d o which count) x)) same) by)
+  where
+    port_at : (ps : List PortView) (i : ℕ) (p : PortView) → AllByRecursion (IsLawfulPort d) ps → slice_get ps i ≡ Some p → uses_input (input_flags d.pipe.locals) p.idle ≡ false
+    port_at [] i p h at = absurd (none-some p at)
+    port_at (q ∷ ps) zero p h at = ap (λ (x : PortView). uses_input (input_flags d.pipe.locals) x.idle) (sym (some_same q p at)) ∙ h.0.no_input
+    port_at (q ∷ ps) (suc i) p h at = port_at ps i p h.1 at
+
+pub no_idle_reason : (d : DesignView) (c : Case) (which : Cycle) (i : ℕ) (f : Found) → IsFlushCycle which → slice_get d.pipe.ports i ≡ None → f.facts.items ≡ [] → f.value ≡ Scalar.Bool false → IsReasonFor d c (subject.Input which i) f
+no_idle_reason d c which i f flushes past none is =
+    reason_of d c (subject.Input which i) f (accounts_nothing d c (λ o. subject_value d o (subject.Input which i)) f none (λ o. input_past d o which i flushes past ∙ sym is))
+
+-- an input where a cycle has none
+pub no_input_reason : (d : DesignView) (c : Case) (which : Cycle) (i : ℕ) (f : Found) → ((o : Case) → inputs_in d o which ≡ []) → f.facts.items ≡ [] → f.value ≡ Scalar.Bool false → IsReasonFor d c (subject.Input which i) f
+no_input_reason d c which i f nothing none is =
+    reason_of d c (subject.Input which i) f (accounts_nothing d c (λ o. subject_value d o (subject.Input which i)) f none (λ o. ap (λ (xs : List Scalar). slice_index_or xs i (Scalar.Bool false)) (nothing o) ∙ sym is))
+
+pub invariant_reason : (d : DesignView) (c : Case) (count : ℕ) (f : Found) → count ≡ length d.inv_locals → Accounts d c (λ o. scalar_of (value_of (env_after d o cycle.Invariant count) d.inv)) f → IsReasonFor d c subject.Invariant f
+invariant_reason d c count f is by =
+    reason_of d c subject.Invariant f (accounts_same d c (λ o. scalar_of (value_of (env_after d o cycle.Invariant count) d.inv)) (λ o. subject_value d o subject.Invariant) f
+        (λ o. ap (λ (v : Env). scalar_of (value_of v d.inv)) (sym (all_lets d o cycle.Invariant count is))) by)
+
+-- what is taken over rests on the entry that is seen
+pub seen_accounts : (d : DesignView) (c : Case) (i place : ℕ) (part : Option ℕ) (s : Subject) (x : Fact) (f : Found) → slice_get d.visible i ≡ Some place → s ≡ entry_subject (column.Before d.flush) place part
+    → f.value ≡ entry_in d c (column.Before d.flush) place part → x.finding ≡ finding.Rests s f.value → f.facts.items ≡ x ∷ [] → Accounts d c (λ o. entry_in d o (column.Steps 0) i part) f
+seen_accounts d c i place part s x f at named is told one =
+    let same : (o : Case) → entry_in d o (column.Steps 0) i part ≡ subject_value d o s =
+        λ o. ap (part_of part) (entry_seen d o i place at) ∙ sym (entry_part d o (column.Before d.flush) place part) ∙ ap (subject_value d o) (sym named) in
+    record {
+      facts = subst (AllHold d c) (sym one) (subst (IsFound d c) (sym told) (ap (subject_value d c) named ∙ entry_part d c (column.Before d.flush) place part ∙ sym is), tt);
+      local = λ o all. same o ∙ subst (IsFound d o) told (subst (AllHold d o) one all).0;
+    }
+
+pub unseen_accounts : (d : DesignView) (c : Case) (i : ℕ) (part : Option ℕ) (f : Found) → slice_get d.visible i ≡ None → f.facts.items ≡ [] → f.value ≡ part_of part (truth false) → Accounts d c (λ o. entry_in d o (column.Steps 0) i part) f
+unseen_accounts d c i part f past none is =
+    accounts_nothing d c (λ o. entry_in d o (column.Steps 0) i part) f none (λ o. ap (part_of part) (entry_unseen d o i past) ∙ sym is)
+
+-- ---- what a list has at a place, as a look-up says it
+pub got : {X : Type 0} → (xs : List X) (i : ℕ) (x : X) → i < length xs → x ≡ slice_index_or xs i x → slice_get xs i ≡ Some x
+got xs i x within is = slice_get-get_or xs i x within ∙ ap Some (sym is)
+
+pub got_view : {X Y : Type 0} → (v : X → Y) (xs : List X) (ys : List Y) (i : ℕ) (x : X) → map v xs ≡ ys → slice_get xs i ≡ Some x → slice_get ys i ≡ Some (v x)
+got_view v xs ys i x is h = ap (λ zs. slice_get zs i) (sym is) ∙ slice_get-map v xs i ∙ ap (option_map v) h
+
+pub gone_view : {X Y : Type 0} → (v : X → Y) (xs : List X) (ys : List Y) (i : ℕ) → map v xs ≡ ys → slice_get xs i ≡ None → slice_get ys i ≡ None
+gone_view v xs ys i is h = ap (λ zs. slice_get zs i) (sym is) ∙ slice_get-map v xs i ∙ ap (option_map v) h
+
+length_mapped : {X Y : Type 0} → (v : X → Y) (xs : List X) → length (map v xs) ≡ length xs
+length_mapped v [] = refl
+length_mapped v (x ∷ xs) = ap suc (length_mapped v xs)
+
+pub view_count : {X Y : Type 0} → (v : X → Y) (xs : List X) (ys : List Y) (n : ℕ) → n ≡ length xs → map v xs ≡ ys → n ≡ length ys
+view_count v xs ys n is view = is ∙ sym (length_mapped v xs) ∙ ap length view
+
+-- a cycle that leads to a state of the diagram is one of the run
+pub has_led : (d : DesignView) (which : Cycle) (k : Column) → LeadsTo which k → HasColumn d k → HasCycle d which
+has_led d cycle.Case k h has = tt
+has_led d (cycle.FlushBefore n) k h has = let at : n + 1 ≤ d.flush = subst (HasColumn d) h has in omega (arith, at)
+has_led d (cycle.FlushAfter n) k h has = let at : n + 1 ≤ d.flush = subst (HasColumn d) h has in omega (arith, at)
+has_led d (cycle.Step n) k h has = let at : n + 1 ≤ d.steps = subst (HasColumn d) h has in omega (arith, at)
+has_led d cycle.Invariant k h has = tt

@@ -3,7 +3,7 @@ use Rattle.std.proofs.Common.{◌≡◌, ℕ, zero, suc, ◌<◌, ◌≤◌, ◌
 use Rattle.std.specs.List.{All, list_any}
 use Rattle.std.proofs.lemmas.Bool.{false≢true, eqb-true, and_parts}
 use Rattle.std.proofs.lemmas.List.{take_all, take_more, take-append-le, length_push, get_or_append_left, get_or_push}
-use Rattle.std.proofs.lemmas.List.Elements.{All-push, All-weaker, Contains-append_left}
+use Rattle.std.proofs.lemmas.List.Elements.{All-more, All-push, All-weaker, Contains-append_left}
 use Rattle.std.proofs.lemmas.Option.{none-some, get_or_from_slice_get, slice_get_within}
 use Rattle.indexmap.specs.IndexSet.{insert_key}
 use Rattle.indexmap.proofs.CallerLemmas.{Contains-insert_key}
@@ -167,3 +167,21 @@ collected_all P d c asked keys rs place got past gives =
       asked = subst (λ ks. All (Contains ks) asked) (sym whole) got.asked;
       closed = subst (λ ks. All (IsClosed ks) rs) (sym whole) got.closed;
     }
+
+-- ---- values asked for, and those that facts name, one by one
+pub asked_more : (old new ss : List Subject) (i : ℕ) (s : Subject) → i < length ss → s ≡ get_or ss i s → All (Contains old) (take i ss) → new ≡ insert_key subject_eq old s → All (Contains new) (take (i + 1) ss)
+asked_more old new ss i s within item all is =
+    All-more (Contains new) ss i s within (contains_front old new (take i ss) (inserted_front old new s is) all) (subst (Contains new) item (inserted_there old new s is))
+
+pub asked_all : (keys ss : List Subject) (i : ℕ) → length ss ≤ i → All (Contains keys) (take i ss) → All (Contains keys) ss
+asked_all keys ss i past all = subst (All (Contains keys)) (take_all i ss past) all
+
+pub rests_more : (old new : List Subject) (fs : List Fact) (i : ℕ) (f : Fact) → i < length fs → f ≡ get_or fs i f → All (RestsAmong old) (take i fs) → IsFront old new → IsAmong new f.finding → All (RestsAmong new) (take (i + 1) fs)
+rests_more old new fs i f within item all front here =
+    All-more (RestsAmong new) fs i f within (rests_front old new (take i fs) front all) (subst (RestsAmong new) item here)
+
+pub rests_all : (keys : List Subject) (fs : List Fact) (i : ℕ) → length fs ≤ i → All (RestsAmong keys) (take i fs) → All (RestsAmong keys) fs
+rests_all keys fs i past all = subst (All (RestsAmong keys)) (take_all i fs past) all
+
+pub nothing_yet : {X : Type 0} → (P : X → Type 0) → All P []
+nothing_yet P k d within = absurd (omega (arith, within))

@@ -3,24 +3,24 @@
 //!
 //! These are the rules by which a slice is made, over the values of the same run. Nothing is proved of them but that
 //! they are safe.
-ghost use Rattle.std.specs.Prelude.{◌≡◌, ◌∷◌, ◌++◌, [], IfOk, OnOk, false, map, slice_get, slice_index_or, take};
+ghost use Rattle.std.specs.Prelude.{◌≡◌, ◌∷◌, ◌++◌, [], IfNone, IfOk, IfSome, None, OnOk, Some, false, map, slice_get, slice_index_or, take};
 ghost use Rattle.std.specs.List.{All, Contains};
-ghost use Rattle.bd_model.specs.DesignView.{design_view, local_view, machine_view};
-ghost use Rattle.bd_model.specs.ExprView.{expr_view};
+ghost use Rattle.bd_model.specs.DesignView.{DesignView, LocalView, PortView, design_view, local_view, machine_view, port_view};
+ghost use Rattle.bd_model.specs.ExprView.{expr_view, expr_views, list_of_views};
 ghost use Rattle.bd_model.specs.Lawful.{IsLawful};
 ghost use Rattle.bd_model.specs.Value.{truth, value_of};
-ghost use Rattle.bd_slice.specs.History.{IsHistory};
-ghost use Rattle.bd_slice.specs.Reasons.{AreReasons, IsClosed, IsReason, RestsAmong};
+ghost use Rattle.bd_slice.specs.History.{IsHistory, moment_in};
+ghost use Rattle.bd_slice.specs.Reasons.{AreReasons, IsAmong, IsClosed, IsReason, RestsAmong};
 ghost use Rattle.bd_slice.specs.Run.{lets_of};
 ghost use Rattle.bd_slice.specs.inner.Accounts.{Accounts, InColumn, InCycle, InRun, IsFlushCycle, IsReasonFor, entry_in, entry_subject, env_after, let_subject, machine_in, part_of};
 ghost use Rattle.bd_slice.specs.inner.Collected.{IsFront};
-ghost use Rattle.bd_slice.specs.inner.Leads.{LeadsTo};
+ghost use Rattle.bd_slice.specs.inner.Leads.{IsStart, LeadsTo};
 
 use crate::finding::{Found, Here, Path, find, find_word, input_at, scalar_at, word_of};
-use crate::moment::History;
+use crate::moment::{History, Moment};
 use crate::place::{Column, Location, Want};
 use crate::subject::{Cycle, Fact, Finding, Subject};
-use bd_model::{Case, Design, Expr, Locals, Machine, Scalar, Value};
+use bd_model::{Case, Design, Expr, Exprs, Locals, Machine, Ports, Scalar, Value};
 use indexmap::IndexSet;
 use std::alloc::{AllocError, Global};
 
@@ -84,11 +84,27 @@ fn rest_on(set: &mut IndexSet<Subject>, facts: &[Fact]) -> Result<(), AllocError
     ensures among { OnOk result (All (RestsAmong set.new.keys) facts.now) }
 {
     for fact in facts {
-        if let Finding::Rests(subject, _) = fact.finding {
-            set.insert(subject)?;
-        }
+        put_named(set, &fact.finding)?;
     }
     Ok(())
+}
+
+/// Puts the value that a finding names after these.
+fn put_named(set: &mut IndexSet<Subject>, finding: &Finding) -> Result<(), AllocError>
+    ensures front { OnOk result (IsFront set.old.keys set.new.keys) }
+    ensures among { OnOk result (IsAmong set.new.keys finding.now) }
+{
+    match finding {
+        Finding::Rests(subject, _) => {
+            set.insert(*subject)?;
+            Ok(())
+        }
+        Finding::Chosen(_) => Ok(()),
+        Finding::Decided(_) => Ok(()),
+        Finding::Met(_) => Ok(()),
+        Finding::Passed(_, _) => Ok(()),
+        Finding::Applied(_, _, _) => Ok(()),
+    }
 }
 
 /// Why values of the run are what they are. One past the diagram's columns has no facts.
@@ -114,11 +130,13 @@ pub fn reasons_of(
         items: Vec::new(alloc),
     };
     for place in 0..usize::MAX {
-        let Some(subject) = reasons.next(place) else {
-            return Ok(reasons);
-        };
-        let reason = run.reason(subject)?;
-        reasons.add(reason)?;
+        match reasons.next(place) {
+            Some(subject) => {
+                let reason = run.reason(subject)?;
+                reasons.add(reason)?;
+            }
+            None => return Ok(reasons),
+        }
     }
     Ok(reasons)
 }
@@ -183,6 +201,42 @@ fn no_part(address: Option<u64>) -> Scalar
     }
 }
 
+/// The expression of this number.
+fn expr_at(exprs: &Exprs, number: u32) -> Option<&Expr>
+    ensures there { IfSome result (λ e.
+        slice_get (list_of_views (expr_views exprs.now)) number ≡ Some (expr_view e.now)) }
+    ensures past { IfNone result (slice_get (list_of_views (expr_views exprs.now)) number ≡ None) }
+{
+    match exprs.items.get(number as usize) {
+        Some(expr) => Some(expr),
+        None => None,
+    }
+}
+
+/// The expression of the let of this number.
+fn local_at(locals: &Locals, number: u32) -> Option<&Expr>
+    ensures there { IfSome result (λ e. (l : LocalView)
+        × (slice_get (map local_view locals.now) number ≡ Some l) × (l.value ≡ expr_view e.now)) }
+    ensures past { IfNone result (slice_get (map local_view locals.now) number ≡ None) }
+{
+    match locals.as_slice().get(number as usize) {
+        Some(local) => Some(&local.value),
+        None => None,
+    }
+}
+
+/// The flush expression of the input of this number.
+fn idle_at(ports: &Ports, number: u32) -> Option<&Expr>
+    ensures there { IfSome result (λ e. (p : PortView)
+        × (slice_get (map port_view ports.now) number ≡ Some p) × (p.idle ≡ expr_view e.now)) }
+    ensures past { IfNone result (slice_get (map port_view ports.now) number ≡ None) }
+{
+    match ports.as_slice().get(number as usize) {
+        Some(port) => Some(&port.idle),
+        None => None,
+    }
+}
+
 /// An entry in a column as a value of the run, or its word at an address.
 fn subject_of(column: Column, entry: u32, address: Option<u64>) -> Subject
     ensures { result ≡ entry_subject column entry address }
@@ -214,12 +268,30 @@ impl<'a> Run<'a> {
         ensures { IfOk result (λ f. InRun self.entry subject (λ d c. IsReasonFor d c subject f)) }
     {
         match subject {
-            Subject::Latch(column, entry) => self.entry(column, entry, None),
-            Subject::Cell(column, entry, address) => self.entry(column, entry, Some(address)),
-            Subject::Input(cycle, number) => self.input(cycle, number),
-            Subject::Let(cycle, number) => self.local(cycle, number, None),
-            Subject::LetCell(cycle, number, address) => self.local(cycle, number, Some(address)),
-            Subject::Invariant => self.invariant(),
+            Subject::Latch(column, entry) => {
+                let latch = self.entry(column, entry, None)?;
+                Ok(latch)
+            }
+            Subject::Cell(column, entry, address) => {
+                let cell = self.entry(column, entry, Some(address))?;
+                Ok(cell)
+            }
+            Subject::Input(cycle, number) => {
+                let input = self.input(cycle, number)?;
+                Ok(input)
+            }
+            Subject::Let(cycle, number) => {
+                let local = self.local(cycle, number, None)?;
+                Ok(local)
+            }
+            Subject::LetCell(cycle, number, address) => {
+                let word = self.local(cycle, number, Some(address))?;
+                Ok(word)
+            }
+            Subject::Invariant => {
+                let invariant = self.invariant()?;
+                Ok(invariant)
+            }
         }
     }
 
@@ -255,20 +327,47 @@ impl<'a> Run<'a> {
         ensures { IfOk result (λ f. InCycle self.entry cycle (λ d c. Accounts d c
             (λ o. part_of address (value_of (env_after d o cycle count) (expr_view expr.now))) f)) }
     {
-        let Some(moment) = self.history.cycle(cycle) else {
-            return Ok(Found::plain(self.alloc, no_part(address)));
-        };
+        match self.history.cycle(cycle) {
+            Some(moment) => {
+                let found = self.item_in(cycle, moment, count, expr, address)?;
+                Ok(found)
+            }
+            None => Ok(Found::plain(self.alloc, no_part(address))),
+        }
+    }
+
+    /// What is found of an expression in a cycle that has these values.
+    fn item_in(
+        self,
+        cycle: Cycle,
+        moment: &Moment,
+        count: usize,
+        expr: &Expr,
+        address: Option<u64>,
+    ) -> Result<Found, AllocError>
+        ensures { IfOk result (λ f. (d : DesignView) →
+            moment.now ≡ moment_in d self.entry.case.now cycle → Accounts d self.entry.case.now
+            (λ o. part_of address (value_of (env_after d o cycle count) (expr_view expr.now))) f) }
+    {
+        let values = moment.lets.as_slice();
+        let lets = front(values, count);
         let here = Here {
             alloc: self.alloc,
             case: self.case,
             cycle,
             moment,
-            lets: front(moment.lets.as_slice(), count),
+            lets,
         };
         let mut path = Path::new(self.alloc);
         match address {
-            Some(address) => find_word(here, &mut path, expr, address),
-            None => find(here, &mut path, expr),
+            Some(address) => {
+                let word = find_word(here, &mut path, expr, address)?;
+                Ok(word)
+            }
+            None => {
+                let scalar = find(here, &mut path, expr)?;
+                Ok(scalar)
+            }
         }
     }
 
@@ -277,9 +376,12 @@ impl<'a> Run<'a> {
         ensures { IfOk result (λ f. InCycle self.entry cycle (λ d c. IsReasonFor d c
             (let_subject cycle number address) f)) }
     {
-        let place = number as usize;
-        match self.lets(cycle).as_slice().get(place) {
-            Some(local) => self.item(cycle, place, &local.value, address),
+        let locals = self.lets(cycle);
+        match local_at(locals, number) {
+            Some(expr) => {
+                let found = self.item(cycle, number as usize, expr, address)?;
+                Ok(found)
+            }
             None => Ok(Found::plain(self.alloc, no_part(address))),
         }
     }
@@ -290,7 +392,8 @@ impl<'a> Run<'a> {
             (λ d c. IsReasonFor d c Subject.Invariant f)) }
     {
         let count = self.design.inv_locals.len();
-        self.item(Cycle::Invariant, count, &self.design.inv, None)
+        let found = self.item(Cycle::Invariant, count, &self.design.inv, None)?;
+        Ok(found)
     }
 
     /// What is found of an input: none in the case's own cycle, what is idle in a flush cycle, and else false.
@@ -301,13 +404,20 @@ impl<'a> Run<'a> {
     {
         match cycle {
             Cycle::Case => {
-                let value = input_at(self.case.inputs.as_slice(), number);
+                let values = self.case.inputs.as_slice();
+                let value = input_at(values, number);
                 Ok(Found::plain(self.alloc, value))
             }
-            Cycle::FlushBefore(_) | Cycle::FlushAfter(_) => self.idle(cycle, number),
-            Cycle::Step(_) | Cycle::Invariant => {
-                Ok(Found::plain(self.alloc, Scalar::Bool(false)))
+            Cycle::FlushBefore(_) => {
+                let before = self.idle(cycle, number)?;
+                Ok(before)
             }
+            Cycle::FlushAfter(_) => {
+                let after = self.idle(cycle, number)?;
+                Ok(after)
+            }
+            Cycle::Step(_) => Ok(Found::plain(self.alloc, Scalar::Bool(false))),
+            Cycle::Invariant => Ok(Found::plain(self.alloc, Scalar::Bool(false))),
         }
     }
 
@@ -319,8 +429,11 @@ impl<'a> Run<'a> {
             (λ d c. IsReasonFor d c (Subject.Input cycle number) f)) }
     {
         let count = self.design.pipe.locals.len();
-        match self.design.pipe.ports.as_slice().get(number as usize) {
-            Some(port) => self.item(cycle, count, &port.idle, None),
+        match idle_at(&self.design.pipe.ports, number) {
+            Some(expr) => {
+                let found = self.item(cycle, count, expr, None)?;
+                Ok(found)
+            }
             None => Ok(Found::plain(self.alloc, Scalar::Bool(false))),
         }
     }
@@ -332,12 +445,34 @@ impl<'a> Run<'a> {
             (λ d c. IsReasonFor d c (entry_subject column entry address) f)) }
     {
         match column.reached_by() {
-            Some(cycle) => self.next(column, cycle, entry, address),
-            None if column == Column::Before(0) => {
-                let value = part_at(self.case.state.as_slice(), entry, address);
+            Some(cycle) => {
+                let next = self.next(column, cycle, entry, address)?;
+                Ok(next)
+            }
+            None => {
+                let first = self.start(column, entry, address)?;
+                Ok(first)
+            }
+        }
+    }
+
+    /// What is found of an entry where a row of states begins: the case's own, or what is taken over.
+    fn start(self, column: Column, entry: u32, address: Option<u64>) -> Result<Found, AllocError>
+        requires start { IsStart column }
+        ensures { IfOk result (λ f. InColumn self.entry column
+            (λ d c. IsReasonFor d c (entry_subject column entry address) f)) }
+    {
+        match column {
+            Column::Before(_) => {
+                let values = self.case.state.as_slice();
+                let value = part_at(values, entry, address);
                 Ok(Found::plain(self.alloc, value))
             }
-            None => self.taken_over(entry, address),
+            Column::After(_) => Ok(Found::plain(self.alloc, no_part(address))),
+            Column::Steps(_) => {
+                let seen = self.taken_over(entry, address)?;
+                Ok(seen)
+            }
         }
     }
 
@@ -353,9 +488,14 @@ impl<'a> Run<'a> {
         ensures { IfOk result (λ f. InColumn self.entry column
             (λ d c. Accounts d c (λ o. entry_in d o column entry address) f)) }
     {
-        let count = self.lets(cycle).len();
-        match self.machine(cycle).nexts.items.get(entry as usize) {
-            Some(next) => self.item(cycle, count, next, address),
+        let locals = self.lets(cycle);
+        let count = locals.len();
+        let machine = self.machine(cycle);
+        match expr_at(&machine.nexts, entry) {
+            Some(expr) => {
+                let found = self.item(cycle, count, expr, address)?;
+                Ok(found)
+            }
             None => Ok(Found::plain(self.alloc, no_part(address))),
         }
     }
@@ -366,15 +506,51 @@ impl<'a> Run<'a> {
         ensures { IfOk result (λ f. InColumn self.entry (Column.Steps 0)
             (λ d c. Accounts d c (λ o. entry_in d o (Column.Steps 0) entry address) f)) }
     {
-        let flushed = self.history.cycle(Cycle::FlushBefore(self.design.flush));
-        let place = self.design.visible.as_slice().get(entry as usize);
-        let (Some(place), Some(moment)) = (place, flushed) else {
-            return Ok(Found::plain(self.alloc, no_part(address)));
-        };
-        let end = Column::Before(self.design.flush);
-        let value = part_at(moment.state.as_slice(), *place, address);
+        match self.design.visible.as_slice().get(entry as usize) {
+            Some(place) => {
+                let found = self.seen(entry, *place, address)?;
+                Ok(found)
+            }
+            None => Ok(Found::plain(self.alloc, no_part(address))),
+        }
+    }
+
+    /// What is found of an entry that is seen at this place of the flushed pipeline: that entry.
+    fn seen(self, entry: u32, place: u32, address: Option<u64>) -> Result<Found, AllocError>
+        requires { slice_get self.design.now.visible entry ≡ Some place }
+        ensures { IfOk result (λ f. InColumn self.entry (Column.Steps 0)
+            (λ d c. Accounts d c (λ o. entry_in d o (Column.Steps 0) entry address) f)) }
+    {
+        match self.history.cycle(Cycle::FlushBefore(self.design.flush)) {
+            Some(moment) => {
+                let found = self.seen_in(moment, entry, place, address)?;
+                Ok(found)
+            }
+            None => Ok(Found::plain(self.alloc, no_part(address))),
+        }
+    }
+
+    /// What is found of an entry that is seen at this place, where the flushed pipeline has these values.
+    fn seen_in(
+        self,
+        moment: &Moment,
+        entry: u32,
+        place: u32,
+        address: Option<u64>,
+    ) -> Result<Found, AllocError>
+        requires { slice_get self.design.now.visible entry ≡ Some place }
+        ensures { IfOk result (λ f.
+            moment.now ≡ moment_in (design_view self.entry.design.now) self.entry.case.now
+                (Cycle.FlushBefore self.entry.design.now.flush) →
+            Accounts (design_view self.entry.design.now) self.entry.case.now
+            (λ o. entry_in (design_view self.entry.design.now) o (Column.Steps 0) entry address) f) }
+    {
+        let values = moment.state.as_slice();
+        let value = part_at(values, place, address);
+        let subject = subject_of(Column::Before(self.design.flush), place, address);
         let path = Path::new(self.alloc);
-        let fact = path.fact(Finding::Rests(subject_of(end, *place, address), value))?;
-        Found::with(self.alloc, value, fact)
+        let fact = path.fact(Finding::Rests(subject, value))?;
+        let found = Found::with(self.alloc, value, fact)?;
+        Ok(found)
     }
 }

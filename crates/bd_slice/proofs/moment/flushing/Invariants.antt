@@ -7,6 +7,6 @@ use Rattle.bd_slice.proofs.moment.flushing.Given as goal
 
 abbrev pub invariant-loop-cycle : goal.invariant-loop-cycle
 invariant-loop-cycle l = record {
-  reached : l.reached ≡ flush_cycles l._cycle (design_view l.design).pipe l.case.interp l.state;
-  moments : AreMoments l._cycle (flush_moment (design_view l.design) l.case l.state) l.moments;
+  reached : l.reached ≡ flush_cycles l._cycle (design_view l.design).pipe l.case.interp l.fn.state;
+  moments : AreMoments l._cycle (flush_moment (design_view l.design) l.case l.fn.state) l.moments;
 }

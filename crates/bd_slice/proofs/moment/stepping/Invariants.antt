@@ -7,6 +7,6 @@ use Rattle.bd_slice.proofs.moment.stepping.Given as goal
 
 abbrev pub invariant-loop-step : goal.invariant-loop-step
 invariant-loop-step l = record {
-  reached : l.reached ≡ spec_steps l._step (design_view l.design) l.case.interp l.visible;
-  moments : AreMoments l._step (step_moment (design_view l.design) l.case l.visible) l.moments;
+  reached : l.reached ≡ spec_steps l._step (design_view l.design) l.case.interp l.fn.visible;
+  moments : AreMoments l._step (step_moment (design_view l.design) l.case l.fn.visible) l.moments;
 }
