@@ -169,9 +169,9 @@ collected_all P d c asked keys rs place got past gives =
     }
 
 -- ---- values asked for, and those that facts name, one by one
-pub asked_more : (old new ss : List Subject) (i : ℕ) (s : Subject) → i < length ss → s ≡ get_or ss i s → All (Contains old) (take i ss) → new ≡ insert_key subject_eq old s → All (Contains new) (take (i + 1) ss)
-asked_more old new ss i s within item all is =
-    All-more (Contains new) ss i s within (contains_front old new (take i ss) (inserted_front old new s is) all) (subst (Contains new) item (inserted_there old new s is))
+pub asked_more : (old new ss : List Subject) (i : ℕ) (d : Subject) → i < length ss → All (Contains old) (take i ss) → new ≡ insert_key subject_eq old (get_or ss i d) → All (Contains new) (take (i + 1) ss)
+asked_more old new ss i d within all is =
+    All-more (Contains new) ss i d within (contains_front old new (take i ss) (inserted_front old new (get_or ss i d) is) all) (inserted_there old new (get_or ss i d) is)
 
 pub asked_all : (keys ss : List Subject) (i : ℕ) → length ss ≤ i → All (Contains keys) (take i ss) → All (Contains keys) ss
 asked_all keys ss i past all = subst (All (Contains keys)) (take_all i ss past) all

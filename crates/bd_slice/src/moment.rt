@@ -132,6 +132,16 @@ fn first_moment(alloc: Global, design: &Design, case: &Case) -> Result<Moment, A
     moment_of(alloc, design, case, state, case.inputs.clone()?)
 }
 
+/// The flush cycles before the case's cycle.
+fn flushing_first(alloc: Global, design: &Design, case: &Case) -> Result<Moments, AllocError>
+    requires lawful { IsLawful (design_view design.now) }
+    ensures { IfOk result (AreMoments ((design_view design.now).flush + 1)
+        (flush_moment (design_view design.now) case.now case.now.state)) }
+{
+    let state = case.state.clone()?;
+    flushing(alloc, design, case, state)
+}
+
 /// The steps of the specification from what is visible after these flush cycles.
 fn steps_after(
     alloc: Global,
@@ -179,10 +189,11 @@ pub fn history_of(alloc: Global, design: &Design, case: &Case) -> Result<History
 {
     let state = step(alloc, design, &case.interp, &case.state, &case.inputs)?;
     let next = next_of(alloc, design, case, state)?;
-    let before = flushing(alloc, design, case, case.state.clone()?)?;
+    let before = flushing_first(alloc, design, case)?;
     let steps = steps_after(alloc, design, case, &before)?;
+    let first = first_moment(alloc, design, case)?;
     Ok(History {
-        first: first_moment(alloc, design, case)?,
+        first,
         before,
         after: next.after,
         steps,

@@ -6,7 +6,7 @@ pub loop-subject-init : goal.loop-subject-init
 loop-subject-init c = nothing_yet _
 
 pub loop-subject-preserved : goal.loop-subject-preserved
-loop-subject-preserved c = asked_more _ _ c.args.subjects.now c.loop-subject.subject-index c.subject-item.result (omega arith) c.subject-item.is c.loop-subject.invariant c.in_ok-insert.ensures.keys
+loop-subject-preserved c = asked_more _ _ c.args.subjects.now c.loop-subject.subject-index _ (omega arith) c.loop-subject.invariant c.in_ok-insert.ensures.keys
 
 pub returns : goal.returns
 returns c = asked_all _ c.args.subjects.now c.loop-subject.subject-index (omega arith) c.loop-subject.invariant

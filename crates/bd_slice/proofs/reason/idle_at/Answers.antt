@@ -7,8 +7,8 @@ use Rattle.bd_slice.proofs.reason.idle_at.Goals as goal
 pub returns-in-Some-clause-there : goal.returns-in-Some-clause-there
 returns-in-Some-clause-there c =
     let look = c.in-Some.ensures.lookup in
-    (port_view c.in-Some.port.now, got_view port_view _ _ _ _ refl (ap (λ ls. slice_get ls c.args.number) (sym c.as_slice.ensures) ∙ got _ _ c.in-Some.port.now look.3.0 look.1), refl)
+    (port_view c.in-Some.port.now, got_view port_view c.args.ports.now _ c.args.number c.in-Some.port.now refl (ap (λ ls. slice_get ls c.args.number) (sym c.as_slice.ensures) ∙ got _ _ c.in-Some.port.now look.3.0 look.1), refl)
 
 pub returns-in-None-clause-past : goal.returns-in-None-clause-past
 returns-in-None-clause-past c =
-    gone_view port_view _ _ c.args.number refl (ap (λ ls. slice_get ls c.args.number) (sym c.as_slice.ensures) ∙ slice_get_past _ _ c.in-None.ensures.lookup.3)
+    gone_view port_view c.args.ports.now _ c.args.number refl (ap (λ ls. slice_get ls c.args.number) (sym c.as_slice.ensures) ∙ slice_get_past _ _ c.in-None.ensures.lookup.3)

@@ -1,11 +1,8 @@
-use Rattle.bd_slice.proofs.Collecting.{front_same, inserted_front, inserted_there}
+use Rattle.bd_slice.proofs.Collecting.{front_same, inserted_there}
 use Rattle.bd_slice.proofs.reason.put_named.Goals as goal
 
-pub returns-in-Rests-clause-front : goal.returns-in-Rests-clause-front
-returns-in-Rests-clause-front c = inserted_front _ _ _ c.in_ok-insert.ensures.keys
-
-pub returns-in-Rests-clause-among : goal.returns-in-Rests-clause-among
-returns-in-Rests-clause-among c = rw c.in-Rests.is (inserted_there _ _ _ c.in_ok-insert.ensures.keys)
+pub returns-in_ok-insert-in-Rests-clause-among : goal.returns-in_ok-insert-in-Rests-clause-among
+returns-in_ok-insert-in-Rests-clause-among c = rw c.in-Rests.is (inserted_there _ _ _ c.in_ok-insert-in-Rests.ensures.keys)
 
 pub returns-in-Chosen-clause-front : goal.returns-in-Chosen-clause-front
 returns-in-Chosen-clause-front c = front_same _

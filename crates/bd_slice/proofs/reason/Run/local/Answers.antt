@@ -7,7 +7,7 @@ pub returns-in_ok-found-in-Some : goal.returns-in_ok-found-in-Some
 returns-in_ok-found-in-Some c = λ history has.
     let at = c.in-Some.ensures.there in
     let view = ap (λ (ls : List LocalView). slice_get ls c.args.number) (sym c.lets-locals.ensures) in
-    let_reason _ _ c.args.cycle c.args.number c.args.address at.0 _ _ (view ∙ at.1) at.2 (c.in_ok-found.ensures history has)
+    let_reason _ _ c.args.cycle c.args.number c.args.address at.0 _ _ (view ∙ at.1) at.2 (c.in_ok-found-in-Some.ensures history has)
 
 pub returns-in-None : goal.returns-in-None
 returns-in-None c = λ history has.

@@ -7,7 +7,7 @@ pub returns-in_ok-found-in-Some : goal.returns-in_ok-found-in-Some
 returns-in_ok-found-in-Some c = λ history has.
     let view = ap (λ (m : MachineView). slice_get m.nexts c.args.entry) (sym c.machine-machine.ensures) in
     next_accounts _ _ c.args.cycle c.args.column _ c.args.entry c.args.address _ _ c.requires.leads (view_count local_view _ _ _ c.len-count.ensures c.lets-locals.ensures) (view ∙ c.in-Some.ensures.there)
-    (c.in_ok-found.ensures history (has_led _ c.args.cycle c.args.column c.requires.leads has))
+    (c.in_ok-found-in-Some.ensures history (has_led _ c.args.cycle c.args.column c.requires.leads has))
 
 pub returns-in-None : goal.returns-in-None
 returns-in-None c = λ history has.

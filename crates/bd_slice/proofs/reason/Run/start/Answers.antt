@@ -19,4 +19,4 @@ returns-in-After c = absurd (rw c.in-After.is at c.requires.start)
 pub returns-in_ok-seen-in-Steps : goal.returns-in_ok-seen-in-Steps
 returns-in_ok-seen-in-Steps c =
     let first : c.args.column ≡ column.Steps 0 = c.in-Steps.is ∙ ap column.Steps (rw c.in-Steps.is at c.requires.start) in
-    rw first (λ history has. entry_reason _ _ (column.Steps 0) c.args.entry c.args.address _ (c.in_ok-seen.ensures history has))
+    rw first (λ history has. entry_reason _ _ (column.Steps 0) c.args.entry c.args.address _ (c.in_ok-seen-in-Steps.ensures history has))
