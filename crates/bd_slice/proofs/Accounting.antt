@@ -119,7 +119,7 @@ accounts_item d h count m f moment lets by =
     let values : List Value = let_values_in d h.case.now h.cycle in
     let front : h.lets.now ≡ take count values = lets ∙ ap (λ (x : Moment). take count x.lets) moment in
     let same : (o : Case) → take (length h.lets.now) (let_values_in d o h.cycle) ≡ take count (let_values_in d o h.cycle) =
-        λ o. ap (λ (vs : List Value). take (length vs) (let_values_in d o h.cycle)) front ∙ take_front_count count values (let_values_in d o h.cycle) (same_count d h.case.now o h.cycle) in
+    λ o. ap (λ (vs : List Value). take (length vs) (let_values_in d o h.cycle)) front ∙ take_front_count count values (let_values_in d o h.cycle) (same_count d h.case.now o h.cycle) in
     record {
       facts = by.holds d (record { moment = moment; lets = front ∙ sym (same h.case.now) });
       local = λ o all. ap (λ (vs : List Value). m (record { interp = o.interp; state = state_at d o h.cycle; inputs = inputs_in d o h.cycle; locals = vs })) (sym (same o)) ∙ by.local d o all;
@@ -127,15 +127,15 @@ accounts_item d h count m f moment lets by =
 
 -- a value that is the same in each case rests on nothing
 pub accounts_nothing : (d : DesignView) (c : Case) (m : Case → Scalar) (f : Found) → f.facts.items ≡ [] → ((o : Case) → m o ≡ f.value) → Accounts d c m f
-accounts_nothing d c m f none same = record { facts = subst (AllHold d c) (sym none) tt; local = λ o all. same o; }
+accounts_nothing d c m f none same = record { facts = subst (AllHold d c) (sym none) tt; local = λ o all. same o }
 
 -- the same value, said otherwise
 pub accounts_same : (d : DesignView) (c : Case) (m n : Case → Scalar) (f : Found) → ((o : Case) → n o ≡ m o) → Accounts d c m f → Accounts d c n f
-accounts_same d c m n f same by = record { facts = by.facts; local = λ o all. same o ∙ by.local o all; }
+accounts_same d c m n f same by = record { facts = by.facts; local = λ o all. same o ∙ by.local o all }
 
 -- so it is a reason
 pub reason_of : (d : DesignView) (c : Case) (s : Subject) (f : Found) → Accounts d c (λ o. subject_value d o s) f → IsReasonFor d c s f
-reason_of d c s f by = record { value = by.local c by.facts; facts = by.facts; local = λ given o all. by.local o all; }
+reason_of d c s f by = record { value = by.local c by.facts; facts = by.facts; local = λ given o all. by.local o all }
 
 -- ---- what cycles lead to
 pub led_to : (d : DesignView) (o : Case) (which : Cycle) (k : Column) → LeadsTo which k → column_state d o k ≡ step (machine_in d which) o.interp (state_at d o which) (inputs_in d o which)
@@ -191,8 +191,8 @@ input_idle d o which count i p flushes is h no_input =
     ap (λ (xs : List Scalar). slice_index_or xs i (Scalar.Bool false)) (idle_at d o which i flushes)
     ∙ mapped_item (λ (p : PortView). scalar_of (value_of (env_of d.pipe.locals o.interp (state_at d o which) []) p.idle)) d.pipe.ports i p (Scalar.Bool false) h
     ∙ ap scalar_of (value_of-whatever_inputs d.pipe.locals o.interp (state_at d o which) [] (inputs_in d o which) p.idle no_input
-        ∙ ap (λ (ls : List LocalView). value_of (env_of ls o.interp (state_at d o which) (inputs_in d o which)) p.idle) (sym lets)
-        ∙ ap (λ (v : Env). value_of v p.idle) (sym (all_lets d o which count size)))
+    ∙ ap (λ (ls : List LocalView). value_of (env_of ls o.interp (state_at d o which) (inputs_in d o which)) p.idle) (sym lets)
+    ∙ ap (λ (v : Env). value_of v p.idle) (sym (all_lets d o which count size)))
 
 pub input_past : (d : DesignView) (o : Case) (which : Cycle) (i : ℕ) → IsFlushCycle which → slice_get d.pipe.ports i ≡ None → slice_index_or (inputs_in d o which) i (Scalar.Bool false) ≡ Scalar.Bool false
 input_past d o which i flushes h =
@@ -216,7 +216,7 @@ pub let_reason : (d : DesignView) (c : Case) (which : Cycle) (i : ℕ) (part : O
     → Accounts d c (λ o. part_of part (value_of (env_after d o which i) e)) f → IsReasonFor d c (let_subject which i part) f
 let_reason d c which i part l e f at is by =
     reason_of d c (let_subject which i part) f (accounts_same d c (λ o. part_of part (value_of (env_after d o which i) e)) (λ o. subject_value d o (let_subject which i part)) f
-        (λ o. let_part d o which i part ∙ ap (part_of part) (let_at d o which i l at ∙ ap (value_of (env_after d o which i)) is)) by)
+    (λ o. let_part d o which i part ∙ ap (part_of part) (let_at d o which i l at ∙ ap (value_of (env_after d o which i)) is)) by)
 
 pub no_let_reason : (d : DesignView) (c : Case) (which : Cycle) (i : ℕ) (part : Option ℕ) (f : Found) → slice_get (lets_of d which) i ≡ None → f.facts.items ≡ [] → f.value ≡ part_of part (truth false) → IsReasonFor d c (let_subject which i part) f
 no_let_reason d c which i part f past none is =
@@ -259,7 +259,7 @@ pub idle_reason : (d : DesignView) (c : Case) (which : Cycle) (count i : ℕ) (p
     → Accounts d c (λ o. scalar_of (value_of (env_after d o which count) e)) f → IsReasonFor d c (subject.Input which i) f
 idle_reason d c which count i p e f lawful flushes is at same by =
     reason_of d c (subject.Input which i) f (accounts_same d c (λ o. scalar_of (value_of (env_after d o which count) e)) (λ o. subject_value d o (subject.Input which i)) f
-        (λ o. input_idle d o which count i p flushes is at (port_at d.pipe.ports i p lawful.ports at) ∙ ap (λ x. scalar_of (value_of (env_after d o which count) x)) same) by)
+    (λ o. input_idle d o which count i p flushes is at (port_at d.pipe.ports i p lawful.ports at) ∙ ap (λ x. scalar_of (value_of (env_after d o which count) x)) same) by)
   where
     port_at : (ps : List PortView) (i : ℕ) (p : PortView) → AllByRecursion (IsLawfulPort d) ps → slice_get ps i ≡ Some p → uses_input (input_flags d.pipe.locals) p.idle ≡ false
     port_at [] i p h at = absurd (none-some p at)
@@ -278,14 +278,14 @@ no_input_reason d c which i f nothing none is =
 pub invariant_reason : (d : DesignView) (c : Case) (count : ℕ) (f : Found) → count ≡ length d.inv_locals → Accounts d c (λ o. scalar_of (value_of (env_after d o cycle.Invariant count) d.inv)) f → IsReasonFor d c subject.Invariant f
 invariant_reason d c count f is by =
     reason_of d c subject.Invariant f (accounts_same d c (λ o. scalar_of (value_of (env_after d o cycle.Invariant count) d.inv)) (λ o. subject_value d o subject.Invariant) f
-        (λ o. ap (λ (v : Env). scalar_of (value_of v d.inv)) (sym (all_lets d o cycle.Invariant count is))) by)
+    (λ o. ap (λ (v : Env). scalar_of (value_of v d.inv)) (sym (all_lets d o cycle.Invariant count is))) by)
 
 -- what is taken over rests on the entry that is seen
 pub seen_accounts : (d : DesignView) (c : Case) (i place : ℕ) (part : Option ℕ) (s : Subject) (x : Fact) (f : Found) → slice_get d.visible i ≡ Some place → s ≡ entry_subject (column.Before d.flush) place part
     → f.value ≡ entry_in d c (column.Before d.flush) place part → x.finding ≡ finding.Rests s f.value → f.facts.items ≡ x ∷ [] → Accounts d c (λ o. entry_in d o (column.Steps 0) i part) f
 seen_accounts d c i place part s x f at named is told one =
     let same : (o : Case) → entry_in d o (column.Steps 0) i part ≡ subject_value d o s =
-        λ o. ap (part_of part) (entry_seen d o i place at) ∙ sym (entry_part d o (column.Before d.flush) place part) ∙ ap (subject_value d o) (sym named) in
+    λ o. ap (part_of part) (entry_seen d o i place at) ∙ sym (entry_part d o (column.Before d.flush) place part) ∙ ap (subject_value d o) (sym named) in
     record {
       facts = subst (AllHold d c) (sym one) (subst (IsFound d c) (sym told) (ap (subject_value d c) named ∙ entry_part d c (column.Before d.flush) place part ∙ sym is), tt);
       local = λ o all. same o ∙ subst (IsFound d o) told (subst (AllHold d o) one all).0;

@@ -6,7 +6,7 @@ use Rattle.bd_slice.specs.History.{AreMoments}
 use Rattle.bd_slice.specs.declared.moment.Moment.{Moment}
 
 pub no_moments : (moments : ℕ → Moment) → AreMoments 0 moments []
-no_moments moments = record { count = refl; each = λ n within. absurd (omega (arith, within)); }
+no_moments moments = record { count = refl; each = λ n within. absurd (omega (arith, within)) }
 
 each_more : (f : ℕ → Moment) (ms : List Moment) (m : Moment) → ((n : ℕ) → n < length ms → slice_get ms n ≡ Some (f n)) → m ≡ f (length ms) → (n : ℕ) → n < length ms + 1 → slice_get (ms ++ m ∷ []) n ≡ Some (f n)
 each_more f [] m h is zero within = ap Some is

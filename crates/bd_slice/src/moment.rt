@@ -218,3 +218,12 @@ impl History {
         }
     }
 }
+
+impl Column {
+    /// The column's number of flush cycles or steps.
+    pub fn number(self) -> u32 {
+        match self {
+            Column::Before(n) | Column::After(n) | Column::Steps(n) => n,
+        }
+    }
+}

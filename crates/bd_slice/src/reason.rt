@@ -541,7 +541,7 @@ impl<'a> Run<'a> {
         requires { slice_get self.design.now.visible entry ≡ Some place }
         ensures { IfOk result (λ f.
             moment.now ≡ moment_in (design_view self.entry.design.now) self.entry.case.now
-                (Cycle.FlushBefore self.entry.design.now.flush) →
+            (Cycle.FlushBefore self.entry.design.now.flush) →
             Accounts (design_view self.entry.design.now) self.entry.case.now
             (λ o. entry_in (design_view self.entry.design.now) o (Column.Steps 0) entry address) f) }
     {

@@ -8,7 +8,7 @@ use Rattle.bd_slice.proofs.Remembering.{moments_more, no_moments}
 use Rattle.bd_slice.proofs.moment.flushing.Goals as goal
 
 pub loop-cycle-init : goal.loop-cycle-init
-loop-cycle-init c = record { reached = refl; moments = rw c.new-moments.ensures (no_moments _); }
+loop-cycle-init c = record { reached = refl; moments = rw c.new-moments.ensures (no_moments _) }
 
 pub loop-cycle-preserved : goal.loop-cycle-preserved
 loop-cycle-preserved c =

@@ -7,7 +7,7 @@ use Rattle.bd_slice.proofs.Remembering.{moments_more, no_moments}
 use Rattle.bd_slice.proofs.moment.stepping.Goals as goal
 
 pub loop-step-init : goal.loop-step-init
-loop-step-init c = record { reached = refl; moments = rw c.new-moments.ensures (no_moments _); }
+loop-step-init c = record { reached = refl; moments = rw c.new-moments.ensures (no_moments _) }
 
 pub loop-step-preserved : goal.loop-step-preserved
 loop-step-preserved c =

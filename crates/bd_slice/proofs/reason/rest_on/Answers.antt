@@ -3,7 +3,7 @@ use Rattle.bd_slice.proofs.Collecting.{front_further, front_same, nothing_yet, r
 use Rattle.bd_slice.proofs.reason.rest_on.Goals as goal
 
 pub loop-fact-init : goal.loop-fact-init
-loop-fact-init c = record { front = front_same _; among = nothing_yet _; }
+loop-fact-init c = record { front = front_same _; among = nothing_yet _ }
 
 pub loop-fact-preserved : goal.loop-fact-preserved
 loop-fact-preserved c = record {
