@@ -1,8 +1,8 @@
 //! Why values of a run are what they are: each value with the facts behind it, from the values that are asked for down
 //! to the case.
 //!
-//! These are the rules by which a slice is made, over the values of the same run. Nothing is proved of them but that
-//! they are safe.
+//! These are the rules by which a slice is made, over the values of the same run. A reason is local: in each case in
+//! which its facts are true, the value is the same.
 ghost use Rattle.std.specs.Prelude.{◌≡◌, ◌∷◌, ◌++◌, [], IfNone, IfOk, IfSome, None, OnOk, Some, false, map, slice_get, slice_index_or, take};
 ghost use Rattle.std.specs.List.{All, Contains};
 ghost use Rattle.bd_model.specs.DesignView.{DesignView, LocalView, PortView, design_view, local_view, machine_view, port_view};
