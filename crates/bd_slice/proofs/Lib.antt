@@ -3,3 +3,6 @@ mod Cycles
 mod Marked
 mod Followings
 mod Explaining
+mod Accounting
+mod Collecting
+mod Remembering

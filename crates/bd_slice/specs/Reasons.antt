@@ -1,11 +1,12 @@
 -- Why a value of a run is what it is: the facts on which it rests. A reason is local: where its facts hold in another
 -- case, the value is the same there.
-use Rattle.std.specs.Prelude.{◌≡◌, ⊤, Bool, true, false, zero, List}
-use Rattle.std.specs.List.{AllByRecursion}
+use Rattle.std.specs.Prelude.{◌≡◌, ⊤, Bool, true, false, zero, List, map}
+use Rattle.std.specs.List.{All, AllByRecursion, Contains}
 use Rattle.bd_model.specs.DesignView.{DesignView}
 use Rattle.bd_model.specs.Table.{at}
 use Rattle.bd_model.specs.Value.{table_of}
 use Rattle.bd_model.specs.declared.case.Case.{Case}
+use Rattle.bd_slice.specs.History.{HasSubject}
 use Rattle.bd_slice.specs.Run.{subject_value}
 use Rattle.bd_slice.specs.declared.place.Column.TheVariants as column
 use Rattle.bd_slice.specs.declared.subject.Cycle.TheVariants as cycle
@@ -44,3 +45,26 @@ pub record IsReason (d : DesignView) (c : Case) (r : Reason) : Type 0 where
   pub local :
       is_given r.subject ≡ false → (other : Case) → AllHold d other r.facts.items →
       subject_value d other r.subject ≡ r.value
+
+-- the values that have reasons
+abbrev pub subjects_of : List Reason → List Subject
+subjects_of rs = map (λ (r : Reason). r.subject) rs
+
+-- the values on which another rests are among these
+abbrev pub IsAmong : List Subject → Finding → Type 0
+IsAmong subjects (finding.Rests s x) = Contains subjects s
+IsAmong subjects other = ⊤
+
+abbrev pub RestsAmong : List Subject → Fact → Type 0
+RestsAmong subjects f = IsAmong subjects f.finding
+
+abbrev pub IsClosed : List Subject → Reason → Type 0
+IsClosed subjects r = All (RestsAmong subjects) r.facts.items
+
+-- a list of reasons: each of a value of the run is one, and each value that is asked for has one, as has each on which
+-- another rests
+pub record AreReasons (d : DesignView) (c : Case) (wanted : List Subject) (rs : List Reason) :
+    Type 0 where
+  pub each : All (λ (r : Reason). HasSubject d r.subject → IsReason d c r) rs
+  pub asked : All (Contains (subjects_of rs)) wanted
+  pub closed : All (IsClosed (subjects_of rs)) rs

@@ -1,6 +1,7 @@
 //! Values of a run, and what they come from.
-ghost use Rattle.std.specs.Prelude.{◌≡◌};
+ghost use Rattle.std.specs.Prelude.{◌≡◌, IfNone, IfSome};
 ghost use Rattle.bd_slice.specs.Run.{begins_at};
+ghost use Rattle.bd_slice.specs.inner.Leads.{IsStart, LeadsTo};
 
 use crate::place::Column;
 use bd_model::{Scalar, Words};
@@ -46,7 +47,10 @@ impl Subject {
 
 impl Column {
     /// The cycle that ends in a column.
-    pub fn reached_by(self) -> Option<Cycle> {
+    pub fn reached_by(self) -> Option<Cycle>
+        ensures leads { IfSome result (λ which. LeadsTo which self) }
+        ensures start { IfNone result (IsStart self) }
+    {
         match self {
             Column::Before(0) | Column::Steps(0) => None,
             Column::After(0) => Some(Cycle::Case),

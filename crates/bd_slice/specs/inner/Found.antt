@@ -9,21 +9,13 @@ use Rattle.bd_model.specs.declared.table.Scalar.{Scalar}
 use Rattle.bd_model.specs.declared.table.Value.{Value}
 use Rattle.bd_slice.specs.Run.{state_at, inputs_in, let_values_in, word_at}
 use Rattle.bd_slice.specs.Reasons.{AllHold}
+use Rattle.bd_slice.specs.History.{moment_in}
 use Rattle.bd_slice.specs.declared.subject.Cycle.{Cycle}
 use Rattle.bd_slice.specs.declared.subject.Finding.{Finding}
 use Rattle.bd_slice.specs.declared.subject.Finding.TheVariants as finding
 use Rattle.bd_slice.specs.declared.subject.Fact.{Fact}
-use Rattle.bd_slice.specs.declared.moment.Moment.{Moment}
 use Rattle.bd_slice.specs.declared.finding.Here.{Here}
 use Rattle.bd_slice.specs.declared.finding.Found.{Found}
-
--- a cycle's values in the run of a case
-abbrev pub moment_in : DesignView → Case → Cycle → Moment
-moment_in d c which = record {
-  state = state_at d c which;
-  inputs = inputs_in d c which;
-  lets = let_values_in d c which;
-}
 
 -- what names stand for in a case, after so many of the cycle's lets
 abbrev pub env_at : DesignView → Case → Here → Env
