@@ -1,5 +1,5 @@
 -- Times, one by one.
-use Rattle.std.proofs.Common.{◌≡◌, ◌+◌, ◌++◌, ◌∙◌, ℕ, suc, List, [], refl, ap, sym, add-one, append-nil, append_assoc}
+use Rattle.std.proofs.Common.{◌≡◌, ◌+◌, ◌++◌, ◌∙◌, ℕ, List, refl, ap, sym, add-one, append-nil, append_assoc}
 use Rattle.bd_wave.specs.Dump.{moment, moments}
 use Rattle.bd_wave.specs.declared.wave.Scope.{Scope}
 

@@ -1,5 +1,5 @@
 -- What waves do at a time, as a value change dump prints it (IEEE 1364, value change dump).
-use Rattle.std.specs.Prelude.{ℕ, zero, suc, ◌+◌, true, false, List, [], ◌∷◌, ◌++◌, codes, Option, Some, None, slice_get, decimal, unwrap_or}
+use Rattle.std.specs.Prelude.{ℕ, zero, suc, ◌+◌, true, false, List, [], ◌∷◌, ◌++◌, codes, slice_get, decimal, unwrap_or}
 use Rattle.std.specs.Int.{bit_at}
 use Rattle.bd_wave.specs.declared.wave.Sample.{Sample}
 use Rattle.bd_wave.specs.declared.wave.Sample.TheVariants.{Stays, Unknown, Bit, Word}

@@ -4,6 +4,8 @@
 mod change;
 mod declare;
 mod dump;
+#[cfg(test)]
+mod tests;
 mod wave;
 
 pub use change::push_vector;
