@@ -66,7 +66,7 @@ pub broken_saved : (d : DesignView) (cycles : ℕ) (r : Bounded) (cycle : ℕ) (
     → IsTrailSaved cycles d (ended.Checked (run_finding r)) (Some bytes)
 broken_saved d cycles r cycle t work bytes is says printed =
     let said = subst (SaysOfRuns d cycles) is says in
-    subst (λ x. IsTrailSaved cycles d (ended.Checked (run_finding x)) (Some bytes)) (sym is) (record { trail = t; over = said.0; cycle = cycle; is_judged = said.1; printed = printed })
+    subst (λ x. IsTrailSaved cycles d (ended.Checked (run_finding x)) (Some bytes)) (sym is) (record { breaking = t; over = said.0; cycle = cycle; is_judged = said.1; printed = printed })
 
 -- ---- and so of the texts
 

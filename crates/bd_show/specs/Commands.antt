@@ -1,6 +1,6 @@
 -- The command line: which words are taken, and what they ask for.
 -- Source: what `clap` makes of the words of a simple command, as the crate states it.
-use Rattle.std.specs.Prelude.{◌≡◌, ◌≢◌, ◌⊎◌, ◌&&◌, ℕ, true, false, List, [], ◌∷◌, codes, min, Option, Some, None, is_none, is_some, if◌then◌else◌}
+use Rattle.std.specs.Prelude.{◌≡◌, ◌≢◌, ◌⊎◌, ℕ, true, false, List, [], ◌∷◌, codes, min, Option, Some, None, if◌then◌else◌}
 use Rattle.std.specs.Str.{bytes_eq}
 use Rattle.clap.specs.Faults.{fault_of}
 use Rattle.clap.specs.Kinds.{IsAmong}
@@ -10,7 +10,7 @@ use Rattle.clap.specs.declared.error.kind.ErrorKind.{ErrorKind}
 use Rattle.clap.specs.declared.error.kind.ErrorKind.TheVariants.{DisplayHelp, DisplayVersion}
 use Rattle.bd_app.specs.Commands.{if_faultless}
 use Rattle.bd_model.specs.Limits.{most_cycles}
-use Rattle.bd_app.specs.Words.{budget_option, flag, flag_at, in_range, machines_command, mode_at, number_at, number_of, option, text_command, text_of_required, ◌>>=◌}
+use Rattle.bd_app.specs.Words.{Name, budget_option, flag, flag_at, in_range, machines_command, mode_at, number_at, number_of, option, text_command, text_of_required, ◌>>=◌}
 use Rattle.bd_show.specs.Files.{Names}
 use Rattle.bd_show.specs.Meaning.{BoundedCheck, Check, Explain, Question, Recheck, Show, bounded, check, show, shrink, explain, about, recheck}
 
@@ -84,15 +84,16 @@ bounded_question cycles rows = record {
 }
 
 -- a start and a number of cycles stand together, and not with an invariant
-abbrev pub check_asked_by : Option ℕ → List Row → Option Question
-check_asked_by None rows =
-    if is_none (first_of (codes "start") rows) then Some (check (check_question rows)) else None
-check_asked_by (Some cycles) rows =
-    if is_some (first_of (codes "start") rows) && is_none (first_of (codes "INV") rows)
-    then Some (bounded (bounded_question cycles rows)) else None
+abbrev pub check_asked_by : Option Name → Option ℕ → Option Name → List Row → Option Question
+check_asked_by None None inv rows = Some (check (check_question rows))
+check_asked_by (Some start) (Some cycles) None rows =
+    Some (bounded (bounded_question cycles rows))
+check_asked_by start cycles inv rows = None
 
 abbrev pub check_asked : List Row → Option Question
-check_asked rows = check_asked_by (number_at (codes "cycles") rows) rows
+check_asked rows =
+    check_asked_by (first_of (codes "start") rows) (number_at (codes "cycles") rows)
+    (first_of (codes "INV") rows) rows
 
 abbrev pub show_question : List Row → Show
 show_question rows = record {

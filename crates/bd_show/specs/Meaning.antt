@@ -253,11 +253,11 @@ pub record IsCaseText (d : DesignView) (k : Condition) (bytes : List ℕ) : Type
 
 -- the bytes are the text of a trail of so many cycles that breaks, and read back as that trail
 pub record IsTrailText (d : DesignView) (cycles : ℕ) (bytes : List ℕ) : Type 0 where
-  pub trail : Trail
-  pub over : IsTrailOver d cycles trail
+  pub breaking : Trail
+  pub over : IsTrailOver d cycles breaking
   pub cycle : ℕ
-  pub is_judged : IsTrailJudged d trail (trail.Broken cycle)
-  pub printed : IsTextOf trail_kind d trail bytes
+  pub is_judged : IsTrailJudged d breaking (trail.Broken cycle)
+  pub printed : IsTextOf trail_kind d breaking bytes
 
 -- the text is a small case that breaks the same condition, and reads back as that case
 pub record IsSmaller (d : DesignView) (c : Case) (k : Condition) (text : List ℕ) : Type 0 where

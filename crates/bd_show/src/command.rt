@@ -7,7 +7,8 @@ ghost use Rattle.clap.specs.declared.builder.command.Command.TheViews.{out-Comma
 ghost use Rattle.bd_app.specs.Words.{in_range, option, texts_of};
 ghost use Rattle.bd_model.specs.Limits.{most_cycles};
 ghost use Rattle.bd_show.specs.Files.{names_of};
-ghost use Rattle.bd_show.specs.Commands.{about_command, case_names, check_asked, check_command, command_line, design_names, proof_names, question_of, recheck_command, show_command, shrink_command, taken, why_command};
+ghost use Rattle.bd_show.specs.Commands.{about_command, bounded_question, case_names, check_asked, check_command, check_question, command_line, design_names, proof_names, question_of, recheck_command, show_command, shrink_command, taken, why_command};
+ghost use Rattle.bd_show.specs.Meaning.{bounded, check};
 ghost use Rattle.bd_show.specs.inner.Asked.{IsParsed, IsToldBy, IsWellAsked, IsWordsFault, asked, first_commands};
 
 use crate::bounding::BoundedOptions;
@@ -268,33 +269,54 @@ fn proof_names<'a>(matches: &ArgMatches<'a>) -> FileNames<'a>
     }
 }
 
+/// What `check` asks of each state.
+fn whole_question<'a>(matches: &ArgMatches<'a>) -> Command<'a>
+    ensures asked { asked result ≡ check (check_question (rows_of (found_of matches.now))) }
+    ensures well { IsWellAsked result }
+{
+    Command::Check(CheckOptions {
+        names: design_names(matches),
+        mode: mode_at(matches, "diverse"),
+        budget: required_number(matches, "budget"),
+        case: word_at(matches, "case"),
+    })
+}
+
+/// What `check` asks of so many cycles from a start.
+fn run_question<'a>(matches: &ArgMatches<'a>, cycles: u32) -> Command<'a>
+    ensures asked { asked result
+        ≡ bounded (bounded_question cycles (rows_of (found_of matches.now))) }
+    ensures well { IsWellAsked result }
+{
+    Command::Bounded(BoundedOptions {
+        names: FileNames {
+            inv: word_at(matches, "start"),
+            ..design_names(matches)
+        },
+        cycles: cycles.min(MOST_CYCLES),
+        mode: mode_at(matches, "diverse"),
+        budget: required_number(matches, "budget"),
+        trail: word_at(matches, "case"),
+    })
+}
+
 /// What `check` asks for: a start and a number of cycles stand together, and not with an invariant.
 fn check_question<'a>(matches: &ArgMatches<'a>) -> Option<Command<'a>>
     ensures asked { option_map asked result ≡ check_asked (rows_of (found_of matches.now)) }
     ensures well { IfSome result IsWellAsked }
 {
-    let start = word_at(matches, "start");
-    let inv = word_at(matches, "INV");
-    match number_at(matches, "cycles") {
-        None if start.is_none() => Some(Command::Check(CheckOptions {
-            names: design_names(matches),
-            mode: mode_at(matches, "diverse"),
-            budget: required_number(matches, "budget"),
-            case: word_at(matches, "case"),
-        })),
-        Some(cycles) if start.is_some() && inv.is_none() => {
-            Some(Command::Bounded(BoundedOptions {
-                names: FileNames {
-                    inv: start,
-                    ..design_names(matches)
-                },
-                cycles: cycles.min(MOST_CYCLES),
-                mode: mode_at(matches, "diverse"),
-                budget: required_number(matches, "budget"),
-                trail: word_at(matches, "case"),
-            }))
-        }
-        _ => None,
+    match word_at(matches, "start") {
+        None => match number_at(matches, "cycles") {
+            None => Some(whole_question(matches)),
+            Some(_) => None,
+        },
+        Some(_) => match number_at(matches, "cycles") {
+            None => None,
+            Some(cycles) => match word_at(matches, "INV") {
+                None => Some(run_question(matches, cycles)),
+                Some(_) => None,
+            },
+        },
     }
 }
 
