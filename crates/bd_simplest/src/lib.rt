@@ -6,10 +6,10 @@
 #![tactic(auto)]
 
 mod latches;
-mod narrowed;
+mod narrowing;
 mod question;
 mod search;
-mod simplified;
+mod verdict;
 
 pub use question::DesignTexts;
-pub use simplified::simplified;
+pub use verdict::simplified;

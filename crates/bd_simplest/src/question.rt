@@ -8,7 +8,7 @@ ghost use Rattle.bd_model.specs.Limits.{longest_text};
 ghost use Rattle.bd_model.specs.declared.case.Condition.TheVariants.{Commute};
 ghost use Rattle.bd_model.specs.declared.case.Judged.TheVariants.{Broken};
 
-use crate::narrowed::narrowed;
+use crate::narrowing::narrowed;
 use bd_bounded::{Bounded, bounded_by};
 use bd_case::{CaseFault, case_text, read_case};
 use bd_cdcl::Cdcl;
