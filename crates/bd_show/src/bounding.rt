@@ -105,6 +105,7 @@ fn printed(alloc: Global, design: &Design, trail: &Trail) -> Result<Vec<u8>, All
 }
 
 /// What is saved of an answer: the text of the trail that breaks.
+#[tactic(auto, using(crate::proofs::Runs::broken_fits, crate::proofs::Runs::broken_saved))]
 fn saved_trail(
     alloc: Global,
     options: BoundedOptions<'_>,
@@ -131,11 +132,7 @@ struct Found {
 }
 
 /// What a design is found to be, with the text of its trail.
-fn found(
-    alloc: Global,
-    options: BoundedOptions<'_>,
-    design: &Design,
-) -> Result<Found, AllocError>
+fn found(alloc: Global, options: BoundedOptions<'_>, design: &Design) -> Result<Found, AllocError>
     requires lawful { IsLawful (design_view design.now) }
     requires few { HasFewCycles options }
     ensures says { IfOk result (λ f.

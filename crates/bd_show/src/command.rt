@@ -203,7 +203,8 @@ const DIVERSE: &str = "By positive equality: mostly a smaller formula, of the sa
 
 const BUDGET: &str = "At most so many learned clauses";
 
-const START: &str = "Asks of runs that begin where START is true, with --cycles in the place of INV";
+const START: &str =
+    "Asks of runs that begin where START is true, with --cycles in the place of INV";
 
 const CYCLES: &str = "How many cycles from there, 0 to 16";
 
@@ -399,6 +400,5 @@ pub fn command_of<'a>(alloc: Global, words: &'a [String]) -> Result<Command<'a>,
     }
 }
 
-const NONE: &[u8] =
-    b"usage: bd_view check PIPE SPEC [INV | --start START --cycles C] [--diverse], \
+const NONE: &[u8] = b"usage: bd_view check PIPE SPEC [INV | --start START --cycles C] [--diverse], \
 show|shrink|why PIPE SPEC CASE [INV], about PIPE SPEC [INV], or recheck PIPE SPEC PROOF [INV] [--diverse]; --help says more\n";
