@@ -8,3 +8,4 @@ pub mod Runs
 pub mod Checks
 pub mod Asked
 pub mod Joins
+pub mod Pieces

@@ -12,7 +12,7 @@ spaced_if (Some name) = 32 ∷ name
 -- an empty line, and `next: bd_view COMMAND PIPE SPEC SAVED INV`, where there is an INV
 abbrev pub next_line : List ℕ → Names → Name → List ℕ
 next_line command names saved =
-    codes "\nnext: bd_view " ++ (command ++ (32 ∷ names.pipe ++ (32 ∷ names.spec
+    codes "\nnext: bd_view" ++ (32 ∷ command ++ (32 ∷ names.pipe ++ (32 ∷ names.spec
     ++ (32 ∷ saved ++ (spaced_if names.inv ++ codes "\n")))))
 
 -- this line after `wrong`, if a name is given

@@ -105,6 +105,7 @@ fn printed(alloc: Global, design: &Design, trail: &Trail) -> Result<Vec<u8>, All
 }
 
 /// What is saved of an answer: the text of the trail that breaks.
+#[tactic(auto, using(crate::proofs::Runs::broken_fits, crate::proofs::Runs::broken_saved))]
 fn saved_trail(
     alloc: Global,
     options: BoundedOptions<'_>,

@@ -85,6 +85,7 @@ fn shown_case(
 }
 
 /// What is saved of a verdict: the text of the case of `wrong`.
+#[tactic(auto, using(crate::proofs::Checks::wrong_saved))]
 fn saved_case(
     alloc: Global,
     options: CheckOptions<'_>,

@@ -36,13 +36,14 @@ fn push_line(
     ensures { OnOk result (text.new.items
         ≡ text.old.items ++ next_line command.now (names_of names.entry) saved.now) }
 {
-    text.extend_from_slice(b"\nnext: bd_view ")?;
-    text.extend_from_slice(command.as_bytes())?;
+    text.extend_from_slice(b"\nnext: bd_view")?;
+    push_spaced(text, command)?;
     push_spaced(text, names.pipe)?;
     push_spaced(text, names.spec)?;
     push_spaced(text, saved)?;
     push_spaced_if(text, names.inv)?;
-    text.extend_from_slice(b"\n")
+    text.extend_from_slice(b"\n")?;
+    Ok(())
 }
 
 /// Puts the command that goes on from what is saved, where something is.
