@@ -126,13 +126,17 @@ fn saved_trail(
 
 /// What a design is found to be over so many cycles, and the text of the trail that breaks.
 #[derive(Drop)]
-struct Found {
+struct FoundRun {
     answer: Bounded,
     trail: Option<Vec<u8>>,
 }
 
 /// What a design is found to be, with the text of its trail.
-fn found(alloc: Global, options: BoundedOptions<'_>, design: &Design) -> Result<Found, AllocError>
+fn find_run(
+    alloc: Global,
+    options: BoundedOptions<'_>,
+    design: &Design,
+) -> Result<FoundRun, AllocError>
     requires lawful { IsLawful (design_view design.now) }
     requires few { HasFewCycles options }
     ensures says { IfOk result (λ f.
@@ -144,7 +148,7 @@ fn found(alloc: Global, options: BoundedOptions<'_>, design: &Design) -> Result<
 {
     let answer = decide(alloc, design, options)?;
     let trail = saved_trail(alloc, options, design, &answer)?;
-    Ok(Found { answer, trail })
+    Ok(FoundRun { answer, trail })
 }
 
 /// The text of an answer, on a design without its start.
@@ -176,7 +180,7 @@ fn answered(
     options: BoundedOptions<'_>,
     texts: &Texts,
     design: &Design,
-    found: Found,
+    found: FoundRun,
 ) -> Result<Showing, AllocError>
     requires lawful { IsLawful (design_view design.now) }
     requires readable { IsMachineText Pipeline (texts_view texts.now).pipe }
@@ -188,7 +192,7 @@ fn answered(
         (design_view design.now) found.answer r.answer.text.items) }
     ensures trail { IfOk result (λ r. r.page ≡ found.trail) }
 {
-    let Found { answer, trail } = found;
+    let FoundRun { answer, trail } = found;
     let text = report(alloc, options, texts, design, &answer)?;
     let ended = Ended::Checked(finding_of(&answer));
     Ok(Showing {
@@ -213,7 +217,7 @@ fn on_design(
     ensures saved { IfOk result (λ r. IsTrailSaved options.entry.cycles (design_view design)
         r.answer.ended (bytes_of r.page)) }
 {
-    match found(alloc, options, &design) {
+    match find_run(alloc, options, &design) {
         Ok(found) => {
             let design = unstarted(alloc, design);
             answered(alloc, options, texts, &design, found)

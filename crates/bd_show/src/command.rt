@@ -100,7 +100,7 @@ fn check_command<'a>(alloc: Global) -> Result<clap::Command<'a>, AllocError>
     let command = with(command, described(flag(alloc, "diverse"), DIVERSE))?;
     let command = with(command, described(budget(alloc), BUDGET))?;
     let command = with(command, described(option(alloc, "start"), START))?;
-    let command = with(command, described(cycles(alloc), CYCLES))?;
+    let command = with(command, described(cycles(alloc), CYCLE_COUNT))?;
     let command = with(command, described(option(alloc, "case"), CASE))?;
     Ok(explained(command, LEGEND))
 }
@@ -206,7 +206,7 @@ const BUDGET: &str = "At most so many learned clauses";
 const START: &str =
     "Asks of runs that begin where START is true, with --cycles in the place of INV";
 
-const CYCLES: &str = "How many cycles from there, 0 to 16";
+const CYCLE_COUNT: &str = "How many cycles from there, 0 to 16";
 
 const CASE: &str = "Saves the case or the trail that breaks, as burch_dill prints it";
 
