@@ -1,3 +1,0 @@
-pub mod Change
-pub mod Declare
-pub mod Dump
