@@ -3,7 +3,6 @@
 
 mod about;
 mod answer;
-mod bounding;
 mod checking;
 mod claim;
 mod claim_names;
@@ -12,7 +11,6 @@ mod completed;
 mod fault;
 mod load;
 mod names;
-mod next;
 mod open;
 mod place;
 mod program;
