@@ -1,46 +1,48 @@
 #!/usr/bin/env python3
-"""Counts for how many wrong twins `bd_view why` names a line of the bug, and `show` what differs.
+"""Counts for how many wrong twins `bd_view why` tells the bug in a cycle in which it acts, and `show` what differs.
 
-The twins are those of `gallery/verdicts.txt` whose right machine lies beside them, and those of `bench/machines`: there a
-folder has a right machine, which has to be correct in both modes, and for each twin a file NAME.edit with a sentence
-and pairs of lines, `old:` with a text that the machine has once, and `new:` with what stands there in the twin.
+The twins are those of `gallery/verdicts.txt` whose right machine lies beside them, the riddles, and those of
+`bench/machines`: there a folder has a right machine, which has to be correct in both modes, and for each twin a file
+NAME.edit with a sentence and pairs of lines, `old:` with a text that the machine has once, and `new:` with what stands
+there in the twin.
 
-Each twin is checked, and its case goes to `bd_view why`. The twin's lines are compared with the right machine's. A line that
-was changed or added is named where a line of the output begins with `FILE:LINE:`, or shows it. A line that was left out
-is named by the line before or after it, or by the name that it defines. `bd_view show` has to show the same differences, with
-the same values, in the small case as in the whole one.
+Each twin is checked, and its case goes to `bd_view why`. A let or next value that isn't the right machine's is told
+decisively where a line `FILE:LINE:COLUMN: CYCLE: ..` tells it of a cycle in which its value differs from the right item's
+(`cycles.py` works both out for the case made small). Twins that differ in no item are counted apart. `bd_view show` has to show
+the same differences, with the same values, in the small case as in the whole one.
 
-It prints a line for each twin, with the place of the first line that names the bug, and the counts.
+It prints a line for each twin, with the place of the first line that tells the bug, and the counts: nine of ten should be
+told decisively, and eight of ten within the first 24 lines.
 
 usage: why.py PROGRAM VIEW [--diverse] [--only WORD] [--show]
 """
 import argparse
-import difflib
 import glob
 import os
 import re
+import shutil
 import subprocess
 import sys
 import tempfile
 from typing import NamedTuple
 
+from cycles import Machine, differing, read_case
 from gallery import HERE, listed
 
 MACHINES = os.path.join(HERE, "machines")
-PLACE = re.compile(r"^(\S+?):(\d+):\d+: ")
-NAME = re.compile(r"\((?:let|next|latch|input) (\S+)")
+FIRST = 24  # lines
+PLACE = re.compile(r"^(\S+?):(\d+):(\d+): (.+?): ")
 EDIT = re.compile(r"^old: (.*)\nnew: (.*)$", re.MULTILINE)
 SIDE = re.compile(r"([=#]) (\S+)")
 
 
 class Twin(NamedTuple):
-    """A wrong pipeline: its name, its files, and the lines of the right one and its own."""
+    """A wrong pipeline: its name, its files, and the text of the right one."""
 
     name: str
     files: list
     inv: list
-    right: list
-    lines: list
+    right: str
 
 
 def text_of(name):
@@ -53,13 +55,21 @@ def printed(*words):
     return subprocess.run(words, capture_output=True, text=True, check=False).stdout
 
 
+def explained(view, twin, case):
+    """What `why` prints in a folder that has the files by their bare names, as a designer's has."""
+    with tempfile.TemporaryDirectory() as folder:
+        names = [shutil.copy(name, folder) for name in (*twin.files, case, *twin.inv)]
+        words = [os.path.abspath(view), "why", *map(os.path.basename, names)]
+        return subprocess.run(words, capture_output=True, text=True, check=False, cwd=folder).stdout
+
+
 def of_gallery():
     """The wrong pipelines of the gallery that have a right machine beside them."""
     for pipe, files, inv, verdict in listed():
-        folder = os.path.dirname(files[0])
-        right = os.path.join(folder, os.path.basename(folder) + ".pipe")
+        folder = os.path.dirname(files[1])
+        right = os.path.join(folder, os.path.basename(os.path.normpath(folder)) + ".pipe")
         if verdict == "wrong" and os.path.exists(right):
-            yield Twin(pipe, files, inv, text_of(right).splitlines(), text_of(files[0]).splitlines())
+            yield Twin(pipe, files, inv, text_of(right))
 
 
 def edited(text, edit):
@@ -87,43 +97,26 @@ def of_machines(program, scratch):
             with open(name, "w", encoding="ascii") as file:
                 file.write(text)
             shown = os.path.join(os.path.basename(folder), os.path.basename(name))
-            yield Twin(shown, [name, spec], inv, right.splitlines(), text.splitlines())
+            yield Twin(shown, [name, spec], inv, right)
 
 
-def counts(line):
-    """Whether a line has more than a comment."""
-    return line.partition(";")[0].strip() != ""
-
-
-def changes(twin):
-    """The numbers of the twin's lines that name the bug, from 1, and the names that the twin leaves out."""
-    numbers, names = set(), set()
-    for what, a, b, c, d in difflib.SequenceMatcher(None, twin.right, twin.lines, autojunk=False).get_opcodes():
-        if what == "equal":
-            continue
-        new = {number + 1 for number in range(c, d) if counts(twin.lines[number])}
-        left_out = [line for line in twin.right[a:b] if counts(line)]
-        numbers |= new
-        if left_out and not new:
-            numbers |= {c, d + 1}
-        defined = {name for line in twin.lines for name in NAME.findall(line)}
-        names |= {name for line in left_out for name in NAME.findall(line)} - defined
-    return numbers, names
-
-
-def named(output, twin):
-    """The number of the line of the output that first names the bug, from 1, or None."""
-    numbers, names = changes(twin)
-    bugs = {twin.lines[number - 1].strip() for number in numbers if 0 < number <= len(twin.lines)}
+def told(output, twin, small):
+    """How the bug is told, and by which line, from 1: for a cycle in which it acts, for another one, or not at all."""
+    right, ours = Machine(twin.right), Machine(text_of(twin.files[0]))
+    acts = differing(right, ours, read_case(small, ours))
+    if not acts or right.others != ours.others:
+        return "no item differs", 0
+    other = 0
     for place, line in enumerate(output.splitlines(), 1):
         found = PLACE.match(line)
-        if found and found.group(1) == twin.files[0] and int(found.group(2)) in numbers:
-            return place
-        if line.startswith("  ") and line.strip() in bugs:
-            return place
-        if found and any(re.search(rf"(?<![\w.-]){re.escape(name)}(?![\w.-])", line) for name in names):
-            return place
-    return None
+        if found is None or found.group(1) != os.path.basename(twin.files[0]):
+            continue
+        name = ours.names.get((int(found.group(2)), int(found.group(3))))
+        if name in acts:
+            if found.group(4) in acts[name]:
+                return "decisive", place
+            other = other or place
+    return ("another cycle", other) if other else ("not told", 0)
 
 
 def differences(output):
@@ -141,7 +134,19 @@ def keeps(view, files, case, inv):
     """Whether a case that is made small shows the same differences. Where the invariant is broken, only that is kept."""
     judged, whole = differences(printed(view, "show", *files, case, *inv, "--whole"))
     small = differences(printed(view, "show", *files, case, *inv))
-    return small[0] == judged and (judged.startswith("broken invariant") or small[1] == whole != set())
+    return small[0] == judged and (judged.startswith("invariant broken") or small[1] == whole != set())
+
+
+def summed(kind, rows):
+    """Prints the counts, and whether they are what they should be."""
+    counted = [row for row in rows if row[0] != "no item differs"]
+    decisive = [place for how, place, _ in counted if how == "decisive"]
+    near = sum(place <= FIRST for place in decisive)
+    kept = sum(row[2] for row in rows)
+    print(f"{kind}: {len(decisive)} of {len(counted)} decisive, {near} in the first {FIRST} lines, "
+          f"{kept} of {len(rows)} small cases keep what differs")
+    enough = len(decisive) * 10 >= len(counted) * 9 and near * 10 >= len(counted) * 8
+    return enough and kept == len(rows)
 
 
 def main():
@@ -163,16 +168,15 @@ def main():
                     continue
                 with open(case, "w", encoding="ascii") as file:
                     file.write(printed(asked.program, "check", *twin.files, *twin.inv, *mode))
-                output = printed(asked.view, "why", *twin.files, case, *twin.inv)
-                place, kept = named(output, twin), keeps(asked.view, twin.files, case, twin.inv)
-                rows.append((place is not None, kept))
-                where = "not named" if place is None else f"line {place}"
-                print(f"{twin.name:47} {where} of {len(output.splitlines())}{'' if kept else '; differs otherwise'}")
+                output = explained(asked.view, twin, case)
+                how, place = told(output, twin, printed(asked.view, "shrink", *twin.files, case, *twin.inv))
+                kept = keeps(asked.view, twin.files, case, twin.inv)
+                rows.append((how, place, kept))
+                where = f"{how}, line {place} of {len(output.splitlines())}" if place else how
+                print(f"{twin.name:47} {where}{'' if kept else '; differs otherwise'}")
                 if asked.show:
                     print(output)
-            found, kept = sum(row[0] for row in rows), sum(row[1] for row in rows)
-            print(f"{kind}: {found} of {len(rows)} named, {kept} of {len(rows)} small cases keep what differs")
-            right &= found * 10 >= len(rows) * 9 and kept == len(rows)
+            right &= summed(kind, rows)
     sys.exit(0 if right else 1)
 
 

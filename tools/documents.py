@@ -469,7 +469,7 @@ def error_of(result):
 
 
 def errors_of_memory():
-    """The types of errors with one that is want of memory, each with how that one is told."""
+    """The types of errors with one for out of memory, each with how that one is told."""
     found, sources = {"AllocError": "`AllocError`", **ENDS}, {}
     for file in sorted((ROOT / "crates").glob("*/src/**/*.rt")):
         sources[file] = file.read_text()

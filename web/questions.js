@@ -102,9 +102,12 @@ export function linesOf(text) {
   });
 }
 
-/** What an answer says of a place, without its reasons, as the columns of the tables and a value there. */
+/** What an answer says of a place, as the columns of the tables and a value there: no reasons, and not what would do. */
 function columnAndValue(says) {
-  const [, columns = "", value] = /^: (?:(.*?): )?(.*)$/.exec(says.split(" since ")[0]) ?? ["", "", ""];
+  const [said] = says.split(/ since | \(as in | \((?:[^ ()]+|another word) would do\)/);
+  const [, stays, span] = /^: (.*) holds from (.*)$/.exec(said) ?? [];
+  if (stays) return { columns: span, value: stays };
+  const [, columns = "", value] = /^: (?:(.*?): )?(.*)$/.exec(said) ?? ["", "", ""];
   return { columns, value };
 }
 

@@ -30,6 +30,7 @@ use bd_prop::Prop;
 use bd_terms::{Graph, Id, Sym};
 use bd_transitive::Edge;
 use bd_tseitin::{Formula, clauses};
+use bd_verify::negated;
 use bd_walk::in_walk_order;
 use std::alloc::{AllocError, Global};
 
@@ -158,9 +159,8 @@ fn denied(alloc: Global, prop: Prop, root: usize) -> Result<Formula, AllocError>
     requires { root < length prop }
     ensures { IfOk result (λ f. IsDenied prop root f.cnf f.atoms) }
 {
-    let mut prop = prop;
-    let denied = prop.mk_not(root)?;
-    let formula = clauses(alloc, &prop, denied)?;
+    let denied = negated(alloc, prop, root)?;
+    let formula = clauses(alloc, &denied.prop, denied.root)?;
     Ok(formula)
 }
 

@@ -16,7 +16,7 @@ use Rattle.bd_app.specs.Answer.{HasReport}
 use Rattle.bd_bounded.specs.Answer.{HasWork, Says}
 use Rattle.bd_bounded.specs.declared.answer.Bounded.{Bounded as BoundedAnswer}
 use Rattle.bd_bounded.specs.declared.answer.Bounded.TheVariants as runs
-use Rattle.bd_abstraction.specs.Abstraction.{AbstractionView}
+use Rattle.bd_model.specs.Abstraction.{AbstractionView}
 use Rattle.bd_completion.specs.Answer.{HasWork as HasWorkBy, Says as SaysBy}
 use Rattle.bd_completion.specs.declared.answer.Complete.{Complete}
 use Rattle.bd_completion.specs.declared.answer.Complete.TheVariants as completed
@@ -171,7 +171,7 @@ words_fail (Ok x) e h = absurd h
 words_fail (Err y) words_faults.Usage h = inl (ap (λ z. Err z) h)
 words_fail (Err y) words_faults.Memory h = inr (ap (λ z. Err z) h)
 
--- and that of words that ask a question is want of memory
+-- and that of words that ask a question is that memory ran out
 pub words_done : (words : List (List ℕ)) (r : Result Answer Fault) (e : WordsFault) (files : FilesSeen) → IsErrAnd r (λ y. y ≡ words_fault e) → (e ≡ words_faults.Usage → taken words ≡ None)
     → (q : Question) → taken words ≡ Some q → IsDone (meaning_of q) files files r
 words_done words r words_faults.Usage files h usage q asks = let none = usage refl in absurd (cc (none, asks))

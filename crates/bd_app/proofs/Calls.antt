@@ -156,7 +156,7 @@ proof_up_to a b c cnf (Some name) work formula (n, is, blamed) called =
       called = called_then a b c (save_if cnf (dimacs work.cnf)) (saving name (lrat_text work.log) ∷ []) formula called;
     }
 
--- what isn't want of memory is made where there is no error
+-- what doesn't run out of memory is made where there is no error
 pub called_ok : {T : Type 0} (P : Type 0) (r : Result T Fault) → (¬ IsErrOf r faults.Memory → P) → OnOk r P
 called_ok P (Ok x) f = f (no_error x faults.Memory)
 called_ok P (Err e) f = tt

@@ -1,8 +1,8 @@
 -- From the texts of a design and of a completion function to the answer on them.
 use Rattle.std.proofs.Common.{◌≡◌, ◌∙◌, ℕ, List, sym, subst}
 use Rattle.std.specs.Prelude.{Bool, Option, Result, Ok, Err, IfSome, IfErr, IsErrAnd}
-use Rattle.bd_abstraction.specs.Abstraction.{AbstractionView, abstraction_view}
-use Rattle.bd_abstraction.specs.declared.abstraction.Abstraction.{Abstraction}
+use Rattle.bd_model.specs.Abstraction.{AbstractionView, abstraction_view}
+use Rattle.bd_model.specs.declared.abstraction.Abstraction.{Abstraction}
 use Rattle.bd_files.specs.Devices.{Held}
 use Rattle.bd_model.specs.DesignView.{DesignView}
 use Rattle.bd_typer.specs.Denotes.{DenotesCompleted, OnJoined}

@@ -127,7 +127,7 @@ pub texts_refused : (m : Meaning) (a b : FilesSeen) (e : Fault) → Stand m.file
 texts_refused m a b e stand short fault =
     record { answer = tt; fault = texts_fault m a.held e short fault; effects = quiet_effects m a b (ended_by_fault e) stand (texts_quiet m a.held e fault) (texts_called m a b e short stand.called fault) }
 
--- want of memory before the first load
+-- memory runs out before the first load
 pub memory_done : (m : Meaning) (a b : FilesSeen) (r : Result Answer Fault) → IsErrAnd r (λ y. y ≡ Memory) → Stand [] a b → IsDone m a b r
 memory_done m a b r is stand = passed (λ z. IsDone m a b z) r Memory is (record {
   answer = tt;

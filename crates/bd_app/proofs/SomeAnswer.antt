@@ -1,4 +1,4 @@
--- A run whose words are taken and whose files have no fault ends with an answer, or for want of memory.
+-- A run whose words are taken and whose files have no fault ends with an answer, or as memory runs out.
 use Rattle.std.proofs.Common.{◌≡◌, ◌≤◌, ◌∙◌, ℕ, List, [], ◌∷◌, ◌++◌, length, sym, subst, refl, inl, inr, arith}
 use Rattle.std.specs.Prelude.{◌⊎◌, Option, Some, IfSome}
 use Rattle.bd_files.specs.Devices.{Held, Rose}

@@ -4,7 +4,7 @@ use Rattle.std.specs.Prelude.{◌≡◌, Bool, ℕ, List, [], ◌∷◌, ◌++�
 use Rattle.std.specs.Fmt.{decimal}
 use Rattle.clap.specs.Simple.{Shape}
 use Rattle.clap.specs.Walk.{Row}
-use Rattle.bd_abstraction.specs.Abstraction.{AbstractionView}
+use Rattle.bd_model.specs.Abstraction.{AbstractionView}
 use Rattle.bd_completion.specs.Answer.{HasWork, Says}
 use Rattle.bd_completion.specs.declared.answer.Complete.{Complete}
 use Rattle.bd_completion.specs.declared.answer.Complete.TheVariants as complete

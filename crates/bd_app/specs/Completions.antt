@@ -1,6 +1,6 @@
 -- A design and a completion function on it, as files give them.
 use Rattle.std.specs.Prelude.{ℕ, List, Result, Ok, Err}
-use Rattle.bd_abstraction.specs.Abstraction.{AbstractionView}
+use Rattle.bd_model.specs.Abstraction.{AbstractionView}
 use Rattle.bd_files.specs.Devices.{Held}
 use Rattle.bd_model.specs.DesignView.{DesignView}
 use Rattle.bd_text.specs.declared.code.Code.{Code}

@@ -46,7 +46,7 @@ pub record AreFaultless (m : Meaning) (held : Held) : Type 0 where
   pub texts : (file : Text) (offset : ℕ) (code : Code) → ¬ m.IsTextFault held file offset code
   pub proof : (line column : ℕ) (why : Why) (cnf : Problem) → ¬ m.IsProofFault held line column why cnf
 
--- a run on these words ends with an answer to their question, or for want of memory, where the files tell what they
+-- a run on these words ends with an answer to their question, or as memory runs out, where the files tell what they
 -- hold, which has no fault, and where the count of faults rose neither of the files nor of the output
 abbrev pub RunsAnswer : Type 0
 RunsAnswer = (words : List (List ℕ)) (e : Ended) (files files' : FilesSeen) (out out' err err' : SinkSeen)

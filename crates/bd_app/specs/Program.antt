@@ -13,7 +13,7 @@ use Rattle.bd_model.specs.declared.case.TrailJudged.TheVariants as trail
 use Rattle.bd_bounded.specs.Answer.{HasWork as HasBoundedWork}
 use Rattle.bd_bounded.specs.declared.answer.Bounded.{Bounded as BoundedAnswer}
 use Rattle.bd_bounded.specs.declared.answer.Bounded.TheVariants as run
-use Rattle.bd_abstraction.specs.Abstraction.{AbstractionView}
+use Rattle.bd_model.specs.Abstraction.{AbstractionView}
 use Rattle.bd_completion.specs.Answer.{HasWork as HasWorkBy}
 use Rattle.bd_completion.specs.declared.answer.Complete.{Complete}
 use Rattle.bd_completion.specs.declared.answer.Complete.TheVariants as found

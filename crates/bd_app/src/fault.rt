@@ -55,7 +55,7 @@ impl From<AllocError> for Fault {
 impl From<WordsFault> for Fault {
     ghost from_gives = { λ cause fault. fault ≡ words_fault cause };
 
-    /// The fault of words: they aren't taken, or want of memory.
+    /// The fault of words: they aren't taken, or memory ran out.
     fn from(cause: WordsFault) -> Fault {
         match cause {
             WordsFault::Usage => Fault::Usage,
@@ -67,7 +67,7 @@ impl From<WordsFault> for Fault {
 impl From<LoadFault> for Fault {
     ghost from_gives = { λ cause fault. fault ≡ load_fault cause };
 
-    /// The fault of a load: its file can't be read or is too long, or want of memory.
+    /// The fault of a load: its file can't be read or is too long, or memory ran out.
     fn from(cause: LoadFault) -> Fault {
         match cause {
             LoadFault::Failed(_) => Fault::Load,
@@ -84,7 +84,7 @@ impl From<LoadFault> for Fault {
 impl From<SaveError> for Fault {
     ghost from_gives = { λ cause fault. fault ≡ save_fault cause };
 
-    /// The fault of a save: the file can't be written, or want of memory.
+    /// The fault of a save: the file can't be written, or memory ran out.
     fn from(cause: SaveError) -> Fault {
         match cause {
             SaveError::Failed => Fault::Save,
@@ -96,7 +96,7 @@ impl From<SaveError> for Fault {
 impl From<DesignFault> for Fault {
     ghost from_gives = { λ cause fault. fault ≡ design_fault cause };
 
-    /// The fault of a design's texts: the first of them, or want of memory.
+    /// The fault of a design's texts: the first of them, or that memory ran out.
     fn from(cause: DesignFault) -> Fault {
         match cause {
             DesignFault::Bad { file, offset, code } => Fault::Refused { file, offset, code },
@@ -108,7 +108,7 @@ impl From<DesignFault> for Fault {
 impl From<ProofFault> for Fault {
     ghost from_gives = { λ cause fault. fault ≡ proof_fault cause };
 
-    /// The fault of a proof: where it is first refused, or want of memory.
+    /// The fault of a proof: where it is first refused, or that memory ran out.
     fn from(cause: ProofFault) -> Fault {
         match cause {
             ProofFault::Bad {

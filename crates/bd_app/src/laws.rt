@@ -4,7 +4,7 @@ ghost use Rattle.bd_model.specs.DesignView.{DesignView};
 ghost use Rattle.bd_model.specs.Lawful.{IsLawful};
 ghost use Rattle.bd_app.specs.Laws.{CasesRead, CompletionsDenote, CompletionsDenoteOnce, RunsAnswer, TrailsRead};
 
-/// A run ends with one of its command's answers, or for want of memory, where the words are taken, the files tell what
+/// A run ends with one of its command's answers, or as memory runs out, where the words are taken, the files tell what
 /// they hold, each file that is named is held, none is too long or has a fault, and no device failed.
 pub fn runs_answer()
     ensures { RunsAnswer }

@@ -17,6 +17,7 @@ pub mod words;
 
 pub use answer::{Ended, Which};
 pub use bd_typer::Text;
+pub use command::bounded::bounded_report;
 pub use command::retrace::retraced_line;
 pub use laws::{
     cases_read, completions_denote, completions_denote_once, runs_answer, some_design, trails_read,

@@ -4,7 +4,7 @@
 //! first fault in this order refuses: a file that is too long, a fault of the design's files, one of
 //! the case or trail.
 ghost use Rattle.std.specs.Prelude.{◌≤◌, IfOk, IfErr, Ok, length};
-ghost use Rattle.bd_abstraction.specs.Abstraction.{IsLawfulAbstraction, abstraction_view};
+ghost use Rattle.bd_model.specs.Abstraction.{IsLawfulAbstraction, abstraction_view};
 ghost use Rattle.bd_case.specs.Reads.{IsReading, IsTrailReading};
 ghost use Rattle.bd_model.specs.DesignView.{design_view};
 ghost use Rattle.bd_model.specs.Fits.{Fits};

@@ -17,7 +17,7 @@ use Rattle.bd_goal.specs.Bounded.{DecidesRuns, IsBroken, IsTrailOver, trail_worl
 use Rattle.bd_goal.specs.Formula.{address_count}
 use Rattle.bd_goal.proofs.Runs.{bounded-decides}
 use Rattle.bd_cdcl.specs.declared.solver.Found.{Found}
-use Rattle.bd_verify.specs.declared.verdict.Mode.TheVariants.{Plain}
+use Rattle.bd_verify.specs.declared.verdict.Mode.{Mode}
 use Rattle.bd_verify.specs.declared.verdict.Work.{Work}
 use Rattle.bd_verify.specs.Decided.{Falsifies, IsKnownRoot, IsRootWork, IsThis}
 use Rattle.bd_verify.proofs.RootAnswers.{kept-weaker}
@@ -45,10 +45,10 @@ module _ (d : DesignView) (lawful : IsLawful d) (cycles : ℕ) (nodes : List Nod
       (over, decides.to_trail t h.fails.0 over h.fails.1)
 
   -- and its work is that of the question
-  pub run-work : (budget : ℕ) (answer : Found) (w : Work) → IsRootWork d cycles nodes root Plain budget answer w → IsRunWork d cycles budget answer w
-  run-work budget answer w h = record {
+  pub run-work : (mode : Mode) (budget : ℕ) (answer : Found) (w : Work) → IsRootWork d cycles nodes root mode budget answer w → IsRunWork d cycles mode budget answer w
+  run-work mode budget answer w h = record {
     kept =
-        kept-weaker (widened d cycles) (IsThis nodes root) (IsRunRoot d cycles) Plain w.cnf
+        kept-weaker (widened d cycles) (IsThis nodes root) (IsRunRoot d cycles) mode w.cnf
         (λ terms term this. subst (λ t. IsRunRoot d cycles t term) (sym this.0) (subst (IsRunRoot d cycles nodes) (sym this.1) is)) h.kept;
     keeps = record {
       decides = (

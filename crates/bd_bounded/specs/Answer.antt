@@ -11,6 +11,8 @@ use Rattle.bd_lrat.specs.declared.line.Line.{Line}
 use Rattle.bd_cdcl.specs.Law.{IsLaw}
 use Rattle.bd_cdcl.specs.declared.solver.Found.{Found}
 use Rattle.bd_cdcl.specs.declared.solver.Found.TheVariants as found
+use Rattle.bd_verify.specs.declared.verdict.Mode.{Mode}
+use Rattle.bd_verify.specs.declared.verdict.Mode.TheVariants.{Plain}
 use Rattle.bd_verify.specs.declared.verdict.Work.{Work}
 use Rattle.bd_verify.specs.Asked.{IsModelSaid, IsSaid}
 use Rattle.bd_bounded.specs.declared.answer.Bounded.{Bounded}
@@ -25,20 +27,25 @@ Says d cycles (Broken cycle t work) =
     IsTrailOver d cycles t × IsTrailJudged d t (judged.Broken cycle)
 Says d cycles (Undecided work) = Unit {0}
 
--- the kept formula of the question, which is satisfiable exactly where some fitting trail of so many cycles is broken,
+-- the kept formula of the question in a mode, which is satisfiable exactly where some fitting trail of so many cycles is broken,
 -- and the log of an honest solver's answer over it
-pub record IsRunWork (d : DesignView) (cycles budget : ℕ) (answer : Found) (work : Work) : Type 0 where
-  pub kept : IsRunKept d cycles work.cnf
+pub record IsRunWork (d : DesignView) (cycles : ℕ) (mode : Mode) (budget : ℕ) (answer : Found) (work : Work) :
+    Type 0 where
+  pub kept : IsRunKept d cycles mode work.cnf
   pub keeps : KeepsRuns d cycles work.cnf
   pub law : IsLaw work.cnf budget answer work.log
 
 -- the work of an answer: a refutation where the pipeline is right, a model where a trail is broken, else the budget is
 -- spent
+abbrev pub HasWorkIn : DesignView → ℕ → Mode → ℕ → Bounded → Type 0
+HasWorkIn d cycles mode budget (Kept work) = IsRunWork d cycles mode budget found.Refuted work
+HasWorkIn d cycles mode budget (Broken cycle t work) =
+    (model : _) × IsRunWork d cycles mode budget (found.Model model) work
+HasWorkIn d cycles mode budget (Undecided work) = IsRunWork d cycles mode budget found.Spent work
+
+-- the same in plain mode
 abbrev pub HasWork : DesignView → ℕ → ℕ → Bounded → Type 0
-HasWork d cycles budget (Kept work) = IsRunWork d cycles budget found.Refuted work
-HasWork d cycles budget (Broken cycle t work) =
-    (model : _) × IsRunWork d cycles budget (found.Model model) work
-HasWork d cycles budget (Undecided work) = IsRunWork d cycles budget found.Spent work
+HasWork d cycles budget answer = HasWorkIn d cycles Plain budget answer
 
 -- the solver's answer that gives it is said of the formula within the budget
 abbrev pub IsAnswerSaid : (Problem → ℕ → Found → List Line → Type 0) → ℕ → Bounded → Type 0

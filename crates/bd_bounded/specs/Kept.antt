@@ -14,7 +14,7 @@ use Rattle.bd_goal.specs.Symbols.{ReachesKnown}
 use Rattle.bd_cnf.specs.Clause.{Satisfies}
 use Rattle.bd_cnf.specs.Problem.{Problem}
 use Rattle.bd_verify.specs.Kept.{IsKeptOf}
-use Rattle.bd_verify.specs.declared.verdict.Mode.TheVariants.{Plain}
+use Rattle.bd_verify.specs.declared.verdict.Mode.{Mode}
 
 -- a root of the question over so many cycles: it claims that each of them commutes, is made from the constructor calls
 -- of such a run, and reaches symbols of the design, with its inputs once for each cycle, and so many addresses for each
@@ -25,9 +25,9 @@ pub record IsRunRoot (d : DesignView) (cycles : ℕ) (nodes : List Node) (root :
   pub made : IsBoundedRoot nodes d cycles root
   pub known : ReachesKnown (widened d cycles) (cycles * address_count d) nodes root
 
--- the formula that is kept of the question
-abbrev pub IsRunKept : DesignView → ℕ → Problem → Type 0
-IsRunKept d cycles formula = IsKeptOf (widened d cycles) (IsRunRoot d cycles) Plain formula
+-- the formula that is kept of the question in a mode
+abbrev pub IsRunKept : DesignView → ℕ → Mode → Problem → Type 0
+IsRunKept d cycles mode formula = IsKeptOf (widened d cycles) (IsRunRoot d cycles) mode formula
 
 -- the formula is satisfiable exactly where some fitting trail of so many cycles is broken
 pub record KeepsRuns (d : DesignView) (cycles : ℕ) (formula : Problem) : Type 0 where

@@ -5,4 +5,4 @@ mod answer;
 mod running;
 
 pub use answer::Bounded;
-pub use running::bounded;
+pub use running::{bounded, bounded_by};

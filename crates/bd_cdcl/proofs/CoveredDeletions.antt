@@ -1,11 +1,11 @@
 -- What stands covers the clauses that were deleted: the reasons of level 0 stand, so propagation from nothing makes its literals true without them.
-use Rattle.std.proofs.Common.{◌≡◌, ℕ, ◌+◌, ◌<◌, ◌≤◌, Bool, true, false, cond, List, [], ◌∷◌, ◌++◌, Option, None, Some, IfSome, length, take, drop, refl, sym, ap, ◌∙◌, subst, inr, arith, is_some}
-use Rattle.std.specs.Prelude.{IsSomeAnd}
+use Rattle.std.proofs.Common.{true≢false, get_or, ◌≢◌, ◌≡◌, ℕ, ◌+◌, ◌<◌, ◌≤◌, Bool, true, false, cond, List, [], ◌∷◌, ◌++◌, Option, None, Some, IfSome, length, take, drop, refl, sym, ap, ◌∙◌, subst, inr, arith, is_some}
+use Rattle.std.specs.Prelude.{IsSome, IsSomeAnd}
 use Rattle.std.specs.List.{All}
 use Rattle.std.specs.Ordering.{nat_cmp, eq_by_cmp}
 use Rattle.std.specs.Cmp.{nat_cmp_total}
 use Rattle.std.specs.FinMap.{get, insert, remove, get-insert, get-remove, same_map, nat_cmp-IsAntisymmetric}
-use Rattle.std.proofs.lemmas.Bool.{eqb-true}
+use Rattle.std.proofs.lemmas.Bool.{eqb-true, ne_eqb}
 use Rattle.std.proofs.lemmas.List.{take-append-drop, get_or-take, length-take-le}
 use Rattle.std.proofs.lemmas.List.Elements.{All-head, All-tail, All-weaker}
 use Rattle.bd_cnf.specs.Literal.{Literal, has_literal}
@@ -23,7 +23,7 @@ use Rattle.bd_watch.proofs.Parts.{part_nil}
 use Rattle.bd_watch.proofs.Placed.{complete_front, complete_consistent}
 use Rattle.bd_watch.proofs.Fronts.{in_front, no_decisions}
 use Rattle.bd_watch.proofs.Guards.{front_part}
-use Rattle.bd_cdcl.specs.inner.Deletions.{IsFixed, IsSatisfied, MayDelete, IsReduced, standing_of, AreCovered}
+use Rattle.bd_cdcl.specs.inner.Deletions.{IsFixed, IsSatisfied, MayDelete, IsReduced, standing_of, AreCovered, AreMarked, AreUnmarked}
 use Rattle.bd_cdcl.proofs.Replay.{replayed}
 
 -- no literal up to one of level 0 was decided
@@ -118,3 +118,22 @@ insert-remove_all standing (id ∷ ids) last clause low =
 -- what stands with a clause more
 pub standing_adds : (clauses : List (List Literal)) (ids : List ℕ) (clause : List Literal) → All (λ id. id ≤ length clauses) ids → insert (standing_of clauses ids) (length clauses + 1) clause ≡ standing_of (clauses ++ clause ∷ []) ids
 standing_adds clauses ids clause low = insert-remove_all (numbered clauses) ids (length clauses) clause low ∙ ap (λ s. remove_all s ids) (sym (numbered-push clauses clause))
+
+-- what wasn't deleted still stands
+kept_of : (standing : Standing) (deleted : List ℕ) (id : ℕ) → All (λ gone. gone ≢ id) deleted → get (remove_all standing deleted) id ≡ get standing id
+kept_of standing [] id others = refl
+kept_of standing (gone ∷ deleted) id others =
+    kept_of (remove standing gone) deleted id (All-tail (λ i. i ≢ id) gone deleted others)
+    ∙ get-remove nat_cmp_total standing gone id
+    ∙ ap (λ b. cond b None (get standing id)) (tied id gone ∙ ne_eqb id gone (λ same. All-head (λ i. i ≢ id) gone deleted others (sym same)))
+
+-- so clauses that aren't marked stand, where what was deleted is
+pub unmarked_stand : (clauses : List (List Literal)) (trail : List Assigned) (marks : List Bool) (deleted ids : List ℕ) → AreMarked marks deleted → AreUnmarked marks ids → All (MayDelete clauses trail) ids → All (λ id. IsSome (get (standing_of clauses deleted) id)) ids
+unmarked_stand clauses trail marks deleted ids marked unmarked may = λ k d low.
+    let id : ℕ = get_or ids k d in
+    let others : All (λ gone. gone ≢ id) deleted = λ j e within same. true≢false (sym (marked j e within) ∙ ap (λ i. get_or marks i false) same ∙ unmarked k d low) in
+    ap is_some (kept_of (numbered clauses) deleted id others) ∙ may_stands id (get (numbered clauses) id) (may k d low)
+  where
+    may_stands : (id : ℕ) (o : Option (List Literal)) → IsSomeAnd o (IsSatisfied trail id) → is_some o ≡ true
+    may_stands id None so = absurd so
+    may_stands id (Some c) so = refl

@@ -30,7 +30,8 @@ use Rattle.bd_cdcl.specs.declared.solver.Found.TheVariants.{Model, Refuted, Spen
 use Rattle.bd_cdcl.specs.declared.cdcl.search.Search.{Search}
 use Rattle.bd_cdcl.specs.declared.cdcl.learn.Lesson.{Lesson}
 use Rattle.bd_cdcl.specs.declared.cdcl.reduce.Deletion.{Deletion}
-use Rattle.bd_cdcl.specs.inner.Deletions.{KeepsFixed, MayDelete, IsReduced, Deletes, standing_of, AreCovered}
+use Rattle.bd_cdcl.specs.inner.Deleting.{Deletes}
+use Rattle.bd_cdcl.specs.inner.Deletions.{KeepsFixed, MayDelete, IsReduced, standing_of, AreCovered}
 use Rattle.bd_cdcl.specs.inner.Search.{addition, conflict_hints, IsSearching, IsSearchingIn}
 use Rattle.bd_cdcl.specs.inner.Analyses.{IsClear, IsLesson}
 use Rattle.bd_cdcl.specs.inner.Descents.{standing_in, IsBegun, IsDescending, GoesOn, Advances, Follows, Steps, distance, to_go}
@@ -113,7 +114,7 @@ descent_deletes p d del log lines is (inr deletes) (inl some) = record {
   searching =
       subst (λ s. IsSearchingIn s p clauses d.watch.trail d.learned lines) (sym same)
       (subst (IsSearchingIn standing p clauses d.watch.trail d.learned) (sym deletes.logged)
-      (search_deletes (standing_in d) p clauses d.watch.trail d.learned log deletes.ids is.searching some
+      (search_deletes (standing_in d) p clauses d.watch.trail d.learned log deletes.ids is.searching some deletes.some deletes.stand deletes.differ
       (closed_in clauses entries (standing_in d) is.watching.complete is.reduced (literals entries) deletes.closed)
       (deleted_covered clauses entries (standing_in d) standing deletes.ids complete is.reduced deletes.satisfied)
       complete));

@@ -12,3 +12,5 @@ pub mod Passes
 pub mod SearchSteps
 pub mod DescentSteps
 pub mod SpentBudgets
+pub mod FoundClauses
+pub mod Questions

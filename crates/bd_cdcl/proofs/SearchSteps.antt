@@ -1,7 +1,7 @@
 -- A search goes on: it starts, propagates, decides and learns; and what its ends mean.
-use Rattle.std.proofs.Common.{◌≡◌, ℕ, ◌+◌, ◌<◌, ◌≤◌, Bool, true, cond, List, [], ◌∷◌, ◌++◌, Option, None, Some, IfSome, length, get_or, map, refl, sym, ap, ◌∙◌, subst, inl, inr, arith, length-append}
-use Rattle.std.specs.Prelude.{IsSomeAnd}
-use Rattle.std.specs.List.{All, Contains}
+use Rattle.std.proofs.Common.{◌≡◌, ◌≢◌, ℕ, ◌+◌, ◌<◌, ◌≤◌, Bool, true, cond, List, [], ◌∷◌, ◌++◌, Option, None, Some, IfSome, length, get_or, map, refl, sym, ap, ◌∙◌, subst, inl, inr, arith, length-append}
+use Rattle.std.specs.Prelude.{IsSome, IsSomeAnd}
+use Rattle.std.specs.List.{All, AllPairs, Contains}
 use Rattle.std.specs.FinMap.{get, insert}
 use Rattle.std.proofs.lemmas.Bool.{false≢true}
 use Rattle.std.proofs.lemmas.List.Elements.{All-nil, All-push, All-contains, Contains-get_or, Contains-append_left, Contains-append_right, Contains-push, Contains-push_cases, Contains-append_cases}
@@ -156,8 +156,8 @@ search_adds standing p clauses trail after_trail count log clause hints front u 
         ap (λ n. database p.vars n (insert standing (length clauses + 1) clause)) (sym size)
 
 -- a line that deletes clauses that the rest covers, where propagation has ended without a conflict
-pub search_deletes : (standing : Standing) (p : Problem) (clauses : List (List Literal)) (trail : LeveledTrail) (count : ℕ) (log : List Line) (ids : List ℕ) → IsSearchingIn standing p clauses trail count log → 0 < count → AreClosed standing (literals trail.entries) → All (λ gone. IfSome (get standing gone) (IsCovered (remove_all standing ids))) ids → IsComplete (remove_all standing ids) trail.entries → IsSearchingIn (remove_all standing ids) p clauses trail count (log ++ Delete (length clauses) ids ∷ [])
-search_deletes standing p clauses trail count log ids is some closed covers complete = record {
+pub search_deletes : (standing : Standing) (p : Problem) (clauses : List (List Literal)) (trail : LeveledTrail) (count : ℕ) (log : List Line) (ids : List ℕ) → IsSearchingIn standing p clauses trail count log → 0 < count → ids ≢ [] → All (λ gone. IsSome (get standing gone)) ids → AllPairs (λ one other. one ≢ other) ids → AreClosed standing (literals trail.entries) → All (λ gone. IfSome (get standing gone) (IsCovered (remove_all standing ids))) ids → IsComplete (remove_all standing ids) trail.entries → IsSearchingIn (remove_all standing ids) p clauses trail count (log ++ Delete (length clauses) ids ∷ [])
+search_deletes standing p clauses trail count log ids is some named stand differ closed covers complete = record {
   limit = is.limit;
   complete = complete;
   rising = is.rising;
@@ -177,6 +177,9 @@ search_deletes standing p clauses trail count log ids is some closed covers comp
 
     deletion : IsCoveredDeletion (database p.vars (length clauses) standing) (last_added None log) (length clauses) ids
     deletion = record {
+      some = named;
+      stand = stand;
+      differ = differ;
       last = is.last some;
       no_conflict = λ hints. closed_no_conflict standing (literals trail.entries) (complete_consistent standing trail.entries is.complete) closed hints [] (part_nil (literals trail.entries));
       covered = covers;

@@ -27,7 +27,7 @@ mod search;
 mod vmtf;
 
 use self::search::CompleteSearch;
-use crate::solver::{Found, HonestSolver, Solver};
+use crate::solver::{Found, HonestSolver, Solver, number_after};
 use bd_cnf::Cnf;
 use bd_lrat::Log;
 use std::alloc::{AllocError, Global};
@@ -38,6 +38,8 @@ pub struct Cdcl {
     alloc: Global,
     /// The search of the last formula as it ended: its trail is complete, and its deletions covered.
     search: Option<CompleteSearch>,
+    /// How many formulas it was asked to settle, as far as a `u64` counts.
+    asked: Option<u64>,
 }
 
 impl Cdcl {
@@ -46,6 +48,7 @@ impl Cdcl {
         Cdcl {
             alloc,
             search: None,
+            asked: Some(0),
         }
     }
 }
@@ -55,10 +58,13 @@ impl Solver for Cdcl {
 
     ghost honest = { λ _. true };
 
-    ghost says = { λ _ problem budget found log. IsLaw problem budget found log };
+    ghost says = { λ _ _ problem budget found log. IsLaw problem budget found log };
+
+    ghost asked = { λ cdcl. cdcl.asked };
 
     /// Searches anew, and keeps the search as it ends.
     fn solve(&mut self, cnf: &Cnf, budget: u32, log: &mut Log) -> Result<Found, AllocError> {
+        self.asked = number_after(self.asked);
         self.search = None;
         let search = CompleteSearch::new(self.alloc, cnf)?;
         let (found, ended) = search.finish(self.alloc, cnf, budget, log)?;
@@ -72,5 +78,5 @@ impl HonestSolver for Cdcl {
 
     ghost is_honest = { λ _. refl };
 
-    ghost law = { λ _ _ _ _ _ said. said };
+    ghost law = { λ _ _ _ _ _ _ said. said };
 }

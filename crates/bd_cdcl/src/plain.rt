@@ -8,7 +8,7 @@ mod propagation;
 mod search;
 
 use self::search::{PlainSearch, copied};
-use crate::solver::{Found, HonestSolver, Solver};
+use crate::solver::{Found, HonestSolver, Solver, number_after};
 use bd_cnf::Cnf;
 use bd_lrat::Log;
 use bd_watch::AssignmentTrail;
@@ -18,12 +18,17 @@ use std::alloc::{AllocError, Global};
 #[derive(Drop)]
 pub struct Plain {
     alloc: Global,
+    /// How many formulas it was asked to settle, as far as a `u64` counts.
+    asked: Option<u64>,
 }
 
 impl Plain {
     /// The plain solver, which keeps nothing between two formulas. Takes no memory.
     pub fn new(alloc: Global) -> Plain {
-        Plain { alloc }
+        Plain {
+            alloc,
+            asked: Some(0),
+        }
     }
 }
 
@@ -32,10 +37,13 @@ impl Solver for Plain {
 
     ghost honest = { λ _. true };
 
-    ghost says = { λ _ problem budget found log. IsLaw problem budget found log };
+    ghost says = { λ _ _ problem budget found log. IsLaw problem budget found log };
+
+    ghost asked = { λ plain. plain.asked };
 
     /// Searches anew by decisions and their clauses.
     fn solve(&mut self, cnf: &Cnf, budget: u32, log: &mut Log) -> Result<Found, AllocError> {
+        self.asked = number_after(self.asked);
         let mut search = PlainSearch {
             clauses: copied(self.alloc, cnf)?,
             learned: 0,
@@ -50,5 +58,5 @@ impl HonestSolver for Plain {
 
     ghost is_honest = { λ _. refl };
 
-    ghost law = { λ _ _ _ _ _ said. said };
+    ghost law = { λ _ _ _ _ _ _ said. said };
 }

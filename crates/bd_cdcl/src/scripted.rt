@@ -1,4 +1,4 @@
-ghost use Rattle.std.specs.Prelude.{◌≡◌, false};
+ghost use Rattle.std.specs.Prelude.{◌≡◌, false, None};
 
 use crate::solver::{Found, Solver};
 use bd_cnf::Cnf;
@@ -16,8 +16,10 @@ pub struct Scripted {
 impl Solver for Scripted {
     ghost honest = { λ _. false };
 
-    ghost says = { λ scripted _ _ found lines.
+    ghost says = { λ scripted _ _ _ found lines.
         (found ≡ scripted.found) × (lines ≡ scripted.lines) };
+
+    ghost asked = { λ _. None };
 
     /// Says what the script says, with its log, whatever the formula and the budget.
     fn solve(&mut self, _cnf: &Cnf, _budget: u32, log: &mut Log) -> Result<Found, AllocError> {

@@ -1,11 +1,12 @@
 //! What a solver is: it answers a formula and logs the clauses that it adds. Whoever calls it need
 //! not believe it, since the log can be checked line by line. An honest solver has a law as well:
 //! its answer and log mean what they say, so that no caller has to provide for a wrong answer.
-ghost use Rattle.std.specs.Prelude.{◌≡◌, ℕ, Bool, List, [], IfOk, OnErr, IsTrue};
+ghost use Rattle.std.specs.Prelude.{◌≡◌, ℕ, Bool, List, [], Option, IfOk, OnErr, IsTrue};
 ghost use Rattle.bd_cnf.specs.Problem.{Problem};
 ghost use Rattle.bd_lrat.specs.declared.line.Line.{Line};
 ghost use Rattle.bd_lrat.specs.Database.{database_of};
 ghost use Rattle.bd_lrat.specs.Log.{IsAcceptedLog};
+ghost use Rattle.bd_cdcl.specs.Asks.{Asks};
 
 use bd_cnf::{Assignment, Cnf};
 use bd_lrat::Log;
@@ -35,6 +36,13 @@ impl Clone for Found {
     }
 }
 
+/// The number after that one; the largest `u64` has none.
+pub(crate) fn number_after(number: Option<u64>) -> Option<u64>
+    ensures { Asks number result 1 }
+{
+    number.and_then(|number| number.checked_add(1))
+}
+
 /// Settles formulas.
 pub trait Solver {
     ghost use Rattle.bd_cdcl.specs.declared.solver.Found.{Found};
@@ -42,15 +50,21 @@ pub trait Solver {
     /// Whether it is honest: where it is, what it says is true.
     ghost honest: { Self → Bool };
 
-    /// What it may say of a formula within a budget, with which log.
-    ghost says: { Self → Problem → ℕ → Found → List Line → Type 0 };
+    /// What it may say of a formula within a budget, with which log, and what it is after that: so
+    /// an answer is of the very call that led from the one to the other.
+    ghost says: { Self → Self → Problem → ℕ → Found → List Line → Type 0 };
+
+    /// How many formulas it was asked to settle, where it tells that. It may stop telling, and never
+    /// tells again. Code that is generic over the solver can't change the count but by asking.
+    ghost asked: { Self → Option ℕ };
 
     /// Settles the formula, or adds `budget` clauses of one literal or more, which it logs with
     /// their hints. It starts anew each time. After an error nothing is said of the log of a solver
     /// that isn't honest.
     fn solve(&mut self, cnf: &Cnf, budget: u32, log: &mut Log) -> Result<Found, AllocError>
         requires { log.old ≡ [] }
-        ensures says { IfOk result (λ found. says self.old cnf.now budget found log.new) }
+        ensures says { IfOk result (λ found. says self.old self.new cnf.now budget found log.new) }
+        ensures counted { Asks (asked self.old) (asked self.new) 1 }
         ensures refused { OnErr result (IsTrue (honest self.old) →
             IsAcceptedLog (database_of cnf.now) log.new) };
 }
@@ -64,7 +78,7 @@ pub trait HonestSolver: Solver {
     ghost is_honest: { (solver : Self) → IsTrue (Self.honest solver) };
 
     /// Whatever the solver says meets the law.
-    ghost law: { (solver : Self) (problem : Problem) (budget : ℕ) (found : Found)
-        (log : List Line) → Self.says solver problem budget found log →
+    ghost law: { (before after : Self) (problem : Problem) (budget : ℕ) (found : Found)
+        (log : List Line) → Self.says before after problem budget found log →
         IsLaw problem budget found log };
 }

@@ -1,6 +1,6 @@
 -- What an answer on the root of a question says of an abstraction.
 use Rattle.std.proofs.Common.{◌≡◌, ℕ, Bool, true, false, List, inl, inr, sym, subst}
-use Rattle.bd_abstraction.specs.Abstraction.{AbstractionView}
+use Rattle.bd_model.specs.Abstraction.{AbstractionView}
 use Rattle.bd_model.specs.DesignView.{DesignView}
 use Rattle.bd_model.specs.Conditions.{Abstraction}
 use Rattle.bd_model.specs.Cycle.{flushed}

@@ -1,8 +1,8 @@
 -- What the roots of the questions on an abstraction reach and decide.
 use Rattle.std.proofs.Common.{◌≡◌, ℕ, Bool, true, false, List, refl, subst}
-use Rattle.bd_abstraction.specs.Abstraction.{AbstractionView, abstraction_of, abstraction_view}
-use Rattle.bd_abstraction.specs.declared.abstraction.Abstraction.{Abstraction as SourceAbstraction}
-use Rattle.bd_abstraction.specs.declared.abstraction.Abstraction.TheVariants as abstraction
+use Rattle.bd_model.specs.Abstraction.{AbstractionView, abstraction_of, abstraction_view}
+use Rattle.bd_model.specs.declared.abstraction.Abstraction.{Abstraction as SourceAbstraction}
+use Rattle.bd_model.specs.declared.abstraction.Abstraction.TheVariants as abstraction
 use Rattle.bd_model.specs.DesignView.{DesignView}
 use Rattle.bd_model.specs.Lawful.{IsLawful}
 use Rattle.bd_model.specs.declared.design.Sort.TheVariants as sort

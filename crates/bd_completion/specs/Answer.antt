@@ -2,7 +2,7 @@
 -- work: the kept formula of the question, and the log of an honest solver's answer over it (Burch and Dill 1994; DIMACS
 -- CNF; textual LRAT).
 use Rattle.std.specs.Prelude.{◌≡◌, ℕ, Bool, true, false, List}
-use Rattle.bd_abstraction.specs.Abstraction.{AbstractionView}
+use Rattle.bd_model.specs.Abstraction.{AbstractionView}
 use Rattle.bd_model.specs.DesignView.{DesignView}
 use Rattle.bd_model.specs.Fits.{Fits}
 use Rattle.bd_model.specs.Conditions.{JudgedBy}

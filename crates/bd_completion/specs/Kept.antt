@@ -1,8 +1,8 @@
 -- The kept formula of a question on an abstraction (completion functions: Hosabettu, Srivas and Gopalakrishnan 1998):
 -- whether a case breaks a condition by it (Burch and Dill 1994), or whether it differs from flushing.
 use Rattle.std.specs.Prelude.{◌≡◌, ℕ, Bool, true, false, List}
-use Rattle.bd_abstraction.specs.Abstraction.{AbstractionView, abstraction_view, flushing, given, values_by}
-use Rattle.bd_abstraction.specs.declared.abstraction.Abstraction.{Abstraction as SourceAbstraction}
+use Rattle.bd_model.specs.Abstraction.{AbstractionView, abstraction_view, flushing, given, values_by}
+use Rattle.bd_model.specs.declared.abstraction.Abstraction.{Abstraction as SourceAbstraction}
 use Rattle.bd_model.specs.DesignView.{DesignView}
 use Rattle.bd_model.specs.Conditions.{Abstraction}
 use Rattle.bd_model.specs.Cycle.{flushed}

@@ -1,6 +1,7 @@
 //! Whether a pipeline is right by an abstraction, and whether the abstraction agrees with flushing.
-ghost use Rattle.std.specs.Prelude.{◌≡◌, [], IfOk};
-ghost use Rattle.bd_abstraction.specs.Abstraction.{IsLawfulAbstraction, abstraction_view};
+ghost use Rattle.std.specs.Prelude.{◌≡◌, [], IfOk, OnOk};
+ghost use Rattle.bd_model.specs.Abstraction.{IsLawfulAbstraction, abstraction_view};
+ghost use Rattle.bd_cdcl.specs.Asks.{Asks, AsksAtMost};
 ghost use Rattle.bd_model.specs.DesignView.{design_view};
 ghost use Rattle.bd_model.specs.Lawful.{IsLawful};
 ghost use Rattle.bd_completion.specs.Answer.{HasWork, IsAnswerSaid, Says};
@@ -8,16 +9,16 @@ ghost use Rattle.bd_completion.specs.Kept.{IsRootBy};
 
 use crate::answer::Complete;
 use crate::judging::judge_by;
-use bd_abstraction::Abstraction;
 use bd_cdcl::HonestSolver;
 use bd_goal::{agree_goal, goal_by};
-use bd_model::Design;
+use bd_model::{Abstraction, Design};
 use bd_terms::{Graph, Id};
 use bd_verify::{Decided, broken, decide, one_cycle};
 use std::alloc::{AllocError, Global};
 
 /// Whether a lawful design is right by an abstraction, or where `agree` is true whether the abstraction agrees with
 /// flushing, by any honest solver, which may add `budget` clauses. Whether a state meets the invariant isn't asked.
+#[tactic(auto, using(bd_cdcl::proofs::Questions::none_asked))]
 pub fn complete<S: HonestSolver>(
     alloc: Global,
     solver: &mut S,
@@ -31,7 +32,9 @@ pub fn complete<S: HonestSolver>(
     ensures says { IfOk result (Says (design_view design.now) (abstraction_view abs.now) agree) }
     ensures work { IfOk result (HasWork (design_view design.now)
         (abstraction_view abs.now) agree budget) }
-    ensures asked { IfOk result (IsAnswerSaid (S.says solver.old) budget) }
+    ensures asked { IfOk result (IsAnswerSaid (S.says solver.old solver.new) budget) }
+    ensures counted { OnOk result (Asks (S.asked solver.old) (S.asked solver.new) 1) }
+    ensures at_most { AsksAtMost (S.asked solver.old) (S.asked solver.new) 1 }
 {
     let mut graph = Graph::new(alloc);
     let root = root_by(alloc, &mut graph, design, abs, agree)?;

@@ -4,16 +4,15 @@
 //! it, and the simulator joins what they stand for by steps of the specification.
 ghost use Rattle.std.specs.Prelude.{◌≡◌, ◌↔◌, IfOk, IsTrue, map};
 ghost use Rattle.std.specs.List.{AllByRecursion};
-ghost use Rattle.bd_abstraction.specs.Abstraction.{IsLawfulAbstraction, IsLawfulGiven, abstraction_of, values_by};
+ghost use Rattle.bd_model.specs.Abstraction.{IsLawfulAbstraction, IsLawfulGiven, abstraction_of, values_by};
 ghost use Rattle.bd_model.specs.Conditions.{CommutesBy, JudgedBy};
 ghost use Rattle.bd_model.specs.Cycle.{step};
 ghost use Rattle.bd_model.specs.DesignView.{LocalView, design_view, local_view};
 ghost use Rattle.bd_model.specs.ExprView.{expr_views, list_of_views};
 ghost use Rattle.bd_model.specs.Lawful.{IsLawful, IsWithinLimits};
 
-use bd_abstraction::Abstraction;
 use bd_list::Sequence;
-use bd_model::{Case, Condition, Design, Exprs, Interp, Judged, Locals, State};
+use bd_model::{Abstraction, Case, Condition, Design, Exprs, Interp, Judged, Locals, State};
 use bd_sim::{judge, meets_invariant, step, steps_join, values_after};
 use std::alloc::{AllocError, Global};
 

@@ -11,7 +11,7 @@ use Rattle.bd_terms.specs.declared.node.Node.TheVariants.{App}
 use Rattle.bd_terms.specs.contracts.node.SymPartialEq.TheImpl.{eq-value}
 use Rattle.bd_terms.specs.contracts.node.SymEq.TheImpl.Laws.{laws-law}
 use Rattle.bd_function.proofs.Rows.{sym_same}
-use Rattle.bd_diverse.specs.declared.ways.Ways.{Ways}
+use Rattle.bd_diverse.specs.declared.occurrences.Occurrences.{Occurrences}
 use Rattle.bd_diverse.specs.Positive.{Applies, Compared, IsPositive, Walks, Way}
 use Rattle.bd_diverse.specs.inner.Walked.{is_any, has_way, ways_at}
 use Rattle.bd_diverse.specs.inner.Applied.{AppliesBelow, AppliesSymbol, is_compared, is_reached}
@@ -126,7 +126,7 @@ unconditional keys keys' node h s = (
 )
 
 -- the positive symbols are those that some walk applies and none compares
-pub positive_exact : (nodes : List Node) (root : ℕ) (marks : List Ways) (compared : List Sym)
+pub positive_exact : (nodes : List Node) (root : ℕ) (marks : List Occurrences) (compared : List Sym)
     → ((way : Way) (id : ℕ) → (has_way (ways_at marks id) way ≡ true) ↔ Walks nodes root way id)
     → ((s : Sym) → Contains compared s ↔ AppliesBelow nodes (length nodes) (is_compared marks) s)
     → (s : Sym) → (AppliesBelow nodes (length nodes) (is_reached marks) s × (¬ Contains compared s)) ↔ IsPositive nodes root s

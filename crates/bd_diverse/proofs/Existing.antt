@@ -21,7 +21,7 @@ use Rattle.bd_function.specs.inner.Scalars.{as_denoted, scalar_at, word_at}
 use Rattle.bd_function.specs.inner.Taken.{IsPlain}
 use Rattle.bd_function.proofs.Flattening.{plain_reached}
 use Rattle.bd_terms.specs.Valid.{KeepsConstantsApart}
-use Rattle.bd_diverse.specs.declared.ways.Ways.{Ways}
+use Rattle.bd_diverse.specs.declared.occurrences.Occurrences.{Occurrences}
 use Rattle.bd_diverse.specs.Positive.{IsPositive, Walks, Way}
 use Rattle.bd_diverse.specs.Diverse.{IsDiverse}
 use Rattle.bd_diverse.specs.inner.Walked.{flows, has_way, is_any, no_way, only_even, ways_at, with_flows}
@@ -37,11 +37,11 @@ use Rattle.bd_list.proofs.Membership.{first, Contains-cons, Contains-none}
 
 -- marks of a whole pass downwards
 record Walked (nodes : List Node) (root : ℕ) : Type 0 where
-  pub marks : List Ways
+  pub marks : List Occurrences
   pub walked : IsWalked nodes root 0 marks
 
 module _ (nodes : List Node) (g : IsGraph nodes) (root : ℕ) where
-  walked-by : (n : ℕ) (marks : List Ways) → IsWalked nodes root (suc n) marks → (b : Bool) → is_any (ways_at marks n) ≡ b → ((marks' : List Ways) → IsWalked nodes root n marks' → Walked nodes root) → Walked nodes root
+  walked-by : (n : ℕ) (marks : List Occurrences) → IsWalked nodes root (suc n) marks → (b : Bool) → is_any (ways_at marks n) ≡ b → ((marks' : List Occurrences) → IsWalked nodes root n marks' → Walked nodes root) → Walked nodes root
   walked-by n marks m true e next =
       let some = some_way (ways_at marks n) e in
       let inside = has_inside marks n some.way some.has in
@@ -49,7 +49,7 @@ module _ (nodes : List Node) (g : IsGraph nodes) (root : ℕ) where
       next (with_flows marks (flows (ways_at marks n) (slice_index_or nodes n True))) (IsWalked-mark nodes g root n marks (slice_index_or nodes n True) m e there)
   walked-by n marks m false e next = next marks (IsWalked-pass nodes root n marks m e)
 
-  walked-from : (n : ℕ) (marks : List Ways) → IsWalked nodes root n marks → Walked nodes root
+  walked-from : (n : ℕ) (marks : List Occurrences) → IsWalked nodes root n marks → Walked nodes root
   walked-from zero marks m = record { marks = marks; walked = m }
   walked-from (suc n) marks m = walked-by n marks m (is_any (ways_at marks n)) refl (λ marks' m'. walked-from n marks' m')
 
@@ -140,7 +140,7 @@ record Found (nodes : List Node) (root : ℕ) : Type 0 where
   pub exact : (s : Sym) → Contains positive s ↔ IsPositive nodes root s
   pub reached : (k : ℕ) → Reaches nodes root k ⊎ (Reaches nodes root k → ⊥)
 
-reached-by : (nodes : List Node) (root : ℕ) (marks : List Ways) → IsWalked nodes root 0 marks → (k : ℕ) (b : Bool) → is_any (ways_at marks k) ≡ b → Reaches nodes root k ⊎ (Reaches nodes root k → ⊥)
+reached-by : (nodes : List Node) (root : ℕ) (marks : List Occurrences) → IsWalked nodes root 0 marks → (k : ℕ) (b : Bool) → is_any (ways_at marks k) ≡ b → Reaches nodes root k ⊎ (Reaches nodes root k → ⊥)
 reached-by nodes root marks m k true e = let some = some_way (ways_at marks k) e in inl (Walks-reaches nodes root some.way k (m.sound some.way k some.has))
 reached-by nodes root marks m k false e =
     inr (λ r. let w = reached-walked nodes root k r in true≢false (sym (any_from (ways_at marks k) w.way ((IsWalked-exact nodes root marks m w.way k).1 w.walks)) ∙ e))

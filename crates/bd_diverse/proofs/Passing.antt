@@ -7,7 +7,7 @@ use Rattle.bd_terms.specs.Graph.{IsGraph, children}
 use Rattle.bd_terms.specs.Reaches.{Reaches}
 use Rattle.bd_terms.specs.Reaches.{Root as RootOf, Child}
 use Rattle.bd_terms.proofs.Reaching.{children-below}
-use Rattle.bd_diverse.specs.declared.ways.Ways.{Ways}
+use Rattle.bd_diverse.specs.declared.occurrences.Occurrences.{Occurrences}
 use Rattle.bd_diverse.specs.Positive.{Way, Even, Odd, Control, Compared, Free, Walks, Root, Step, steps}
 use Rattle.bd_diverse.specs.inner.Walked.{flows, freely, only_free, has_way, is_any, joined, no_way, only_even, ways_at, with_flows, with_ways}
 use Rattle.bd_diverse.proofs.Walking.{Hands, any_from, child_step, flow_complete, flow_sound, step_child}
@@ -16,10 +16,10 @@ use Rattle.bd_list.proofs.Numbers.{le-cases}
 use Rattle.bd_list.proofs.Truths.{or_left, or_right, or_cases}
 
 -- whether the mark at a place has the way
-abbrev pub has_at : List Ways → ℕ → Way → Bool
+abbrev pub has_at : List Occurrences → ℕ → Way → Bool
 has_at marks k way = has_way (ways_at marks k) way
 
-has-joined : (v w : Ways) (way : Way) → has_way (joined v w) way ≡ (has_way v way || has_way w way)
+has-joined : (v w : Occurrences) (way : Way) → has_way (joined v w) way ≡ (has_way v way || has_way w way)
 has-joined v w Even = refl
 has-joined v w Odd = refl
 has-joined v w Control = refl
@@ -33,12 +33,12 @@ none_has Control h = true≢false (sym h)
 none_has Compared h = true≢false (sym h)
 none_has Free h = true≢false (sym h)
 
-pub has_inside : (marks : List Ways) (k : ℕ) (way : Way) → has_at marks k way ≡ true → k < length marks
+pub has_inside : (marks : List Occurrences) (k : ℕ) (way : Way) → has_at marks k way ≡ true → k < length marks
 has_inside [] k way h = absurd (none_has way h)
 has_inside (m ∷ marks) zero way h = omega arith
 has_inside (m ∷ marks) (suc k) way h = let below = has_inside marks k way h in omega (arith, below)
 
-module _ (marks : List Ways) (c : ℕ) (w : Ways) (k : ℕ) (way : Way) where
+module _ (marks : List Occurrences) (c : ℕ) (w : Occurrences) (k : ℕ) (way : Way) where
   set-cases_by : (b : Bool) → (c == k) ≡ b → has_at (with_ways marks c w) k way ≡ true → (has_at marks k way ≡ true) ⊎ ((c ≡ k) × (has_way w way ≡ true))
   set-cases_by true e h =
       let same = eqb-true c k e in
@@ -75,17 +75,17 @@ module _ (marks : List Ways) (c : ℕ) (w : Ways) (k : ℕ) (way : Way) where
   pub set-there : c ≡ k → k < length marks → has_way w way ≡ true → has_at (with_ways marks c w) k way ≡ true
   set-there same inside h = set-new same inside ∙ or_right (has_at marks k way) (has_way w way) h
 
-pub length-flows : (marks : List Ways) (fs : List (ℕ × Ways)) → length (with_flows marks fs) ≡ length marks
+pub length-flows : (marks : List Occurrences) (fs : List (ℕ × Occurrences)) → length (with_flows marks fs) ≡ length marks
 length-flows marks [] = refl
 length-flows marks (f ∷ fs) = length-flows (with_ways marks f.0 f.1) fs ∙ length-set marks f.0 (joined (ways_at marks f.0) f.1)
 
-flows-stay : (marks : List Ways) (fs : List (ℕ × Ways)) (k : ℕ) (way : Way) → has_at marks k way ≡ true → has_at (with_flows marks fs) k way ≡ true
+flows-stay : (marks : List Occurrences) (fs : List (ℕ × Occurrences)) (k : ℕ) (way : Way) → has_at marks k way ≡ true → has_at (with_flows marks fs) k way ≡ true
 flows-stay marks [] k way h = h
 flows-stay marks (f ∷ fs) k way h = flows-stay (with_ways marks f.0 f.1) fs k way (set-stays marks f.0 f.1 k way h)
 
 -- a flow to the place with the way
-record Flowed (fs : List (ℕ × Ways)) (k : ℕ) (way : Way) : Type 0 where
-  pub flow : ℕ × Ways
+record Flowed (fs : List (ℕ × Occurrences)) (k : ℕ) (way : Way) : Type 0 where
+  pub flow : ℕ × Occurrences
   pub among : Contains fs flow
   pub to : flow.0 ≡ k
   pub has : has_way flow.1 way ≡ true
@@ -93,7 +93,7 @@ record Flowed (fs : List (ℕ × Ways)) (k : ℕ) (way : Way) : Type 0 where
 later : {X : Type 0} (x : X) (xs : List X) (y : X) → Contains xs y → Contains (x ∷ xs) y
 later x xs y (k, h, e) = (suc k, omega arith, e)
 
-flows-cases : (marks : List Ways) (fs : List (ℕ × Ways)) (k : ℕ) (way : Way) → has_at (with_flows marks fs) k way ≡ true → (has_at marks k way ≡ true) ⊎ Flowed fs k way
+flows-cases : (marks : List Occurrences) (fs : List (ℕ × Occurrences)) (k : ℕ) (way : Way) → has_at (with_flows marks fs) k way ≡ true → (has_at marks k way ≡ true) ⊎ Flowed fs k way
 flows-cases marks [] k way h = inl h
 flows-cases marks (f ∷ fs) k way h = elim (flows-cases (with_ways marks f.0 f.1) fs k way h) [
   | inl p ↦ elim (set-cases marks f.0 f.1 k way p) [
@@ -103,18 +103,18 @@ flows-cases marks (f ∷ fs) k way h = elim (flows-cases (with_ways marks f.0 f.
   | inr p ↦ inr (record { flow = p.flow; among = later f fs p.flow p.among; to = p.to; has = p.has })
 ]
 
-flows-there : (marks : List Ways) (fs : List (ℕ × Ways)) (k : ℕ) (way : Way) (w : Ways) → k < length marks → Contains fs (k, w) → has_way w way ≡ true → has_at (with_flows marks fs) k way ≡ true
+flows-there : (marks : List Occurrences) (fs : List (ℕ × Occurrences)) (k : ℕ) (way : Way) (w : Occurrences) → k < length marks → Contains fs (k, w) → has_way w way ≡ true → has_at (with_flows marks fs) k way ≡ true
 flows-there marks [] k way w inside p h = absurd (Contains-none (k, w) p)
 flows-there marks (f ∷ fs) k way w inside p h = elim (Contains-cons f fs (k, w) p) [
   | inl e ↦
       flows-stay (with_ways marks f.0 f.1) fs k way
-      (set-there marks f.0 f.1 k way (ap (λ (x : ℕ × Ways). x.0) e) inside (ap (λ (x : ℕ × Ways). has_way x.1 way) e ∙ h))
+      (set-there marks f.0 f.1 k way (ap (λ (x : ℕ × Occurrences). x.0) e) inside (ap (λ (x : ℕ × Occurrences). has_way x.1 way) e ∙ h))
   | inr q ↦ flows-there (with_ways marks f.0 f.1) fs k way w (omega (arith, inside, length-set marks f.0 (joined (ways_at marks f.0) f.1))) q h
 ]
 
 -- the ways of a pass downwards that has come to a place: each is that of a walk, and from that place on what walks go on
 -- to is marked too
-pub record IsWalked (nodes : List Node) (root place : ℕ) (marks : List Ways) : Type 0 where
+pub record IsWalked (nodes : List Node) (root place : ℕ) (marks : List Occurrences) : Type 0 where
   pub size : length marks ≡ length nodes
   pub rooted : has_at marks root Even ≡ true
   pub sound : (way : Way) (k : ℕ) → has_at marks k way ≡ true → Walks nodes root way k
@@ -157,7 +157,7 @@ IsWalked-root nodes root inside = record {
 }
 
 -- a place to which no walk comes is passed
-pub IsWalked-pass : (nodes : List Node) (root place : ℕ) (marks : List Ways) → IsWalked nodes root (suc place) marks → is_any (ways_at marks place) ≡ false → IsWalked nodes root place marks
+pub IsWalked-pass : (nodes : List Node) (root place : ℕ) (marks : List Occurrences) → IsWalked nodes root (suc place) marks → is_any (ways_at marks place) ≡ false → IsWalked nodes root place marks
 IsWalked-pass nodes root place marks m none = record {
   size = m.size;
   rooted = m.rooted;
@@ -169,7 +169,7 @@ IsWalked-pass nodes root place marks m none = record {
 }
 
 -- at a place with a mark, what walks go on to is marked
-pub IsWalked-mark : (nodes : List Node) → IsGraph nodes → (root place : ℕ) (marks : List Ways) (node : Node) → IsWalked nodes root (suc place) marks → is_any (ways_at marks place) ≡ true
+pub IsWalked-mark : (nodes : List Node) → IsGraph nodes → (root place : ℕ) (marks : List Occurrences) (node : Node) → IsWalked nodes root (suc place) marks → is_any (ways_at marks place) ≡ true
     → slice_get nodes place ≡ Some node → IsWalked nodes root place (with_flows marks (flows (ways_at marks place) node))
 IsWalked-mark nodes g root place marks node m any at =
     let w = ways_at marks place in
@@ -207,11 +207,11 @@ IsWalked-mark nodes g root place marks node m any at =
     }
 
 -- in the end each way of a walk is marked
-pub IsWalked-walks : (nodes : List Node) (root : ℕ) (marks : List Ways) → IsWalked nodes root 0 marks → (way : Way) (k : ℕ) → Walks nodes root way k → has_at marks k way ≡ true
+pub IsWalked-walks : (nodes : List Node) (root : ℕ) (marks : List Occurrences) → IsWalked nodes root 0 marks → (way : Way) (k : ℕ) → Walks nodes root way k → has_at marks k way ≡ true
 IsWalked-walks nodes root marks m way k Root = m.rooted
 IsWalked-walks nodes root marks m way k (Step before id node next c r there p) = m.closed before id node (omega arith) (IsWalked-walks nodes root marks m before id r) there next c p
 
-pub IsWalked-exact : (nodes : List Node) (root : ℕ) (marks : List Ways) → IsWalked nodes root 0 marks → (way : Way) (k : ℕ) → (has_at marks k way ≡ true) ↔ Walks nodes root way k
+pub IsWalked-exact : (nodes : List Node) (root : ℕ) (marks : List Occurrences) → IsWalked nodes root 0 marks → (way : Way) (k : ℕ) → (has_at marks k way ≡ true) ↔ Walks nodes root way k
 IsWalked-exact nodes root marks m way k = (m.sound way k, IsWalked-walks nodes root marks m way k)
 
 -- walks come to what the root reaches
@@ -231,12 +231,12 @@ reached-walked nodes root k (Child id node c r there p) =
     let s = child_step node w.way c p in
     record { way = s.next; walks = Step w.way id node s.next c w.walks there s.step }
 
-with_flows-append : (marks : List Ways) (fs gs : List (ℕ × Ways)) → with_flows marks (fs ++ gs) ≡ with_flows (with_flows marks fs) gs
+with_flows-append : (marks : List Occurrences) (fs gs : List (ℕ × Occurrences)) → with_flows marks (fs ++ gs) ≡ with_flows (with_flows marks fs) gs
 with_flows-append marks [] gs = refl
 with_flows-append marks (f ∷ fs) gs = with_flows-append (with_ways marks f.0 f.1) fs gs
 
 -- a word more
-pub freely-more : (marks : List Ways) (ids : List ℕ) (i d : ℕ) → i < length ids
+pub freely-more : (marks : List Occurrences) (ids : List ℕ) (i d : ℕ) → i < length ids
     → with_flows marks (freely (take (i + 1) ids)) ≡ with_ways (with_flows marks (freely (take i ids))) (slice_index_or ids i d) only_free
 freely-more marks ids i d h =
     ap (λ l. with_flows marks (freely l)) (take_more ids i d h)

@@ -19,7 +19,7 @@ use Rattle.bd_function.specs.Flat.{ReachesNoMemory}
 use Rattle.bd_function.specs.inner.Scalars.{as_denoted, scalar_at, truth_at, word_at}
 use Rattle.bd_function.specs.inner.Taken.{IsPlain}
 use Rattle.bd_function.proofs.Flattening.{plain_reached}
-use Rattle.bd_diverse.specs.declared.old.Old.{Old}
+use Rattle.bd_diverse.specs.declared.base_world.BaseWorld.{BaseWorld}
 use Rattle.bd_diverse.specs.inner.Rows.{AddsTerm, AddsUse, IsOld, SpreadsAll}
 use Rattle.bd_diverse.specs.inner.Spread.{Spreading, read_as, symbol_args}
 use Rattle.bd_diverse.specs.inner.Valued.{IsValued, connective, scalar_in}
@@ -93,7 +93,7 @@ IsValued-more w nodes g i node done h there =
       ];
     }
 
-module _ (w : World) (old : Old) (nodes : List Node) (g : IsGraph nodes) (root : ℕ) (inside : root < length nodes) (none : ReachesNoMemory nodes root) (o : IsOld w nodes root old) where
+module _ (w : World) (old : BaseWorld) (nodes : List Node) (g : IsGraph nodes) (root : ℕ) (inside : root < length nodes) (none : ReachesNoMemory nodes root) (o : IsOld w nodes root old) where
   plain : (k : ℕ) (node : Node) → Reaches nodes root k → slice_get nodes k ≡ Some node → IsPlain node
   plain k node r there = plain_reached nodes g root none k node r there
 

@@ -4,7 +4,7 @@ use Rattle.std.proofs.lemmas.List.Elements.{Contains-append_right}
 use Rattle.bd_terms.specs.declared.node.Node.{Node}
 use Rattle.bd_terms.specs.declared.node.Node.TheVariants.{True, Not, And, Or, Ite, Eq, App, Pred, Read, Write, Init}
 use Rattle.bd_terms.specs.Graph.{children}
-use Rattle.bd_diverse.specs.declared.ways.Ways.{Ways}
+use Rattle.bd_diverse.specs.declared.occurrences.Occurrences.{Occurrences}
 use Rattle.bd_diverse.specs.Positive.{Way, Even, Odd, Control, Compared, Free, negated, side, steps}
 use Rattle.bd_diverse.specs.inner.Walked.{flows, freely, has_way, is_any, joined, negated_ways, no_way, only_control, only_free, side_ways}
 use Rattle.bd_list.proofs.Membership.{first, second, third, Contains-cons, Contains-none}
@@ -41,11 +41,11 @@ Contains-map f (y ∷ xs) x h = elim (Contains-cons y xs x h) [
 ]
 
 -- some way is among them
-pub record Some_way (w : Ways) : Type 0 where
+pub record Some_way (w : Occurrences) : Type 0 where
   pub way : Way
   pub has : has_way w way ≡ true
 
-some_by : (w : Ways) → (a b c d e : Bool) → w.even ≡ a → w.odd ≡ b → w.control ≡ c → w.compared ≡ d → w.free ≡ e → ((((a || b) || c) || d) || e) ≡ true → Some_way w
+some_by : (w : Occurrences) → (a b c d e : Bool) → w.even ≡ a → w.odd ≡ b → w.control ≡ c → w.compared ≡ d → w.free ≡ e → ((((a || b) || c) || d) || e) ≡ true → Some_way w
 some_by w true b c d e ha hb hc hd he h = record { way = Even; has = ha }
 some_by w false true c d e ha hb hc hd he h = record { way = Odd; has = hb }
 some_by w false false true d e ha hb hc hd he h = record { way = Control; has = hc }
@@ -53,10 +53,10 @@ some_by w false false false true e ha hb hc hd he h = record { way = Compared; h
 some_by w false false false false true ha hb hc hd he h = record { way = Free; has = he }
 some_by w false false false false false ha hb hc hd he h = absurd (true≢false (sym h))
 
-pub some_way : (w : Ways) → is_any w ≡ true → Some_way w
+pub some_way : (w : Occurrences) → is_any w ≡ true → Some_way w
 some_way w h = some_by w w.even w.odd w.control w.compared w.free refl refl refl refl refl h
 
-pub any_from : (w : Ways) (way : Way) → has_way w way ≡ true → is_any w ≡ true
+pub any_from : (w : Occurrences) (way : Way) → has_way w way ≡ true → is_any w ≡ true
 any_from w Even h = or_left _ w.free (or_left _ w.compared (or_left _ w.control (or_left w.even w.odd h)))
 any_from w Odd h = or_left _ w.free (or_left _ w.compared (or_left _ w.control (or_right w.even w.odd h)))
 any_from w Control h = or_left _ w.free (or_left _ w.compared (or_right (w.even || w.odd) w.control h))
@@ -64,30 +64,30 @@ any_from w Compared h = or_left _ w.free (or_right ((w.even || w.odd) || w.contr
 any_from w Free h = or_right (((w.even || w.odd) || w.control) || w.compared) w.free h
 
 -- where a way to a term comes from
-pub record Origin (w : Ways) (node : Node) (next : Way) (c : ℕ) : Type 0 where
+pub record Origin (w : Occurrences) (node : Node) (next : Way) (c : ℕ) : Type 0 where
   pub way : Way
   pub has : has_way w way ≡ true
   pub step : Contains (steps way node) (next, c)
 
 -- what a flow to a term hands on
-abbrev pub Hands : Ways → Node → Way → ℕ × Ways → Type 0
+abbrev pub Hands : Occurrences → Node → Way → ℕ × Occurrences → Type 0
 Hands w node next f = has_way f.1 next ≡ true → Origin w node next f.0
 
-from_not : (w : Ways) (a : ℕ) (next : Way) → Hands w (Not a) next (a, negated_ways w)
+from_not : (w : Occurrences) (a : ℕ) (next : Way) → Hands w (Not a) next (a, negated_ways w)
 from_not w a Even h = record { way = Odd; has = h; step = first (Even, a) [] }
 from_not w a Odd h = record { way = Even; has = h; step = first (Odd, a) [] }
 from_not w a Control h = record { way = Control; has = h; step = first (Control, a) [] }
 from_not w a Compared h = record { way = Compared; has = h; step = first (Compared, a) [] }
 from_not w a Free h = record { way = Free; has = h; step = first (Free, a) [] }
 
-from_control : (w : Ways) (c a b : ℕ) (next : Way) → is_any w ≡ true → Hands w (Ite c a b) next (c, only_control)
+from_control : (w : Occurrences) (c a b : ℕ) (next : Way) → is_any w ≡ true → Hands w (Ite c a b) next (c, only_control)
 from_control w c a b Even any h = absurd (true≢false (sym h))
 from_control w c a b Odd any h = absurd (true≢false (sym h))
 from_control w c a b Control any h = let s = some_way w any in record { way = s.way; has = s.has; step = first (Control, c) ((s.way, a) ∷ (s.way, b) ∷ []) }
 from_control w c a b Compared any h = absurd (true≢false (sym h))
 from_control w c a b Free any h = absurd (true≢false (sym h))
 
-from_side : (w : Ways) (a b c : ℕ) (next : Way) → ((way : Way) → Contains (steps way (Eq a b)) (side way, c)) → Hands w (Eq a b) next (c, side_ways w)
+from_side : (w : Occurrences) (a b c : ℕ) (next : Way) → ((way : Way) → Contains (steps way (Eq a b)) (side way, c)) → Hands w (Eq a b) next (c, side_ways w)
 from_side w a b c Even at h = absurd (true≢false (sym h))
 from_side w a b c Odd at h = absurd (true≢false (sym h))
 from_side w a b c Control at h = absurd (true≢false (sym h))
@@ -103,7 +103,7 @@ from_side w a b c Free at h = elim (or_cases (w.even || w.compared) w.free h) [
   | inr p ↦ record { way = Free; has = p; step = at Free }
 ]
 
-from_free : (w : Ways) (node : Node) (args : List ℕ) (next : Way) → ((way : Way) → steps way node ≡ map (λ c. (Free, c)) args) → is_any w ≡ true → (f : ℕ × Ways) → Contains (freely args) f → Hands w node next f
+from_free : (w : Occurrences) (node : Node) (args : List ℕ) (next : Way) → ((way : Way) → steps way node ≡ map (λ c. (Free, c)) args) → is_any w ≡ true → (f : ℕ × Occurrences) → Contains (freely args) f → Hands w node next f
 from_free w node args Even is any f p = one_mapped (Hands w node Even) (λ c. (c, only_free)) args f (λ c q h. absurd (true≢false (sym h))) p
 from_free w node args Odd is any f p = one_mapped (Hands w node Odd) (λ c. (c, only_free)) args f (λ c q h. absurd (true≢false (sym h))) p
 from_free w node args Control is any f p = one_mapped (Hands w node Control) (λ c. (c, only_free)) args f (λ c q h. absurd (true≢false (sym h))) p
@@ -114,7 +114,7 @@ from_free w node args Free is any f p =
     (λ c q h. record { way = s.way; has = s.has; step = subst (λ (l : List (Way × ℕ)). Contains l (Free, c)) (sym (is s.way)) (Contains-map (λ (c : ℕ). (Free, c)) args c q) }) p
 
 -- each flow hands on what some walk does
-pub flow_sound : (w : Ways) (node : Node) (next : Way) (f : ℕ × Ways) → is_any w ≡ true → Contains (flows w node) f → Hands w node next f
+pub flow_sound : (w : Occurrences) (node : Node) (next : Way) (f : ℕ × Occurrences) → is_any w ≡ true → Contains (flows w node) f → Hands w node next f
 flow_sound w (Not a) next f any p = one_alone (Hands w (Not a) next) (a, negated_ways w) f (from_not w a next) p
 flow_sound w (And a b) next f any p =
     one_of_two (Hands w (And a b) next) (a, w) (b, w) f
@@ -141,32 +141,32 @@ flow_sound w (Write m a d) next f any p = from_free w (Write m a d) (m ∷ a ∷
 flow_sound w (Init e) next f any p = from_free w (Init e) [] next (λ way. refl) any f p
 
 -- a flow that hands on the step of a walk
-pub record Flowing (w : Ways) (node : Node) (step : Way × ℕ) : Type 0 where
-  pub ways : Ways
+pub record Flowing (w : Occurrences) (node : Node) (step : Way × ℕ) : Type 0 where
+  pub ways : Occurrences
   pub flow : Contains (flows w node) (step.1, ways)
   pub has : has_way ways step.0 ≡ true
 
-not_flow : (w : Ways) (a : ℕ) (way : Way) → has_way w way ≡ true → Flowing w (Not a) (negated way, a)
+not_flow : (w : Occurrences) (a : ℕ) (way : Way) → has_way w way ≡ true → Flowing w (Not a) (negated way, a)
 not_flow w a Even h = record { ways = negated_ways w; flow = first (a, negated_ways w) []; has = h }
 not_flow w a Odd h = record { ways = negated_ways w; flow = first (a, negated_ways w) []; has = h }
 not_flow w a Control h = record { ways = negated_ways w; flow = first (a, negated_ways w) []; has = h }
 not_flow w a Compared h = record { ways = negated_ways w; flow = first (a, negated_ways w) []; has = h }
 not_flow w a Free h = record { ways = negated_ways w; flow = first (a, negated_ways w) []; has = h }
 
-side_has : (w : Ways) (way : Way) → has_way w way ≡ true → has_way (side_ways w) (side way) ≡ true
+side_has : (w : Occurrences) (way : Way) → has_way w way ≡ true → has_way (side_ways w) (side way) ≡ true
 side_has w Even h = or_left (w.even || w.compared) w.free (or_left w.even w.compared h)
 side_has w Odd h = or_left w.odd w.control h
 side_has w Control h = or_right w.odd w.control h
 side_has w Compared h = or_left (w.even || w.compared) w.free (or_right w.even w.compared h)
 side_has w Free h = or_right (w.even || w.compared) w.free h
 
-free_flow : (w : Ways) (node : Node) (args : List ℕ) → flows w node ≡ freely args → (step : Way × ℕ) → Contains (map (λ (c : ℕ). (Free, c)) args) step → Flowing w node step
+free_flow : (w : Occurrences) (node : Node) (args : List ℕ) → flows w node ≡ freely args → (step : Way × ℕ) → Contains (map (λ (c : ℕ). (Free, c)) args) step → Flowing w node step
 free_flow w node args is step p =
     one_mapped (Flowing w node) (λ (c : ℕ). (Free, c)) args step
-    (λ c q. record { ways = only_free; flow = subst (λ (l : List (ℕ × Ways)). Contains l (c, only_free)) (sym is) (Contains-map (λ (c : ℕ). (c, only_free)) args c q); has = refl }) p
+    (λ c q. record { ways = only_free; flow = subst (λ (l : List (ℕ × Occurrences)). Contains l (c, only_free)) (sym is) (Contains-map (λ (c : ℕ). (c, only_free)) args c q); has = refl }) p
 
 -- each walk's step is handed on by some flow
-pub flow_complete : (w : Ways) (node : Node) (way : Way) (step : Way × ℕ) → has_way w way ≡ true → Contains (steps way node) step → Flowing w node step
+pub flow_complete : (w : Occurrences) (node : Node) (way : Way) (step : Way × ℕ) → has_way w way ≡ true → Contains (steps way node) step → Flowing w node step
 flow_complete w (Not a) way step h p = one_alone (Flowing w (Not a)) (negated way, a) step (not_flow w a way h) p
 flow_complete w (And a b) way step h p =
     one_of_two (Flowing w (And a b)) (way, a) (way, b) step

@@ -6,7 +6,7 @@ ghost use Rattle.bd_diverse.specs.inner.Spread.{spread_value, with_row};
 ghost use Rattle.bd_function.specs.inner.Scalars.{word_at};
 ghost use Rattle.bd_diverse.specs.inner.Rows.{AddsTerm, AddsUse, place_of, row_pushed, start_table};
 
-use crate::old::Old;
+use crate::base_world::BaseWorld;
 use crate::scalars::{connective, value_at, words};
 use bd_function::SymTable;
 use bd_model::{Row, Rows, Scalar, Table, Words};
@@ -41,7 +41,7 @@ fn empty(alloc: Global, sym: Sym, default: Scalar) -> SymTable
 pub(crate) fn spread_term(
     alloc: Global,
     tables: &[SymTable],
-    old: &Old,
+    old: &BaseWorld,
     done: &[Scalar],
     spread: &mut Vec<SymTable>,
     node: &Node,
@@ -69,7 +69,7 @@ pub(crate) fn spread_term(
 fn spread_use(
     alloc: Global,
     tables: &[SymTable],
-    old: &Old,
+    old: &BaseWorld,
     done: &[Scalar],
     spread: &mut Vec<SymTable>,
     sym: Sym,
@@ -94,7 +94,7 @@ fn spread_use(
 fn row_value(
     alloc: Global,
     tables: &[SymTable],
-    old: &Old,
+    old: &BaseWorld,
     place: usize,
     sym: Sym,
     args: &[Id],
@@ -112,7 +112,7 @@ fn row_value(
     }
 }
 
-/// The value of its own that the application at a place has. A number past 64 bits ends as want of memory.
+/// The value of its own that the application at a place has. A number past 64 bits ends as out of memory.
 fn own(bound: u64, place: usize) -> Result<u64, AllocError>
     ensures { IfOk result (λ word. word ≡ suc (bound + place)) }
 {

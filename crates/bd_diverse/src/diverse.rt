@@ -7,7 +7,7 @@ ghost use Rattle.bd_diverse.specs.Diverse.{IsDiverse, KeepsApart};
 ghost use Rattle.bd_diverse.specs.inner.Rows.{IsOld, SpreadsAll};
 
 use crate::adding::{spread_term, start};
-use crate::old::{Old, known};
+use crate::base_world::{BaseWorld, known};
 use crate::scalars::scalars;
 use bd_function::{FlatTables, SymTable};
 use bd_model::Scalar;
@@ -16,7 +16,7 @@ use std::alloc::{AllocError, Global};
 
 /// The tables of a diverse world that makes the root false, as the given ones do: the first reached application of a
 /// positive symbol to equal words has a value of its own, and all else the value that it had. A value past 64 bits ends
-/// as want of memory.
+/// as out of memory.
 pub fn diversify(
     alloc: Global,
     graph: &Graph,
@@ -62,7 +62,7 @@ fn spread(
     graph: &Graph,
     root: Id,
     tables: &[SymTable],
-    old: &Old,
+    old: &BaseWorld,
 ) -> Result<Vec<SymTable>, AllocError>
     requires root { root < length graph.now }
     requires memory { ReachesNoMemory graph.now root }

@@ -6,8 +6,8 @@ ghost use Rattle.bd_diverse.specs.Positive.{IsPositive};
 ghost use Rattle.bd_diverse.specs.Marked.{HasMarkedRow, HasVariable};
 ghost use Rattle.bd_diverse.specs.inner.Applied.{AppliesBelow, AppliesSymbol, is_compared, is_reached};
 
+use crate::occurrences::{Occurrences, walked};
 use crate::symbols::Positive;
-use crate::ways::{Ways, walked};
 use bd_function::{Flat, FlatRow, Marked};
 use bd_terms::{Graph, Id, Node, Sym};
 use indexmap::IndexSet;
@@ -25,7 +25,11 @@ pub fn positive(alloc: Global, graph: &Graph, root: Id) -> Result<Positive, Allo
 }
 
 /// The symbols with an application that a general equation compares.
-fn compared(alloc: Global, graph: &Graph, marks: &[Ways]) -> Result<IndexSet<Sym>, AllocError>
+fn compared(
+    alloc: Global,
+    graph: &Graph,
+    marks: &[Occurrences],
+) -> Result<IndexSet<Sym>, AllocError>
     requires { length marks.now ≡ length graph.now }
     ensures { IfOk result (λ found. (s : TheSym) →
         Contains found.keys s
@@ -44,7 +48,7 @@ fn compared(alloc: Global, graph: &Graph, marks: &[Ways]) -> Result<IndexSet<Sym
 fn uncompared(
     alloc: Global,
     graph: &Graph,
-    marks: &[Ways],
+    marks: &[Occurrences],
     compared: &IndexSet<Sym>,
 ) -> Result<Positive, AllocError>
     requires { length marks.now ≡ length graph.now }

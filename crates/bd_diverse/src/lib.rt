@@ -3,13 +3,13 @@
 #![tactic(auto)]
 
 mod adding;
+mod base_world;
 mod diverse;
 mod finding;
 mod laws;
-mod old;
+mod occurrences;
 mod scalars;
 mod symbols;
-mod ways;
 
 pub use diverse::{diversify, is_true};
 pub use finding::{marked, positive};

@@ -6,9 +6,12 @@ use Rattle.std.proofs.lemmas.Option.{slice_get_within}
 use Rattle.bd_model.specs.declared.design.Sort.TheVariants as sort
 use Rattle.bd_model.specs.declared.table.Scalar.{Scalar}
 use Rattle.bd_model.specs.Value.{scalar_word}
+use Rattle.bd_terms.specs.declared.node.Sym.{Sym}
 use Rattle.bd_terms.specs.declared.node.Node.{Node}
+use Rattle.bd_terms.specs.declared.node.Node.TheVariants.{App}
 use Rattle.bd_terms.specs.Graph.{HasSort, IsGraph}
 use Rattle.bd_terms.specs.Denotation.{word}
+use Rattle.bd_terms.proofs.Graphs.{sort_at-get}
 use Rattle.bd_function.specs.declared.flat.FlatSym.{FlatSym}
 use Rattle.bd_function.specs.Flat.{IsFlat, under}
 use Rattle.bd_prop.specs.declared.atom.Atom.{Atom}
@@ -18,20 +21,15 @@ use Rattle.bd_prop.specs.declared.node.PropNode.TheVariants.{True, Atom as AtomO
 use Rattle.bd_prop.specs.Form.{Adds, HasForm, not_form}
 use Rattle.bd_prop.specs.Graph.{Extends, StandsAt}
 use Rattle.bd_prop.specs.Truth.{truth_at}
-use Rattle.bd_equality.specs.Encoding.{IsVariable, KeepsMarkedApart, atom_value, has_mark}
+use Rattle.bd_equality.specs.Encoding.{KeepsMarkedApart, atom_value, has_mark}
 use Rattle.bd_equality.specs.Edges.{IsEdge}
 use Rattle.bd_equality.specs.inner.Split.{IsWhole}
-use Rattle.bd_equality.specs.Made.{IsVariableWord, head, node_head, Words, Itself, OneVariable, Marked, HasEdge, negated, plainly}
-use Rattle.bd_equality.specs.inner.Means.{Gives, edge, node_variable, value_of}
+use Rattle.bd_equality.specs.Made.{IsVariableWord, head, node_head, Words, Itself, OneVariable, Marked, HasEdge, negated, plainly, symbol_variable}
+use Rattle.bd_equality.specs.inner.Means.{Gives, IsAny, edge, node_variable, value_of}
+use Rattle.bd_equality.specs.inner.Rows.{IsLeaf}
 use Rattle.bd_equality.proofs.Flats.{word_is}
 use Rattle.bd_equality.proofs.Giving.{Gives-adds, adds_not, atoms-adds}
 use Rattle.bd_equality.proofs.Making.{Comes-Extends, Extends-trans, comes}
-
--- a word that is this variable
-pub record IsLeaf (nodes : List Node) (id x : ℕ) : Type 0 where
-  pub variable : IsVariable nodes sort.Word x
-  pub value : (v : ℕ → Scalar) → word (under v) nodes id ≡ scalar_word (v x)
-  pub word : IsVariableWord nodes id x
 
 pub leaf_of : (nodes : List Node) → IsGraph nodes → (root : ℕ) (syms : List FlatSym) → IsFlat nodes root syms → (id : ℕ) (node : Node) → HasSort nodes id sort.Word
     → slice_get nodes id ≡ Some node → head nodes id ≡ None → (x : ℕ) → x ≡ node_variable node → IsLeaf nodes id x
@@ -44,39 +42,44 @@ leaf_of nodes g root syms flat id node h there none x e =
     } in
     subst (IsLeaf nodes id) (sym e) leaf
 
+-- an application is a variable
+pub leaf_at : (nodes : List Node) → IsGraph nodes → (root : ℕ) (syms : List FlatSym) → IsFlat nodes root syms → (id : ℕ) (s : Sym) (args : List ℕ) (x : ℕ) → slice_get nodes id ≡ Some (App s args) → symbol_variable s ≡ x → IsLeaf nodes id x
+leaf_at nodes g root syms flat id s args x there is =
+    leaf_of nodes g root syms flat id (App s args) (record { inside = slice_get_within nodes id (App s args) there; sorted = sort_at-get nodes g id (App s args) there }) there (ap node_head there) x (sym is)
+
 -- one word is equal to itself
-pub Gives-itself : {E : Type 0} (nodes : List Node) (marked : Option (List ℕ)) (p p' : List PropNode) (a b : ℕ) (r : Result ℕ E) → a ≡ b → Extends p p' → IfOk r (λ id. id < length p')
-    → IfOk r (λ id. StandsAt p' id True × Adds p True p') → IfOk r (λ id. (v : Atom → Bool) → truth_at v p' id ≡ true) → IfOk r (λ id. Gives nodes marked p p' id (Words a b))
-Gives-itself nodes marked p p' a b (Err x) same e inside has is = tt
-Gives-itself nodes marked p p' a b (Ok id) same e inside has is =
-    Gives-adds nodes marked p p' True id (Words a b) tt e inside has.1
+pub Gives-itself : {E : Type 0} (nodes : List Node) (syms : List FlatSym) (marked : Option (List ℕ)) (p p' : List PropNode) (a b : ℕ) (r : Result ℕ E) → a ≡ b → Extends p p' → IfOk r (λ id. id < length p')
+    → IfOk r (λ id. StandsAt p' id True × Adds p True p') → IfOk r (λ id. (v : Atom → Bool) → truth_at v p' id ≡ true) → IfOk r (λ id. Gives nodes syms marked IsAny p p' id (Words a b))
+Gives-itself nodes syms marked p p' a b (Err x) same e inside has is = tt
+Gives-itself nodes syms marked p p' a b (Ok id) same e inside has is =
+    Gives-adds nodes syms marked IsAny p p' True id (Words a b) tt e inside has.1
     (λ v k. is (atom_value v) ∙ sym (eq-eqb (word (under v) nodes a) (word (under v) nodes b) (ap (word (under v) nodes) same)))
-    (Itself a b id same (comes p p' [] (plainly True) id tt has))
+    (λ ways h. Itself a b id same (comes p p' [] (plainly True) id tt has))
 
 -- two words that aren't taken apart, and aren't one, are no ites
 pub whole_apart : (nodes : List Node) (a b : ℕ) → IsWhole nodes a b → (a == b) ≡ false → (head nodes a ≡ None) × (head nodes b ≡ None)
 whole_apart nodes a b (inl same) other = absurd (true≢false (sym (eq-eqb a b same) ∙ other))
 whole_apart nodes a b (inr plain) other = plain
 
-unequal : (m n : ℕ) → m ≢ n → (m == n) ≡ false
+pub unequal : (m n : ℕ) → m ≢ n → (m == n) ≡ false
 unequal m n ne = by (m == n) refl
   where
     by : (b : Bool) → (m == n) ≡ b → (m == n) ≡ false
     by true e = absurd (ne (eqb-true m n e))
     by false e = e
 
-module _ (nodes : List Node) (marked : Option (List ℕ)) (a b x y : ℕ) (la : IsLeaf nodes a x) (lb : IsLeaf nodes b y) where
+module _ (nodes : List Node) (syms : List FlatSym) (marked : Option (List ℕ)) (a b x y : ℕ) (la : IsLeaf nodes a x) (lb : IsLeaf nodes b y) where
   equal_is : (v : ℕ → Scalar) → value_of nodes (Words a b) v ≡ (scalar_word (v x) == scalar_word (v y))
   equal_is v = λ i. la.value v i == lb.value v i
 
   -- one variable is equal to itself
   pub Gives-variable : {E : Type 0} (p p' : List PropNode) (r : Result ℕ E) → x ≡ y → Extends p p' → IfOk r (λ id. id < length p')
-      → IfOk r (λ id. StandsAt p' id True × Adds p True p') → IfOk r (λ id. (v : Atom → Bool) → truth_at v p' id ≡ true) → IfOk r (λ id. Gives nodes marked p p' id (Words a b))
+      → IfOk r (λ id. StandsAt p' id True × Adds p True p') → IfOk r (λ id. (v : Atom → Bool) → truth_at v p' id ≡ true) → IfOk r (λ id. Gives nodes syms marked IsAny p p' id (Words a b))
   Gives-variable p p' (Err z) same e inside has is = tt
   Gives-variable p p' (Ok id) same e inside has is =
-      Gives-adds nodes marked p p' True id (Words a b) tt e inside has.1
+      Gives-adds nodes syms marked IsAny p p' True id (Words a b) tt e inside has.1
       (λ v k. is (atom_value v) ∙ sym (equal_is v ∙ eq-eqb (scalar_word (v x)) (scalar_word (v y)) (ap (λ z. scalar_word (v z)) same)))
-      (OneVariable a b y id (subst (IsVariableWord nodes a) same la.word) lb.word (comes p p' [] (plainly True) id tt has))
+      (λ ways h. OneVariable a b y id (subst (IsVariableWord nodes a) same la.word) lb.word (comes p p' [] (plainly True) id tt has))
 
   differ_by : (v : ℕ → Scalar) → KeepsMarkedApart nodes marked v → x ≢ y → (c d : Bool) → has_mark marked x ≡ c → has_mark marked y ≡ d → (c || d) ≡ true → scalar_word (v x) ≢ scalar_word (v y)
   differ_by v k other true d p q m = k.apart x y la.variable lb.variable other p
@@ -87,16 +90,16 @@ module _ (nodes : List Node) (marked : Option (List ℕ)) (a b x y : ℕ) (la : 
   pub Gives-marked : {E : Type 0} (p q r : List PropNode) (truth : ℕ) (res : Result ℕ E) → x ≢ y → (has_mark marked x || has_mark marked y) ≡ true
       → Extends p q → StandsAt q truth True × Adds p True q → ((v : Atom → Bool) → truth_at v q truth ≡ true)
       → Extends q r → IfOk res (λ id. id < length r) → IfOk res (λ id. HasForm q (not_form q truth) r id) → IfOk res (λ id. (v : Atom → Bool) → truth_at v r id ≡ not (truth_at v q truth))
-      → IfOk res (λ id. Gives nodes marked p r id (Words a b))
+      → IfOk res (λ id. Gives nodes syms marked IsAny p r id (Words a b))
   Gives-marked p q r truth (Err z) other m e has is e' inside' has' is' = tt
   Gives-marked p q r truth (Ok id) other m e has is e' inside' has' is' = let inside_truth = slice_get_within q truth True has.0 in record {
     extends = Extends-trans p q r e e';
-    atoms = λ h. atoms-adds nodes marked q r (Not truth) tt (adds_not q r id truth has') (atoms-adds nodes marked p q True tt has.1 h);
+    atoms = λ h. atoms-adds nodes syms marked q r (Not truth) tt (adds_not q r id truth has') (atoms-adds nodes syms marked p q True tt has.1 h);
     means = record {
       inside = inside';
       is = λ v k. is' (atom_value v) ∙ ap not (is (atom_value v))
           ∙ sym (equal_is v ∙ unequal (scalar_word (v x)) (scalar_word (v y)) (differ_by v k other (has_mark marked x) (has_mark marked y) refl refl m));
-      made =
+      made = λ ways h.
           let mid = comes p q [] (plainly True) truth tt has in
           Marked a b x y truth id la.word lb.word other m (Comes-Extends q r [] (plainly True) truth e' mid) (comes q r (truth ∷ []) (negated truth) id (inside_truth, tt) has');
     };
@@ -136,12 +139,12 @@ module _ (nodes : List Node) (marked : Option (List ℕ)) (a b x y : ℕ) (la : 
   -- two others have an edge
   pub Gives-edge : {E : Type 0} (p p' : List PropNode) (low high : ℕ) (r : Result ℕ E) → x ≢ y → (has_mark marked x || has_mark marked y) ≡ false → low ≡ min x y → high ≡ max x y → Extends p p' → IfOk r (λ id. id < length p')
       → IfOk r (λ id. StandsAt p' id (AtomOf (EdgeOf low high)) × Adds p (AtomOf (EdgeOf low high)) p') → IfOk r (λ id. (v : Atom → Bool) → truth_at v p' id ≡ v (EdgeOf low high))
-      → IfOk r (λ id. Gives nodes marked p p' id (Words a b))
+      → IfOk r (λ id. Gives nodes syms marked IsAny p p' id (Words a b))
   Gives-edge p p' low high (Err z) other m l h e inside has is = tt
   Gives-edge p p' low high (Ok id) other m l h e inside has is =
       let plain = or_parts (has_mark marked x) (has_mark marked y) m in
       let fits : IsEdge nodes marked (edge low high) = subst (λ z. IsEdge nodes marked (edge z high)) (sym l) (subst (λ z. IsEdge nodes marked (edge (min x y) z)) (sym h) (is_edge other plain.0 plain.1)) in
-      Gives-adds nodes marked p p' (AtomOf (EdgeOf low high)) id (Words a b) fits e inside has.1
+      Gives-adds nodes syms marked IsAny p p' (AtomOf (EdgeOf low high)) id (Words a b) fits e inside has.1
       (λ v k. is (atom_value v) ∙ (λ i. scalar_word (v (l i)) == scalar_word (v (h i))) ∙ ordered v ∙ sym (equal_is v))
-      (HasEdge a b x y id la.word lb.word other m (comes p p' [] (plainly (AtomOf (EdgeOf (min x y) (max x y)))) id tt
+      (λ ways any. HasEdge a b x y id la.word lb.word other m (comes p p' [] (plainly (AtomOf (EdgeOf (min x y) (max x y)))) id tt
       (subst (λ z. plainly (AtomOf (EdgeOf z (max x y))) p p' id) l (subst (λ z. plainly (AtomOf (EdgeOf low z)) p p' id) h has))))

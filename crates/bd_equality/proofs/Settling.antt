@@ -1,142 +1,251 @@
--- A stack of visits settles an equation: each visit keeps what the stack owes, and makes the stack smaller.
-use Rattle.std.proofs.Common.{◌≡◌, ℕ, zero, suc, ◌+◌, ◌<◌, ◌≤◌, ◌⊎◌, inl, inr, Bool, true, false, List, [], ◌∷◌, ◌++◌, Some, length, slice_get, refl, ap, sym, ◌∙◌, subst, arith, append_assoc}
+-- A stack of visits settles what is wanted: each visit keeps what the stack owes, and makes the stack smaller.
+use Rattle.std.proofs.Common.{◌≡◌, ℕ, zero, suc, ◌+◌, ◌<◌, ◌≤◌, ◌⊎◌, inl, inr, List, [], ◌∷◌, ◌++◌, Option, Some, Contains, length, map, slice_get, refl, ap, sym, ◌∙◌, subst, arith}
 use Rattle.std.proofs.lemmas.List.{length_push}
 use Rattle.std.proofs.lemmas.Option.{none-some, slice_get_within}
 use Rattle.bd_terms.specs.declared.node.Node.{Node}
 use Rattle.bd_terms.specs.Graph.{IsGraph}
 use Rattle.bd_terms.proofs.Places.{get-front, get-push}
-use Rattle.bd_equality.specs.declared.encoding.Encoding.{Encoding}
-use Rattle.bd_equality.specs.declared.encoding.Visit.{Visit}
-use Rattle.bd_equality.specs.declared.encoding.Visit.TheVariants.{Enter, Finish}
-use Rattle.bd_equality.specs.declared.split.Equation.{Equation}
-use Rattle.bd_equality.specs.inner.Split.{IsControl, IsPair, part}
-use Rattle.bd_equality.specs.inner.Steps.{Enters, IsAwaited, IsKnown, IsOwed, IsSettled, IsSettling, equation_of}
-use Rattle.bd_equality.proofs.Splits.{part_less, part_pair}
+use Rattle.bd_function.specs.declared.flat.FlatRow.{FlatRow}
+use Rattle.bd_function.specs.declared.flat.FlatSym.{FlatSym}
+use Rattle.bd_function.specs.Flat.{IsFlat}
+use Rattle.bd_equality.specs.declared.settled.Done.{Done}
+use Rattle.bd_equality.specs.declared.wanted.Visit.{Visit}
+use Rattle.bd_equality.specs.declared.wanted.Visit.TheVariants.{Enter, Finish}
+use Rattle.bd_equality.specs.declared.wanted.Wanted.{Wanted}
+use Rattle.bd_equality.specs.declared.wanted.Wanted.TheVariants.{Truth, Equation}
+use Rattle.bd_equality.specs.declared.wanted.Way.TheVariants as way
+use Rattle.bd_equality.specs.declared.wanted.Way.{Way as TheWay}
+use Rattle.bd_equality.specs.inner.Split.{IsWanted, IsWay, arguments_at, args_of, equations, node_parts, parts}
+use Rattle.bd_equality.specs.inner.Steps.{AreKnown, Enters, IsAwaited, IsKnown, IsOwed, IsSettling, wanted_of}
+use Rattle.bd_equality.proofs.Splits.{APart, ArePreceding, parts_precede, rank}
+use Rattle.bd_terms.specs.declared.node.Node.TheVariants.{Not, And, Or, Ite, Eq}
 
--- how many visits an equation takes at most, and one more, by the sum of its places
-pub weight : ℕ → ℕ
-weight zero = 2
-weight (suc n) = weight n + weight n + weight n
+-- a number added as often
+pub times : ℕ → ℕ → ℕ
+times zero w = 0
+times (suc k) w = w + times k w
 
-weight-zero : weight 0 ≡ 2
+times-zero : (w : ℕ) → times 0 w ≡ 0
+unfolding times
+times-zero w = refl
+
+times-suc : (k w : ℕ) → times (suc k) w ≡ w + times k w
+unfolding times
+times-suc k w = refl
+
+times_grows : (j k w : ℕ) → j ≤ k → times j w ≤ times k w
+times_grows zero k w h = let e = times-zero w in omega (arith, e)
+times_grows (suc j) zero w h = absurd (omega arith)
+times_grows (suc j) (suc k) w h = let i = times_grows j k w (omega arith) in let d = times-suc j w in let e = times-suc k w in omega (arith, i, d, e)
+
+-- how many visits something takes at most that rests on so many others, and one more, by its rank
+pub weight : ℕ → ℕ → ℕ
+weight width zero = 2
+weight width (suc n) = times width (weight width n) + weight width n + 2
+
+weight-zero : (k : ℕ) → weight k 0 ≡ 2
 unfolding weight
-weight-zero = refl
+weight-zero k = refl
 
-weight-suc : (n : ℕ) → weight (suc n) ≡ weight n + weight n + weight n
+weight-suc : (k n : ℕ) → weight k (suc n) ≡ times k (weight k n) + weight k n + 2
 unfolding weight
-weight-suc n = refl
+weight-suc k n = refl
 
-weight_two : (n : ℕ) → 2 ≤ weight n
-weight_two zero = omega (arith, weight-zero)
-weight_two (suc n) = let h = weight_two n in let e = weight-suc n in omega (arith, h, e)
+weight_two : (k n : ℕ) → 2 ≤ weight k n
+weight_two k zero = let e = weight-zero k in omega (arith, e)
+weight_two k (suc n) = let e = weight-suc k n in omega (arith, e)
 
-weight_grows : (m n : ℕ) → m ≤ n → weight m ≤ weight n
-weight_grows zero n h = let k = weight_two n in omega (arith, k, weight-zero)
-weight_grows (suc m) zero h = absurd (omega arith)
-weight_grows (suc m) (suc n) h = let k = weight_grows m n (omega arith) in let d = weight-suc m in let e = weight-suc n in omega (arith, k, d, e)
-
-weight_parts : (m k n : ℕ) → m < n → k < n → 1 + weight m + weight k < weight n
-weight_parts m k zero p q = absurd (omega arith)
-weight_parts m k (suc n) p q =
-    let a = weight_grows m n (omega arith) in
-    let b = weight_grows k n (omega arith) in
-    let c = weight_two n in
-    let e = weight-suc n in
-    omega (arith, a, b, c, e)
-
-abbrev pub weight_of : Visit → ℕ
-weight_of (Enter q) = weight (q.left + q.right)
-weight_of (Finish q c) = 1
-
-pub weight_all : List Visit → ℕ
-weight_all [] = 0
-weight_all (v ∷ vs) = weight_of v + weight_all vs
-
-weight-cons : (v : Visit) (vs : List Visit) → weight_all (v ∷ vs) ≡ weight_of v + weight_all vs
-unfolding weight_all
-weight-cons v vs = refl
-
-weight-none : weight_all [] ≡ 0
-unfolding weight_all
-weight-none = refl
-
-weight_push : (vs : List Visit) (v : Visit) → weight_all (vs ++ v ∷ []) ≡ weight_all vs + weight_of v
-weight_push [] v = let h = weight-cons v [] in let k : weight_all ([] ++ v ∷ []) ≡ weight_all (v ∷ []) = refl in omega (arith, h, k, weight-none)
-weight_push (u ∷ vs) v =
-    let h = weight_push vs v in
-    let k = weight-cons u vs in
-    let l : weight_all ((u ∷ vs) ++ v ∷ []) ≡ weight_of u + weight_all (vs ++ v ∷ []) = weight-cons u (vs ++ v ∷ []) in
-    omega (arith, h, k, l)
-
-positive : (v : Visit) → 0 < weight_of v
-positive (Enter q) = let h = weight_two (q.left + q.right) in lt_of (weight (q.left + q.right)) h
+weight_grows : (k m n : ℕ) → m ≤ n → weight k m ≤ weight k n
+weight_grows k zero n h = let i = weight_two k n in let e = weight-zero k in omega (arith, i, e)
+weight_grows k (suc m) zero h = absurd (omega arith)
+weight_grows k (suc m) (suc n) h = by (weight_grows k m n (omega arith))
   where
-    lt_of : (n : ℕ) → 2 ≤ n → 0 < n
-    lt_of n h = omega arith
-positive (Finish q c) = omega arith
+    times_more : (j v w : ℕ) → v ≤ w → times j v ≤ times j w
+    times_more zero v w h = let d = times-zero v in let e = times-zero w in omega (arith, d, e)
+    times_more (suc j) v w h = let i = times_more j v w h in let d = times-suc j v in let e = times-suc j w in omega (arith, i, d, e, h)
+
+    by : weight k m ≤ weight k n → weight k (suc m) ≤ weight k (suc n)
+    by i = let t = times_more k (weight k m) (weight k n) i in let d = weight-suc k m in let e = weight-suc k n in omega (arith, i, t, d, e)
+
+pub weight_of : ℕ → Visit → ℕ
+weight_of k (Enter p) = weight k (rank p)
+weight_of k (Finish p w) = 1
+
+weight_of-enter : (k : ℕ) (p : Wanted) → weight_of k (Enter p) ≡ weight k (rank p)
+unfolding weight_of
+weight_of-enter k p = refl
+
+weight_of-finish : (k : ℕ) (p : Wanted) (w : TheWay) → weight_of k (Finish p w) ≡ 1
+unfolding weight_of
+weight_of-finish k p w = refl
+
+pub weight_all : ℕ → List Visit → ℕ
+weight_all k [] = 0
+weight_all k (v ∷ vs) = weight_of k v + weight_all k vs
+
+weight-cons : (k : ℕ) (v : Visit) (vs : List Visit) → weight_all k (v ∷ vs) ≡ weight_of k v + weight_all k vs
+unfolding weight_all
+weight-cons k v vs = refl
+
+weight-none : (k : ℕ) → weight_all k [] ≡ 0
+unfolding weight_all
+weight-none k = refl
+
+weight_append : (k : ℕ) (us vs : List Visit) → weight_all k (us ++ vs) ≡ weight_all k us + weight_all k vs
+weight_append k [] vs = let e = weight-none k in omega (arith, e)
+weight_append k (u ∷ us) vs =
+    let h = weight_append k us vs in
+    let a = weight-cons k u us in
+    let b : weight_all k ((u ∷ us) ++ vs) ≡ weight_of k u + weight_all k (us ++ vs) = weight-cons k u (us ++ vs) in
+    omega (arith, h, a, b)
+
+positive : (k : ℕ) (v : Visit) → 0 < weight_of k v
+positive k (Enter p) = let h = weight_two k (rank p) in let e = weight_of-enter k p in omega (arith, h, e)
+positive k (Finish p w) = let e = weight_of-finish k p w in omega (arith, e)
+
+-- what is entered for parts before a whole
+weight_parts : (k : ℕ) (nodes : List Node) (g : IsGraph nodes) (whole : Wanted) (n : ℕ) → rank whole ≡ suc n → (xs : List Wanted) → ArePreceding nodes g whole xs → weight_all k (map Enter xs) ≤ times (length xs) (weight k n)
+weight_parts k nodes g whole n e [] h = let a = weight-none k in omega (arith, a)
+weight_parts k nodes g whole n e (x ∷ xs) (APart _ _ p rest) =
+    let h = weight_parts k nodes g whole n e xs rest in
+    let a : weight_all k (map Enter (x ∷ xs)) ≡ weight_of k (Enter x) + weight_all k (map Enter xs) = weight-cons k (Enter x) (map Enter xs) in
+    let b = weight_of-enter k x in
+    let c = weight_grows k (rank x) n (omega (arith, p.before, e)) in
+    let d = times-suc (length xs) (weight k n) in
+    omega (arith, h, a, b, c, d)
 
 -- the stack is smaller without its top
-pub smaller-top : (visits rest : List Visit) (v : Visit) → visits ≡ rest ++ v ∷ [] → weight_all rest < weight_all visits
-smaller-top visits rest v e =
-    let h = ap weight_all e ∙ weight_push rest v in
-    let k = positive v in
-    omega (arith, h, k)
+pub smaller-top : (k : ℕ) (visits rest : List Visit) (v : Visit) → visits ≡ rest ++ v ∷ [] → weight_all k rest < weight_all k visits
+smaller-top k visits rest v e =
+    let h = ap (weight_all k) e ∙ weight_append k rest (v ∷ []) in
+    let a = weight-cons k v [] in
+    let b = weight-none k in
+    let c = positive k v in
+    omega (arith, h, a, b, c)
 
--- and with what an equation puts in its place
-pub smaller-enter : (nodes : List Node) (e : Encoding) (visits rest new : List Visit) (q : Equation) → visits ≡ rest ++ Enter q ∷ [] → Enters nodes e rest new q → weight_all new < weight_all visits
-smaller-enter nodes e visits rest new q is (inl h) = subst (λ l. weight_all l < weight_all visits) (sym h.0) (smaller-top visits rest (Enter q) is)
-smaller-enter nodes e visits rest new q is (inr h) =
-    let c = h.0 in
-    let one = rest ++ Finish q c ∷ [] in
-    let two = one ++ Enter (part nodes false c q) ∷ [] in
-    let size = ap weight_all is ∙ weight_push rest (Enter q) in
-    let a = weight_push rest (Finish q c) in
-    let b = weight_push one (Enter (part nodes false c q)) in
-    let d = weight_push two (Enter (part nodes true c q)) in
-    let g = h.2 in
-    let all = ap weight_all h.3 in
-    let no = part nodes false c q in
-    let yes = part nodes true c q in
-    let less = weight_parts (no.left + no.right) (yes.left + yes.right) (q.left + q.right) (part_less nodes g false c q h.1) (part_less nodes g true c q h.1) in
-    sums (weight_all visits) (weight_all rest) (weight (q.left + q.right)) (weight_all one) (weight_all two) (weight (no.left + no.right)) (weight (yes.left + yes.right)) (weight_all new)
-    size a b (all ∙ d) less
-  where
-    sums : (v r w x y m k n : ℕ) → v ≡ r + w → x ≡ r + 1 → y ≡ x + m → n ≡ y + k → 1 + m + k < w → n < v
-    sums v r w x y m k n a b c d l = omega arith
+-- how many arguments rows have at most, and more than other parts are
+pub arguments_count : List FlatRow → ℕ
+arguments_count [] = 0
+arguments_count (r ∷ rs) = length r.args + arguments_count rs
 
-module _ (nodes : List Node) (root place : ℕ) where
-  -- what the stack owes when its top is gone, if the top's equation is settled
-  owed_under : (e e' : Encoding) (visits rest : List Visit) (v : Visit) (k : ℕ) (q : Equation) → visits ≡ rest ++ v ∷ [] → ((a b : ℕ) → IsKnown e a b → IsKnown e' a b) → IsSettled nodes e' (equation_of v)
-      → IsOwed nodes e visits k q → IsOwed nodes e' rest k q
-  owed_under e e' visits rest v k q is stays settled (inl (inl w)) = inl (inl w)
-  owed_under e e' visits rest v k q is stays settled (inl (inr h)) = inl (inr (stays q.left q.right h))
-  owed_under e e' visits rest v k q is stays settled (inr w) =
+pub width : List FlatSym → ℕ
+width [] = 3
+width (s ∷ ss) = arguments_count s.rows + width ss
+
+count-cons : (r : FlatRow) (rs : List FlatRow) → arguments_count (r ∷ rs) ≡ length r.args + arguments_count rs
+unfolding arguments_count
+count-cons r rs = refl
+
+width-cons : (s : FlatSym) (ss : List FlatSym) → width (s ∷ ss) ≡ arguments_count s.rows + width ss
+unfolding width
+width-cons s ss = refl
+
+width-none : width [] ≡ 3
+unfolding width
+width-none = refl
+
+width_three : (syms : List FlatSym) → 3 ≤ width syms
+width_three [] = omega (arith, width-none)
+width_three (s ∷ ss) = let h = width_three ss in let e = width-cons s ss in omega (arith, h, e)
+
+row_count : (rs : List FlatRow) (i : ℕ) → length (args_of (slice_get rs i)) ≤ arguments_count rs
+row_count [] i = omega arith
+row_count (r ∷ rs) zero = let e = count-cons r rs in omega (arith, e)
+row_count (r ∷ rs) (suc i) = let h = row_count rs i in let e = count-cons r rs in omega (arith, h, e)
+
+arguments_width : (syms : List FlatSym) (s i : ℕ) → length (arguments_at syms s i) ≤ width syms
+arguments_width [] s i = omega arith
+arguments_width (x ∷ xs) zero i = let h = row_count x.rows i in let e = width-cons x xs in omega (arith, h, e)
+arguments_width (x ∷ xs) (suc s) i = let h = arguments_width xs s i in let e = width-cons x xs in omega (arith, h, e)
+
+equations_count : (left right : List ℕ) → length (equations left right) ≤ length left
+equations_count [] right = omega arith
+equations_count (x ∷ xs) [] = omega arith
+equations_count (x ∷ xs) (y ∷ ys) = let h = equations_count xs ys in omega (arith, h)
+
+node_count : (o : Option Node) → length (node_parts o) ≤ 3
+node_count (Some (Not a)) = omega arith
+node_count (Some (And a b)) = omega arith
+node_count (Some (Or a b)) = omega arith
+node_count (Some (Ite c a b)) = omega arith
+node_count (Some (Eq a b)) = omega arith
+node_count o = omega arith
+
+parts_count : (nodes : List Node) (syms : List FlatSym) (p : Wanted) (w : TheWay) → length (parts nodes syms p w) ≤ width syms
+parts_count nodes syms (Truth i) w = let h = node_count (slice_get nodes i) in let e = width_three syms in omega (arith, h, e)
+parts_count nodes syms (Equation a b) way.Plain = omega arith
+parts_count nodes syms (Equation a b) (way.Control c) = let e = width_three syms in omega (arith, e)
+parts_count nodes syms (Equation a b) (way.Arguments p) =
+    let h = equations_count (arguments_at syms p.symbol p.left) (arguments_at syms p.symbol p.right) in
+    let e = arguments_width syms p.symbol p.left in
+    omega (arith, h, e)
+parts_count nodes syms (Equation a b) way.Never = omega arith
+
+module _ (nodes : List Node) (g : IsGraph nodes) (syms : List FlatSym) (root : ℕ) (flat : IsFlat nodes root syms) (marked : Option (List ℕ)) where
+  -- parts weigh less than what rests on them
+  parts_less : (p : Wanted) (w : TheWay) → IsWanted nodes p → IsWay nodes syms marked p w → 1 + weight_all (width syms) (map Enter (parts nodes syms p w)) < weight (width syms) (rank p)
+  parts_less p w h k = by (rank p) refl (parts nodes syms p w) (parts_precede nodes g root syms flat marked p w h k) (parts_count nodes syms p w)
+    where
+      by : (n : ℕ) → rank p ≡ n → (xs : List Wanted) → ArePreceding nodes g p xs → length xs ≤ width syms → 1 + weight_all (width syms) (map Enter xs) < weight (width syms) n
+      by n e [] h c = let a = weight-none (width syms) in let b = weight_two (width syms) n in omega (arith, a, b)
+      by zero e (x ∷ xs) (APart _ _ q rest) c = absurd (omega (arith, q.before, e))
+      by (suc n) e (x ∷ xs) h c =
+          let a = weight_parts (width syms) nodes g p n e (x ∷ xs) h in
+          let b = times_grows (length (x ∷ xs)) (width syms) (weight (width syms) n) c in
+          let d = weight-suc (width syms) n in
+          let t = weight_two (width syms) n in
+          omega (arith, a, b, d, t)
+
+  -- and so does the stack with what something that is entered puts in its place
+  pub smaller-enter : (settled : List (Wanted × Done)) (visits rest new : List Visit) (p : Wanted) → IsWanted nodes p → visits ≡ rest ++ Enter p ∷ [] → Enters nodes syms marked settled rest new p
+      → weight_all (width syms) new < weight_all (width syms) visits
+  smaller-enter settled visits rest new p wanted is (inl h) = subst (λ l. weight_all (width syms) l < weight_all (width syms) visits) (sym h.0) (smaller-top (width syms) visits rest (Enter p) is)
+  smaller-enter settled visits rest new p wanted is (inr h) =
+      let k = width syms in
+      let w = h.0 in
+      let more = map Enter (parts nodes syms p w) in
+      let size = ap (weight_all k) is ∙ weight_append k rest (Enter p ∷ []) in
+      let one = weight-cons k (Enter p) [] in
+      let none = weight-none k in
+      let enter = weight_of-enter k p in
+      let all = ap (weight_all k) h.2 ∙ weight_append k (rest ++ Finish p w ∷ []) more in
+      let front = weight_append k rest (Finish p w ∷ []) in
+      let last = weight-cons k (Finish p w) [] in
+      let finish = weight_of-finish k p w in
+      let less = parts_less p w wanted h.1 in
+      omega (arith, size, one, none, enter, all, front, last, finish, less)
+
+  -- what the stack owes when its top is gone, if that is settled
+  owed_under : (settled settled' : List (Wanted × Done)) (visits rest : List Visit) (v : Visit) (k : ℕ) (q : Wanted) → visits ≡ rest ++ v ∷ [] → ((x : Wanted) → IsKnown settled x → IsKnown settled' x)
+      → IsKnown settled' (wanted_of v) → IsOwed settled visits k q → IsOwed settled' rest k q
+  owed_under settled settled' visits rest v k q is stays known (inl h) = inl (stays q h)
+  owed_under settled settled' visits rest v k q is stays known (inr w) =
       elim (get-push rest v w.at w.visit (subst (λ l. slice_get l w.at ≡ Some w.visit) is w.there)) [
         | inl there ↦ inr (record { at = w.at; above = w.above; visit = w.visit; there = there; is = w.is })
-        | inr top ↦ inl (subst (IsSettled nodes e') (ap equation_of (sym top.1) ∙ w.is) settled)
+        | inr top ↦ inl (subst (IsKnown settled') (ap wanted_of (sym top.1) ∙ w.is) known)
       ]
 
-  -- the top's equation is settled
-  pub IsSettling-settled : (e e' : Encoding) (visits rest : List Visit) (v : Visit) (q : Equation) → visits ≡ rest ++ v ∷ [] → ((a b : ℕ) → IsKnown e a b → IsKnown e' a b) → IsSettled nodes e' (equation_of v)
-      → IsSettling nodes root place e visits q → IsSettling nodes root place e' rest q
-  IsSettling-settled e e' visits rest v q is stays settled h =
+  -- the top is settled
+  pub IsSettling-settled : (settled settled' : List (Wanted × Done)) (visits rest : List Visit) (v : Visit) (q : Wanted) → visits ≡ rest ++ v ∷ [] → ((x : Wanted) → IsKnown settled x → IsKnown settled' x)
+      → IsKnown settled' (wanted_of v) → IsSettling nodes syms marked settled visits q → IsSettling nodes syms marked settled' rest q
+  IsSettling-settled settled settled' visits rest v q is stays known h =
       let up = λ (k : ℕ) (u : Visit) (at : slice_get rest k ≡ Some u). (subst (λ l. slice_get l k ≡ Some u) (sym is) (get-front rest (v ∷ []) k u at)) in
       record {
-        pairs = λ k u at. h.pairs k u (up k u at);
-        controls = λ k p c at. h.controls k p c (up k (Finish p c) at);
-        parts = λ k p c side at. owed_under e e' visits rest v (k + 1) (part nodes side c p) is stays settled (h.parts k p c side (up k (Finish p c) at));
-        asked = owed_under e e' visits rest v 0 q is stays settled h.asked;
+        fits = λ k u at. h.fits k u (up k u at);
+        ways = λ k p w at. h.ways k p w (up k (Finish p w) at);
+        parts = λ k p w x at c. owed_under settled settled' visits rest v (k + 1) x is stays known (h.parts k p w x (up k (Finish p w) at) c);
+        asked = owed_under settled settled' visits rest v 0 q is stays known h.asked;
       }
 
   get-last : (xs : List Visit) (x : Visit) → slice_get (xs ++ x ∷ []) (length xs) ≡ Some x
   get-last [] x = refl
   get-last (y ∷ xs) x = get-last xs x
 
-  -- a visit with the same equation stands in the top's place, and others above it
-  owed_over : (e : Encoding) (visits rest more : List Visit) (u v : Visit) (k : ℕ) (q : Equation) → visits ≡ rest ++ u ∷ [] → equation_of v ≡ equation_of u
-      → IsOwed nodes e visits k q → IsOwed nodes e ((rest ++ v ∷ []) ++ more) k q
-  owed_over e visits rest more u v k q is same (inl s) = inl s
-  owed_over e visits rest more u v k q is same (inr w) =
+  -- a visit of the same stands in the top's place, and others above it
+  owed_over : (settled : List (Wanted × Done)) (visits rest more : List Visit) (u v : Visit) (k : ℕ) (q : Wanted) → visits ≡ rest ++ u ∷ [] → wanted_of v ≡ wanted_of u
+      → IsOwed settled visits k q → IsOwed settled ((rest ++ v ∷ []) ++ more) k q
+  owed_over settled visits rest more u v k q is same (inl s) = inl s
+  owed_over settled visits rest more u v k q is same (inr w) =
       elim (get-push rest u w.at w.visit (subst (λ l. slice_get l w.at ≡ Some w.visit) is w.there)) [
         | inl there ↦ inr (record { at = w.at; above = w.above; visit = w.visit; there = get-front (rest ++ v ∷ []) more w.at w.visit (get-front rest (v ∷ []) w.at w.visit there); is = w.is })
         | inr top ↦ inr (record {
@@ -144,130 +253,161 @@ module _ (nodes : List Node) (root place : ℕ) where
           above = w.above;
           visit = v;
           there = get-front (rest ++ v ∷ []) more w.at v (subst (λ n. slice_get (rest ++ v ∷ []) n ≡ Some v) (sym top.0) (get-last rest v));
-          is = same ∙ ap equation_of (sym top.1) ∙ w.is;
+          is = same ∙ ap wanted_of (sym top.1) ∙ w.is;
         })
       ]
 
-  finish_equation : (p q : Equation) (c d : ℕ) → ◌≡◌ {A = Visit} (Finish p c) (Finish q d) → p ≡ q
-  finish_equation p q c d e = cc
+  finish_wanted : (p q : Wanted) (c d : TheWay) → ◌≡◌ {A = Visit} (Finish p c) (Finish q d) → p ≡ q
+  finish_wanted p q c d e = cc
 
-  finish_control : (p q : Equation) (c d : ℕ) → ◌≡◌ {A = Visit} (Finish p c) (Finish q d) → c ≡ d
-  finish_control p q c d e = cc
+  finish_way : (p q : Wanted) (c d : TheWay) → ◌≡◌ {A = Visit} (Finish p c) (Finish q d) → c ≡ d
+  finish_way p q c d e = cc
 
-  finish_enter : (p q : Equation) (c : ℕ) → ◌≡◌ {A = Visit} (Finish p c) (Enter q) → ⊥
+  finish_enter : (p q : Wanted) (c : TheWay) → ◌≡◌ {A = Visit} (Finish p c) (Enter q) → ⊥
   finish_enter p q c e = cc
 
   -- the visit on top
-  pub top_pair : (e : Encoding) (visits rest : List Visit) (v : Visit) (q : Equation) → visits ≡ rest ++ v ∷ [] → IsSettling nodes root place e visits q → IsPair nodes root place (equation_of v)
-  top_pair e visits rest v q is h = h.pairs (length rest) v (ap (λ l. slice_get l (length rest)) is ∙ get-last rest v)
+  pub top_wanted : (settled : List (Wanted × Done)) (visits rest : List Visit) (v : Visit) (q : Wanted) → visits ≡ rest ++ v ∷ [] → IsSettling nodes syms marked settled visits q → IsWanted nodes (wanted_of v)
+  top_wanted settled visits rest v q is h = h.fits (length rest) v (ap (λ l. slice_get l (length rest)) is ∙ get-last rest v)
 
-  pub top_control : (e : Encoding) (visits rest : List Visit) (p : Equation) (c : ℕ) (q : Equation) → visits ≡ rest ++ Finish p c ∷ [] → IsSettling nodes root place e visits q → IsControl nodes p.left p.right c
-  top_control e visits rest p c q is h = h.controls (length rest) p c (ap (λ l. slice_get l (length rest)) is ∙ get-last rest (Finish p c))
+  pub top_way : (settled : List (Wanted × Done)) (visits rest : List Visit) (p : Wanted) (w : TheWay) (q : Wanted) → visits ≡ rest ++ Finish p w ∷ [] → IsSettling nodes syms marked settled visits q
+      → IsWay nodes syms marked p w
+  top_way settled visits rest p w q is h = h.ways (length rest) p w (ap (λ l. slice_get l (length rest)) is ∙ get-last rest (Finish p w))
 
-  pub top_part : (e : Encoding) (visits rest : List Visit) (p : Equation) (c : ℕ) (q : Equation) (side : Bool) → visits ≡ rest ++ Finish p c ∷ [] → IsSettling nodes root place e visits q → IsSettled nodes e (part nodes side c p)
-  top_part e visits rest p c q side is h = elim (h.parts (length rest) p c side (ap (λ l. slice_get l (length rest)) is ∙ get-last rest (Finish p c))) [
-    | inl s ↦ s
-    | inr w ↦
-        let inside = slice_get_within visits w.at w.visit w.there in
-        let size : length visits ≡ length rest + 1 = ap length is ∙ length_push rest (Finish p c) in
-        absurd (omega (arith, inside, size, w.above))
-  ]
+  known_all : (settled : List (Wanted × Done)) (xs : List Wanted) → ((x : Wanted) → Contains xs x → IsKnown settled x) → AreKnown settled xs
+  known_all settled [] h = tt
+  known_all settled (x ∷ xs) h = (h x (0, omega arith, refl), known_all settled xs (λ y c. h y (suc c.0, omega (arith, c.1), c.2)))
 
-  -- an equation is put on the stack with those on which it rests above it
-  pub IsSettling-enter : IsGraph nodes → (e : Encoding) (visits rest new : List Visit) (p : Equation) (c : ℕ) (q : Equation) → visits ≡ rest ++ Enter p ∷ [] → IsControl nodes p.left p.right c
-      → new ≡ ((rest ++ Finish p c ∷ []) ++ Enter (part nodes false c p) ∷ []) ++ Enter (part nodes true c p) ∷ [] → IsSettling nodes root place e visits q → IsSettling nodes root place e new q
-  IsSettling-enter g e visits rest new p c q is control made h = record {
-    pairs = λ k v at. elim (cases k v at) [
-      | inl there ↦ h.pairs k v (old k v there)
-      | inr (inl top) ↦ subst (λ u. IsPair nodes root place (equation_of u)) (sym top.1) pair
-      | inr (inr (inl low)) ↦ subst (λ u. IsPair nodes root place (equation_of u)) (sym low.1) (part_pair nodes g root place false c p pair)
-      | inr (inr (inr high)) ↦ subst (λ u. IsPair nodes root place (equation_of u)) (sym high.1) (part_pair nodes g root place true c p pair)
+  pub top_parts : (settled : List (Wanted × Done)) (visits rest : List Visit) (p : Wanted) (w : TheWay) (q : Wanted) → visits ≡ rest ++ Finish p w ∷ [] → IsSettling nodes syms marked settled visits q
+      → AreKnown settled (parts nodes syms p w)
+  top_parts settled visits rest p w q is h = known_all settled (parts nodes syms p w) (λ x c.
+      elim (h.parts (length rest) p w x (ap (λ l. slice_get l (length rest)) is ∙ get-last rest (Finish p w)) c) [
+        | inl s ↦ s
+        | inr a ↦
+            let inside = slice_get_within visits a.at a.visit a.there in
+            let size : length visits ≡ length rest + 1 = ap length is ∙ length_push rest (Finish p w) in
+            absurd (omega (arith, inside, size, a.above))
+      ])
+
+  -- where an item of a list of visits that are entered comes from
+  pub record IsEntered (xs : List Wanted) (v : Visit) : Type 0 where
+    pub wanted : Wanted
+    pub has : Contains xs wanted
+    pub is : v ≡ Enter wanted
+
+  entered : (xs : List Wanted) (i : ℕ) (v : Visit) → slice_get (map Enter xs) i ≡ Some v → IsEntered xs v
+  entered [] i v h = absurd (none-some v h)
+  entered (x ∷ xs) zero v h = record { wanted = x; has = (0, omega arith, refl); is = sym (same_visit h) }
+    where
+      same_visit : ◌≡◌ {A = Option Visit} (Some (Enter x)) (Some v) → Enter x ≡ v
+      same_visit e = cc
+  entered (x ∷ xs) (suc i) v h = let r = entered xs i v h in record { wanted = r.wanted; has = (suc r.has.0, omega (arith, r.has.1), r.has.2); is = r.is }
+
+  -- where it stands
+  pub record IsAt (xs : List Visit) (v : Visit) : Type 0 where
+    pub place : ℕ
+    pub there : slice_get xs place ≡ Some v
+
+  entered_at : (xs : List Wanted) (x : Wanted) → Contains xs x → IsAt (map Enter xs) (Enter x)
+  entered_at [] x (i, lt, e) = absurd (omega arith)
+  entered_at (y ∷ xs) x (zero, lt, e) = record { place = 0; there = ap (λ z. Some (Enter z)) e }
+  entered_at (y ∷ xs) x (suc i, lt, e) = let r = entered_at xs x (i, omega arith, e) in record { place = suc r.place; there = r.there }
+
+  get-back : (xs ys : List Visit) (i : ℕ) (v : Visit) → slice_get ys i ≡ Some v → slice_get (xs ++ ys) (length xs + i) ≡ Some v
+  get-back [] ys i v h = let e : i ≡ 0 + i = omega arith in subst (λ n. slice_get ys n ≡ Some v) e h
+  get-back (x ∷ xs) ys i v h =
+      let e : suc (length xs + i) ≡ length (x ∷ xs) + i = omega arith in
+      subst (λ n. slice_get (x ∷ (xs ++ ys)) n ≡ Some v) e (get-back xs ys i v h)
+
+  get-either : (xs ys : List Visit) (i : ℕ) (v : Visit) → slice_get (xs ++ ys) i ≡ Some v → (slice_get xs i ≡ Some v) ⊎ ((j : ℕ) × (slice_get ys j ≡ Some v))
+  get-either [] ys i v h = inr (i, h)
+  get-either (x ∷ xs) ys zero v h = inl h
+  get-either (x ∷ xs) ys (suc i) v h = get-either xs ys i v h
+
+  preceding_wanted : (whole : Wanted) (xs : List Wanted) → ArePreceding nodes g whole xs → (x : Wanted) → Contains xs x → IsWanted nodes x
+  preceding_wanted whole [] h x (i, lt, e) = absurd (omega arith)
+  preceding_wanted whole (y ∷ xs) (APart _ _ p rest) x (zero, lt, e) = subst (IsWanted nodes) e p.wanted
+  preceding_wanted whole (y ∷ xs) (APart _ _ p rest) x (suc i, lt, e) = preceding_wanted whole xs rest x (i, omega arith, e)
+
+  -- something is put on the stack with what it rests on above it
+  IsSettling-enter : (settled : List (Wanted × Done)) (visits rest new : List Visit) (p : Wanted) (w : TheWay) (q : Wanted) → visits ≡ rest ++ Enter p ∷ [] → IsWay nodes syms marked p w
+      → new ≡ (rest ++ Finish p w ∷ []) ++ map Enter (parts nodes syms p w) → IsSettling nodes syms marked settled visits q → IsSettling nodes syms marked settled new q
+  IsSettling-enter settled visits rest new p w q is control made h = record {
+    fits = λ k v at. elim (cases k v at) [
+      | inl there ↦ h.fits k v (old k v there)
+      | inr (inl top) ↦ subst (λ u. IsWanted nodes (wanted_of u)) (sym top.1) wanted
+      | inr (inr e) ↦ subst (λ u. IsWanted nodes (wanted_of u)) (sym e.is) (preceding_wanted p xs precede e.wanted e.has)
     ];
-    controls = λ k r d at. elim (cases k (Finish r d) at) [
-      | inl there ↦ h.controls k r d (old k (Finish r d) there)
-      | inr (inl top) ↦ subst (λ (s : Equation). IsControl nodes s.left s.right d) (sym (finish_equation r p d c top.1)) (subst (IsControl nodes p.left p.right) (sym (finish_control r p d c top.1)) control)
-      | inr (inr (inl low)) ↦ absurd (finish_enter r _ d low.1)
-      | inr (inr (inr high)) ↦ absurd (finish_enter r _ d high.1)
+    ways = λ k r d at. elim (cases k (Finish r d) at) [
+      | inl there ↦ h.ways k r d (old k (Finish r d) there)
+      | inr (inl top) ↦ subst (λ s. IsWay nodes syms marked s d) (sym (finish_wanted r p d w top.1)) (subst (IsWay nodes syms marked p) (sym (finish_way r p d w top.1)) control)
+      | inr (inr e) ↦ absurd (finish_enter r e.wanted d e.is)
     ];
-    parts = λ k r d side at. elim (cases k (Finish r d) at) [
-      | inl there ↦ over (k + 1) (part nodes side d r) (h.parts k r d side (old k (Finish r d) there))
+    parts = λ k r d x at c. elim (cases k (Finish r d) at) [
+      | inl there ↦ over (k + 1) x (h.parts k r d x (old k (Finish r d) there) c)
       | inr (inl top) ↦
-          subst (λ s. IsOwed nodes e new (k + 1) (part nodes side d s)) (sym (finish_equation r p d c top.1))
-          (subst (λ f. IsOwed nodes e new (k + 1) (part nodes side f p)) (sym (finish_control r p d c top.1)) (inr (awaits (k + 1) side (omega (arith, top.0)))))
-      | inr (inr (inl low)) ↦ absurd (finish_enter r _ d low.1)
-      | inr (inr (inr high)) ↦ absurd (finish_enter r _ d high.1)
+          inr (awaits (k + 1) x (omega (arith, top.0))
+          (subst (λ s. Contains (parts nodes syms s w) x) (finish_wanted r p d w top.1) (subst (λ f. Contains (parts nodes syms r f) x) (finish_way r p d w top.1) c)))
+      | inr (inr e) ↦ absurd (finish_enter r e.wanted d e.is)
     ];
     asked = over 0 q h.asked;
   }
     where
       one : List Visit
-      one = rest ++ Finish p c ∷ []
+      one = rest ++ Finish p w ∷ []
 
-      low_visit : Visit
-      low_visit = Enter (part nodes false c p)
+      xs : List Wanted
+      xs = parts nodes syms p w
 
-      high_visit : Visit
-      high_visit = Enter (part nodes true c p)
+      wanted : IsWanted nodes p
+      wanted = top_wanted settled visits rest (Enter p) q is h
 
-      pair : IsPair nodes root place p
-      pair = top_pair e visits rest (Enter p) q is h
-
-      is_new : new ≡ one ++ (low_visit ∷ high_visit ∷ [])
-      is_new = made ∙ append_assoc one (low_visit ∷ []) (high_visit ∷ [])
+      precede : ArePreceding nodes g p xs
+      precede = parts_precede nodes g root syms flat marked p w wanted control
 
       old : (k : ℕ) (v : Visit) → slice_get rest k ≡ Some v → slice_get visits k ≡ Some v
       old k v there = ap (λ l. slice_get l k) is ∙ get-front rest (Enter p ∷ []) k v there
 
-      over : (k : ℕ) (r : Equation) → IsOwed nodes e visits k r → IsOwed nodes e new k r
-      over k r o = subst (λ l. IsOwed nodes e l k r) (sym is_new) (owed_over e visits rest (low_visit ∷ high_visit ∷ []) (Enter p) (Finish p c) k r is refl o)
+      over : (k : ℕ) (r : Wanted) → IsOwed settled visits k r → IsOwed settled new k r
+      over k r o = subst (λ l. IsOwed settled l k r) (sym made) (owed_over settled visits rest (map Enter xs) (Enter p) (Finish p w) k r is refl o)
 
-      cases : (k : ℕ) (v : Visit) → slice_get new k ≡ Some v
-          → (slice_get rest k ≡ Some v) ⊎ (((k ≡ length rest) × (v ≡ Finish p c)) ⊎ (((k ≡ length one) × (v ≡ low_visit)) ⊎ ((k ≡ length (one ++ low_visit ∷ [])) × (v ≡ high_visit))))
-      cases k v at = elim (get-push (one ++ low_visit ∷ []) high_visit k v (ap (λ l. slice_get l k) (sym made) ∙ at)) [
-        | inl a ↦ elim (get-push one low_visit k v a) [
-          | inl b ↦ elim (get-push rest (Finish p c) k v b) [ inl there ↦ inl there | inr top ↦ inr (inl top) ]
-          | inr low ↦ inr (inr (inl low))
-        ]
-        | inr high ↦ inr (inr (inr high))
+      cases : (k : ℕ) (v : Visit) → slice_get new k ≡ Some v → (slice_get rest k ≡ Some v) ⊎ (((k ≡ length rest) × (v ≡ Finish p w)) ⊎ IsEntered xs v)
+      cases k v at = elim (get-either one (map Enter xs) k v (ap (λ l. slice_get l k) (sym made) ∙ at)) [
+        | inl a ↦ elim (get-push rest (Finish p w) k v a) [ inl there ↦ inl there | inr top ↦ inr (inl top) ]
+        | inr b ↦ inr (inr (entered xs b.0 v b.1))
       ]
 
-      size_one : length one ≡ length rest + 1
-      size_one = length_push rest (Finish p c)
+      awaits : (k : ℕ) (x : Wanted) → k ≤ length rest + 1 → Contains xs x → IsAwaited new k x
+      awaits k x le c =
+          let a = entered_at xs x c in
+          let size : length one ≡ length rest + 1 = length_push rest (Finish p w) in
+          record {
+            at = length one + a.place;
+            above = omega (arith, size, le);
+            visit = Enter x;
+            there = ap (λ l. slice_get l (length one + a.place)) made ∙ get-back one (map Enter xs) a.place (Enter x) a.there;
+            is = refl;
+          }
 
-      awaits : (k : ℕ) (side : Bool) → k ≤ length rest + 1 → IsAwaited new k (part nodes side c p)
-      awaits k true le = record {
-        at = length (one ++ low_visit ∷ []);
-        above = let size = length_push one low_visit in omega (arith, size, size_one, le);
-        visit = high_visit;
-        there = ap (λ l. slice_get l (length (one ++ low_visit ∷ []))) made ∙ get-last (one ++ low_visit ∷ []) high_visit;
-        is = refl;
-      }
-      awaits k false le = record {
-        at = length one;
-        above = omega (arith, size_one, le);
-        visit = low_visit;
-        there = ap (λ l. slice_get l (length one)) made ∙ get-front (one ++ low_visit ∷ []) (high_visit ∷ []) (length one) low_visit (get-last one low_visit);
-        is = refl;
-      }
+  -- something is entered
+  pub IsSettling-enters : (settled : List (Wanted × Done)) (visits rest new : List Visit) (p q : Wanted) → visits ≡ rest ++ Enter p ∷ [] → Enters nodes syms marked settled rest new p
+      → IsSettling nodes syms marked settled visits q → IsSettling nodes syms marked settled new q
+  IsSettling-enters settled visits rest new p q is (inl n) h =
+      subst (λ l. IsSettling nodes syms marked settled l q) (sym n.0) (IsSettling-settled settled settled visits rest (Enter p) q is (λ x k. k) n.1 h)
+  IsSettling-enters settled visits rest new p q is (inr n) h = IsSettling-enter settled visits rest new p n.0 q is n.1 n.2 h
 
-  -- an equation is entered
-  pub IsSettling-enters : (e : Encoding) (visits rest new : List Visit) (p : Equation) (q : Equation) → visits ≡ rest ++ Enter p ∷ [] → Enters nodes e rest new p
-      → IsSettling nodes root place e visits q → IsSettling nodes root place e new q
-  IsSettling-enters e visits rest new p q is (inl n) h = subst (λ l. IsSettling nodes root place e l q) (sym n.0) (IsSettling-settled e e visits rest (Enter p) q is (λ a b k. k) n.1 h)
-  IsSettling-enters e visits rest new p q is (inr n) h = IsSettling-enter n.2 e visits rest new p n.0 q is n.1 n.3 h
-
-  -- at first the equation is to be entered
-  pub IsSettling-start : (e : Encoding) (visits : List Visit) (q : Equation) → visits ≡ Enter q ∷ [] → IsPair nodes root place q → IsSettling nodes root place e visits q
-  IsSettling-start e visits q is pair = subst (λ l. IsSettling nodes root place e l q) (sym is) (record {
-    pairs = λ k v at. elim (get-push [] (Enter q) k v at) [ inl n ↦ absurd (none-some v n) | inr t ↦ subst (λ u. IsPair nodes root place (equation_of u)) (sym t.1) pair ];
-    controls = λ k p c at. elim (get-push [] (Enter q) k (Finish p c) at) [ inl n ↦ absurd (none-some (Finish p c) n) | inr t ↦ absurd (finish_enter p q c t.1) ];
-    parts = λ k p c side at. elim (get-push [] (Enter q) k (Finish p c) at) [ inl n ↦ absurd (none-some (Finish p c) n) | inr t ↦ absurd (finish_enter p q c t.1) ];
+  -- at first it is to be entered
+  pub IsSettling-start : (settled : List (Wanted × Done)) (visits : List Visit) (q : Wanted) → visits ≡ Enter q ∷ [] → IsWanted nodes q → IsSettling nodes syms marked settled visits q
+  IsSettling-start settled visits q is wanted = subst (λ l. IsSettling nodes syms marked settled l q) (sym is) (record {
+    fits = λ k v at. elim (get-push [] (Enter q) k v at) [ inl n ↦ absurd (none-some v n) | inr t ↦ subst (λ u. IsWanted nodes (wanted_of u)) (sym t.1) wanted ];
+    ways = λ k p c at. elim (get-push [] (Enter q) k (Finish p c) at) [ inl n ↦ absurd (none-some (Finish p c) n) | inr t ↦ absurd (finish_enter p q c t.1) ];
+    parts = λ k p c x at i. elim (get-push [] (Enter q) k (Finish p c) at) [ inl n ↦ absurd (none-some (Finish p c) n) | inr t ↦ absurd (finish_enter p q c t.1) ];
     asked = inr (record { at = 0; above = omega arith; visit = Enter q; there = refl; is = refl });
   })
 
   -- at last it is settled
-  pub IsSettling-end : (e : Encoding) (visits : List Visit) (q : Equation) → visits ≡ [] → IsSettling nodes root place e visits q → IsSettled nodes e q
-  IsSettling-end e visits q none h = elim h.asked [
+  pub IsSettling-end : (settled : List (Wanted × Done)) (visits : List Visit) (q : Wanted) → visits ≡ [] → IsSettling nodes syms marked settled visits q → IsKnown settled q
+  IsSettling-end settled visits q none h = elim h.asked [
     | inl s ↦ s
     | inr w ↦ absurd (none-some w.visit (ap (λ l. slice_get l w.at) (sym none) ∙ w.there))
   ]

@@ -1,5 +1,5 @@
 -- What holds of an encoded formula.
-use Rattle.std.proofs.Common.{◌≡◌, ◌≢◌, ℕ, ◌<◌, ◌⊎◌, inl, inr, Bool, List, Option, AllPairs, Contains, slice_index_or, ◌∙◌, arith}
+use Rattle.std.proofs.Common.{◌≡◌, ◌≢◌, ℕ, ◌<◌, ◌⊎◌, inl, inr, Bool, List, Option, AllPairs, Contains, length, slice_index_or, ◌∙◌, arith}
 use Rattle.std.proofs.lemmas.List.Elements.{Contains-get_or}
 use Rattle.bd_model.specs.declared.table.Scalar.{Scalar}
 use Rattle.bd_terms.specs.declared.node.Node.{Node}
@@ -12,10 +12,9 @@ use Rattle.bd_prop.specs.Graph.{IsGraph, Reaches, StandsAt}
 use Rattle.bd_prop.proofs.Reaching.{truth_agrees}
 use Rattle.bd_transitive.specs.declared.graph.Edge.{Edge}
 use Rattle.bd_transitive.specs.Edges.{AreEdges, Joins}
-use Rattle.bd_equality.specs.Encoding.{AgreesWith, EncodesByEdges, atom_value}
+use Rattle.bd_equality.specs.Encoding.{AgreesWith, Encodes, EncodesByEdges, atom_value}
 use Rattle.bd_equality.specs.Edges.{IsApart, IsEdge, ReachesEdge}
-use Rattle.bd_equality.specs.Made.{Term}
-use Rattle.bd_equality.specs.inner.Means.{HasAtoms, Means, edge}
+use Rattle.bd_equality.specs.inner.Means.{HasAtoms, edge}
 
 module _ (nodes : List Node) (root : ℕ) (marked : Option (List ℕ)) (edges : List Edge) (prop : List PropNode) (top : ℕ) (atoms : HasAtoms nodes marked prop)
     (among : (e : Edge) → ReachesEdge prop top e → Contains edges e) where
@@ -24,9 +23,9 @@ module _ (nodes : List Node) (root : ℕ) (marked : Option (List ℕ)) (edges : 
   agree value v h id (TruthOf x) r at = h.truths x (atoms.truths id x at)
 
   -- only the values of the edges and of the truth variables count
-  pub by_edges_of : IsGraph prop → Means nodes marked prop top (Term root) → EncodesByEdges nodes root marked edges prop top
-  by_edges_of g m = record {
-    denotes = λ value v k h. truth_agrees value (atom_value v) prop top g (agree value v h) m.inside ∙ m.is v k;
+  pub by_edges_of : IsGraph prop → top < length prop → Encodes nodes root marked prop top → EncodesByEdges nodes root marked edges prop top
+  by_edges_of g inside m = record {
+    denotes = λ value v k h. truth_agrees value (atom_value v) prop top g (agree value v h) inside ∙ m.denotes v k;
   }
 
 -- the edges of atoms, and those between constants, are edges of the formula

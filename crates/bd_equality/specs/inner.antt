@@ -3,3 +3,4 @@ pub mod Means
 pub mod Steps
 pub mod Sets
 pub mod Apart
+pub mod Rows

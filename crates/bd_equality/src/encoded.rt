@@ -7,16 +7,17 @@ ghost use Rattle.bd_equality.specs.Encoding.{Encodes, EncodesByEdges};
 ghost use Rattle.bd_equality.specs.Edges.{IsApart, IsEdge, ReachesEdge};
 ghost use Rattle.bd_equality.specs.Made.{Made, Term};
 ghost use Rattle.bd_equality.specs.inner.Apart.{IsReached};
-ghost use Rattle.bd_equality.specs.inner.Means.{HasAtoms, Means};
+ghost use Rattle.bd_equality.specs.inner.Means.{HasAtoms};
 
 use crate::apart::apart;
 use crate::encoding::Encoding;
 use crate::pairs::Pairs;
-use crate::sharing::Trees;
+use crate::rows::row_words;
+use crate::trees::Trees;
+use crate::wanted::Wanted;
 use bd_function::{Flat, Marked};
 use bd_model::Distinct;
 use bd_prop::{Atom, Prop, PropNode};
-use bd_terms::reached;
 use bd_transitive::Edges;
 use std::alloc::{AllocError, Global};
 
@@ -41,8 +42,8 @@ pub fn encode(
     ensures graph { IfOk result (λ e. IsGraph e.prop) }
     ensures denotes { IfOk result (λ e.
         Encodes flat.now.graph flat.now.root (option_copied marked.entry) e.prop e.root) }
-    ensures made { IfOk result (λ e. Made flat.now.graph (option_copied marked.entry) e.prop
-        (Term flat.now.root) e.root) }
+    ensures made { IfOk result (λ e. Made flat.now.graph flat.now.syms
+        (option_copied marked.entry) e.prop (Term flat.now.root) e.root) }
     ensures by_edges { IfOk result (λ e.
         EncodesByEdges flat.now.graph flat.now.root (option_copied marked.entry) e.edges e.prop
         e.root) }
@@ -74,18 +75,18 @@ fn truth_graph(
     marked: Option<&Marked>,
 ) -> Result<(Prop, usize), AllocError>
     ensures atoms { IfOk result (λ r. HasAtoms flat.now.graph (option_copied marked.entry) r.0) }
-    ensures means { IfOk result (λ r. Means flat.now.graph (option_copied marked.entry) r.0 r.1
-        (Term flat.now.root)) }
+    ensures inside { IfOk result (λ r. r.1 < length r.0) }
+    ensures denotes { IfOk result (λ r. Encodes flat.now.graph flat.now.root
+        (option_copied marked.entry) r.0 r.1) }
+    ensures made { IfOk result (λ r. Made flat.now.graph flat.now.syms
+        (option_copied marked.entry) r.0 (Term flat.now.root) r.1) }
 {
-    let marks = reached(&flat.graph, flat.root)?;
+    let rows = row_words(alloc, flat, marked)?;
     let mut trees = Trees::new(alloc, flat.graph.len(), marked.is_some())?;
     let mut encoding = Encoding::new(alloc);
-    for index in 0..flat.graph.len() {
-        let id = flat.graph.id(index);
-        let node = encoding.next(flat, marked, &marks, &mut trees, id)?;
-        encoding.truths.push(node)?;
-    }
-    let root = encoding.node(flat.root);
+    let wanted = Wanted::Truth(flat.root);
+    encoding.settle(flat, marked, &rows, &mut trees, &wanted)?;
+    let root = encoding.settled.node(&wanted);
     Ok((encoding.prop, root))
 }
 
@@ -98,19 +99,20 @@ fn with_reached(alloc: Global, prop: &Prop, root: usize, pairs: Pairs) -> Result
 {
     let marks = bd_prop::reached(alloc, prop, root)?;
     let mut pairs = pairs;
-    for (id, node) in prop.nodes().iter().enumerate() {
-        add_edge(&mut pairs, *node, marks.as_slice()[id])?;
+    let nodes = prop.nodes();
+    for (id, node) in nodes.iter().enumerate() {
+        add_edge(&mut pairs, node, marks.as_slice()[id])?;
     }
     Ok(pairs)
 }
 
 /// Puts the edge of an atom into the set, if the atom is reached.
-fn add_edge(pairs: &mut Pairs, node: PropNode, is_reached: bool) -> Result<(), AllocError>
+fn add_edge(pairs: &mut Pairs, node: &PropNode, is_reached: bool) -> Result<(), AllocError>
     ensures { OnOk result ((e : TheEdge) → Contains pairs.new e
-        ↔ (Contains pairs.old e ⊎ IsReached is_reached node e)) }
+        ↔ (Contains pairs.old e ⊎ IsReached is_reached node.now e)) }
 {
     if let PropNode::Atom(atom) = node {
-        if let Atom::Edge(from, to) = atom {
+        if let Atom::Edge(from, to) = *atom {
             if is_reached {
                 pairs.insert(from, to)?;
             }

@@ -6,7 +6,7 @@ ghost use Rattle.bd_terms.specs.declared.node.Node.TheVariants as node;
 ghost use Rattle.bd_equality.specs.Encoding.{has_mark};
 ghost use Rattle.bd_equality.specs.inner.Split.{IsWhole};
 ghost use Rattle.bd_equality.specs.Made.{Words, symbol_variable};
-ghost use Rattle.bd_equality.specs.inner.Means.{Gives, node_variable};
+ghost use Rattle.bd_equality.specs.inner.Means.{Gives, IsAny, node_variable};
 
 use bd_function::{Flat, Marked};
 use bd_prop::{Atom, Prop};
@@ -63,8 +63,8 @@ pub(crate) fn leaf(
     requires first { HasSort flat.now.graph a sort.Word }
     requires second { HasSort flat.now.graph b sort.Word }
     requires whole { IsWhole flat.now.graph a b }
-    ensures { IfOk result (λ id. Gives flat.now.graph (option_copied marked.entry) prop.old
-        prop.new id (Words a b)) }
+    ensures { IfOk result (λ id. Gives flat.now.graph flat.now.syms (option_copied marked.entry)
+        IsAny prop.old prop.new id (Words a b)) }
 {
     if a == b {
         return prop.mk_true();

@@ -4,10 +4,15 @@
 mod apart;
 mod encoded;
 mod encoding;
-mod equations;
+mod equality;
 mod leaf;
 mod pairs;
-mod sharing;
+mod parts;
+mod rows;
+mod settled;
 mod split;
+mod trees;
+mod wanted;
+mod ways;
 
 pub use encoded::{Encoded, encode};

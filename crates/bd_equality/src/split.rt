@@ -1,36 +1,11 @@
-//! How an equation of ite trees is taken apart: by a control of one of its words.
+//! How an equation of ite trees is taken apart by a control of one of its words.
 ghost use Rattle.std.specs.Prelude.{◌≡◌, ◌<◌, true, false, length};
 ghost use Rattle.bd_terms.specs.Graph.{IsGraph};
 ghost use Rattle.bd_equality.specs.Made.{branch, head};
-ghost use Rattle.bd_equality.specs.inner.Split.{between, part};
+ghost use Rattle.bd_equality.specs.inner.Split.{part};
 
+use crate::wanted::{Wanted, between};
 use bd_terms::{Graph, Id, Node};
-
-/// An equation of two words, the one that stands earlier on the left.
-#[derive(Clone, Copy, PartialEq, Eq, Hash)]
-pub(crate) struct Equation {
-    pub(crate) left: Id,
-    pub(crate) right: Id,
-}
-
-/// What an equation rests on: a control, and the equations of what both words are where it is true and where it is
-/// false.
-#[derive(Clone, Copy)]
-pub(crate) struct Parts {
-    pub(crate) yes: Equation,
-    pub(crate) no: Equation,
-}
-
-/// The equation of two words.
-pub(crate) fn between(a: Id, b: Id) -> Equation
-    ensures { result ≡ between a b }
-{
-    if b.index() < a.index() {
-        Equation { left: b, right: a }
-    } else {
-        Equation { left: a, right: b }
-    }
-}
 
 /// The control of a term, if it is an ite.
 pub(crate) fn head(graph: &Graph, id: Id) -> Option<Id>
@@ -63,18 +38,15 @@ fn branches(graph: &Graph, control: Id, id: Id) -> (Id, Id)
     }
 }
 
-/// The equations on which an equation rests, by a control.
-pub(crate) fn rests_on(graph: &Graph, control: Id, equation: &Equation) -> Parts
-    requires left { equation.now.left < length graph.now }
-    requires right { equation.now.right < length graph.now }
-    ensures yes { result.yes ≡ part graph.now true control equation.now }
-    ensures no { result.no ≡ part graph.now false control equation.now }
+/// The equations of what two words are where a control is true and where it is false.
+pub(crate) fn sides(graph: &Graph, control: Id, left: Id, right: Id) -> (Wanted, Wanted)
+    requires left { left < length graph.now }
+    requires right { right < length graph.now }
+    ensures yes { result.0 ≡ part graph.now true control left right }
+    ensures no { result.1 ≡ part graph.now false control left right }
     ensures graph { IsGraph graph.now }
 {
-    let left = branches(graph, control, equation.left);
-    let right = branches(graph, control, equation.right);
-    Parts {
-        yes: between(left.0, right.0),
-        no: between(left.1, right.1),
-    }
+    let left = branches(graph, control, left);
+    let right = branches(graph, control, right);
+    (between(left.0, right.0), between(left.1, right.1))
 }

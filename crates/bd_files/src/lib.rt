@@ -11,13 +11,13 @@
 mod calls;
 mod devices;
 mod fault_log;
-mod memory_files;
-mod memory_sink;
 mod noted;
+mod page;
 mod pieces;
+mod shelf;
 
 pub use devices::{FileCall, Files, LoadError, PutError, SaveError, Sink};
 pub use fault_log::FaultLog;
-pub use memory_files::{Shelf, first_bytes};
-pub use memory_sink::Page;
+pub use page::Page;
 pub use pieces::put_pieces;
+pub use shelf::{Shelf, first_bytes};

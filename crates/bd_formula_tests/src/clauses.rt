@@ -2,7 +2,7 @@
 use crate::numbers::field;
 use crate::truths::{make_all, push_atom};
 use bd_cnf::{Assignment, dimacs_text};
-use bd_prop::{Atom, Prop};
+use bd_prop::{Atom, Prop, gather};
 use bd_tseitin::{AtomVars, Formula, clauses, inputs_of};
 use std::alloc::AllocError;
 use std::process::Abort;
@@ -118,12 +118,13 @@ p cnf 1 2
 -1 0
 ";
 
-/// The clauses of the graph.
+/// The clauses of the graph, whose choices are gathered into trees before.
 fn form(rt: &(impl Abort + AllocGlobal), nodes: &str) -> Formula {
     let mut prop = Prop::new(rt.alloc());
     let root = make_all(rt, &mut prop, nodes);
     assert!(rt; root < prop.len());
-    clauses(rt.alloc(), &prop, root).expect(rt, "memory")
+    let gathered = gather(rt.alloc(), &prop, root).expect(rt, "memory");
+    clauses(rt.alloc(), &gathered.prop, gathered.root).expect(rt, "memory")
 }
 
 /// Adds the atoms, each with its variable.

@@ -29,12 +29,12 @@ nodes true
 
 # an ite against one of its branches
 terms F? 0, F 1, F 2, ite 0 1 2, = 3 1
-nodes T 0, true, = 1 2, ite 0 1 2
+nodes true, = 1 2, T 0, ite 2 0 1
 edges 1 2
 
 # an ite against an ite
 terms F? 0, F? 1, F 2, F 3, ite 0 2 3, ite 1 2 3, = 4 5
-nodes T 0, T 1, true, = 2 3, ite 0 2 3, ite 0 3 2, ite 1 4 5
+nodes true, = 2 3, T 0, ite 2 0 1, ite 2 1 0, T 1, ite 5 3 4
 edges 2 3
 
 # a marked variable
@@ -53,14 +53,35 @@ apart 0 1
 # two constants that are not compared with each other
 terms F? 3, F 0, F 1, ite 0 1 2, F 2, = 3 4
 group 0 1
-nodes T 0, = 1 3, = 2 3, ite 0 1 2
+nodes = 1 3, = 2 3, T 0, ite 2 0 1
 edges 1 2 1 3 2 3
 apart 1 2
 
 # connectives
 terms F 0, F 1, = 0 1, F? 2, not 2, and 4 3, or 5 3, ite 3 6 2
-nodes = 0 1, T 2, not 0, and 2 1, or 3 1, ite 1 4 0
-edges 0 1";
+nodes T 2, = 0 1, not 1, and 2 0, or 3 0, ite 0 4 1
+edges 0 1
+
+# two rows of a marked function: their arguments
+terms F 0, F 1, F 2 0, F 2 1, = 2 3, not 4
+marked 2 3
+nodes = 0 1, true, not 0
+edges 0 1
+
+# rows of two marked functions, of which one is nested
+terms F 0, F 1, F 2 0, F 2 1, F 3 0, = 3 4
+marked 2 3 4
+nodes true, not 0
+
+# a nested row of a marked function, and a variable that isn't marked
+terms F 0, F 1, F 2 0, F 2 1, = 0 3
+marked 2 3
+nodes true, not 0
+
+# two rows of a function that isn't marked: a choice
+terms F 0, F 1, F 2 0, F 2 1, = 2 3, not 4
+nodes true, = 2 3, = 0 1, ite 2 0 1, not 3
+edges 2 3 0 1";
 
 /// The set of the variables of a text, to be marked.
 fn marked_of(rt: &(impl Abort + AllocGlobal), vars: &str) -> Marked {

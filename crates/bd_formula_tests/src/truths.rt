@@ -1,7 +1,7 @@
 //! Truth graphs as texts, and values of their atoms. Nodes are parted by commas: `T 7` is a truth variable, `= 1 2` an
 //! edge, and the others name their parts by their places.
 use crate::numbers::numbers;
-use bd_prop::{Atom, AtomValues, Prop, PropNode, reached};
+use bd_prop::{Atom, AtomValues, Choice, Prop, PropNode, reached};
 use std::alloc::AllocError;
 use std::process::Abort;
 
@@ -76,15 +76,29 @@ pub(crate) fn push_atom(text: &mut String, atom: Atom) -> Result<(), AllocError>
     }
 }
 
+/// Adds a tree of choices, item by item.
+fn push_tree(text: &mut String, items: &[Choice]) -> Result<(), AllocError> {
+    text.push_str("tree")?;
+    for item in items {
+        match *item {
+            Choice::Test(a) => write!(text, " ?{a}")?,
+            Choice::Not => text.push_str(" not")?,
+            Choice::Leaf(a) => write!(text, " {a}")?,
+        }
+    }
+    Ok(())
+}
+
 /// Adds a node.
 fn push_node(text: &mut String, node: &PropNode) -> Result<(), AllocError> {
-    match *node {
+    match node {
         PropNode::True => text.push_str("true"),
-        PropNode::Atom(atom) => push_atom(text, atom),
+        PropNode::Atom(atom) => push_atom(text, *atom),
         PropNode::Not(a) => write!(text, "not {a}"),
         PropNode::And(a, b) => write!(text, "and {a} {b}"),
         PropNode::Or(a, b) => write!(text, "or {a} {b}"),
         PropNode::Ite(a, b, c) => write!(text, "ite {a} {b} {c}"),
+        PropNode::Tree(choices) => push_tree(text, choices.as_slice()),
     }
 }
 

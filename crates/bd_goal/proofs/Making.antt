@@ -12,8 +12,8 @@ use Rattle.bd_terms.specs.declared.node.Node.TheVariants as node
 use Rattle.bd_symbolic.specs.Made.{IsImplication}
 use Rattle.bd_symbolic.specs.declared.state.SymState.{SymState}
 use Rattle.bd_symbolic.proofs.Making.{called-Extends, equivalence-Extends, first-Extends, flushed-Extends, over-Extends}
-use Rattle.bd_abstraction.specs.declared.abstraction.Abstraction.{Abstraction}
-use Rattle.bd_abstraction.specs.declared.abstraction.Abstraction.TheVariants as abstraction
+use Rattle.bd_model.specs.declared.abstraction.Abstraction.{Abstraction}
+use Rattle.bd_model.specs.declared.abstraction.Abstraction.TheVariants as abstraction
 use Rattle.bd_goal.specs.Formula.{is_memory}
 use Rattle.bd_goal.specs.Made.{AllowFrom, AreEqual, AreEqualFrom, AreVisible, CyclesFrom, IsAllowance, IsBoundedRoot, IsCommuting, IsCycleOfRun, IsEquation, IsInvariant, IsRunOf, IsStanding, IsStart, IsUnless, StandsFrom, alone}
 

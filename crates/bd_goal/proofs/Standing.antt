@@ -25,7 +25,7 @@ use Rattle.bd_symbolic.specs.declared.state.SymState.{SymState}
 use Rattle.bd_symbolic.specs.Symbolic.{DenotesExpr, DenoteValues, HaveSorts, terms_of}
 use Rattle.bd_symbolic.specs.States.{DenotesFlush, DenotesState, StateHasSorts, port_sorts}
 use Rattle.bd_symbolic.proofs.Denoting.{truth_of-value}
-use Rattle.bd_abstraction.specs.Abstraction.{IsLawfulGiven, values_by}
+use Rattle.bd_model.specs.Abstraction.{IsLawfulGiven, values_by}
 use Rattle.bd_goal.specs.Claims.{Claims, case_world}
 use Rattle.bd_goal.specs.Formula.{IsOutside}
 use Rattle.bd_goal.specs.inner.Shown.{AreConditions, DenoteConditions, Says, StandsFor}

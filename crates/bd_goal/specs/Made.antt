@@ -11,8 +11,8 @@ use Rattle.bd_terms.specs.declared.node.Node.{Node}
 use Rattle.bd_terms.specs.declared.node.Node.TheVariants as node
 use Rattle.bd_symbolic.specs.Made.{AreFirstEntries, AreFirstInputs, AreFlushed, AreMadeOver, Called, IsEquivalence, IsFirstState, IsImplication}
 use Rattle.bd_symbolic.specs.declared.state.SymState.{SymState}
-use Rattle.bd_abstraction.specs.declared.abstraction.Abstraction.{Abstraction}
-use Rattle.bd_abstraction.specs.declared.abstraction.Abstraction.TheVariants as abstraction
+use Rattle.bd_model.specs.declared.abstraction.Abstraction.{Abstraction}
+use Rattle.bd_model.specs.declared.abstraction.Abstraction.TheVariants as abstraction
 use Rattle.bd_goal.specs.Formula.{address_count, is_memory}
 
 -- a state in which what uses no input is made

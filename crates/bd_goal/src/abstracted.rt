@@ -5,15 +5,14 @@ ghost use Rattle.bd_model.specs.ExprView.{expr_views, list_of_views};
 ghost use Rattle.bd_model.specs.Lawful.{IsLawful};
 ghost use Rattle.bd_symbolic.specs.DesignSymbols.{GrowsWithin, KeepsDesign};
 ghost use Rattle.bd_symbolic.specs.States.{StateHasSorts};
-ghost use Rattle.bd_abstraction.specs.Abstraction.{IsLawfulAbstraction, IsLawfulGiven, abstraction_of, values_by};
+ghost use Rattle.bd_model.specs.Abstraction.{IsLawfulAbstraction, IsLawfulGiven, abstraction_of, values_by};
 ghost use Rattle.bd_symbolic.specs.Made.{AreMadeOver};
 ghost use Rattle.bd_goal.specs.Made.{AreVisible, alone};
 ghost use Rattle.bd_goal.specs.inner.Shown.{StandsFor};
 
 use crate::invariant::without_inputs;
-use bd_abstraction::Abstraction;
 use bd_list::Sequence;
-use bd_model::{Design, Exprs, Locals};
+use bd_model::{Abstraction, Design, Exprs, Locals};
 use bd_symbolic::{SymState, project, sym_eval, sym_flush, sym_lets};
 use bd_terms::Graph;
 use std::alloc::{AllocError, Global};

@@ -21,15 +21,14 @@ use crate::commute::commutes;
 use crate::equal::memory_count;
 use crate::invariant::invariant;
 use crate::question::Goal;
-use bd_abstraction::Abstraction;
-use bd_model::Design;
+use bd_model::{Abstraction, Design};
 use bd_symbolic::{SymState, implies, sym_entries, sym_inputs, sym_step};
 use bd_terms::{Graph, Id};
 use std::alloc::{AllocError, Global};
 
 /// The formula of so many cycles one after another, of which there may be none: where the invariant is true in the
 /// first state, each cycle stands for some allowed number of steps, by flushing. Input i of q inputs in cycle t, from
-/// 0, is `Input(t * q + i)`. Refused for want of memory, the graph may keep further nodes.
+/// 0, is `Input(t * q + i)`. If memory runs out, the graph may keep further nodes.
 pub fn bounded_goal(
     alloc: Global,
     graph: &mut Graph,

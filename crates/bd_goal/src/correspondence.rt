@@ -6,10 +6,10 @@ ghost use Rattle.bd_model.specs.Lawful.{IsLawful};
 ghost use Rattle.bd_model.specs.declared.design.Sort.TheVariants as sort;
 ghost use Rattle.bd_terms.specs.Graph.{AddsUses, Extends, HasSort};
 ghost use Rattle.bd_terms.specs.Denotation.{Denotes, Truth, truth};
-ghost use Rattle.bd_abstraction.specs.Abstraction.{IsLawfulAbstraction, abstraction_of};
+ghost use Rattle.bd_model.specs.Abstraction.{IsLawfulAbstraction, abstraction_of};
 ghost use Rattle.bd_goal.specs.Claims.{Claims};
 ghost use Rattle.bd_goal.specs.Formula.{AgreesAt, Corresponds, address_count, memory_count};
-ghost use Rattle.bd_abstraction.specs.declared.abstraction.Abstraction.TheVariants as abstraction;
+ghost use Rattle.bd_model.specs.declared.abstraction.Abstraction.TheVariants as abstraction;
 ghost use Rattle.bd_goal.specs.Made.{IsAgreement, IsCorrespondence};
 ghost use Rattle.bd_goal.specs.Symbols.{GrowsKnown, ReachesKnown};
 
@@ -18,8 +18,7 @@ use crate::commute::commutes;
 use crate::equal::{equal, memory_count};
 use crate::invariant::invariant;
 use crate::question::Goal;
-use bd_abstraction::Abstraction;
-use bd_model::Design;
+use bd_model::{Abstraction, Design};
 use bd_symbolic::{implies, sym_state, sym_step};
 use bd_terms::{Graph, Id};
 use std::alloc::{AllocError, Global};
@@ -46,7 +45,7 @@ pub fn goal(alloc: Global, graph: &mut Graph, design: &Design) -> Result<Goal, A
 }
 
 /// The correspondence formula by an abstraction: the invariant in the state implies that it is true after the cycle,
-/// and that the cycle stands for some allowed number of steps. Refused for want of memory, the graph may keep further
+/// and that the cycle stands for some allowed number of steps. If memory runs out, the graph may keep further
 /// nodes.
 pub fn goal_by(
     alloc: Global,
@@ -86,7 +85,7 @@ pub fn goal_by(
 }
 
 /// The formula that an abstraction agrees with flushing in the first state, where the invariant is true there: latches
-/// are equal, and each memory reads equal at the address of its number. Refused for want of memory, the graph may keep
+/// are equal, and each memory reads equal at the address of its number. If memory runs out, the graph may keep
 /// further nodes.
 pub fn agree_goal(
     alloc: Global,

@@ -23,7 +23,7 @@ use bd_symbolic::{SymState, sym_eval, sym_lets, sym_state};
 use bd_terms::{Graph, Id};
 use std::alloc::{AllocError, Global};
 
-/// The term that the invariant is false in the first state. Refused for want of memory, the graph may keep further
+/// The term that the invariant is false in the first state. If memory runs out, the graph may keep further
 /// nodes.
 pub fn meets(alloc: Global, graph: &mut Graph, design: &Design) -> Result<Id, AllocError>
     requires lawful { IsLawful (design_view design.now) }

@@ -15,7 +15,7 @@ mod invariant;
 mod laws;
 mod question;
 
-pub use bd_abstraction::Abstraction;
+pub use bd_model::Abstraction;
 pub use bounded::bounded_goal;
 pub use correspondence::{agree_goal, goal, goal_by};
 pub use invariant::meets;

@@ -34,10 +34,30 @@ pub fn not_in_pipeline(view: &FaultView<'_>, out: &mut Lines) -> Result<(), Allo
         return differs(view, out);
     }
     out.say(&[b"each latch and memory of a specification is one of its pipeline"])?;
+    if is_of_another(view) {
+        return out.say(&[
+            b"the pipeline declares few of them: is this the specification of another design?",
+        ]);
+    }
     match view.near_entry(Text::Pipe, name)? {
         Some(found) => view.note(out, b"near: ", &found),
         None => Ok(()),
     }
+}
+
+/// Whether the pipeline declares fewer than half of what the specification does.
+fn is_of_another(view: &FaultView<'_>) -> bool {
+    let mut there = 0usize;
+    let mut missing = 0usize;
+    for declared in view.declared {
+        if declared.file == Text::Spec && !declared.kind.is_let() {
+            match view.declared_in(Text::Pipe, declared.name) {
+                Some(_) => there = there.saturating_add(1),
+                None => missing = missing.saturating_add(1),
+            }
+        }
+    }
+    there < missing
 }
 
 /// What helps at a name that the two files declare differently.

@@ -4,9 +4,9 @@ use crate::declared::Declared;
 use crate::entries::{entry_form, entry_head, say_values};
 use crate::file::list_of;
 use crate::lines::Lines;
-use crate::near::nearest_word;
 use crate::view::{FaultView, put_arity, put_described};
-use bd_outline::parts_of;
+use bd_near::nearest_word;
+use bd_text::outline::parts_of;
 use std::alloc::AllocError;
 
 /// What entries begin with.

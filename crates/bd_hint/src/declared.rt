@@ -2,8 +2,8 @@
 
 use crate::file::{File, Headed, list_of};
 use bd_model::Sort;
-use bd_outline::atom_at;
 use bd_text::Tree;
+use bd_text::outline::atom_at;
 use bd_typer::Text;
 use std::alloc::{AllocError, Global};
 

@@ -3,7 +3,7 @@
 use crate::file::{File, Headed, list_of};
 use crate::lines::Lines;
 use crate::view::FaultView;
-use bd_outline::{atom_at, atom_of, parts_of};
+use bd_text::outline::{atom_at, atom_of, parts_of};
 use bd_typer::Text;
 use indexmap::IndexMap;
 use std::alloc::{AllocError, Global};

@@ -1,8 +1,8 @@
 //! The trees of a file.
 
 use crate::source::NamedFile;
-use bd_outline::{atom_at, atom_of, parts_of, trees_of};
 use bd_syntax::lists::offset_of;
+use bd_text::outline::{atom_at, atom_of, parts_of, trees_of};
 use bd_text::{Tree, Trees};
 use bd_typer::Text;
 use std::alloc::{AllocError, Global};

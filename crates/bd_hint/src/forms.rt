@@ -3,13 +3,13 @@
 use crate::declared::sort_named;
 use crate::file::{Headed, list_of};
 use crate::lines::Lines;
-use crate::near::nearest_word;
 use crate::source::{kind_form, kind_text};
 use crate::view::FaultView;
-use bd_outline::{atom_at, parts_of};
+use bd_near::nearest_word;
 use bd_syntax::Operator;
 use bd_syntax::lists::offset_of;
 use bd_text::Tree;
+use bd_text::outline::{atom_at, parts_of};
 use bd_typer::Text;
 use std::alloc::AllocError;
 

@@ -2,10 +2,10 @@
 
 use crate::brackets::ended_before;
 use crate::lines::Lines;
-use crate::near::nearest_word;
 use crate::source::{kind_form, kind_of, kind_text};
 use crate::view::FaultView;
-use bd_outline::{atom_of, parts_of};
+use bd_near::nearest_word;
+use bd_text::outline::{atom_of, parts_of};
 use bd_typer::Text;
 use std::alloc::AllocError;
 
@@ -93,10 +93,28 @@ fn without_list(view: &FaultView<'_>, out: &mut Lines, word: &[u8]) -> Result<()
             return out.say(&[text]);
         }
     }
+    if word == b"wrong".as_slice() {
+        return out.say(&[
+            b"this file is a case, where ",
+            kind_text(view.fault.file),
+            b" is wanted; bd_view show PIPE SPEC CASE shows it",
+        ]);
+    }
+    if is_other_comment(view) {
+        return out.say(&[b"a comment begins with ; and ends with its line"]);
+    }
     if word.is_empty() {
         out.say(&[b"the file has no list"])?;
     }
     say_form(out, view.fault.file)
+}
+
+/// Whether a comment of another language begins at the fault.
+fn is_other_comment(view: &FaultView<'_>) -> bool {
+    let source = view.file.source;
+    let text = source.text.get(view.fault.offset..).unwrap_or(&[]);
+    let marks: [&[u8]; 5] = [b"#", b"//", b"/*", b"--", b"%"];
+    marks.iter().any(|mark| text.starts_with(mark))
 }
 
 /// What helps where a file isn't one list with the head of its kind.

@@ -20,7 +20,6 @@ mod hint;
 mod inputs;
 mod lines;
 mod missing;
-mod near;
 mod sorts;
 mod source;
 mod twice;

@@ -3,9 +3,9 @@
 use crate::declared::Declared;
 use crate::file::{File, list_of};
 use crate::lines::Lines;
-use crate::near::nearest;
 use crate::twice::note_first;
 use crate::view::{FaultView, put_described};
+use bd_near::nearest;
 use bd_typer::Text;
 use indexmap::IndexSet;
 use std::alloc::{AllocError, Global};

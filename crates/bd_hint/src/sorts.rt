@@ -8,8 +8,8 @@ use crate::lines::Lines;
 use crate::view::FaultView;
 use crate::way::Level;
 use bd_model::Sort;
-use bd_outline::atom_at;
 use bd_syntax::Operator;
+use bd_text::outline::atom_at;
 use bd_typer::Text;
 use std::alloc::AllocError;
 

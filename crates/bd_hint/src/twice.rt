@@ -3,8 +3,8 @@
 use crate::file::{Headed, list_of};
 use crate::lines::Lines;
 use crate::view::FaultView;
-use bd_outline::atom_of;
 use bd_syntax::lists::offset_of;
+use bd_text::outline::atom_of;
 use std::alloc::AllocError;
 
 /// Adds where an item of this head and name stands first in the file, if it does before an offset.

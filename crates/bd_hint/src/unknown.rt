@@ -4,11 +4,11 @@ use crate::declared::Declared;
 use crate::file::Headed;
 use crate::forms::operator_form;
 use crate::lines::Lines;
-use crate::near::nearest_word;
 use crate::sorts::wanted_sort;
 use crate::source::kind_text;
 use crate::view::FaultView;
 use bd_model::Sort;
+use bd_near::nearest_word;
 use bd_typer::Text;
 use std::alloc::AllocError;
 
@@ -129,9 +129,19 @@ fn say_declaration(view: &FaultView<'_>, out: &mut Lines, name: &[u8]) -> Result
     }
 }
 
+/// A near name that may be used as a value: one of the sort that is wanted there, if there is one.
+fn near_value<'v>(view: &FaultView<'v>, name: &[u8]) -> Result<Option<Declared<'v>>, AllocError> {
+    if let Some(sort) = wanted_sort(view) {
+        if let Some(found) = view.near_of_sort(name, sort)? {
+            return Ok(Some(found));
+        }
+    }
+    view.near_usable(name)
+}
+
 /// What helps at a name that is used as a value.
 fn at_value(view: &FaultView<'_>, out: &mut Lines, name: &[u8]) -> Result<(), AllocError> {
-    if let Some(found) = view.near_usable(name)? {
+    if let Some(found) = near_value(view, name)? {
         return view.note(out, b"near: ", &found);
     }
     if let Some(word) = nearest_word(view.alloc, name, &TRUTHS)? {

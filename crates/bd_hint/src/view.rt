@@ -3,9 +3,10 @@
 use crate::declared::{Declaration, Declared, sort_text};
 use crate::file::File;
 use crate::lines::Lines;
-use crate::near::nearest;
 use crate::source::{FaultPlace, NamedFile};
 use crate::way::Way;
+use bd_model::Sort;
+use bd_near::nearest;
 use bd_typer::Text;
 use indexmap::IndexMap;
 use std::alloc::{AllocError, Global};
@@ -106,6 +107,19 @@ impl<'v> FaultView<'v> {
     /// The first latch or memory of a file with a near name.
     pub fn near_entry(&self, file: Text, name: &[u8]) -> Result<Option<Declared<'v>>, AllocError> {
         self.near(name, |other| other.file == file && other.kind.is_entry())
+    }
+
+    /// The first usable name of a sort that is near.
+    pub fn near_of_sort(
+        &self,
+        name: &[u8],
+        sort: Sort,
+    ) -> Result<Option<Declared<'v>>, AllocError> {
+        let file = self.fault.file;
+        self.near(
+            name,
+            |other| may_use(file, other) && other.kind.sort() == Some(sort),
+        )
     }
 
     /// The first usable name that is near.

@@ -1,9 +1,9 @@
 //! The way down to a place of a file.
 
 use crate::file::Headed;
-use bd_outline::{atom_at, atom_of, parts_of};
 use bd_syntax::lists::offset_of;
 use bd_text::Tree;
+use bd_text::outline::{atom_at, atom_of, parts_of};
 use std::alloc::{AllocError, Global};
 
 /// More levels than a text has.

@@ -3,14 +3,13 @@
 //! The name is copied before the file is touched, so that a call that failed can be blamed without
 //! taking memory. A file is read piece by piece, one byte past the limit at most, so that a longer
 //! one is known as such and never read whole. Over a reader that tells what it has left, the
-//! clauses say that the bytes are its first ones; over a disk that tells what it holds, that a load
-//! gives what is held under its name, and that a save writes its bytes to a file of its name.
-ghost use Rattle.std.specs.Prelude.{◌≡◌, ◌≢◌, ℕ, ◌+◌, ◌<◌, ◌≤◌, ◌++◌, List, length, take, vec_len, None, OnOk, IfSome, IfOk};
+//! clauses say that the bytes are its first ones. The files tell what their disk tells: so over a
+//! disk that tells, a load gives what is held under its name, and a save puts its bytes there.
+ghost use Rattle.std.specs.Prelude.{◌≡◌, ◌≢◌, ℕ, ◌+◌, ◌<◌, ◌≤◌, ◌++◌, List, length, take, vec_len, None, Some, OnOk, IfSome, IfOk, IsErrOf};
 ghost use Rattle.std.specs.Io.{ReadsAtMost};
 ghost use Rattle.std.specs.Io.KnownBytes.{Consumes, IsAtEnd, ReadConsumes};
 ghost use Rattle.std.specs.IoError.{error_kind};
-ghost use Rattle.bd_files.specs.Devices.{IsLoaded};
-ghost use Rattle.bd_host.specs.Disk.{IsWritten};
+ghost use Rattle.bd_files.specs.Devices.{IsLoaded, Holds, KeepsOthers, Counts, Rose};
 
 use crate::disk::Disk;
 use crate::stream::write_whole;
@@ -20,18 +19,19 @@ use std::io;
 use std::io::{Error, ErrorKind, Read};
 
 /// The files of a disk, under the names that they have there. Each call that fails is counted, and
-/// blamed with its name. It tells nothing of what the files hold.
+/// blamed with its name. They hold what the disk holds, and tell it where the disk does.
 #[derive(Drop)]
-pub struct RealFiles<'a, D> {
+pub struct RealFiles<D> {
     alloc: Global,
-    disk: &'a D,
+    disk: D,
     faults: FaultLog,
 }
 
-impl<'a, D: Disk> RealFiles<'a, D> {
+impl<D: Disk> RealFiles<D> {
     /// The files of that disk, with no fault yet.
-    pub fn new(alloc: Global, disk: &'a D) -> RealFiles<'a, D>
-        ensures { result.faults ≡ record { count = 0; blame = None } }
+    pub fn new(alloc: Global, disk: D) -> RealFiles<D>
+        ensures disk { result.disk ≡ disk }
+        ensures faultless { result.faults ≡ record { count = 0; blame = None } }
     {
         RealFiles {
             alloc,
@@ -48,8 +48,8 @@ impl<'a, D: Disk> RealFiles<'a, D> {
     }
 }
 
-impl<'a, D: Disk> Files for RealFiles<'a, D> {
-    ghost held = { λ _. None };
+impl<D: Disk> Files for RealFiles<D> {
+    ghost held = { λ files. D.held files.disk };
 
     ghost faults = { λ files. files.faults.count };
 
@@ -60,17 +60,31 @@ impl<'a, D: Disk> Files for RealFiles<'a, D> {
     /// The first bytes of the file, at most `most + 1`; a call that fails is counted and blamed.
     fn load(&mut self, name: &str, most: usize) -> Result<Vec<u8>, LoadError> {
         let blamed = String::from_str(self.alloc, name).map_err(|_| LoadError::Memory)?;
-        let result = load_file(self.alloc, self.disk, name, most);
+        let result = load_file(self.alloc, &mut self.disk, name, most);
         if let Err(LoadError::Failed) = result {
             self.faults.add(FileCall::Load, blamed);
         }
         result
     }
 
-    /// Writes the file anew with these bytes; a call that fails is counted and blamed.
-    fn save(&mut self, name: &str, bytes: &[u8]) -> Result<(), SaveError> {
+    /// Makes the file anew, once, and writes these bytes to it; a call that fails is counted and
+    /// blamed.
+    fn save(&mut self, name: &str, bytes: &[u8]) -> Result<(), SaveError>
+        ensures saved { OnOk result (Holds (D.held self.new.disk) name.now bytes.now) }
+        ensures keeps_others { KeepsOthers (D.held self.old.disk) (D.held self.new.disk) name.now }
+        ensures once { OnOk result
+            (Counts (D.creates self.old.disk) (D.creates self.new.disk) 1) }
+
+        ensures never_falls { self.old.faults.count ≤ self.new.faults.count }
+        ensures failed_rose { IsErrOf result SaveError.Failed →
+            Rose self.old.faults.count self.new.faults.count }
+        ensures failed_blames { IsErrOf result SaveError.Failed →
+            self.new.faults.blame ≡ Some (FileCall.Save, name.now) }
+        ensures else_keeps_blame { ¬ IsErrOf result SaveError.Failed →
+            self.new.faults.blame ≡ self.old.faults.blame }
+    {
         let blamed = String::from_str(self.alloc, name).map_err(|_| SaveError::Memory)?;
-        let result = save_file(self.disk, name, bytes);
+        let result = save_file(&mut self.disk, name, bytes);
         if let Err(SaveError::Failed) = result {
             self.faults.add(FileCall::Save, blamed);
         }
@@ -81,13 +95,14 @@ impl<'a, D: Disk> Files for RealFiles<'a, D> {
 /// Opens the file and reads it, of more than `most` bytes the first `most + 1`.
 fn load_file<D: Disk>(
     alloc: Global,
-    disk: &D,
+    disk: &mut D,
     name: &str,
     most: usize,
 ) -> Result<Vec<u8>, LoadError>
     ensures bounded { IfOk result (λ bytes. vec_len bytes ≤ most + 1) }
     ensures loaded { IfOk result (λ bytes.
-        IsLoaded (D.held disk.now) name.now most bytes.items) }
+        IsLoaded (D.held disk.old) name.now most bytes.items) }
+    ensures holds_the_same { D.held disk.new ≡ D.held disk.old }
 {
     let mut file = match disk.open(name) {
         Ok(file) => file,
@@ -97,21 +112,25 @@ fn load_file<D: Disk>(
 }
 
 /// Writes the file anew.
-fn save_file<D: Disk>(disk: &D, name: &str, bytes: &[u8]) -> Result<(), SaveError>
-    ensures saved { OnOk result
-        (IsWritten (D.made disk.now name.now) D.Created.contents bytes.now) }
+fn save_file<D: Disk>(disk: &mut D, name: &str, bytes: &[u8]) -> Result<(), SaveError>
+    ensures saved { OnOk result (Holds (D.held disk.new) name.now bytes.now) }
+    ensures keeps_others { KeepsOthers (D.held disk.old) (D.held disk.new) name.now }
+    ensures once { Counts (D.creates disk.old) (D.creates disk.new) 1 }
 {
     let mut file = match disk.create(name) {
         Ok(file) => file,
         Err(e) => return Err(save_error(&e)),
     };
     match write_whole(&mut file, bytes) {
-        Ok(()) => Ok(()),
+        Ok(()) => {
+            disk.close(name, file);
+            Ok(())
+        }
         Err(e) => Err(save_error(&e)),
     }
 }
 
-/// The fault of a load that failed so: want of memory is no fault of the device.
+/// The fault of a load that failed so: running out of memory is no fault of the device.
 fn load_error(error: &Error) -> LoadError
     ensures memory { error_kind error.now ≡ ErrorKind.OutOfMemory → result ≡ LoadError.Memory }
     ensures failed { error_kind error.now ≢ ErrorKind.OutOfMemory → result ≡ LoadError.Failed }
@@ -122,7 +141,7 @@ fn load_error(error: &Error) -> LoadError
     }
 }
 
-/// The fault of a save that failed so: want of memory is no fault of the device.
+/// The fault of a save that failed so: running out of memory is no fault of the device.
 fn save_error(error: &Error) -> SaveError
     ensures memory { error_kind error.now ≡ ErrorKind.OutOfMemory → result ≡ SaveError.Memory }
     ensures failed { error_kind error.now ≢ ErrorKind.OutOfMemory → result ≡ SaveError.Failed }

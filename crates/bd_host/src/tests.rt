@@ -71,7 +71,7 @@ fn read_count(alloc: Global, end: ErrorKind, most: usize) -> Result<usize, LoadE
     Ok(bytes.len())
 }
 
-/// A read goes on after an interruption, stops past the most bytes, and tells want of memory from a failure.
+/// A read goes on after an interruption, stops past the most bytes, and tells running out of memory from a failure.
 #[test]
 fn reads_on_after_an_interruption(rt: HostRuntime) {
     for (end, most, want) in [

@@ -26,7 +26,7 @@ pub trait Arguments {
     /// The words as bytes, or that one of them isn't text; nothing where it isn't told.
     ghost told: { Self → Told } = { λ _. None };
 
-    /// The words, in their order. Any error but want of memory says that a word isn't text.
+    /// The words, in their order. Any error but that memory ran out says that a word isn't text.
     fn arguments(&self) -> io::Result<Args>
         ensures words { IfOk result (Gives (told self.now)) }
         ensures not_text { IfErr result (λ e. error_kind e ≢ ErrorKind.OutOfMemory →
@@ -56,7 +56,7 @@ pub fn command_line<R: Arguments>(alloc: Global, system: &R) -> Result<Vec<Strin
     }
 }
 
-/// Why there are no words: want of memory, or for any other error a word that isn't text.
+/// Why there are no words: memory ran out, or for any other error a word that isn't text.
 fn words_error(error: &Error) -> WordsError
     ensures memory { error_kind error.now ≡ ErrorKind.OutOfMemory → result ≡ WordsError.Memory }
     ensures not_text { error_kind error.now ≢ ErrorKind.OutOfMemory →

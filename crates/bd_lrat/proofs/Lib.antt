@@ -11,3 +11,4 @@ pub mod Rising
 pub mod Stored
 pub mod HintLists
 pub mod FreshLogs
+pub mod FewDeletions

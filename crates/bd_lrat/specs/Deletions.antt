@@ -1,6 +1,6 @@
 -- Deletions that lose nothing: a clause goes only where propagation from nothing makes it true without it, as solvers delete the clauses that level 0 satisfies (Eén and Sörensson, MiniSat, 2003).
-use Rattle.std.specs.Prelude.{◌≡◌, ◌≢◌, ℕ, true, List, [], ◌∷◌, Option, None, Some, IfSome, ◌⊎◌}
-use Rattle.std.specs.List.{All}
+use Rattle.std.specs.Prelude.{◌≡◌, ◌≢◌, ℕ, ◌+◌, ◌≤◌, true, List, [], ◌∷◌, Option, None, Some, IfSome, IsSome, ◌⊎◌, length}
+use Rattle.std.specs.List.{All, AllPairs}
 use Rattle.std.specs.FinMap.{get}
 use Rattle.bd_cnf.specs.Literal.{Literal, has_literal}
 use Rattle.bd_cnf.specs.Problem.{Problem}
@@ -28,8 +28,11 @@ pub record IsFulfilled (standing : Standing) (clause : List Literal) : Type 0 wh
 abbrev pub IsCovered : Standing → List Literal → Type 0
 IsCovered standing clause = IsConflicting standing ⊎ IsFulfilled standing clause
 
--- a deletion has the id of the last addition, propagation from nothing ends in no conflict before it, and what stands after it covers each clause that it takes out
+-- a deletion names clauses that stand, one at least and none twice; it has the id of the last addition, propagation from nothing ends in no conflict before it, and what stands after it covers each clause that it takes out
 pub record IsCoveredDeletion (db : Database) (added : Option ℕ) (id : ℕ) (ids : List ℕ) : Type 0 where
+  pub some : ids ≢ []
+  pub stand : All (λ gone. IsSome (get db.clauses gone)) ids
+  pub differ : AllPairs (λ one other. one ≢ other) ids
   pub last : added ≡ Some id
   pub no_conflict : (hints : List Hint) → propagate db.clauses [] hints ≢ Conflict
   pub covered : All (λ gone. IfSome (get db.clauses gone) (IsCovered (remove_all db.clauses ids))) ids
@@ -43,3 +46,19 @@ DeletesCovered db added ((Delete id ids) ∷ lines) = IsCoveredDeletion db added
 -- each deletion of a log over a formula is so: none comes before an addition
 abbrev pub HasCoveredDeletions : Problem → List Line → Type 0
 HasCoveredDeletions p lines = DeletesCovered (database_of p) None lines
+
+-- how many lines add a clause, the empty one too
+abbrev pub clauses_added : List Line → ℕ
+clauses_added [] = 0
+clauses_added ((Add id clause hints) ∷ lines) = clauses_added lines + 1
+clauses_added ((Delete id ids) ∷ lines) = clauses_added lines
+
+-- how many lines delete
+abbrev pub deletions : List Line → ℕ
+deletions [] = 0
+deletions ((Add id clause hints) ∷ lines) = deletions lines
+deletions ((Delete id ids) ∷ lines) = deletions lines + 1
+
+-- no more lines delete than there are clauses, those of the formula and those that are added: each takes one out that stands
+abbrev pub DeletionsAreFew : Type 0
+DeletionsAreFew = (p : Problem) (lines : List Line) → HasCoveredDeletions p lines → deletions lines ≤ length p.clauses + clauses_added lines

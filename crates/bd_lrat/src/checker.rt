@@ -45,7 +45,7 @@ impl Model for Checker {
 
 impl Checker {
     /// Holds the formula's clauses, with the ids from 1. A formula of 2,147,483,648 variables or more
-    /// ends as want of memory.
+    /// ends as out of memory.
     pub fn new(alloc: Global, cnf: &Cnf) -> Result<Checker, AllocError>
         ensures { IfOk result (λ checker. checker ≡ database_of cnf.now) }
     {

@@ -4,8 +4,8 @@ ghost use Rattle.std.specs.Prelude.{ℕ, List, [], ◌∷◌, Option};
 ghost use Rattle.bd_cnf.specs.Problem.{Problem, problem};
 ghost use Rattle.bd_lrat.specs.declared.line.Line.{Line};
 ghost use Rattle.bd_lrat.specs.declared.line.Line.TheVariants.{Delete};
-ghost use Rattle.bd_lrat.specs.Database.{database_of, numbered};
-ghost use Rattle.bd_lrat.specs.Deletions.{IsCovered, DeletesCovered};
+ghost use Rattle.bd_lrat.specs.Database.{Database, database_of, numbered};
+ghost use Rattle.bd_lrat.specs.Deletions.{IsCovered, DeletesCovered, DeletionsAreFew};
 ghost use Rattle.bd_lrat.specs.Log.{IsRefutation, IsUnsatisfiable, IsFresh, IsUnsettled, FreshLogsAreShort};
 ghost use Rattle.bd_lrat.specs.Examples.{yes, square, square_line, square_and_unit, weakened_line, forced_apart, not_both};
 
@@ -19,6 +19,18 @@ pub fn refutation_law()
 /// of its variables.
 pub fn fresh_logs_are_short()
     ensures { FreshLogsAreShort }
+{}
+
+/// A log whose deletions are covered deletes at most as often as there are clauses, those that it adds
+/// among them.
+pub fn deletions_are_few()
+    ensures { DeletionsAreFew }
+{}
+
+/// A line that deletes nothing isn't covered, wherever it stands.
+pub fn nothing_is_not_deleted()
+    ensures { (db : Database) (added : Option ℕ) (id : ℕ) (lines : List Line) →
+        ¬ DeletesCovered db added (Delete id [] ∷ lines) }
 {}
 
 /// Propagation from nothing finds no conflict in the square, and one decision leads to one.

@@ -12,3 +12,4 @@ pub mod Conditions
 pub mod Right
 pub mod TrailJudged
 pub mod Laws
+pub mod Abstraction

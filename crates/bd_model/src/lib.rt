@@ -1,6 +1,7 @@
 //! Values, machines, designs and cases, and what it means that a pipeline is right.
 #![tactic(auto)]
 
+mod abstraction;
 mod case;
 mod design;
 mod expr;
@@ -8,6 +9,7 @@ mod fits;
 mod laws;
 mod table;
 
+pub use abstraction::Abstraction;
 pub use bd_list::Sequence;
 pub use case::{
     Case, Condition, InputLists, Inputs, Interp, Judged, LetValues, State, States, Trail,

@@ -11,13 +11,15 @@ use Rattle.bd_picture.specs.declared.picture.Outcome.TheVariants.{Flushed, Compl
 abbrev pub sentence : DesignView → Judged → List ℕ
 sentence d Holds = codes "holds: nothing is broken"
 sentence d Outside = codes "outside: the state doesn't meet the invariant"
-sentence d (Broken Invariant) = codes "broken invariant: it doesn't hold after the cycle"
-sentence d (Broken Commute) = codes "broken commute: no j of 0.." ++ decimal d.steps ++ codes " fits"
+sentence d (Broken Invariant) = codes "invariant broken: it doesn't hold after the cycle"
+sentence d (Broken Commute) =
+    codes "commute broken: no step count j in 0.." ++ decimal d.steps ++ codes " works"
 
 -- by a completion function, in place of flushing
 abbrev pub completed_sentence : DesignView → Judged → List ℕ
-completed_sentence d (Broken Commute) = codes
-    "broken commute by the completion function: no j of 0.." ++ decimal d.steps ++ codes " fits"
+completed_sentence d (Broken Commute) =
+    codes "commute broken by the completion function: no step count j in 0.."
+    ++ decimal d.steps ++ codes " works"
 completed_sentence d Holds = codes "holds by the completion function: nothing is broken"
 completed_sentence d Outside = sentence d Outside
 completed_sentence d (Broken Invariant) = sentence d (Broken Invariant)

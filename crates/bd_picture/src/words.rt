@@ -81,12 +81,12 @@ pub fn sentence(alloc: Global, design: &Design, judged: Judged) -> Result<Vec<u8
             Vec::from_slice(alloc, b"outside: the state doesn't meet the invariant")
         }
         Judged::Broken(Condition::Invariant) => {
-            Vec::from_slice(alloc, b"broken invariant: it doesn't hold after the cycle")
+            Vec::from_slice(alloc, b"invariant broken: it doesn't hold after the cycle")
         }
         Judged::Broken(Condition::Commute) => {
             let steps = u64::from(design.steps);
-            let mut text = numbered(alloc, b"broken commute: no j of 0..", steps)?;
-            text.extend_from_slice(b" fits")?;
+            let mut text = numbered(alloc, b"commute broken: no step count j in 0..", steps)?;
+            text.extend_from_slice(b" works")?;
             Ok(text)
         }
     }
@@ -107,14 +107,14 @@ fn completed_sentence(alloc: Global, design: &Design, judged: Judged) -> Result<
         Judged::Broken(Condition::Commute) => {
             let steps = u64::from(design.steps);
             let mut text = numbered(alloc, COMPLETED, steps)?;
-            text.extend_from_slice(b" fits")?;
+            text.extend_from_slice(b" works")?;
             Ok(text)
         }
         Judged::Outside | Judged::Broken(Condition::Invariant) => sentence(alloc, design, judged),
     }
 }
 
-const COMPLETED: &[u8] = b"broken commute by the completion function: no j of 0..";
+const COMPLETED: &[u8] = b"commute broken by the completion function: no step count j in 0..";
 
 /// Whether a completion function gives what flushing does, in a sentence.
 fn compared_sentence(same: bool) -> &'static [u8]

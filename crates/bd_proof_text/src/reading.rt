@@ -16,7 +16,7 @@ use bd_lrat::{AddError, Checker, Line, Log};
 use std::alloc::Global;
 
 /// The lines of the text, up to the first that adds the empty clause, each accepted over the formula and those before
-/// it; or the text's first fault. A formula of 2,147,483,648 variables or more ends as want of memory.
+/// it; or the text's first fault. A formula of 2,147,483,648 variables or more ends as out of memory.
 pub fn read_proof(alloc: Global, cnf: &Cnf, bytes: &[u8]) -> Result<Log, ReadFault>
     ensures read { Gives (λ log. log) result (proof_text cnf.now bytes.now) }
     ensures refutes { IfOk result (IsRefutation cnf.now) }

@@ -2,7 +2,7 @@
 use Rattle.std.proofs.Common.{◌≡◌, ℕ, ◌<◌, ◌+◌, Bool, true, false, not, ◌&&◌, ◌||◌, cond, List, [], ◌∷◌, ◌++◌, Some, length, get_or, refl, ap, sym, ◌∙◌, subst, inl, inr, arith}
 use Rattle.std.proofs.lemmas.Bool.{false≢true, true≢false, eqb-true, cases_lt, or_cases, cond_both, cond-true, cond-false}
 use Rattle.std.proofs.lemmas.Option.{slice_get-get_or, slice_get_within, get_or_from_slice_get}
-use Rattle.std.proofs.lemmas.List.{append-nil, get_or_append_left, get_or_push, length_push}
+use Rattle.std.proofs.lemmas.List.{append-nil, get_or_append_left, get_or_default, get_or_push, length_push}
 use Rattle.bd_prop.specs.declared.atom.Atom.{Atom}
 use Rattle.bd_prop.specs.declared.form.Rewrite.{Rewrite}
 use Rattle.bd_prop.specs.declared.form.Rewrite.TheVariants.{Kept, Fresh}
@@ -177,3 +177,10 @@ pub below_negation : (nodes : List PropNode) (id a : ℕ) → IsGraph nodes → 
 below_negation nodes id a graph h is =
     let low : a < id = graph id (Not a) (stands nodes id h ∙ ap Some is) 0 a (omega arith) in
     omega arith
+
+-- a node that is read stands there
+pub read_node : (nodes : List PropNode) (id : ℕ) (n : PropNode) → id < length nodes → n ≡ get_or nodes id n → node_at nodes id ≡ n
+read_node nodes id n h is = get_or_default nodes id True n h ∙ sym is
+
+pub read_stands : (nodes : List PropNode) (id : ℕ) (n : PropNode) → id < length nodes → n ≡ get_or nodes id n → StandsAt nodes id n
+read_stands nodes id n h is = slice_get-get_or nodes id n h ∙ ap Some (sym is)

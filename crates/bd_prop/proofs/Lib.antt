@@ -1,6 +1,10 @@
 pub mod Same
 pub mod Values
 pub mod Marking
+pub mod Naming
 pub mod Truths
 pub mod Forms
 pub mod Reaching
+pub mod Insides
+pub mod Gatherings
+pub mod GatheredTruth

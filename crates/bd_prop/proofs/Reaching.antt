@@ -4,7 +4,7 @@ use Rattle.std.proofs.lemmas.List.Elements.{Contains-get_or}
 use Rattle.std.proofs.lemmas.Option.{slice_get-get_or}
 use Rattle.bd_prop.specs.declared.atom.Atom.{Atom}
 use Rattle.bd_prop.specs.declared.node.PropNode.{PropNode}
-use Rattle.bd_prop.specs.declared.node.PropNode.TheVariants.{True, Atom as OfAtom, Not, And, Or, Ite}
+use Rattle.bd_prop.specs.declared.node.PropNode.TheVariants.{True, Atom as OfAtom, Not, And, Or, Ite, Tree}
 use Rattle.bd_prop.specs.Node.{children, node_truth}
 use Rattle.bd_prop.specs.Truth.{truth_at}
 use Rattle.bd_prop.specs.Graph.{IsGraph, StandsAt, Reaches}
@@ -35,6 +35,7 @@ module _ (v w : Atom → Bool) (nodes : List PropNode) (root : ℕ) (graph : IsG
   node_truth_agrees id f (And a b) up at = refl
   node_truth_agrees id f (Or a b) up at = refl
   node_truth_agrees id f (Ite a b c) up at = refl
+  node_truth_agrees id f (Tree items) up at = refl
 
   truth_agrees_below : (n id : ℕ) → id < n → id < length nodes → Reaches nodes root id → truth_at v nodes id ≡ truth_at w nodes id
   truth_agrees_below zero id low inside up = absurd (omega arith)

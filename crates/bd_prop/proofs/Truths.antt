@@ -1,15 +1,30 @@
 -- What nodes denote: each by its children, and the same in every longer list.
-use Rattle.std.proofs.Common.{◌≡◌, ℕ, ◌<◌, ◌+◌, Bool, false, not, ◌&&◌, ◌||◌, cond, List, ◌∷◌, ◌++◌, length, take, drop, get_or, All, refl, ap, sym, ◌∙◌, subst, arith}
+use Rattle.std.proofs.Common.{◌≡◌, ℕ, ◌<◌, ◌+◌, Bool, false, not, ◌&&◌, ◌||◌, cond, List, [], ◌∷◌, ◌++◌, length, take, drop, get_or, All, suc, refl, ap, sym, ◌∙◌, subst, arith}
 use Rattle.std.specs.Prelude.{slice_index_or}
 use Rattle.std.proofs.lemmas.List.{take-append-drop, drop_more, length-take-le}
 use Rattle.std.proofs.lemmas.Option.{get_or_from_slice_get, slice_get_within}
 use Rattle.bd_list.proofs.Grown.{get-grown_front, get-grown_at}
 use Rattle.bd_prop.specs.declared.atom.Atom.{Atom}
+use Rattle.bd_prop.specs.declared.choices.Choice.{Choice}
+use Rattle.bd_prop.specs.declared.choices.Choice.TheVariants as choice
 use Rattle.bd_prop.specs.declared.node.PropNode.{PropNode}
-use Rattle.bd_prop.specs.declared.node.PropNode.TheVariants.{True, Atom as OfAtom, Not, And, Or, Ite}
-use Rattle.bd_prop.specs.Node.{children, node_truth}
+use Rattle.bd_prop.specs.declared.node.PropNode.TheVariants.{True, Atom as OfAtom, Not, And, Or, Ite, Tree}
+use Rattle.bd_prop.specs.Node.{children, chosen, first_value, named, negated_first, node_truth, tree_values}
 use Rattle.bd_prop.specs.Truth.{truths, truth_at}
 use Rattle.bd_prop.specs.Graph.{IsBelow, IsGraph, StandsAt, Extends}
+
+-- the values of trees rest on those of controls and leaves alone
+pub tree_values_same : (f g : ℕ → Bool) (items : List Choice) → All (λ c. f c ≡ g c) (named items) → tree_values f items ≡ tree_values g items
+tree_values_same f g [] h = refl
+tree_values_same f g (choice.Test a ∷ items) h =
+    let first : f a ≡ g a = h 0 a (omega arith) in
+    let rest = tree_values_same f g items (λ k d low. h (suc k) d (omega arith)) in
+    λ i. chosen (first i) (rest i)
+tree_values_same f g (choice.Not ∷ items) h = ap negated_first (tree_values_same f g items h)
+tree_values_same f g (choice.Leaf a ∷ items) h =
+    let first : f a ≡ g a = h 0 a (omega arith) in
+    let rest = tree_values_same f g items (λ k d low. h (suc k) d (omega arith)) in
+    λ i. first i ∷ rest i
 
 -- the value of a node rests on its children's values alone
 pub node_truth_same : (v : Atom → Bool) (f g : ℕ → Bool) (n : PropNode) → All (λ c. f c ≡ g c) (children n) → node_truth v f n ≡ node_truth v g n
@@ -23,6 +38,7 @@ node_truth_same v f g (Ite a b c) h =
     let second : f b ≡ g b = h 1 a (omega arith) in
     let third : f c ≡ g c = h 2 a (omega arith) in
     λ i. cond (first i) (second i) (third i)
+node_truth_same v f g (Tree items) h = ap first_value (tree_values_same f g items h)
 
 -- nodes that come after change no value
 pub truth-front : (v : Atom → Bool) (nodes more : List PropNode) (id : ℕ) → id < length nodes → truth_at v (nodes ++ more) id ≡ truth_at v nodes id

@@ -8,7 +8,7 @@ ghost use Rattle.bd_prop.specs.Form.{IsFormBelow, form_truth, is_true, is_false,
 use crate::node::PropNode;
 
 /// What a constructor makes of its node: an id that stands for it already, or the node.
-#[derive(Clone, Copy)]
+#[derive(Drop)]
 pub(crate) enum Rewrite {
     Kept(usize),
     Fresh(PropNode),
@@ -28,8 +28,8 @@ fn is_false(nodes: &[PropNode], id: usize) -> bool
     requires within { id < length nodes.now }
     ensures { result ≡ is_false nodes.now id }
 {
-    match nodes[id] {
-        PropNode::Not(a) => is_true(nodes, a),
+    match &nodes[id] {
+        PropNode::Not(a) => is_true(nodes, *a),
         _ => false,
     }
 }
@@ -43,8 +43,8 @@ pub(crate) fn not_form(nodes: &[PropNode], a: usize) -> Rewrite
     ensures truth { (v : Atom → Bool) →
         form_truth v nodes.now result ≡ not (truth_at v nodes.now a) }
 {
-    match nodes[a] {
-        PropNode::Not(b) => Rewrite::Kept(b),
+    match &nodes[a] {
+        PropNode::Not(b) => Rewrite::Kept(*b),
         _ => Rewrite::Fresh(PropNode::Not(a)),
     }
 }

@@ -1,7 +1,8 @@
 use crate::atom::Atom;
+use crate::choices::Choices;
 
 /// A node of a truth graph. Its children are named by their ids.
-#[derive(Clone, Copy, PartialEq, Eq, Hash)]
+#[derive(PartialEq, Eq, Hash, Drop)]
 pub enum PropNode {
     True,
     Atom(Atom),
@@ -10,4 +11,6 @@ pub enum PropNode {
     Or(usize, usize),
     /// The second where the first is true, else the third.
     Ite(usize, usize, usize),
+    /// Choices that are taken one after another, down to a leaf, which is the value.
+    Tree(Choices),
 }

@@ -159,7 +159,7 @@ impl Prop {
     }
 
     /// The id that a form stands for, whose node is put after the others if it isn't there.
-    fn make(&mut self, form: Rewrite) -> Result<usize, AllocError>
+    pub(crate) fn make(&mut self, form: Rewrite) -> Result<usize, AllocError>
         requires { IsFormBelow (length self.old) form }
         ensures grows { Extends self.old self.new }
         ensures within { IfOk result (λ id. id < length self.new) }

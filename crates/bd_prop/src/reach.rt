@@ -1,8 +1,9 @@
 //! Which nodes a root reaches. Children stand before parents, so one pass down the ids marks them all.
 ghost use Rattle.std.specs.Prelude.{◌≡◌, ◌<◌, ◌↔◌, ℕ, true, false, All, fold, length, slice_set, slice_index_or, IfOk};
-ghost use Rattle.bd_prop.specs.Node.{children};
+ghost use Rattle.bd_prop.specs.Node.{children, named};
 ghost use Rattle.bd_prop.specs.Graph.{Reaches};
 
+use crate::choices::Choice;
 use crate::node::PropNode;
 use crate::prop::Prop;
 use bd_list::Sequence;
@@ -23,28 +24,43 @@ pub fn reached(alloc: Global, prop: &Prop, root: usize) -> Result<Marks, AllocEr
     marks[root] = true;
     for id in (0..nodes.len()).rev() {
         if marks[id] {
-            mark_children(marks.as_mut_slice(), nodes[id]);
+            mark_children(marks.as_mut_slice(), &nodes[id]);
         }
     }
     Ok(Marks::from_vec(marks))
 }
 
 /// Marks the nodes that a node stands over.
-fn mark_children(marks: &mut [bool], node: PropNode)
-    requires { All (λ c. c < length marks.old) (children node) }
-    ensures { marks.new ≡ fold (λ m c. slice_set m c true) marks.old (children node) }
+fn mark_children(marks: &mut [bool], node: &PropNode)
+    requires { All (λ c. c < length marks.old) (children node.now) }
+    ensures { marks.new ≡ fold (λ m c. slice_set m c true) marks.old (children node.now) }
 {
     match node {
         PropNode::True | PropNode::Atom(_) => {}
-        PropNode::Not(a) => marks[a] = true,
+        PropNode::Not(a) => marks[*a] = true,
         PropNode::And(a, b) | PropNode::Or(a, b) => {
-            marks[a] = true;
-            marks[b] = true;
+            marks[*a] = true;
+            marks[*b] = true;
         }
         PropNode::Ite(a, b, c) => {
-            marks[a] = true;
-            marks[b] = true;
-            marks[c] = true;
+            marks[*a] = true;
+            marks[*b] = true;
+            marks[*c] = true;
+        }
+        PropNode::Tree(choices) => mark_named(marks, choices.as_slice()),
+    }
+}
+
+/// Marks the nodes that the items of a tree name.
+fn mark_named(marks: &mut [bool], items: &[Choice])
+    requires { All (λ c. c < length marks.old) (named items.now) }
+    ensures { marks.new ≡ fold (λ m c. slice_set m c true) marks.old (named items.now) }
+{
+    for item in items {
+        match *item {
+            Choice::Test(a) => marks[a] = true,
+            Choice::Not => {}
+            Choice::Leaf(a) => marks[a] = true,
         }
     }
 }

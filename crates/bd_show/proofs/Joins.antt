@@ -3,9 +3,9 @@ use Rattle.std.proofs.Common.{◌≡◌, ◌↔◌, ◌++◌, ℕ, List, Bool, I
 use Rattle.std.specs.Prelude.{Option, Some, Result, Ok, Err, IfOk, MatchOption}
 use Rattle.std.specs.declared.alloc.AllocError.{AllocError}
 use Rattle.std.proofs.lemmas.Result.{IfOk-weaker}
-use Rattle.bd_abstraction.specs.Abstraction.{abstraction_of, abstraction_view}
-use Rattle.bd_abstraction.specs.declared.abstraction.Abstraction as given
-use Rattle.bd_abstraction.specs.declared.abstraction.Abstraction.TheVariants as abstraction
+use Rattle.bd_model.specs.Abstraction.{abstraction_of, abstraction_view}
+use Rattle.bd_model.specs.declared.abstraction.Abstraction as given
+use Rattle.bd_model.specs.declared.abstraction.Abstraction.TheVariants as abstraction
 use Rattle.bd_app.specs.Completions.{abstraction_by}
 use Rattle.bd_app.specs.Loading.{bytes_of}
 use Rattle.bd_model.specs.Conditions.{Abstraction, JudgedBy, MeetsInvariant}

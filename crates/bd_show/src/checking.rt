@@ -1,7 +1,8 @@
 //! `check`: whether a pipeline is right, and where it isn't, what a case shows.
-ghost use Rattle.std.specs.Prelude.{◌≡◌, IfOk};
+ghost use Rattle.std.specs.Prelude.{◌≡◌, ◌≤◌, IfOk, length};
 ghost use Rattle.bd_model.specs.DesignView.{design_view};
 ghost use Rattle.bd_model.specs.Lawful.{IsLawful};
+ghost use Rattle.bd_model.specs.Limits.{longest_text};
 ghost use Rattle.bd_app.specs.Meaning.{files_seen};
 ghost use Rattle.bd_app.specs.Verdicts.{IsVerdict};
 ghost use Rattle.bd_show.specs.LetNames.{AreReadable};
@@ -17,10 +18,12 @@ use crate::names::machine_lets;
 use crate::read::design;
 use crate::show::pictured_text;
 use bd_about::finding_of;
+use bd_app::loading::loaded_slice;
 use bd_app::{Asked, decide, verdict_report};
 use bd_files::Files;
 use bd_model::{Design, Judged};
 use bd_picture::ShownNames;
+use bd_simplest::{DesignTexts, simplified};
 use bd_syntax::Kind;
 use bd_verify::{Mode, Verdict};
 use std::alloc::{AllocError, Global};
@@ -97,19 +100,35 @@ fn report(
     })
 }
 
-/// The answer on a design.
+/// The texts of the design.
+fn design_texts(texts: &Texts) -> DesignTexts<'_>
+    requires few { AreFew (texts_view texts.now) }
+    ensures pipe { length result.pipe.now ≤ longest_text }
+    ensures spec { length result.spec.now ≤ longest_text }
+{
+    DesignTexts {
+        pipe: texts.pipe.as_slice(),
+        spec: texts.spec.as_slice(),
+        inv: loaded_slice(&texts.inv),
+    }
+}
+
+/// The answer on a design, with the simplest case that is found.
 fn on_design(
     alloc: Global,
     options: CheckOptions<'_>,
     texts: &Texts,
     design: &Design,
 ) -> Result<Answer, AllocError>
+    requires few { AreFew (texts_view texts.now) }
     requires lawful { IsLawful (design_view design.now) }
     requires readable { AreReadable (texts_view texts.now) }
     ensures { IfOk result (λ a. IsOfVerdict (check_of options.entry) (design_view design.now)
         a.ended a.text.items) }
 {
-    let verdict = decide(alloc, design, asked(options))?;
+    let question = asked(options);
+    let found = decide(alloc, design, question)?;
+    let verdict = simplified(alloc, design_texts(texts), design, question, found)?;
     report(alloc, options, texts, design, &verdict)
 }
 

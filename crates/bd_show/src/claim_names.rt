@@ -1,9 +1,9 @@
 //! What the lets and conjuncts of an invariant are called where their values are shown: the line of each, with the let's
 //! name or the conjunct's text.
 
-use bd_outline::{atom_at, is_headed, parts_of, trees_of};
 use bd_syntax::lists::offset_of;
 use bd_text::Tree;
+use bd_text::outline::{atom_at, is_headed, parts_of, trees_of};
 use itoa::Buffer;
 use std::alloc::{AllocError, Global};
 

@@ -1,7 +1,7 @@
 //! `show` with a completion function (Hosabettu, Srivas and Gopalakrishnan 1998): what a case shows by it, in place of
 //! flushing; and where the line before the case says `differ`, what both give in the case's state.
 ghost use Rattle.std.specs.Prelude.{◌≡◌, ◌++◌, ℕ, List, Some, Ok, true, is_some, IfOk, IsTrue, MatchOption};
-ghost use Rattle.bd_abstraction.specs.Abstraction.{IsLawfulAbstraction, abstraction_of};
+ghost use Rattle.bd_model.specs.Abstraction.{IsLawfulAbstraction, abstraction_of};
 ghost use Rattle.bd_app.specs.Loading.{bytes_of};
 ghost use Rattle.bd_diagram.specs.Diagrams.{IsDiagramBy};
 ghost use Rattle.bd_model.specs.Conditions.{JudgedBy, MeetsInvariant};
@@ -27,10 +27,9 @@ use crate::load::Texts;
 use crate::names::machine_lets;
 use crate::read::{joined, joined_case};
 use crate::show::{ShowOptions, Showing, unseen};
-use bd_abstraction::Abstraction;
 use bd_completion::{judge_by, values_given};
 use bd_diagram::{Diagram, contrast_with, diagram_between};
-use bd_model::{Case, Design, Judged, State};
+use bd_model::{Abstraction, Case, Design, Judged, State};
 use bd_picture::{Outcome, Picture, ShownCase, ShownNames, page_of, picture_of, text_of};
 use bd_sim::{flushed, meets_invariant, same, step};
 use bd_syntax::Kind;

@@ -2,7 +2,7 @@
 //!
 //! All files are loaded before the first is read, and a design is read before its case or its trail.
 ghost use Rattle.std.specs.Prelude.{◌≡◌, ◌≤◌, ◌==◌, ◌||◌, if◌then◌else◌, false, is_some, length, true, Some, Ok, IfOk, IfErr};
-ghost use Rattle.bd_abstraction.specs.Abstraction.{IsLawfulAbstraction};
+ghost use Rattle.bd_model.specs.Abstraction.{IsLawfulAbstraction};
 ghost use Rattle.bd_model.specs.DesignView.{design_view};
 ghost use Rattle.bd_app.specs.Loading.{bytes_of};
 ghost use Rattle.bd_model.specs.Fits.{Fits};

@@ -67,7 +67,7 @@ follows_input o (t ∷ ts) (x ∷ xs) (suc i) h = follows_input o ts xs i h.1
 pub reads_under : (o : Other) (b : Base) (n : ℕ) (rest : List Link) (a : ℕ) (m : Memory) → ReadsBelow o b (link.Under n ∷ rest) a m → IsTrue (o.has n) → ReadsBelow o b rest a m
 reads_under o b n rest a m h has = record { memory = h.memory; follows = h.follows has; same = h.same }
 
-read_written : (m : Memory) (at put a : ℕ) (t : Bool) → (at == a) ≡ t → read (write m at put) a ≡ (if t then put else read m a)
+pub read_written : (m : Memory) (at put a : ℕ) (t : Bool) → (at == a) ≡ t → read (write m at put) a ≡ (if t then put else read m a)
 read_written m at put a t e = rw e
 
 pub reads_past : (o : Other) (b : Base) (w d : TracedWord) (rest : List Link) (a : ℕ) (m : Memory) → ReadsBelow o b (link.Write w d ∷ rest) a m → IsTrue (o.has w.node) → (w.word == a) ≡ false → ReadsBelow o b rest a m

@@ -1,3 +1,6 @@
 pub mod Places
 pub mod Columns
+pub mod Run
+pub mod Reasons
+pub mod History
 pub mod inner

@@ -2,3 +2,8 @@ pub mod Followed
 pub mod Env
 pub mod Runs
 pub mod Lines
+pub mod Found
+pub mod Accounts
+pub mod Leads
+pub mod Moments
+pub mod Collected

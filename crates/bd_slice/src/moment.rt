@@ -1,8 +1,12 @@
 //! The values of a run, state by state and cycle by cycle.
-ghost use Rattle.std.specs.Prelude.{map};
+ghost use Rattle.std.specs.Prelude.{◌≡◌, ◌+◌, [], IfOk, IfSome, IfNone, map};
 ghost use Rattle.std.specs.List.{AllByRecursion};
 ghost use Rattle.bd_model.specs.DesignView.{LocalView, design_view, local_view};
 ghost use Rattle.bd_model.specs.Lawful.{IsLawful, IsWithinLimits};
+ghost use Rattle.bd_model.specs.Cycle.{flush_cycles, spec_steps, step};
+ghost use Rattle.bd_model.specs.DesignView.{DesignView};
+ghost use Rattle.bd_slice.specs.History.{AreMoments, HasCycle, IsHistory, moment_in};
+ghost use Rattle.bd_slice.specs.inner.Moments.{flush_moment, step_moment, values_in};
 
 use crate::place::Column;
 use crate::subject::Cycle;
@@ -41,6 +45,8 @@ fn moment_of(
     inputs: Inputs,
 ) -> Result<Moment, AllocError>
     requires lawful { IsLawful (design_view design.now) }
+    ensures { IfOk result (λ m. m
+        ≡ values_in (design_view design.now).pipe.locals case.now.interp state inputs) }
 {
     let lets = let_values(alloc, design, &case.interp, &state, &inputs)?;
     Ok(Moment {
@@ -58,6 +64,8 @@ fn flushing(
     state: State,
 ) -> Result<Moments, AllocError>
     requires lawful { IsLawful (design_view design.now) }
+    ensures { IfOk result (AreMoments ((design_view design.now).flush + 1)
+        (flush_moment (design_view design.now) case.now state)) }
 {
     let mut moments = Sequence::new(alloc);
     let mut reached = state;
@@ -67,7 +75,8 @@ fn flushing(
         moments.push(moment_of(alloc, design, case, reached, inputs)?)?;
         reached = next;
     }
-    moments.push(moment_of(alloc, design, case, reached, Sequence::new(alloc))?)?;
+    let inputs = idle_inputs(alloc, design, &case.interp, &reached)?;
+    moments.push(moment_of(alloc, design, case, reached, inputs)?)?;
     Ok(moments)
 }
 
@@ -80,6 +89,7 @@ fn plain_moment(
 ) -> Result<Moment, AllocError>
     requires { AllByRecursion (λ (l : LocalView). IsWithinLimits l.value)
         (map local_view lets.now) }
+    ensures { IfOk result (λ m. m ≡ values_in (map local_view lets.now) case.now.interp state []) }
 {
     let inputs = Sequence::new(alloc);
     let lets = values_of_lets(alloc, lets, &case.interp, &state, &inputs)?;
@@ -98,6 +108,8 @@ fn stepping(
     visible: State,
 ) -> Result<Moments, AllocError>
     requires lawful { IsLawful (design_view design.now) }
+    ensures { IfOk result (AreMoments ((design_view design.now).steps + 1)
+        (step_moment (design_view design.now) case.now visible)) }
 {
     let lets = &design.spec.locals;
     let mut moments = Sequence::new(alloc);
@@ -114,9 +126,20 @@ fn stepping(
 /// The case's cycle.
 fn first_moment(alloc: Global, design: &Design, case: &Case) -> Result<Moment, AllocError>
     requires lawful { IsLawful (design_view design.now) }
+    ensures { IfOk result (λ m. m ≡ moment_in (design_view design.now) case.now Cycle.Case) }
 {
     let state = case.state.clone()?;
     moment_of(alloc, design, case, state, case.inputs.clone()?)
+}
+
+/// The flush cycles before the case's cycle.
+fn flushing_first(alloc: Global, design: &Design, case: &Case) -> Result<Moments, AllocError>
+    requires lawful { IsLawful (design_view design.now) }
+    ensures { IfOk result (AreMoments ((design_view design.now).flush + 1)
+        (flush_moment (design_view design.now) case.now case.now.state)) }
+{
+    let state = case.state.clone()?;
+    flushing(alloc, design, case, state)
 }
 
 /// The steps of the specification from what is visible after these flush cycles.
@@ -127,6 +150,10 @@ fn steps_after(
     before: &Moments,
 ) -> Result<Moments, AllocError>
     requires lawful { IsLawful (design_view design.now) }
+    requires before { AreMoments ((design_view design.now).flush + 1)
+        (flush_moment (design_view design.now) case.now case.now.state) before.now }
+    ensures { IfOk result (AreMoments ((design_view design.now).steps + 1)
+        (λ n. moment_in (design_view design.now) case.now (Cycle.Step n))) }
 {
     let visible = match before.as_slice().last() {
         Some(moment) => look(alloc, design, &moment.state)?,
@@ -145,6 +172,10 @@ struct Next {
 /// What follows the cycle that ends in this state.
 fn next_of(alloc: Global, design: &Design, case: &Case, state: State) -> Result<Next, AllocError>
     requires lawful { IsLawful (design_view design.now) }
+    ensures after { IfOk result (λ n. AreMoments ((design_view design.now).flush + 1)
+        (flush_moment (design_view design.now) case.now state) n.after) }
+    ensures kept { IfOk result (λ n. n.kept
+        ≡ values_in (design_view design.now).inv_locals case.now.interp state []) }
 {
     let kept = plain_moment(alloc, case, &design.inv_locals, state.clone()?)?;
     let after = flushing(alloc, design, case, state)?;
@@ -154,13 +185,15 @@ fn next_of(alloc: Global, design: &Design, case: &Case, state: State) -> Result<
 /// All of the run of a case.
 pub fn history_of(alloc: Global, design: &Design, case: &Case) -> Result<History, AllocError>
     requires lawful { IsLawful (design_view design.now) }
+    ensures { IfOk result (IsHistory (design_view design.now) case.now) }
 {
     let state = step(alloc, design, &case.interp, &case.state, &case.inputs)?;
     let next = next_of(alloc, design, case, state)?;
-    let before = flushing(alloc, design, case, case.state.clone()?)?;
+    let before = flushing_first(alloc, design, case)?;
     let steps = steps_after(alloc, design, case, &before)?;
+    let first = first_moment(alloc, design, case)?;
     Ok(History {
-        first: first_moment(alloc, design, case)?,
+        first,
         before,
         after: next.after,
         steps,
@@ -169,8 +202,13 @@ pub fn history_of(alloc: Global, design: &Design, case: &Case) -> Result<History
 }
 
 impl History {
-    /// A cycle's values.
-    pub fn cycle(&self, cycle: Cycle) -> Option<&Moment> {
+    /// A cycle's values, where the run has it.
+    pub fn cycle(&self, cycle: Cycle) -> Option<&Moment>
+        ensures there { IfSome result (λ m. (d : DesignView) (c : Case) →
+            IsHistory d c self.now → m.now ≡ moment_in d c cycle) }
+        ensures past { IfNone result ((d : DesignView) (c : Case) →
+            IsHistory d c self.now → HasCycle d cycle → ⊥) }
+    {
         match cycle {
             Cycle::Case => Some(&self.first),
             Cycle::FlushBefore(n) => self.before.as_slice().get(n as usize),
@@ -178,17 +216,6 @@ impl History {
             Cycle::Step(n) => self.steps.as_slice().get(n as usize),
             Cycle::Invariant => Some(&self.kept),
         }
-    }
-
-    /// The value of an entry in a column.
-    pub fn entry(&self, column: Column, entry: u32) -> Option<&Value> {
-        let moments = match column {
-            Column::Before(_) => &self.before,
-            Column::After(_) => &self.after,
-            Column::Steps(_) => &self.steps,
-        };
-        let moment = moments.as_slice().get(column.number() as usize)?;
-        moment.state.as_slice().get(entry as usize)
     }
 }
 

@@ -1,4 +1,8 @@
 //! Values of a run, and what they come from.
+ghost use Rattle.std.specs.Prelude.{◌≡◌, IfNone, IfSome};
+ghost use Rattle.bd_slice.specs.Run.{begins_at};
+ghost use Rattle.bd_slice.specs.inner.Leads.{IsStart, LeadsTo};
+
 use crate::place::Column;
 use bd_model::{Scalar, Words};
 use std::alloc::AllocError;
@@ -43,7 +47,10 @@ impl Subject {
 
 impl Column {
     /// The cycle that ends in a column.
-    pub fn reached_by(self) -> Option<Cycle> {
+    pub fn reached_by(self) -> Option<Cycle>
+        ensures leads { IfSome result (λ which. LeadsTo which self) }
+        ensures start { IfNone result (IsStart self) }
+    {
         match self {
             Column::Before(0) | Column::Steps(0) => None,
             Column::After(0) => Some(Cycle::Case),
@@ -56,7 +63,9 @@ impl Column {
 
 impl Cycle {
     /// The column in which a cycle begins.
-    pub fn begins_at(self) -> Column {
+    pub fn begins_at(self) -> Column
+        ensures { result ≡ begins_at self }
+    {
         match self {
             Cycle::Case => Column::Before(0),
             Cycle::FlushBefore(cycles) => Column::Before(cycles),

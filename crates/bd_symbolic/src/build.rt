@@ -28,7 +28,7 @@ pub(crate) fn constant(graph: &mut Graph, value: bool) -> Result<Id, AllocError>
     if value { Ok(yes) } else { graph.mk_not(yes) }
 }
 
-/// The implication, as the disjunction with the negation. Refused for want of memory, the graph may keep the negation.
+/// The implication, as the disjunction with the negation. If memory runs out, the graph may keep the negation.
 pub fn implies(graph: &mut Graph, a: Id, b: Id) -> Result<Id, AllocError>
     requires first { HasSort graph.old a sort.Bool }
     requires second { HasSort graph.old b sort.Bool }

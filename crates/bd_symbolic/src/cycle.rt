@@ -22,8 +22,8 @@ use bd_model::{Design, Exprs, Machine};
 use bd_terms::Graph;
 use std::alloc::{AllocError, Global};
 
-/// The state after one cycle of the pipeline: the terms of the next expressions in this state, and its inputs. Refused
-/// for want of memory, the graph may keep further nodes.
+/// The state after one cycle of the pipeline: the terms of the next expressions in this state, and its inputs. If
+/// memory runs out, the graph may keep further nodes.
 pub fn sym_step(
     alloc: Global,
     graph: &mut Graph,
@@ -46,7 +46,7 @@ pub fn sym_step(
     Ok(SymState { entries, inputs })
 }
 
-/// The visible entries after one step of the specification, which has no inputs. Refused for want of memory, the graph
+/// The visible entries after one step of the specification, which has no inputs. If memory runs out, the graph
 /// may keep further nodes.
 pub fn sym_spec_step(
     alloc: Global,

@@ -29,7 +29,7 @@ pub(crate) struct Context<'a> {
 }
 
 /// The term of an expression of the design, where names stand for these terms: its entries and inputs for those of the
-/// state, its lets for those of the list. Refused for want of memory, the graph may keep further nodes.
+/// state, its lets for those of the list. If memory runs out, the graph may keep further nodes.
 pub fn sym_eval(
     alloc: Global,
     graph: &mut Graph,

@@ -20,7 +20,7 @@ use bd_terms::{Graph, Id, Sym};
 use std::alloc::{AllocError, Global};
 
 /// The state before the first cycle: a symbol of the design for each latch and each input, and the first contents of
-/// each memory. Refused for want of memory, the graph may keep further nodes.
+/// each memory. If memory runs out, the graph may keep further nodes.
 pub fn sym_state(alloc: Global, graph: &mut Graph, design: &Design) -> Result<SymState, AllocError>
     requires lawful { IsLawful (design_view design.now) }
     requires keeps { KeepsDesign (design_view design.now) graph.old }
@@ -34,7 +34,7 @@ pub fn sym_state(alloc: Global, graph: &mut Graph, design: &Design) -> Result<Sy
     Ok(SymState { entries, inputs })
 }
 
-/// A symbol of the design for each latch, and the first contents of each memory. Refused for want of memory, the graph
+/// A symbol of the design for each latch, and the first contents of each memory. If memory runs out, the graph
 /// may keep further nodes.
 pub fn sym_entries(alloc: Global, graph: &mut Graph, design: &Design) -> Result<TermIds, AllocError>
     requires lawful { IsLawful (design_view design.now) }
@@ -48,7 +48,7 @@ pub fn sym_entries(alloc: Global, graph: &mut Graph, design: &Design) -> Result<
     first_entries(alloc, graph, design)
 }
 
-/// A symbol for each input in a cycle, from 0, of a run of many. Refused for want of memory, the graph may keep further
+/// A symbol for each input in a cycle, from 0, of a run of many. If memory runs out, the graph may keep further
 /// nodes.
 pub fn sym_inputs(
     alloc: Global,

@@ -24,7 +24,7 @@ use bd_model::{Design, Ports};
 use bd_terms::Graph;
 use std::alloc::{AllocError, Global};
 
-/// The state after the flush cycles, and the inputs of this state. Refused for want of memory, the graph may keep
+/// The state after the flush cycles, and the inputs of this state. If memory runs out, the graph may keep
 /// further nodes.
 pub fn sym_flush(
     alloc: Global,

@@ -15,7 +15,7 @@ use bd_model::{Design, Locals};
 use bd_terms::Graph;
 use std::alloc::{AllocError, Global};
 
-/// The terms of lets in a state, in order, each built once over those of the earlier lets. Refused for want of memory,
+/// The terms of lets in a state, in order, each built once over those of the earlier lets. If memory runs out,
 /// the graph may keep further nodes.
 pub fn sym_lets(
     alloc: Global,

@@ -48,7 +48,7 @@ abbrev pub IsFirstFault : List ℕ → ℕ → Code → Type 0
 IsFirstFault source o code =
     IsFault source o code × ((p : ℕ) (other : Code) → IsFault source p other → o ≤ p)
 
--- what holds of the offset and the code of a fault that isn't want of memory
+-- what holds of the offset and the code of a fault other than out of memory
 abbrev pub OnBad : TextFault → (ℕ → Code → Type 0) → Type 0
 OnBad (Bad offset code) P = P offset code
 OnBad Memory P = Unit {0}

@@ -6,6 +6,7 @@ pub mod code;
 pub mod fault;
 pub mod laws;
 pub mod line;
+pub mod outline;
 pub mod read;
 pub mod tree;
 pub mod write;

@@ -10,7 +10,7 @@ use std::alloc::{AllocError, Global};
 
 /// The text of one of the trees: an atom as it is, a list as `(`, its parts with one space between
 /// two, and `)`. It goes as deep as the tree nests, so it asks for trees that are shallow, as those
-/// that are read; only want of memory ends it.
+/// that are read; it fails only when out of memory.
 pub fn write_tree(alloc: Global, trees: &Trees, which: usize) -> Result<Vec<u8>, AllocError>
     requires which { which < node_count (nodes_of trees.now) }
     requires shallow { AreShallow (nodes_of trees.now) }

@@ -18,10 +18,10 @@ use Rattle.std.proofs.lemmas.Map.Made.{AllPairs-from_IsDistinct, IsDistinct-from
 use Rattle.std.proofs.lemmas.Map.Views.{list_any-from_Contains}
 use Rattle.indexmap.proofs.CallerLemmas.{Contains-list_any}
 use Rattle.bd_transitive.specs.declared.graph.Edge.{Edge}
-use Rattle.bd_transitive.specs.declared.fewest.Left.{Left}
+use Rattle.bd_transitive.specs.declared.min_degree.EliminationGraph.{EliminationGraph}
 use Rattle.bd_transitive.specs.Edges.{AreEdges, IsEnd, JoinsAt}
 use Rattle.bd_transitive.specs.Elimination.{degree, joined_by, joined_without, HasLeastDegree, IsByLeastDegree}
-use Rattle.bd_transitive.specs.inner.Left.{is_end, is_left, is_neighbour, neighbours, rejoined, IsSound}
+use Rattle.bd_transitive.specs.inner.EliminationGraph.{is_end, is_left, is_neighbour, neighbours, rejoined, IsSound}
 use Rattle.bd_transitive.proofs.Queues.{distinct-nil}
 
 pub or-false : (a b : Bool) → b ≡ false → (a || b) ≡ true → a ≡ true
@@ -62,7 +62,7 @@ pub record IsOrdered (edges : List Edge) (vs : List ℕ) : Type 0 where
   pub ends : (v : ℕ) → is_member nat_eq vs v ≡ is_end edges v
 
 -- these vertices were taken, and any order by least degree of those that are left goes on
-pub record IsTaken (edges : List Edge) (l : Left) (taken : List ℕ) : Type 0 where
+pub record IsTaken (edges : List Edge) (l : EliminationGraph) (taken : List ℕ) : Type 0 where
   pub joined : ℕ → ℕ → Bool
   pub symmetric : (x y : ℕ) → joined x y ≡ joined y x
   pub apart : (x : ℕ) → joined x x ≡ false
@@ -98,7 +98,7 @@ and_true true = refl
 and_true false = refl
 
 -- a vertex with fewest neighbours is taken
-module _ (edges : List Edge) (l n : Left) (taken own : List ℕ) (v : ℕ) (f : IsTaken edges l taken)
+module _ (edges : List Edge) (l n : EliminationGraph) (taken own : List ℕ) (v : ℕ) (f : IsTaken edges l taken)
     (left : is_left l v ≡ true) (own_is : own ≡ neighbours l v)
     (fewest : (w : ℕ) → is_left l w ≡ true → (length (neighbours l v) < length (neighbours l w)) ⊎ ((length (neighbours l v) ≡ length (neighbours l w)) × (v ≤ w)))
     (sound : IsSound n) (left_is : (q : ℕ) → is_left n q ≡ (is_left l q && not (v == q)))
@@ -177,7 +177,7 @@ both false b true false h = absurd (false≢true h)
 both false b false false h = absurd (false≢true h)
 
 -- a neighbour of the vertex that is taken is another vertex that is left
-pub own-others : (edges : List Edge) (l : Left) (taken : List ℕ) (v q : ℕ) → IsTaken edges l taken → is_left l v ≡ true → is_neighbour l v q ≡ true → (is_left l q ≡ true) × ((v == q) ≡ false)
+pub own-others : (edges : List Edge) (l : EliminationGraph) (taken : List ℕ) (v q : ℕ) → IsTaken edges l taken → is_left l v ≡ true → is_neighbour l v q ≡ true → (is_left l q ≡ true) × ((v == q) ≡ false)
 own-others edges l taken v q f left at =
     let parts = and_parts (is_left l q) (f.joined v q) (sym (f.are v q left) ∙ at) in
     (parts.0, false_from_ne_true (v == q) (λ e. true≢false (sym parts.1 ∙ ap (f.joined v) (sym (eqb-true v q e)) ∙ f.apart v)))
@@ -223,7 +223,7 @@ implied true b f = refl
 implied false true f = absurd (false≢true (f refl))
 implied false false f = refl
 
-pub taken-none : (edges : List Edge) (l : Left) → AreEdges edges → IsSound l → ((v : ℕ) → is_left l v ≡ is_end edges v) → ((v w : ℕ) → is_neighbour l v w ≡ joined_by edges v w) → IsTaken edges l []
+pub taken-none : (edges : List Edge) (l : EliminationGraph) → AreEdges edges → IsSound l → ((v : ℕ) → is_left l v ≡ is_end edges v) → ((v w : ℕ) → is_neighbour l v w ≡ joined_by edges v w) → IsTaken edges l []
 taken-none edges l simple sound left joined = record {
   joined = joined_by edges;
   symmetric = joined-comm edges;
@@ -234,7 +234,7 @@ taken-none edges l simple sound left joined = record {
 }
 
 -- where none is left, all are taken
-pub taken-all : (edges : List Edge) (l : Left) (taken : List ℕ) → IsTaken edges l taken → ((v : ℕ) → is_left l v ≡ false) → IsOrdered edges taken
+pub taken-all : (edges : List Edge) (l : EliminationGraph) (taken : List ℕ) → IsTaken edges l taken → ((v : ℕ) → is_left l v ≡ false) → IsOrdered edges taken
 taken-all edges l taken f none = subst (IsOrdered edges) (append-nil taken) (f.rest [] distinct-nil (λ v. sym (none v)) tt)
 
 end-there : (edges : List Edge) (v : ℕ) → is_end edges v ≡ true → IsEnd edges v

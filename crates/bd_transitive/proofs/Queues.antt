@@ -10,15 +10,15 @@ use Rattle.std.specs.BTreeSet.{contains}
 use Rattle.std.specs.List.{IsDistinct}
 use Rattle.std.proofs.lemmas.Bool.{and_parts, cond-false, cond_both, eqb-true, false≢true, true≢false, ltb-true}
 use Rattle.std.proofs.lemmas.Map.Keys.{IsDistinct-from_apart}
-use Rattle.bd_transitive.specs.declared.fewest.Left.{Left}
-use Rattle.bd_transitive.specs.inner.Left.{entry_cmp, is_left, keys_of, neighbours, IsQueued, IsSound}
+use Rattle.bd_transitive.specs.declared.min_degree.EliminationGraph.{EliminationGraph}
+use Rattle.bd_transitive.specs.inner.EliminationGraph.{entry_cmp, is_left, keys_of, neighbours, IsQueued, IsSound}
 
 -- nothing stands twice in an empty list
 pub distinct-nil : IsDistinct nat_eq []
 distinct-nil = IsDistinct-from_apart nat_eq [] (λ i j d lt below. absurd (omega (arith, below)))
 
 -- once a vertex is taken out, the others stand in the queue
-pub sound-removed : (l n : Left) (v : ℕ) → n.queue ≡ l.queue → ((q : ℕ) → get nat_eq n.neighbours q ≡ cond (nat_eq v q) None (get nat_eq l.neighbours q)) → IsSound l → IsSound n
+pub sound-removed : (l n : EliminationGraph) (v : ℕ) → n.queue ≡ l.queue → ((q : ℕ) → get nat_eq n.neighbours q ≡ cond (nat_eq v q) None (get nat_eq l.neighbours q)) → IsSound l → IsSound n
 sound-removed l n v same is sound = record {
   distinct = λ w. subst (λ o. IsDistinct nat_eq (keys_of o)) (sym (is w))
       (cond_both (nat_eq v w) None (get nat_eq l.neighbours w) (λ o. IsDistinct nat_eq (keys_of o)) (λ _. distinct-nil) (λ _. sound.distinct w));
@@ -29,7 +29,7 @@ sound-removed l n v same is sound = record {
 }
 
 -- and where its neighbours are noted, it does
-pub sound-put : (l n : Left) (v : ℕ) (own : _) (b : ℕ × ℕ → Bool)
+pub sound-put : (l n : EliminationGraph) (v : ℕ) (own : _) (b : ℕ × ℕ → Bool)
     → ((q : ℕ) → get nat_eq n.neighbours q ≡ cond (nat_eq v q) (Some own) (get nat_eq l.neighbours q))
     → ((k : ℕ × ℕ) → contains entry_cmp n.queue k ≡ cond (b k) true (contains entry_cmp l.queue k))
     → contains entry_cmp n.queue (length own.keys, v) ≡ true
@@ -57,7 +57,7 @@ entry-not_above x y =
     (λ e h. inr (eqb-true x.0 y.0 e, nat_cmp-not_above x.1 y.1 h)) (λ _ h. absurd (true≢false h)))
 
 -- the least entry that is right is that of a vertex with fewest neighbours
-pub first-fewest : (old l : Left) (v n : ℕ) → l.neighbours ≡ old.neighbours → ((w : ℕ) → is_left l w ≡ true → IsQueued l w)
+pub first-fewest : (old l : EliminationGraph) (v n : ℕ) → l.neighbours ≡ old.neighbours → ((w : ℕ) → is_left l w ≡ true → IsQueued l w)
     → ((q : ℕ × ℕ) → IsTrue (contains entry_cmp l.queue q) → is_gt (entry_cmp (n, v) q) ≡ false)
     → (is_left l v && (length (neighbours l v) == n)) ≡ true
     → (w : ℕ) → is_left old w ≡ true → (length (neighbours old v) < length (neighbours old w)) ⊎ ((length (neighbours old v) ≡ length (neighbours old w)) × (v ≤ w))
@@ -75,15 +75,15 @@ only false None = refl
 only false (Some x) = refl
 
 -- what is left after a vertex is taken out
-pub left-removed : (l n : Left) (v : ℕ) → ((q : ℕ) → get nat_eq n.neighbours q ≡ cond (nat_eq v q) None (get nat_eq l.neighbours q)) → (q : ℕ) → is_left n q ≡ (is_left l q && not (v == q))
+pub left-removed : (l n : EliminationGraph) (v : ℕ) → ((q : ℕ) → get nat_eq n.neighbours q ≡ cond (nat_eq v q) None (get nat_eq l.neighbours q)) → (q : ℕ) → is_left n q ≡ (is_left l q && not (v == q))
 left-removed l n v is q = ap is_some (is q) ∙ only (nat_eq v q) (get nat_eq l.neighbours q)
 
 -- and the neighbours of the others
-pub neighbours-removed : (l n : Left) (v : ℕ) → ((q : ℕ) → get nat_eq n.neighbours q ≡ cond (nat_eq v q) None (get nat_eq l.neighbours q)) → (q : ℕ) → (v == q) ≡ false → neighbours n q ≡ neighbours l q
+pub neighbours-removed : (l n : EliminationGraph) (v : ℕ) → ((q : ℕ) → get nat_eq n.neighbours q ≡ cond (nat_eq v q) None (get nat_eq l.neighbours q)) → (q : ℕ) → (v == q) ≡ false → neighbours n q ≡ neighbours l q
 neighbours-removed l n v is q differ = ap keys_of (is q ∙ cond-false (nat_eq v q) None (get nat_eq l.neighbours q) differ)
 
 -- once the vertex that left the queue is taken out, the others stand in it
-pub sound-taken : (l m n : Left) (v : ℕ) → m.neighbours ≡ l.neighbours → ((q : ℕ) → get nat_eq n.neighbours q ≡ cond (nat_eq v q) None (get nat_eq l.neighbours q)) → IsSound l
+pub sound-taken : (l m n : EliminationGraph) (v : ℕ) → m.neighbours ≡ l.neighbours → ((q : ℕ) → get nat_eq n.neighbours q ≡ cond (nat_eq v q) None (get nat_eq l.neighbours q)) → IsSound l
     → ((w : ℕ) → is_left l w ≡ true → (v == w) ≡ false → contains entry_cmp m.queue (length (neighbours m w), w) ≡ true)
     → n.queue ≡ m.queue → IsSound n
 sound-taken l m n v same is sound queued kept = record {

@@ -1,4 +1,4 @@
 pub mod Spans
 pub mod Rows
 pub mod Links
-pub mod Left
+pub mod EliminationGraph

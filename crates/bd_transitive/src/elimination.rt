@@ -6,9 +6,9 @@ ghost use Rattle.bd_transitive.specs.Elimination.{IsByLeastDegree, joined_by};
 ghost use Rattle.bd_transitive.specs.Orders.{IsOrder, IsFillIn};
 ghost use Rattle.bd_transitive.specs.inner.Spans.{IsSpan, filled_order};
 
-use crate::fewest::fewest_first;
 use crate::fill::fill;
 use crate::graph::{Edge, Edges, Order, Vertices};
+use crate::min_degree::fewest_first;
 use crate::span::{Span, indexed, spans};
 use indexmap::IndexSet;
 use std::alloc::{AllocError, Global};

@@ -10,10 +10,10 @@
 mod clauses;
 mod elimination;
 mod equivalence;
-mod fewest;
 mod fill;
 mod graph;
 mod laws;
+mod min_degree;
 mod rows;
 mod span;
 

@@ -1,16 +1,17 @@
 -- The clauses that define a gate say that its literal has the value of its connective.
-use Rattle.std.proofs.Common.{◌≡◌, ℕ, Bool, true, false, not, ◌&&◌, ◌||◌, cond, List, [], All, refl, sym, ◌∙◌, arith}
+use Rattle.std.proofs.Common.{◌≡◌, ℕ, Bool, true, false, not, ◌&&◌, ◌||◌, List, All, refl, sym, ◌∙◌, arith}
 use Rattle.std.proofs.lemmas.Bool.{false≢true, true≢false}
 use mathlib.Core.Bool.{beq}
 use Rattle.bd_prop.specs.declared.atom.Atom.{Atom}
 use Rattle.bd_prop.specs.declared.node.PropNode.{PropNode}
-use Rattle.bd_prop.specs.declared.node.PropNode.TheVariants.{True, Atom as OfAtom, Not, And, Or, Ite}
-use Rattle.bd_prop.specs.Node.{node_truth}
+use Rattle.bd_prop.specs.declared.node.PropNode.TheVariants.{True, Atom as OfAtom, Not, And, Or, Ite, Tree}
+use Rattle.bd_prop.specs.declared.choices.Choice.{Choice}
+use Rattle.bd_prop.specs.Node.{children, first_value, named, node_truth, tree_values}
 use Rattle.bd_cnf.specs.Literal.{Literal, literal_value}
 use Rattle.bd_cnf.specs.Clause.{clauses_value}
 use Rattle.bd_cnf.proofs.Literals.{negate-value}
-use Rattle.bd_tseitin.specs.Definition.{and_clauses, or_clauses, inner_clauses, definition}
-use Rattle.bd_tseitin.specs.inner.Tree.{operands}
+use Rattle.bd_tseitin.specs.Definition.{and_clauses, choice_items, definition, or_clauses, tree_clauses, whole}
+use Rattle.bd_tseitin.proofs.Trees.{tree_means}
 
 pub beq-same : (x y : Bool) → x ≡ y → beq x y ≡ true
 beq-same true true h = refl
@@ -71,26 +72,33 @@ module _ (v : ℕ → Bool) where
   is_true true = refl
   is_true false = refl
 
-  -- the clauses say that the literal has the connective's value, where operands have their values
-  pub definition_value : (values : Atom → Bool) (l : ℕ → Literal) (branch : List Literal → Literal → ℕ → List (List Literal)) (truth : ℕ → Bool) (g : Literal) (n : PropNode) → is_defined n ≡ true
-      → All (λ c. literal_value v (l c) ≡ truth c) (operands n)
-      → ((a b c : ℕ) → n ≡ Ite a b c → clauses_value v (inner_clauses l branch [] g (Ite a b c)) ≡ beq (literal_value v g) (cond (truth a) (truth b) (truth c)))
-      → clauses_value v (definition l branch g n) ≡ beq (literal_value v g) (node_truth values truth n)
-  definition_value values l branch truth g True d h choice = one_true (literal_value v g) ∙ sym (is_true (literal_value v g))
-  definition_value values l branch truth g (OfAtom a) d h choice = absurd (false≢true d)
-  definition_value values l branch truth g (Not a) d h choice = absurd (false≢true d)
-  definition_value values l branch truth g (And a b) d h choice =
+  open_whole : (b : Bool) → ((false || b) && true) ≡ b
+  open_whole true = refl
+  open_whole false = refl
+
+  tree_value : (l : ℕ → Literal) (truth : ℕ → Bool) (g : Literal) (items : List Choice) → All (λ c. literal_value v (l c) ≡ truth c) (named items)
+      → clauses_value v (tree_clauses l items (whole g)) ≡ beq (literal_value v g) (first_value (tree_values truth items))
+  tree_value l truth g items h = tree_means v l truth items (whole g) h ∙ open_whole (beq (literal_value v g) (first_value (tree_values truth items)))
+
+  -- the clauses say that the literal has the connective's value, where children have their values
+  pub definition_value : (values : Atom → Bool) (l : ℕ → Literal) (truth : ℕ → Bool) (g : Literal) (n : PropNode) → is_defined n ≡ true
+      → All (λ c. literal_value v (l c) ≡ truth c) (children n) → clauses_value v (definition l g n) ≡ beq (literal_value v g) (node_truth values truth n)
+  definition_value values l truth g True d h = one_true (literal_value v g) ∙ sym (is_true (literal_value v g))
+  definition_value values l truth g (OfAtom a) d h = absurd (false≢true d)
+  definition_value values l truth g (Not a) d h = absurd (false≢true d)
+  definition_value values l truth g (And a b) d h =
       let first : literal_value v (l a) ≡ truth a = h 0 a (omega arith) in
       let second : literal_value v (l b) ≡ truth b = h 1 a (omega arith) in
       value-and g (l a) (l b) ∙ (λ i. beq (literal_value v g) (first i && second i))
-  definition_value values l branch truth g (Or a b) d h choice =
+  definition_value values l truth g (Or a b) d h =
       let first : literal_value v (l a) ≡ truth a = h 0 a (omega arith) in
       let second : literal_value v (l b) ≡ truth b = h 1 a (omega arith) in
       value-or g (l a) (l b) ∙ (λ i. beq (literal_value v g) (first i || second i))
-  definition_value values l branch truth g (Ite a b c) d h choice = choice a b c refl
+  definition_value values l truth g (Ite a b c) d h = tree_value l truth g (choice_items a b c) h
+  definition_value values l truth g (Tree items) d h = tree_value l truth g items h
 
   -- and say nothing of an atom
-  pub undefined_value : (l : ℕ → Literal) (branch : List Literal → Literal → ℕ → List (List Literal)) (g : Literal) (n : PropNode) → is_defined n ≡ false → clauses_value v (definition l branch g n) ≡ true
-  undefined_value l branch g (OfAtom a) d = refl
-  undefined_value l branch g (Not a) d = refl
-  undefined_value l branch g n d = absurd (true≢false d)
+  pub undefined_value : (l : ℕ → Literal) (g : Literal) (n : PropNode) → is_defined n ≡ false → clauses_value v (definition l g n) ≡ true
+  undefined_value l g (OfAtom a) d = refl
+  undefined_value l g (Not a) d = refl
+  undefined_value l g n d = absurd (true≢false d)

@@ -1,13 +1,13 @@
 pub mod Joined
 pub mod Trees
-pub mod Branches
-pub mod Pushed
+pub mod Reached
 pub mod Numbering
 pub mod Stage
 pub mod Gates
 pub mod Flat
 pub mod Rising
 pub mod Within
+pub mod Local
 pub mod Laws
 pub mod Decoded
 pub mod Further

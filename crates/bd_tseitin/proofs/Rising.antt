@@ -3,7 +3,7 @@ use Rattle.std.proofs.Common.{◌≡◌, ℕ, ◌<◌, ◌≤◌, ◌+◌, List,
 use Rattle.std.proofs.lemmas.Bool.{cases_order}
 use Rattle.std.specs.List.{flat_map}
 use Rattle.bd_prop.specs.declared.node.PropNode.{PropNode}
-use Rattle.bd_prop.specs.declared.node.PropNode.TheVariants.{True, Atom as OfAtom, Not, And, Or, Ite}
+use Rattle.bd_prop.specs.declared.node.PropNode.TheVariants.{True, Atom as OfAtom, Not, And, Or, Ite, Tree}
 use Rattle.bd_prop.specs.Form.{node_at}
 use Rattle.bd_cnf.specs.Literal.{Literal}
 use Rattle.bd_tseitin.specs.declared.row.AtomVar.{AtomVar}
@@ -62,3 +62,4 @@ RowsRise-flat nodes literal_of (g ∷ gs) n numbered =
     by (And b c) rise = lower rise
     by (Or b c) rise = lower rise
     by (Ite b c d) rise = lower rise
+    by (Tree items) rise = lower rise

@@ -1,41 +1,41 @@
 -- The parts of the form when the nodes below k are done.
-use Rattle.std.proofs.Common.{◌≡◌, ℕ, ◌<◌, ◌≤◌, ◌+◌, Bool, true, false, ◌&&◌, cond, List, [], ◌∷◌, ◌++◌, length, get_or, All, Option, None, Some, unwrap_or, is_some, is_none, refl, ap, sym, ◌∙◌, subst, inl, inr, suc, arith}
+use Rattle.std.proofs.Common.{◌≡◌, ℕ, ◌<◌, ◌≤◌, ◌+◌, Bool, true, false, ◌&&◌, cond, List, [], ◌∷◌, ◌++◌, length, get_or, All, Option, None, Some, unwrap_or, is_some, refl, ap, sym, ◌∙◌, subst, inl, inr, suc, arith}
 use Rattle.std.proofs.lemmas.Bool.{false≢true, true≢false, and_parts, and_from, cases_Bool, cases_eq}
 use Rattle.std.proofs.lemmas.List.{append-nil, get_or_append_left, get_or_push, length_push}
 use Rattle.std.proofs.lemmas.Grind.{flat_map-append}
 use Rattle.std.proofs.lemmas.Option.{slice_get_within, slice_get-get_or, get_or_from_slice_get}
 use Rattle.std.specs.List.{flat_map}
 use Rattle.bd_prop.specs.declared.node.PropNode.{PropNode}
-use Rattle.bd_prop.specs.declared.node.PropNode.TheVariants.{True, Atom as OfAtom, Not, And, Or, Ite}
+use Rattle.bd_prop.specs.declared.node.PropNode.TheVariants.{True, Atom as OfAtom, Not, And, Or, Ite, Tree}
+use Rattle.bd_prop.specs.Node.{children}
 use Rattle.bd_prop.specs.Form.{node_at}
-use Rattle.bd_prop.specs.Graph.{IsGraph, StandsAt, Reaches}
+use Rattle.bd_prop.specs.Graph.{IsGraph, StandsAt}
 use Rattle.bd_prop.specs.Graph.Reaches.{Itself}
-use Rattle.bd_prop.proofs.Reaching.{reached_at_most, reached_children}
+use Rattle.bd_prop.proofs.Reaching.{reached_children}
 use Rattle.bd_cnf.specs.Literal.{Literal, literal, negate}
 use Rattle.bd_tseitin.specs.declared.row.AtomVar.{AtomVar}
 use Rattle.bd_tseitin.specs.declared.form.PartialForm.{PartialForm}
-use Rattle.bd_tseitin.specs.Definition.{is_gate, fits, and_clauses, or_clauses, inner_clauses, branch_clauses, definition, AreClauses}
+use Rattle.bd_tseitin.specs.Definition.{is_gate, and_clauses, choice_items, or_clauses, definition, whole, AreClauses}
 use Rattle.bd_tseitin.specs.Form.{definition_at, rows_of, rows_at, IsTseitin}
 use Rattle.bd_tseitin.specs.inner.Step.{known, AreKnown, Pushes, literal_in, AddsNode}
-use Rattle.bd_tseitin.specs.inner.Tree.{operands, branches, lacks, IsInner, HasTree}
 use Rattle.bd_tseitin.proofs.Joined.{AreClauses-append}
-use Rattle.bd_tseitin.proofs.Trees.{AreTrees, operands_from, branches_from, outside_operands, reaches_trans}
-use Rattle.bd_tseitin.proofs.Branches.{control_outside, inner_same, branch_same}
+use Rattle.bd_tseitin.proofs.Reached.{AreReached}
+use Rattle.bd_tseitin.proofs.Trees.{tree_same}
 use Rattle.bd_tseitin.proofs.Numbering.{has_variable, gates, literal_of, literal_for, literal-node, gates_have, have_gates, length-gates, gates_numbered}
 
--- a node's clauses rest on its operands' literals and its branches' clauses alone
-definition_same : (f g : ℕ → Literal) (before after : List Literal → Literal → ℕ → List (List Literal)) (gate : Literal) (n : PropNode) → All (λ c. f c ≡ g c) (operands n)
-    → ((a b c : ℕ) → n ≡ Ite a b c → inner_clauses f before [] gate (Ite a b c) ≡ inner_clauses g after [] gate (Ite a b c)) → definition f before gate n ≡ definition g after gate n
-definition_same f g before after gate True h choice = refl
-definition_same f g before after gate (OfAtom a) h choice = refl
-definition_same f g before after gate (Not a) h choice = refl
-definition_same f g before after gate (And a b) h choice = let first : f a ≡ g a = h 0 a (omega arith) in let second : f b ≡ g b = h 1 a (omega arith) in λ i. and_clauses gate (first i) (second i)
-definition_same f g before after gate (Or a b) h choice = let first : f a ≡ g a = h 0 a (omega arith) in let second : f b ≡ g b = h 1 a (omega arith) in λ i. or_clauses gate (first i) (second i)
-definition_same f g before after gate (Ite a b c) h choice = choice a b c refl
+-- a node's clauses rest on its children's literals alone
+definition_same : (f g : ℕ → Literal) (gate : Literal) (n : PropNode) → All (λ c. f c ≡ g c) (children n) → definition f gate n ≡ definition g gate n
+definition_same f g gate True h = refl
+definition_same f g gate (OfAtom a) h = refl
+definition_same f g gate (Not a) h = refl
+definition_same f g gate (And a b) h = let first : f a ≡ g a = h 0 a (omega arith) in let second : f b ≡ g b = h 1 a (omega arith) in λ i. and_clauses gate (first i) (second i)
+definition_same f g gate (Or a b) h = let first : f a ≡ g a = h 0 a (omega arith) in let second : f b ≡ g b = h 1 a (omega arith) in λ i. or_clauses gate (first i) (second i)
+definition_same f g gate (Ite a b c) h = tree_same f g (choice_items a b c) (whole gate) h
+definition_same f g gate (Tree items) h = tree_same f g items (whole gate) h
 
-no_definition : (f : ℕ → Literal) (branch : List Literal → Literal → ℕ → List (List Literal)) (gate : Literal) (n : PropNode) → is_gate n ≡ false → definition f branch gate n ≡ []
-no_definition f branch gate (Not a) h = refl
-no_definition f branch gate n h = absurd (true≢false h)
+no_definition : (f : ℕ → Literal) (gate : Literal) (n : PropNode) → is_gate n ≡ false → definition f gate n ≡ []
+no_definition f gate (Not a) h = refl
+no_definition f gate n h = absurd (true≢false h)
 
 no_row : (n : PropNode) (var : ℕ) → is_gate n ≡ false → rows_of n var ≡ []
 no_row (Not a) var h = refl
@@ -45,9 +45,9 @@ pub gate_literal : (table : List (Option Literal)) (vars : ℕ) (n : PropNode) �
 gate_literal table vars (Not a) h = absurd (false≢true h)
 gate_literal table vars n h = refl
 
-module _ (nodes : List PropNode) (has inside : ℕ → Bool) where
+module _ (nodes : List PropNode) (has : ℕ → Bool) where
   pub clauses_to : ℕ → List (List Literal)
-  clauses_to k = flat_map (definition_at nodes inside (literal_of nodes has)) (gates nodes has k)
+  clauses_to k = flat_map (definition_at nodes (literal_of nodes has)) (gates nodes has k)
 
   pub rows_to : ℕ → List AtomVar
   rows_to k = flat_map (rows_at nodes (literal_of nodes has)) (gates nodes has k)
@@ -93,7 +93,7 @@ module _ (nodes : List PropNode) (has inside : ℕ → Bool) where
         table = subst (λ t. (id : ℕ) → id < suc k → get_or t id None ≡ entry id) (sym literals)
             (table_more k old.literals.items None is.size is.table (ap (λ b. cond b (Some (literal_of nodes has k)) None) (sym off)));
         counted = vars ∙ is.counted ∙ ap (λ b. length (cond b (gates nodes has k ++ k ∷ []) (gates nodes has k))) (sym none);
-        defined = subst (λ ds. AreClauses ds new.clauses.items) (sym (flat-same (definition_at nodes inside (literal_of nodes has)) k none)) (subst (AreClauses (clauses_to k)) (sym clauses) is.defined);
+        defined = subst (λ ds. AreClauses ds new.clauses.items) (sym (flat-same (definition_at nodes (literal_of nodes has)) k none)) (subst (AreClauses (clauses_to k)) (sym clauses) is.defined);
         rows = atoms ∙ is.rows ∙ sym (flat-same (rows_at nodes (literal_of nodes has)) k none);
       }
 
@@ -101,10 +101,10 @@ module _ (nodes : List PropNode) (has inside : ℕ → Bool) where
   table_has : (k : ℕ) (table : List (Option Literal)) → ((id : ℕ) → id < k → get_or table id None ≡ entry id) → (id : ℕ) → id < k → has id ≡ true → get_or table id None ≡ Some (literal_of nodes has id)
   table_has k table before id low on = before id low ∙ ap (λ b. cond b (Some (literal_of nodes has id)) None) on
 
-  literal_in_is : IsGraph nodes → (k vars : ℕ) (table : List (Option Literal)) (n : PropNode) → StandsAt nodes k n → vars ≡ length (gates nodes has k) → All (λ c. known table c ≡ literal_of nodes has c) (operands n) → literal_in table vars n ≡ literal_of nodes has k
+  literal_in_is : IsGraph nodes → (k vars : ℕ) (table : List (Option Literal)) (n : PropNode) → StandsAt nodes k n → vars ≡ length (gates nodes has k) → All (λ c. known table c ≡ literal_of nodes has c) (children n) → literal_in table vars n ≡ literal_of nodes has k
   literal_in_is graph k vars table n at counted same = by n same ∙ sym (literal-node nodes has k n graph at)
     where
-      by : (m : PropNode) → All (λ c. known table c ≡ literal_of nodes has c) (operands m) → literal_in table vars m ≡ literal_for nodes has k m
+      by : (m : PropNode) → All (λ c. known table c ≡ literal_of nodes has c) (children m) → literal_in table vars m ≡ literal_for nodes has k m
       by (Not a) h = ap negate (h 0 a (omega arith))
       by m h = ap (λ v. literal (v + 1) true) counted
 
@@ -122,110 +122,35 @@ module _ (nodes : List PropNode) (has inside : ℕ → Bool) where
     rows = atoms;
   }
 
-  module _ (root : ℕ) (trees : AreTrees nodes root has inside) where
-    reached_within : (id : ℕ) → Reaches nodes root id → id < length nodes
-    reached_within id up = let high : id ≤ root = reached_at_most nodes root id trees.graph up in let low : root < length nodes = trees.below in omega arith
+  module _ (root : ℕ) (is_reached : AreReached nodes root has) where
+    -- the children of a node with a literal have literals
+    children_have : (k : ℕ) (n : PropNode) → has k ≡ true → StandsAt nodes k n → All (λ c. has c ≡ true) (children n)
+    children_have k n on at j d h = (is_reached.which (get_or (children n) j d)).1 (reached_children nodes root k n ((is_reached.which k).0 on) at j d h)
 
-    is_reached : (id : ℕ) → has id ≡ true → Reaches nodes root id
-    is_reached id on = ((trees.which id).0 on).0
+    known_children : (k : ℕ) (table : List (Option Literal)) (n : PropNode) → has k ≡ true → StandsAt nodes k n
+        → ((id : ℕ) → id < k → get_or table id None ≡ entry id) → All (λ c. known table c ≡ literal_of nodes has c) (children n)
+    known_children k table n on at before j d h =
+        ap (λ o. unwrap_or o (literal 0 true)) (table_has k table before (get_or (children n) j d) (is_reached.graph k n at j d h) (children_have k n on at j d h))
 
-    -- the operands of a node with a literal have literals
-    pub operands_have : (k : ℕ) (n : PropNode) → has k ≡ true → StandsAt nodes k n → All (λ c. has c ≡ true) (operands n)
-    operands_have k n on at j d h =
-        let is = (trees.which k).0 on in
-        let fit : fits inside false n ≡ true = ap (λ own. fits inside own n) (sym is.1) ∙ trees.fitting k n is.0 at in
-        (trees.which (get_or (operands n) j d)).1 (operands_from (Reaches nodes root) n (reached_children nodes root k n is.0 at) j d h, outside_operands inside n fit j d h)
-
-    known_operands : (k : ℕ) (table : List (Option Literal)) (n : PropNode) → has k ≡ true → StandsAt nodes k n
-        → ((id : ℕ) → id < k → get_or table id None ≡ entry id) → All (λ c. known table c ≡ literal_of nodes has c) (operands n)
-    known_operands k table n on at before j d h =
-        ap (λ o. unwrap_or o (literal 0 true))
-        (table_has k table before (get_or (operands n) j d) (operands_from (λ c. c < k) n (trees.graph k n at) j d h) (operands_have k n on at j d h))
-
-    pub operands_known : (k : ℕ) (parts : PartialForm) (n : PropNode) → has k ≡ true → StandsAt nodes k n → IsStage k parts → AreKnown parts.literals.items (operands n)
-    operands_known k parts n on at is j d h =
-        ap is_some (table_has k parts.literals.items is.table (get_or (operands n) j d) (operands_from (λ c. c < k) n (trees.graph k n at) j d h) (operands_have k n on at j d h))
-
-    -- what the table lacks of the reached nodes is inside trees
-    lacks_inside : (k : ℕ) (table : List (Option Literal)) → ((id : ℕ) → id < k → get_or table id None ≡ entry id) → (id : ℕ) → id < k → Reaches nodes root id → lacks table id ≡ inside id
-    lacks_inside k table before id low up =
-        elim (cases_Bool (inside id)) [
-          | inl e ↦ ap is_none (before id low ∙ ap (λ b. cond b (Some (literal_of nodes has id)) None) (off e)) ∙ sym e
-          | inr e ↦ ap is_none (table_has k table before id low ((trees.which id).1 (up, e))) ∙ sym e
-        ]
-      where
-        off : inside id ≡ true → has id ≡ false
-        off e =
-            elim (cases_Bool (has id)) [
-              | inl on ↦ absurd (true≢false (sym e ∙ ((trees.which id).0 on).1))
-              | inr not_on ↦ not_on
-            ]
-
-    inner_of : (k : ℕ) (table : List (Option Literal)) → ((id : ℕ) → id < k → get_or table id None ≡ entry id) → (id : ℕ) (n : PropNode) → id < k → Reaches nodes root id → StandsAt nodes id n → fits inside true n ≡ true → IsInner table n
-    inner_of k table before id (Not a) low up at fit = tt
-    inner_of k table before id (Ite a b c) low up at fit =
-        let less : a < id = trees.graph id (Ite a b c) at 0 a (omega arith) in
-        ap is_some (table_has k table before a (omega arith) ((trees.which a).1 (reached_children nodes root id (Ite a b c) up at 0 a (omega arith), control_outside inside true a b c fit)))
-    inner_of k table before id True low up at fit = absurd (false≢true fit)
-    inner_of k table before id (OfAtom a) low up at fit = absurd (false≢true fit)
-    inner_of k table before id (And a b) low up at fit = absurd (false≢true fit)
-    inner_of k table before id (Or a b) low up at fit = absurd (false≢true fit)
-
-    -- the table has the trees of a reached node's branches
-    pub branches_known : (k : ℕ) (parts : PartialForm) (n : PropNode) → has k ≡ true → StandsAt nodes k n → IsStage k parts → All (HasTree nodes parts.literals.items) (branches n)
-    branches_known k parts n on at is j d h =
-        let c : ℕ = get_or (branches n) j d in
-        let size : length parts.literals.items ≡ k = is.size in
-        let up : Reaches nodes root c = branches_from (Reaches nodes root) n (reached_children nodes root k n (is_reached k on) at) j d h in
-        let low : c < k = branches_from (λ x. x < k) n (trees.graph k n at) j d h in
-        let high : k < length nodes = slice_get_within nodes k n at in
-        record {
-          graph = trees.graph;
-          short = omega arith;
-          low = omega arith;
-          inner = λ i m further stand lack.
-              let reached = reaches_trans nodes root c i up further in
-              let less : i ≤ c = reached_at_most nodes c i trees.graph further in
-              let own : inside i ≡ true = sym (lacks_inside k parts.literals.items is.table i (omega arith) reached) ∙ lack in
-              inner_of k parts.literals.items is.table i m (omega arith) reached stand (ap (λ b. fits inside b m) (sym own) ∙ trees.fitting i m reached stand);
-        }
+    pub children_known : (k : ℕ) (parts : PartialForm) (n : PropNode) → has k ≡ true → StandsAt nodes k n → IsStage k parts → AreKnown parts.literals.items (children n)
+    children_known k parts n on at is j d h =
+        ap is_some (table_has k parts.literals.items is.table (get_or (children n) j d) (is_reached.graph k n at j d h) (children_have k n on at j d h))
 
     pub root_known : (parts : PartialForm) → IsStage (length nodes) parts → get_or parts.literals.items root None ≡ Some (literal_of nodes has root)
-    root_known parts is = table_has (length nodes) parts.literals.items is.table root trees.below ((trees.which root).1 (Itself, trees.outside))
-
-    -- what the table's literals define is what the nodes' literals do
-    same_definition : (k : ℕ) (table : List (Option Literal)) (n : PropNode) (gate : Literal) → has k ≡ true → StandsAt nodes k n → ((id : ℕ) → id < k → get_or table id None ≡ entry id)
-        → definition (known table) (branch_clauses nodes (lacks table) (known table) k) gate n ≡ definition (literal_of nodes has) (branch_clauses nodes inside (literal_of nodes has) k) gate n
-    same_definition k table n gate on at before =
-        definition_same (known table) (literal_of nodes has) (branch_clauses nodes (lacks table) (known table) k) (branch_clauses nodes inside (literal_of nodes has) k) gate n
-        (known_operands k table n on at before) by
-      where
-        lacked : (id : ℕ) → id < k → Reaches nodes root id → lacks table id ≡ inside id
-        lacked = lacks_inside k table before
-
-        agree : (id : ℕ) → id < k → Reaches nodes root id → inside id ≡ false → known table id ≡ literal_of nodes has id
-        agree id low up out = ap (λ o. unwrap_or o (literal 0 true)) (table_has k table before id low ((trees.which id).1 (up, out)))
-
-        by : (a b c : ℕ) → n ≡ Ite a b c
-            → inner_clauses (known table) (branch_clauses nodes (lacks table) (known table) k) [] gate (Ite a b c) ≡ inner_clauses (literal_of nodes has) (branch_clauses nodes inside (literal_of nodes has) k) [] gate (Ite a b c)
-        by a b c is =
-            let here : StandsAt nodes k (Ite a b c) = subst (StandsAt nodes k) is at in
-            inner_same nodes root inside trees.graph reached_within trees.fitting (lacks table) (known table) (literal_of nodes has) k lacked agree k (omega arith)
-            (λ p g i. branch_same nodes root inside trees.graph reached_within trees.fitting (lacks table) (known table) (literal_of nodes has) k lacked agree k (omega arith) p g i)
-            [] gate k (Ite a b c) (omega arith) (is_reached k on) here (trees.fitting k (Ite a b c) (is_reached k on) here)
+    root_known parts is = table_has (length nodes) parts.literals.items is.table root is_reached.below ((is_reached.which root).1 Itself)
 
     -- a node that has a literal
-    pub stage_add : (k : ℕ) (n : PropNode) (old new : PartialForm) → has k ≡ true → StandsAt nodes k n → IsStage k old → AddsNode nodes old n new → IsStage (suc k) new
+    pub stage_add : (k : ℕ) (n : PropNode) (old new : PartialForm) → has k ≡ true → StandsAt nodes k n → IsStage k old → AddsNode old n new → IsStage (suc k) new
     unfolding clauses_to rows_to
     stage_add k n old new on at is adds =
-        let same = known_operands k old.literals.items n on at is.table in
-        let mine : literal_in old.literals.items old.vars n ≡ literal_of nodes has k = literal_in_is trees.graph k old.vars old.literals.items n at is.counted same in
+        let same = known_children k old.literals.items n on at is.table in
+        let mine : literal_in old.literals.items old.vars n ≡ literal_of nodes has k = literal_in_is is_reached.graph k old.vars old.literals.items n at is.counted same in
         let node_is : node_at nodes k ≡ n = get_or_from_slice_get nodes k n True at in
-        let added = adds.clauses k (branches_from (λ c. c < k) n (trees.graph k n at)) in
-        let made : definition (known old.literals.items) (branch_clauses nodes (lacks old.literals.items) (known old.literals.items) k) (literal_in old.literals.items old.vars n) n ≡ definition_at nodes inside (literal_of nodes has) k =
-        same_definition k old.literals.items n (literal_in old.literals.items old.vars n) on at is.table
-        ∙ (λ i. definition (literal_of nodes has) (branch_clauses nodes inside (literal_of nodes has) k) (mine i) n)
-        ∙ ap (definition (literal_of nodes has) (branch_clauses nodes inside (literal_of nodes has) k) (literal_of nodes has k)) (sym node_is) in
+        let added = adds.clauses in
+        let made : definition (known old.literals.items) (literal_in old.literals.items old.vars n) n ≡ definition_at nodes (literal_of nodes has) k =
+        definition_same (known old.literals.items) (literal_of nodes has) (literal_in old.literals.items old.vars n) n same
+        ∙ (λ i. definition (literal_of nodes has) (mine i) n)
+        ∙ ap (definition (literal_of nodes has) (literal_of nodes has k)) (sym node_is) in
         let variable : has_variable nodes has k ≡ is_gate n = (λ i. on i && is_gate (node_is i)) in
         let size : length new.literals.items ≡ suc k = ap length adds.literals ∙ length_push old.literals.items _ ∙ omega (arith, is.size) in
         let table : (id : ℕ) → id < suc k → get_or new.literals.items id None ≡ entry id =
@@ -240,23 +165,23 @@ module _ (nodes : List PropNode) (has inside : ℕ → Bool) where
                 table = table;
                 counted = adds.vars ∙ ap (λ b. old.vars + cond b 1 0) gate ∙ ap (λ m. m + 1) is.counted ∙ sym (length_push (gates nodes has k) k)
                     ∙ ap (λ b. length (cond b (gates nodes has k ++ k ∷ []) (gates nodes has k))) (sym there);
-                defined = subst (λ ds. AreClauses ds new.clauses.items) (sym (flat-more (definition_at nodes inside (literal_of nodes has)) k there))
-                    (subst (AreClauses (clauses_to k ++ definition_at nodes inside (literal_of nodes has) k)) (sym added.1)
-                    (AreClauses-append (clauses_to k) (definition_at nodes inside (literal_of nodes has) k) old.clauses.items added.0 is.defined
+                defined = subst (λ ds. AreClauses ds new.clauses.items) (sym (flat-more (definition_at nodes (literal_of nodes has)) k there))
+                    (subst (AreClauses (clauses_to k ++ definition_at nodes (literal_of nodes has) k)) (sym added.1)
+                    (AreClauses-append (clauses_to k) (definition_at nodes (literal_of nodes has) k) old.clauses.items added.0 is.defined
                     (subst (λ ds. AreClauses ds added.0) made added.2)));
                 rows = adds.atoms ∙ (λ i. is.rows i ++ rows_of n (old.vars + 1)) ∙ (λ i. rows_to k ++ rows_of (sym node_is i) (sym number i))
                     ∙ sym (flat-more (rows_at nodes (literal_of nodes has)) k there);
               }
           | inr other ↦
               let none : has_variable nodes has k ≡ false = variable ∙ other in
-              let nothing : added.0 ≡ [] = subst (λ ds. AreClauses ds added.0) (no_definition (known old.literals.items) (branch_clauses nodes (lacks old.literals.items) (known old.literals.items) k) (literal_in old.literals.items old.vars n) n other) added.2 in
+              let nothing : added.0 ≡ [] = subst (λ ds. AreClauses ds added.0) (no_definition (known old.literals.items) (literal_in old.literals.items old.vars n) n other) added.2 in
               let stays : new.clauses.items ≡ old.clauses.items = added.1 ∙ ap (λ xs. old.clauses.items ++ xs) nothing ∙ append-nil old.clauses.items in
               record {
                 size = size;
                 table = table;
                 counted = adds.vars ∙ ap (λ b. old.vars + cond b 1 0) other ∙ omega (arith, is.counted)
                     ∙ ap (λ b. length (cond b (gates nodes has k ++ k ∷ []) (gates nodes has k))) (sym none);
-                defined = subst (λ ds. AreClauses ds new.clauses.items) (sym (flat-same (definition_at nodes inside (literal_of nodes has)) k none)) (subst (AreClauses (clauses_to k)) (sym stays) is.defined);
+                defined = subst (λ ds. AreClauses ds new.clauses.items) (sym (flat-same (definition_at nodes (literal_of nodes has)) k none)) (subst (AreClauses (clauses_to k)) (sym stays) is.defined);
                 rows = adds.atoms ∙ ap (λ xs. old.atoms.items ++ xs) (no_row n (old.vars + 1) other) ∙ append-nil old.atoms.items ∙ is.rows
                     ∙ sym (flat-same (rows_at nodes (literal_of nodes has)) k none);
               }
@@ -266,25 +191,21 @@ module _ (nodes : List PropNode) (has inside : ℕ → Bool) where
     pub IsTseitin-stage : (parts : PartialForm) (clauses : List (List Literal)) → IsStage (length nodes) parts → Pushes parts.clauses.items ((literal_of nodes has root ∷ []) ∷ []) clauses → IsTseitin nodes root parts.vars clauses parts.atoms.items
     unfolding clauses_to rows_to
     IsTseitin-stage parts clauses is unit = record {
-      inside = inside;
-      fitting = trees.fitting;
-      outside = trees.outside;
       gates = gates nodes has (length nodes);
       literal_of = literal_of nodes has;
       are_gates = λ id. (
         λ there.
             let found = gates_have nodes has (length nodes) id there in
             let both = and_parts (has id) _ found.1 in
-            let which = (trees.which id).0 both.0 in
-            (node_at nodes id, slice_get-get_or nodes id True found.0, both.1, which.0, which.1),
+            (node_at nodes id, slice_get-get_or nodes id True found.0, both.1, (is_reached.which id).0 both.0),
         λ gate.
             let short = slice_get_within nodes id gate.0 gate.1 in
             let same : node_at nodes id ≡ gate.0 = get_or_from_slice_get nodes id gate.0 True gate.1 in
-            have_gates nodes has (length nodes) id short (and_from _ _ ((trees.which id).1 (gate.3, gate.4)) (ap is_gate same ∙ gate.2)),
+            have_gates nodes has (length nodes) id short (and_from _ _ ((is_reached.which id).1 gate.3) (ap is_gate same ∙ gate.2)),
       );
       counted = is.counted;
-      numbered = λ k low. gates_numbered nodes has trees.graph (length nodes) k 0 (omega arith) low;
-      negated = λ id a up out at. literal-node nodes has id (Not a) trees.graph at;
+      numbered = λ k low. gates_numbered nodes has is_reached.graph (length nodes) k 0 (omega arith) low;
+      negated = λ id a up at. literal-node nodes has id (Not a) is_reached.graph at;
       defined = subst (AreClauses (clauses_to (length nodes) ++ (literal_of nodes has root ∷ []) ∷ [])) (sym unit.1) (AreClauses-append (clauses_to (length nodes)) ((literal_of nodes has root ∷ []) ∷ []) parts.clauses.items unit.0 is.defined unit.2);
       rows_are = is.rows;
     }

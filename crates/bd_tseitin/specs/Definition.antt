@@ -1,26 +1,17 @@
--- The clauses that define a gate, in both directions: by its children (Tseitin 1968), or where it is a tree of choices
--- by the tree's leaves (Velev 2004).
-use Rattle.std.specs.Prelude.{◌≡◌, ◌⊎◌, ℕ, Bool, true, false, not, ◌&&◌, if◌then◌else◌, List, [], ◌∷◌, ◌++◌, zero, suc}
+-- The clauses that define a gate, in both directions: by its children (Tseitin 1968), or where it is a tree of choices by
+-- the tree's leaves (Velev 2004).
+use Rattle.std.specs.Prelude.{◌≡◌, ◌⊎◌, ℕ, Bool, true, false, List, [], ◌∷◌, ◌++◌}
+use Rattle.bd_prop.specs.declared.choices.Choice.{Choice}
+use Rattle.bd_prop.specs.declared.choices.Choice.TheVariants as choice
 use Rattle.bd_prop.specs.declared.node.PropNode.{PropNode}
-use Rattle.bd_prop.specs.declared.node.PropNode.TheVariants.{True, Atom as OfAtom, Not, And, Or, Ite}
-use Rattle.bd_prop.specs.Form.{node_at}
+use Rattle.bd_prop.specs.declared.node.PropNode.TheVariants.{True, Atom as OfAtom, Not, And, Or, Ite, Tree}
 use Rattle.bd_cnf.specs.Literal.{Literal, negate}
 use Rattle.bd_cnf.specs.Clause.{SameLiterals, IsTautology}
 
--- whether the node is a gate where it has a literal: all are but negations
+-- whether the node is a gate: all are but negations
 abbrev pub is_gate : PropNode → Bool
 is_gate (Not a) = false
 is_gate _ = true
-
--- whether a node fits its children, where some nodes are inside trees: choices may be, and negations of nodes that are, and
--- each is a branch of a choice, or negated
-abbrev pub fits : (ℕ → Bool) → Bool → PropNode → Bool
-fits inside own True = not own
-fits inside own (OfAtom a) = not own
-fits inside own (Not a) = if own then inside a else not (inside a)
-fits inside own (And a b) = not own && not (inside a) && not (inside b)
-fits inside own (Or a b) = not own && not (inside a) && not (inside b)
-fits inside own (Ite a b c) = not (inside a)
 
 -- the clauses of gate = a and b (Tseitin 1968)
 abbrev pub and_clauses : Literal → Literal → Literal → List (List Literal)
@@ -37,34 +28,45 @@ abbrev pub leaf_clauses : List Literal → Literal → Literal → List (List Li
 leaf_clauses path gate leaf =
     (path ++ negate gate ∷ leaf ∷ []) ∷ (path ++ gate ∷ negate leaf ∷ []) ∷ []
 
--- the clauses of a branch, from the literals of the path to it, the gate's, and the branch's id
-abbrev pub Branch : Type 0
-Branch = List Literal → Literal → ℕ → List (List Literal)
+-- branches of which nothing has been read: the literals of the path to each, and the literal that has its value
+abbrev pub Open : Type 0
+Open = List Literal × Literal
 
--- the clauses of gate = node below a path, where the node is inside a tree, from those of the branches below it; the path
--- gets the literal that the control's value falsifies
-abbrev pub inner_clauses : (ℕ → Literal) → Branch → List Literal → Literal → PropNode → List (List Literal)
-inner_clauses child branch path gate (Not a) = branch path (negate gate) a
-inner_clauses child branch path gate (Ite a b c) =
-    branch (path ++ negate (child a) ∷ []) gate b ++ branch (path ++ child a ∷ []) gate c
-inner_clauses child branch path gate _ = []
+-- a branch that is missing is false
+abbrev pub missing_clauses : List Open → List (List Literal)
+missing_clauses [] = []
+missing_clauses (o ∷ pending) = (o.0 ++ negate o.1 ∷ []) ∷ missing_clauses pending
 
--- the clauses of gate = the node at the id below a path, down to the leaves of a tree with less than so many levels
-abbrev pub branch_clauses : List PropNode → (ℕ → Bool) → (ℕ → Literal) → ℕ → Branch
-branch_clauses nodes inside child zero path gate id = []
-branch_clauses nodes inside child (suc levels) path gate id =
-    if inside id then inner_clauses child (branch_clauses nodes inside child levels) path gate (node_at nodes id)
-    else leaf_clauses path gate (child id)
+-- the clauses of the branches that the items spell one after another in prefix order: below a control the path gets the
+-- literal that the control's value falsifies, below a negation the literal is negated, and at a leaf the path ends
+abbrev pub tree_clauses : (ℕ → Literal) → List Choice → List Open → List (List Literal)
+tree_clauses child [] pending = missing_clauses pending
+tree_clauses child (choice.Test a ∷ items) [] = []
+tree_clauses child (choice.Test a ∷ items) (o ∷ pending) =
+    tree_clauses child items ((o.0 ++ negate (child a) ∷ [], o.1) ∷ (o.0 ++ child a ∷ [], o.1) ∷ pending)
+tree_clauses child (choice.Not ∷ items) [] = []
+tree_clauses child (choice.Not ∷ items) (o ∷ pending) = tree_clauses child items ((o.0, negate o.1) ∷ pending)
+tree_clauses child (choice.Leaf a ∷ items) [] = []
+tree_clauses child (choice.Leaf a ∷ items) (o ∷ pending) =
+    leaf_clauses o.0 o.1 (child a) ++ tree_clauses child items pending
 
--- the clauses that make the gate's literal equal to its connective over the children's literals, in both directions; a
--- choice has those of its two branches
-abbrev pub definition : (ℕ → Literal) → Branch → Literal → PropNode → List (List Literal)
-definition child branch gate True = (gate ∷ []) ∷ []
-definition child branch gate (OfAtom a) = []
-definition child branch gate (Not a) = []
-definition child branch gate (And a b) = and_clauses gate (child a) (child b)
-definition child branch gate (Or a b) = or_clauses gate (child a) (child b)
-definition child branch gate (Ite a b c) = inner_clauses child branch [] gate (Ite a b c)
+-- a tree of which nothing has been read
+abbrev pub whole : Literal → List Open
+whole gate = ([], gate) ∷ []
+
+-- a choice as the items of a tree
+abbrev pub choice_items : ℕ → ℕ → ℕ → List Choice
+choice_items a b c = choice.Test a ∷ choice.Leaf b ∷ choice.Leaf c ∷ []
+
+-- the clauses that make the gate's literal equal to its connective over the children's literals, in both directions
+abbrev pub definition : (ℕ → Literal) → Literal → PropNode → List (List Literal)
+definition child gate True = (gate ∷ []) ∷ []
+definition child gate (OfAtom a) = []
+definition child gate (Not a) = []
+definition child gate (And a b) = and_clauses gate (child a) (child b)
+definition child gate (Or a b) = or_clauses gate (child a) (child b)
+definition child gate (Ite a b c) = tree_clauses child (choice_items a b c) (whole gate)
+definition child gate (Tree items) = tree_clauses child items (whole gate)
 
 -- these lists of literals as clauses, in order: each literal once, and no list that is always true
 abbrev pub AreClauses : List (List Literal) → List (List Literal) → Type 0

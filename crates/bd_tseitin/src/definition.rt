@@ -1,11 +1,11 @@
 //! The clauses that define one gate: a connective of its children, or a tree of choices.
-ghost use Rattle.std.specs.Prelude.{◌≡◌, ◌<◌, ℕ, ◌++◌, [], ◌∷◌, Some, None, IsSome, slice_index_or, IfOk, OnOk, length, All};
-ghost use Rattle.bd_tseitin.specs.Definition.{and_clauses, or_clauses, leaf_clauses, branch_clauses};
-ghost use Rattle.bd_tseitin.specs.inner.Tree.{operands, branches, lacks, HasTree};
-ghost use Rattle.bd_tseitin.specs.inner.Step.{known, AreKnown, Pushes, Defines};
+ghost use Rattle.std.specs.Prelude.{◌≡◌, ◌≤◌, ◌++◌, [], ◌∷◌, Some, None, IsSome, slice_index_or, IfOk, OnOk, drop, length};
+ghost use Rattle.bd_prop.specs.Node.{children, named};
+ghost use Rattle.bd_tseitin.specs.Definition.{and_clauses, definition, leaf_clauses, or_clauses, tree_clauses, whole};
+ghost use Rattle.bd_tseitin.specs.inner.Step.{known, AreKnown, Pushes, PushesBranch};
 
 use bd_cnf::{Clause, Lit};
-use bd_prop::PropNode;
+use bd_prop::{Choice, PropNode};
 use std::alloc::{AllocError, Global};
 
 /// The literal of a node that has one.
@@ -30,35 +30,33 @@ pub(crate) fn push(alloc: Global, clauses: &mut Vec<Clause>, lits: &[Lit]) -> Re
 pub(crate) fn define(
     alloc: Global,
     clauses: &mut Vec<Clause>,
-    nodes: &[PropNode],
     literals: &[Option<Lit>],
     gate: Lit,
-    node: PropNode,
+    node: &PropNode,
 ) -> Result<(), AllocError>
-    requires known { AreKnown literals.now (operands node) }
-    requires trees { All (HasTree nodes.now literals.now) (branches node) }
-    ensures { OnOk result
-        (Defines nodes.now literals.now gate node clauses.old.items clauses.new.items) }
+    requires { AreKnown literals.now (children node.now) }
+    ensures { OnOk result (Pushes clauses.old.items
+        (definition (known literals.now) gate node.now) clauses.new.items) }
 {
     match node {
         PropNode::True => push(alloc, clauses, &[gate]),
         PropNode::Atom(_) | PropNode::Not(_) => Ok(()),
         PropNode::And(a, b) => {
-            let a = literal(literals, a);
-            let b = literal(literals, b);
+            let a = literal(literals, *a);
+            let b = literal(literals, *b);
             define_and(alloc, clauses, gate, a, b)
         }
         PropNode::Or(a, b) => {
-            let a = literal(literals, a);
-            let b = literal(literals, b);
+            let a = literal(literals, *a);
+            let b = literal(literals, *b);
             define_or(alloc, clauses, gate, a, b)
         }
         PropNode::Ite(a, b, c) => {
-            let control = literal(literals, a);
-            let yes = [control.negated()];
-            branch(alloc, clauses, nodes, literals, gate, &yes, b)?;
-            let no = [control];
-            branch(alloc, clauses, nodes, literals, gate, &no, c)
+            let items = [Choice::Test(*a), Choice::Leaf(*b), Choice::Leaf(*c)];
+            define_tree(alloc, clauses, literals, gate, &items)
+        }
+        PropNode::Tree(choices) => {
+            define_tree(alloc, clauses, literals, gate, choices.as_slice())
         }
     }
 }
@@ -93,34 +91,61 @@ fn define_or(
     push(alloc, clauses, &[gate.negated(), a, b])
 }
 
-/// Puts the clauses of a branch of a tree after the others, two for each leaf. The path has the
-/// literals that the controls above it falsify. A node with no literal is inside the tree.
+/// gate = the tree that the items spell.
+fn define_tree(
+    alloc: Global,
+    clauses: &mut Vec<Clause>,
+    literals: &[Option<Lit>],
+    gate: Lit,
+    items: &[Choice],
+) -> Result<(), AllocError>
+    requires { AreKnown literals.now (named items.now) }
+    ensures { OnOk result (Pushes clauses.old.items
+        (tree_clauses (known literals.now) items.now (whole gate)) clauses.new.items) }
+{
+    branch(alloc, clauses, literals, gate, &[], items, 0)?;
+    Ok(())
+}
+
+/// Puts the clauses of the branch that begins at a place of the items after the others, two for each leaf, and answers
+/// with the place after it. The path has the literals that the controls above it falsify.
 fn branch(
     alloc: Global,
     clauses: &mut Vec<Clause>,
-    nodes: &[PropNode],
     literals: &[Option<Lit>],
     gate: Lit,
     path: &[Lit],
-    id: usize,
-) -> Result<(), AllocError>
-    requires { HasTree nodes.now literals.now id }
-    ensures { OnOk result ((levels : ℕ) → id < levels → Pushes clauses.old.items
-        (branch_clauses nodes.now (lacks literals.now) (known literals.now) levels path.now gate id)
-        clauses.new.items) }
+    items: &[Choice],
+    from: usize,
+) -> Result<usize, AllocError>
+    requires known { AreKnown literals.now (named items.now) }
+    requires inside { from ≤ length items.now }
+    ensures inside { IfOk result (λ next. next ≤ length items.now) }
+    ensures after { IfOk result (λ next. from ≤ next) }
+    ensures branch { IfOk result (λ next. PushesBranch (known literals.now) path.now gate
+        (drop from items.now) (drop next items.now) clauses.old.items clauses.new.items) }
 {
-    if let Some(leaf) = literals[id] {
-        return define_leaf(alloc, clauses, gate, path, leaf);
+    if from == items.len() {
+        let missing = joined(alloc, path, &[gate.negated()])?;
+        push(alloc, clauses, &missing)?;
+        return Ok(from);
     }
-    match nodes[id] {
-        PropNode::True | PropNode::Atom(_) | PropNode::And(_, _) | PropNode::Or(_, _) => Ok(()),
-        PropNode::Not(a) => branch(alloc, clauses, nodes, literals, gate.negated(), path, a),
-        PropNode::Ite(a, b, c) => {
+    match items[from] {
+        Choice::Test(a) => {
             let control = literal(literals, a);
             let yes = joined(alloc, path, &[control.negated()])?;
-            branch(alloc, clauses, nodes, literals, gate, &yes, b)?;
+            let next = branch(alloc, clauses, literals, gate, &yes, items, from + 1)?;
             let no = joined(alloc, path, &[control])?;
-            branch(alloc, clauses, nodes, literals, gate, &no, c)
+            branch(alloc, clauses, literals, gate, &no, items, next)
+        }
+        Choice::Not => {
+            let below = gate.negated();
+            branch(alloc, clauses, literals, below, path, items, from + 1)
+        }
+        Choice::Leaf(a) => {
+            let leaf = literal(literals, a);
+            define_leaf(alloc, clauses, gate, path, leaf)?;
+            Ok(from + 1)
         }
     }
 }

@@ -6,7 +6,6 @@ mod form;
 mod formula;
 mod inputs;
 mod row;
-mod tree;
 
 pub use form::clauses;
 pub use formula::Formula;

@@ -6,9 +6,9 @@ use Rattle.std.proofs.lemmas.Bool.{cases_eq}
 use Rattle.std.proofs.lemmas.Option.{slice_get_within}
 use Rattle.std.proofs.lemmas.Grind.{get_or-set_at}
 use Rattle.std.proofs.lemmas.List.{get_or-set_other, length-replicate, length-set}
-use Rattle.bd_abstraction.specs.Abstraction.{AbstractionView, flushing, given, IsLawfulAbstraction, IsLawfulGiven, abstraction_view}
-use Rattle.bd_abstraction.specs.declared.abstraction.Abstraction.{Abstraction}
-use Rattle.bd_abstraction.specs.declared.abstraction.Abstraction.TheVariants as abstraction
+use Rattle.bd_model.specs.Abstraction.{AbstractionView, flushing, given, IsLawfulAbstraction, IsLawfulGiven, abstraction_view}
+use Rattle.bd_model.specs.declared.abstraction.Abstraction.{Abstraction}
+use Rattle.bd_model.specs.declared.abstraction.Abstraction.TheVariants as abstraction
 use Rattle.bd_model.specs.DesignView.{DesignView}
 use Rattle.bd_model.specs.ExprView.{ExprView, Truth}
 use Rattle.bd_model.specs.Lawful.{Context}

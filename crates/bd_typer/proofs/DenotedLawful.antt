@@ -4,7 +4,7 @@ use Rattle.std.specs.Prelude.{IfOk, IfSome}
 use Rattle.std.specs.Option.{option_map}
 use Rattle.std.specs.Borrow.{Bor}
 use Rattle.bd_text.specs.Nodes.{Nodes}
-use Rattle.bd_abstraction.specs.Abstraction.{IsLawfulAbstraction}
+use Rattle.bd_model.specs.Abstraction.{IsLawfulAbstraction}
 use Rattle.bd_model.specs.DesignView.{DesignView, design_view}
 use Rattle.bd_model.specs.Lawful.{IsLawful}
 use Rattle.bd_model.specs.declared.design.Design.{Design}

@@ -1,7 +1,7 @@
 -- Joining files, step by step.
 use Rattle.std.proofs.Common.{◌≡◌, ℕ, List, length, Some, Ok, true, false, refl, ap, sym, ◌∙◌, subst}
 use Rattle.std.specs.Prelude.{replicate}
-use Rattle.bd_abstraction.specs.Abstraction.{given}
+use Rattle.bd_model.specs.Abstraction.{given}
 use Rattle.bd_model.specs.declared.design.Symbol as symbol
 use Rattle.bd_model.specs.declared.design.Sort.TheVariants as sorts
 use Rattle.bd_model.specs.ExprView.{ExprView, Truth}

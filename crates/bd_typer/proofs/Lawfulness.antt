@@ -2,7 +2,7 @@
 use Rattle.std.proofs.Common.{◌≡◌, ◌≤◌, ℕ, true, false, List, [], ◌∷◌, ◌++◌, length, Option, Some, None, Ok, refl, ap, sym, ◌∙◌, subst, arith, length-append}
 use Rattle.std.specs.Prelude.{IfSome, replicate, slice_get}
 use Rattle.std.specs.List.{filter_map, AllByRecursion, AllZip}
-use Rattle.bd_abstraction.specs.Abstraction.{AbstractionView, flushing, given}
+use Rattle.bd_model.specs.Abstraction.{AbstractionView, flushing, given}
 use Rattle.bd_model.specs.ExprView.{ExprView, Truth}
 use Rattle.bd_model.specs.DesignView.{DesignView, PortView, ExactView}
 use Rattle.bd_model.specs.declared.design.Entry as entry

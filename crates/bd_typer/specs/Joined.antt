@@ -2,7 +2,7 @@
 -- pipeline, the specification, a completion and the invariant. The language is this project's own.
 use Rattle.std.specs.Prelude.{ℕ, true, false, List, [], ◌∷◌, ◌++◌, map, length, replicate, Option, Some, None, Result, Ok}
 use Rattle.std.specs.List.{filter_map}
-use Rattle.bd_abstraction.specs.Abstraction.{AbstractionView, flushing, given, abstraction_view}
+use Rattle.bd_model.specs.Abstraction.{AbstractionView, flushing, given, abstraction_view}
 use Rattle.bd_model.specs.declared.design.Sort.TheVariants as sorts
 use Rattle.bd_model.specs.declared.design.Entry as entry
 use Rattle.bd_model.specs.declared.design.Symbol as symbol

@@ -2,7 +2,7 @@
 
 ghost use Rattle.std.specs.Prelude.{IfSome, Some, false, map, replicate};
 ghost use Rattle.std.specs.Option.{option_map};
-ghost use Rattle.bd_abstraction.specs.Abstraction.{abstraction_view};
+ghost use Rattle.bd_model.specs.Abstraction.{abstraction_view};
 ghost use Rattle.bd_model.specs.ExprView.{Truth, expr_view};
 ghost use Rattle.bd_syntax.specs.Completion.{IsLimitedCompAst, abstract_view, completion_view};
 ghost use Rattle.bd_syntax.specs.Reading.{Gives};
@@ -14,8 +14,7 @@ ghost use Rattle.bd_typer.specs.inner.Held.{lookup_names, meanings};
 use crate::expression::expression;
 use crate::names::{Lookup, NameMap, Outer};
 use crate::walk::{Typed, entry_named, set_entry, start, unset};
-use bd_abstraction::Abstraction;
-use bd_model::{Expr, Exprs};
+use bd_model::{Abstraction, Expr, Exprs};
 use bd_syntax::{Abstract, CompAst, FormFault};
 use std::alloc::Global;
 

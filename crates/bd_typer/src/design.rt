@@ -5,7 +5,7 @@ ghost use Rattle.std.specs.Option.{option_map};
 ghost use Rattle.bd_text.specs.Faults.{HasNoFault, IsFirstFault};
 ghost use Rattle.bd_text.specs.Grammar.{Spells};
 ghost use Rattle.bd_text.specs.View.{nodes_of};
-ghost use Rattle.bd_abstraction.specs.Abstraction.{IsLawfulAbstraction};
+ghost use Rattle.bd_model.specs.Abstraction.{IsLawfulAbstraction};
 ghost use Rattle.bd_model.specs.DesignView.{design_view};
 ghost use Rattle.bd_model.specs.Lawful.{IsLawful};
 ghost use Rattle.bd_syntax.specs.Completion.{completion_form, completion_view};

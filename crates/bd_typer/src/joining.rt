@@ -3,7 +3,7 @@
 ghost use Rattle.std.specs.Prelude.{◌≡◌, ◌≤◌, ◌+◌, ◌++◌, List, Option, Some, length, map, IfOk, IfSome, OnOk, true};
 ghost use Rattle.std.specs.List.{filter_map};
 ghost use Rattle.std.specs.Option.{option_map};
-ghost use Rattle.bd_abstraction.specs.Abstraction.{IsLawfulAbstraction};
+ghost use Rattle.bd_model.specs.Abstraction.{IsLawfulAbstraction};
 ghost use Rattle.bd_model.specs.DesignView.{design_view, machine_view as view_of};
 ghost use Rattle.bd_model.specs.Lawful.{IsLawful};
 ghost use Rattle.bd_model.specs.declared.design.Entry.{Entry};
@@ -29,9 +29,9 @@ use crate::fault::{Text, TypeFault, located};
 use crate::names::{Meaning, NameMap, Outer};
 use crate::scope::{Scope, scope_of};
 use crate::walk::{Typed, start};
-use bd_abstraction::Abstraction;
 use bd_model::{
-    Design, Distinct, Entries, Exacts, Expr, Exprs, Locals, Machine, Places, Ports, Sort, Symbols,
+    Abstraction, Design, Distinct, Entries, Exacts, Expr, Exprs, Locals, Machine, Places, Ports,
+    Sort, Symbols,
 };
 use bd_syntax::{Ast, CompAst, FormFault, InvAst, Item};
 use std::alloc::{AllocError, Global};

@@ -1,6 +1,6 @@
 //! Cases judged by a completion.
 ghost use Rattle.std.specs.Prelude.{IfOk};
-ghost use Rattle.bd_abstraction.specs.Abstraction.{IsLawfulAbstraction};
+ghost use Rattle.bd_model.specs.Abstraction.{IsLawfulAbstraction};
 ghost use Rattle.bd_model.specs.DesignView.{design_view};
 ghost use Rattle.bd_model.specs.Lawful.{IsLawful};
 

@@ -27,6 +27,7 @@ use Rattle.bd_prop.specs.declared.node.PropNode.TheVariants.{Not}
 use Rattle.bd_prop.specs.Form.{IsFormBelow, node_at, not_form, not_form_of}
 use Rattle.bd_prop.specs.Graph.{IsGraph as IsPropGraph}
 use Rattle.bd_prop.specs.Truth.{truth_at}
+use Rattle.bd_prop.proofs.GatheredTruth.{truth-gathered}
 use Rattle.bd_prop.proofs.Forms.{IsGraph-form, below_negation, truth-form, truth-not, within-form}
 use Rattle.bd_cnf.specs.Clause.{Satisfies}
 use Rattle.bd_cnf.specs.Problem.{AreWithin, Problem}
@@ -230,14 +231,17 @@ module _ (prop : List PropNode) (prop_root : ℕ) (first : Problem) (rows : List
   below = below-not prop prop_root graph inside
 
   form_inside : h.root < length h.nodes
-  form_inside = within-form prop (not_form prop prop_root) h.nodes h.root below h.negated
+  form_inside = h.negation.inside
 
   form_graph : IsPropGraph h.nodes
-  form_graph = IsGraph-form prop (not_form prop prop_root) h.nodes h.root graph below h.negated
+  form_graph = h.negation.graph
 
   negated : (value : Atom → Bool) → truth_at value h.nodes h.root ≡ not (truth_at value prop prop_root)
   negated value =
-      truth-form value prop (not_form prop prop_root) h.nodes h.root graph below h.negated ∙ truth-not value prop graph prop_root inside
+      let n = h.negation in
+      truth-gathered value n.negation n.negation_root h.nodes h.root (IsGraph-form prop (not_form prop prop_root) n.negation n.negation_root graph below n.negated) n.graph
+      (within-form prop (not_form prop prop_root) n.negation n.negation_root below n.negated) n.gathered
+      ∙ truth-form value prop (not_form prop prop_root) n.negation n.negation_root graph below n.negated ∙ truth-not value prop graph prop_root inside
 
   denied-up : (value : Atom → Bool) → truth_at value prop prop_root ≡ false → (a : ℕ → Bool) × Satisfies a first.clauses × Agree a value rows
   denied-up value root_false = (

@@ -16,3 +16,4 @@ pub mod Said
 pub mod Judgements
 pub mod WordsAgree
 pub mod Results
+pub mod Counted

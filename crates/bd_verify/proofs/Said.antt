@@ -25,25 +25,25 @@ said says budget answer work p log found cnf is same h =
     subst (λ q. says q budget answer work.log) (sym cnf) (subst (λ l. says p budget answer l) (sym is) (subst (λ a. says p budget a log) same h))
 
 -- a case that meets the invariant was found, by an answer that the solver says and that is therefore lawful
-pub meets-first : {S : Type 0} (says : S → Problem → ℕ → Found → List Line → Type 0) (solver : S) (d : DesignView) (m : Mode) (budget : ℕ) (k : Case) (work : Work)
-    → ((answer : Found) → says solver work.cnf budget answer work.log → IsLaw work.cnf budget answer work.log)
-    → IsAnswered d question.Meets m budget (decision.ThisCase k work) → IsAnswerSaid (says solver) budget (decision.ThisCase k work) → MeetsFirst says solver d m budget
-meets-first says solver d m budget k work law found h =
+pub meets-first : {S : Type 0} (says : S → S → Problem → ℕ → Found → List Line → Type 0) (before after : S) (d : DesignView) (m : Mode) (budget : ℕ) (k : Case) (work : Work)
+    → ((answer : Found) → says before after work.cnf budget answer work.log → IsLaw work.cnf budget answer work.log)
+    → IsAnswered d question.Meets m budget (decision.ThisCase k work) → IsAnswerSaid (says before after) budget (decision.ThisCase k work) → MeetsFirst says before after d m budget
+meets-first says before after d m budget k work law found h =
     (work, (h.0, record { kept = found.2.1.kept; keeps = found.2.1.keeps; law = law (Model h.0) h.1 }, h.1))
 
 abbrev is_breaks : Question → Type 0
 is_breaks question.Breaks = Unit {0}
 is_breaks question.Meets = ⊥
 
-in_turn : {S : Type 0} (says : S → Problem → ℕ → Found → List Line → Type 0) (solver later : S) (d : DesignView) (m : Mode) (budget : ℕ) (met : Option Case) (v : Verdict)
-    → MeetsFirst says solver d m budget → IsFound d m budget met v → IsVerdictSaid (says later) budget v → IsAskedInTurn says solver d m budget v
-in_turn says solver later d m budget met (Correct c work) first found h = (first, (later, h))
-in_turn says solver later d m budget met (Wrong k c work) first found h = (first, (later, h))
-in_turn says solver later d m budget met (Void work) first found h = absurd found
-in_turn says solver later d m budget met (Undecided question.Breaks work) first found h = (first, (later, h))
-in_turn says solver later d m budget met (Undecided question.Meets work) first found h = absurd (subst is_breaks (sym found.0) tt)
+in_turn : {S : Type 0} (says : S → S → Problem → ℕ → Found → List Line → Type 0) (before between after : S) (d : DesignView) (m : Mode) (budget : ℕ) (met : Option Case) (v : Verdict)
+    → MeetsFirst says before between d m budget → IsFound d m budget met v → IsVerdictSaid (says between after) budget v → IsAskedInTurn says before after d m budget v
+in_turn says before between after d m budget met (Correct c work) first found h = (between, first, h)
+in_turn says before between after d m budget met (Wrong k c work) first found h = (between, first, h)
+in_turn says before between after d m budget met (Void work) first found h = absurd found
+in_turn says before between after d m budget met (Undecided question.Breaks work) first found h = (between, first, h)
+in_turn says before between after d m budget met (Undecided question.Meets work) first found h = absurd (subst is_breaks (sym found.0) tt)
 
-pub in-turn : {S : Type 0} (says : S → Problem → ℕ → Found → List Line → Type 0) (solver later : S) (d : DesignView) (m : Mode) (budget : ℕ) (met : Option Case) (r : Result Verdict AllocError)
-    → MeetsFirst says solver d m budget → IfOk r (IsFound d m budget met) → IfOk r (IsVerdictSaid (says later) budget) → IfOk r (IsAskedInTurn says solver d m budget)
-in-turn says solver later d m budget met (Ok v) first found h = in_turn says solver later d m budget met v first found h
-in-turn says solver later d m budget met (Err error) first found h = tt
+pub in-turn : {S : Type 0} (says : S → S → Problem → ℕ → Found → List Line → Type 0) (before between after : S) (d : DesignView) (m : Mode) (budget : ℕ) (met : Option Case) (r : Result Verdict AllocError)
+    → MeetsFirst says before between d m budget → IfOk r (IsFound d m budget met) → IfOk r (IsVerdictSaid (says between after) budget) → IfOk r (IsAskedInTurn says before after d m budget)
+in-turn says before between after d m budget met (Ok v) first found h = in_turn says before between after d m budget met v first found h
+in-turn says before between after d m budget met (Err error) first found h = tt

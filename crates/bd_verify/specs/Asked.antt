@@ -1,6 +1,7 @@
 -- What the solver that is handed in says: the answer and the log that a verdict rests on are its own, of the formula that
--- is kept and within the whole budget. A solver changes where it is asked, so a second question goes to a later one.
-use Rattle.std.specs.Prelude.{ℕ, List}
+-- is kept and within the whole budget, and of the very call that leads from the solver before to the one after. A solver
+-- changes where it is asked, so a second question goes to a later one.
+use Rattle.std.specs.Prelude.{ℕ, Bool, List, if◌then◌else◌}
 use Rattle.bd_model.specs.DesignView.{DesignView}
 use Rattle.bd_cnf.specs.Problem.{Problem}
 use Rattle.bd_lrat.specs.declared.line.Line.{Line}
@@ -36,19 +37,31 @@ IsVerdictSaid says budget (Wrong k c work) = IsModelSaid says budget work
 IsVerdictSaid says budget (Void work) = IsSaid says budget found.Refuted work
 IsVerdictSaid says budget (Undecided asked work) = IsSaid says budget found.Spent work
 
--- the solver finds a case that meets the invariant, within this budget
-abbrev pub MeetsFirst : {S : Type 0} → (S → Problem → ℕ → Found → List Line → Type 0) → S → DesignView → Mode → ℕ → Type 0
-MeetsFirst says solver d mode budget =
-    (work : Work) × ((model : _) × IsWorkOf d question.Meets mode budget (found.Model model) work × IsSaid (says solver) budget (found.Model model) work)
+-- the solver finds a case that meets the invariant, within this budget, and is another one after that
+abbrev pub MeetsFirst : {S : Type 0} → (S → S → Problem → ℕ → Found → List Line → Type 0) → S → S → DesignView → Mode → ℕ → Type 0
+MeetsFirst says before after d mode budget =
+    (work : Work) × ((model : _) × IsWorkOf d question.Meets mode budget (found.Model model) work × IsSaid (says before after) budget (found.Model model) work)
 
--- the solver is asked first whether a case meets the invariant; where one does, a later solver is asked, with the whole
--- budget again, and gives the verdict
-abbrev pub IsAskedInTurn : {S : Type 0} → (S → Problem → ℕ → Found → List Line → Type 0) → S → DesignView → Mode → ℕ → Verdict → Type 0
-IsAskedInTurn says solver d mode budget (Correct c work) =
-    MeetsFirst says solver d mode budget × ((later : _) × IsSaid (says later) budget found.Refuted work)
-IsAskedInTurn says solver d mode budget (Wrong k c work) =
-    MeetsFirst says solver d mode budget × ((later : _) × IsModelSaid (says later) budget work)
-IsAskedInTurn says solver d mode budget (Void work) = IsSaid (says solver) budget found.Refuted work
-IsAskedInTurn says solver d mode budget (Undecided question.Meets work) = IsSaid (says solver) budget found.Spent work
-IsAskedInTurn says solver d mode budget (Undecided question.Breaks work) =
-    MeetsFirst says solver d mode budget × ((later : _) × IsSaid (says later) budget found.Spent work)
+-- the solver is asked first whether a case meets the invariant; where one does, what it is right after that answer is asked,
+-- with the whole budget again, and gives the verdict
+abbrev pub IsAskedInTurn : {S : Type 0} → (S → S → Problem → ℕ → Found → List Line → Type 0) → S → S → DesignView → Mode → ℕ → Verdict → Type 0
+IsAskedInTurn says before after d mode budget (Correct c work) =
+    (between : _) × MeetsFirst says before between d mode budget × IsSaid (says between after) budget found.Refuted work
+IsAskedInTurn says before after d mode budget (Wrong k c work) =
+    (between : _) × MeetsFirst says before between d mode budget × IsModelSaid (says between after) budget work
+IsAskedInTurn says before after d mode budget (Void work) = IsSaid (says before after) budget found.Refuted work
+IsAskedInTurn says before after d mode budget (Undecided question.Meets work) = IsSaid (says before after) budget found.Spent work
+IsAskedInTurn says before after d mode budget (Undecided question.Breaks work) =
+    (between : _) × MeetsFirst says before between d mode budget × IsSaid (says between after) budget found.Spent work
+
+-- how many questions a verdict is of: where an invariant is given, a second one if a case meets it
+abbrev pub questions : Bool → Verdict → ℕ
+questions given (Correct c work) = if given then 2 else 1
+questions given (Wrong k c work) = if given then 2 else 1
+questions given (Void work) = 1
+questions given (Undecided question.Meets work) = 1
+questions given (Undecided question.Breaks work) = if given then 2 else 1
+
+-- the most questions of a verdict
+abbrev pub most_questions : Bool → ℕ
+most_questions given = if given then 2 else 1

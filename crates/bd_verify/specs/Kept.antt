@@ -1,7 +1,7 @@
 -- The kept formula of a root, layer by layer: memories and functions are removed, positive symbols marked, equations
 -- become edges, and the negated truth root, the edges' triangles and the edges that are kept apart become clauses
 -- (Burch and Dill 1994; Bryant, German and Velev 2001; Bryant and Velev 2000; Tseitin 1968; Velev 2004). What a layer
--- leaves free stays free, as the order of triangles, which choices are inside trees, and which variable a node gets.
+-- leaves free stays free, as the order of triangles and which variable a node gets.
 use Rattle.std.specs.Prelude.{◌≡◌, ◌↔◌, ◌⊎◌, ◌<◌, ◌≤◌, ◌+◌, ◌++◌, ℕ, true, false, List, [], ◌∷◌, All, Contains, Option, None, length, map, take, slice_index, slice_index_or}
 use Rattle.bd_model.specs.Cycle.{flushed}
 use Rattle.bd_model.specs.DesignView.{DesignView}
@@ -12,7 +12,7 @@ use Rattle.bd_terms.specs.declared.node.Node.{Node}
 use Rattle.bd_terms.specs.Denotation.{World}
 use Rattle.bd_terms.specs.Graph.{HasSort, IsGraph}
 use Rattle.bd_goal.specs.Claims.{Claims}
-use Rattle.bd_abstraction.specs.declared.abstraction.Abstraction.TheVariants as abstraction
+use Rattle.bd_model.specs.declared.abstraction.Abstraction.TheVariants as abstraction
 use Rattle.bd_goal.specs.Formula.{Corresponds, IsOutside, address_count}
 use Rattle.bd_goal.specs.Made.{IsCorrespondence, IsDenial}
 use Rattle.bd_goal.specs.Symbols.{ReachesKnown}
@@ -28,6 +28,7 @@ use Rattle.bd_diverse.specs.Positive.{IsPositive}
 use Rattle.bd_prop.specs.declared.atom.Atom.TheVariants as atom
 use Rattle.bd_prop.specs.declared.node.PropNode.{PropNode}
 use Rattle.bd_prop.specs.Form.{HasForm, not_form}
+use Rattle.bd_prop.specs.Gathered.{IsGathered}
 use Rattle.bd_prop.specs.Graph.{HasOneId, IsGraph as IsPropGraph}
 use Rattle.bd_cnf.specs.Literal.{Literal, literal}
 use Rattle.bd_cnf.specs.Problem.{Problem}
@@ -136,7 +137,7 @@ pub record IsEncoded (d : DesignView) (nodes : List Node) (root : ℕ) (syms : L
     (prop : List PropNode) (prop_root : ℕ) (edges apart : List Edge) : Type 0 where
   pub graph : IsPropGraph prop
   pub inside : prop_root < length prop
-  pub made : Made nodes marked prop (FlatTerm root) prop_root
+  pub made : Made nodes syms marked prop (FlatTerm root) prop_root
   pub denotes : Encodes nodes root marked prop prop_root
   pub by_edges : EncodesByEdges nodes root marked edges prop prop_root
   pub simple : AreEdges edges
@@ -153,12 +154,21 @@ pub record IsOrderOf (edges : List Edge) (order : Order) : Type 0 where
   pub given : take (length edges) order.edges ≡ edges
   pub further : (e : ℕ) → length edges ≤ e → e < length order.edges → IsFillIn order e
 
--- Tseitin's clauses of the negated root
+-- the negated root, whose choices are gathered into trees
+pub record IsNegation (prop : List PropNode) (prop_root : ℕ) (nodes : List PropNode) (root : ℕ) : Type 0 where
+  pub negation : List PropNode
+  pub negation_root : ℕ
+  pub negated : HasForm prop (not_form prop prop_root) negation negation_root
+  pub gathered : IsGathered negation negation_root nodes root
+  pub graph : IsPropGraph nodes
+  pub inside : root < length nodes
+
+-- Tseitin's clauses of it
 pub record IsDenied (prop : List PropNode) (prop_root : ℕ) (formula : Problem) (rows : List AtomVar) : Type 0 where
   pub nodes : List PropNode
   pub root : ℕ
+  pub negation : IsNegation prop prop_root nodes root
   pub different : HasOneId nodes
-  pub negated : HasForm prop (not_form prop prop_root) nodes root
   pub form : IsTseitin nodes root formula.vars formula.clauses rows
 
 -- the row of an edge

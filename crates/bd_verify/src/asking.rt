@@ -1,5 +1,6 @@
 //! What an honest solver makes of a question, by the root that decides it.
-ghost use Rattle.std.specs.Prelude.{◌≡◌, [], IfOk, length};
+ghost use Rattle.std.specs.Prelude.{◌≡◌, [], IfOk, OnOk, length};
+ghost use Rattle.bd_cdcl.specs.Asks.{Asks, AsksAtMost};
 ghost use Rattle.bd_model.specs.DesignView.{design_view};
 ghost use Rattle.bd_model.specs.Lawful.{IsLawful};
 ghost use Rattle.bd_symbolic.specs.Widened.{case_of_trail};
@@ -26,6 +27,7 @@ pub(crate) enum Decision {
 }
 
 /// The answer to a question about a lawful design, by any honest solver, which may add `budget` clauses.
+#[tactic(auto, using(bd_cdcl::proofs::Questions::none_asked))]
 pub(crate) fn ask<S: HonestSolver>(
     alloc: Global,
     solver: &mut S,
@@ -36,7 +38,9 @@ pub(crate) fn ask<S: HonestSolver>(
 ) -> Result<Decision, AllocError>
     requires { IsLawful (design_view design.now) }
     ensures answered { IfOk result (IsAnswered (design_view design.now) asked mode budget) }
-    ensures said { IfOk result (IsAnswerSaid (S.says solver.old) budget) }
+    ensures said { IfOk result (IsAnswerSaid (S.says solver.old solver.new) budget) }
+    ensures counted { OnOk result (Asks (S.asked solver.old) (S.asked solver.new) 1) }
+    ensures at_most { AsksAtMost (S.asked solver.old) (S.asked solver.new) 1 }
 {
     let mut graph = Graph::new(alloc);
     let root = root_of(alloc, &mut graph, design, asked)?;

@@ -1,5 +1,6 @@
 //! What an honest solver makes of a root: the way from it to the formula that is kept of it, and back.
-ghost use Rattle.std.specs.Prelude.{◌≡◌, ℕ, List, IfOk, length};
+ghost use Rattle.std.specs.Prelude.{◌≡◌, ℕ, List, IfOk, OnOk, length};
+ghost use Rattle.bd_cdcl.specs.Asks.{Asks, AsksAtMost};
 ghost use Rattle.bd_cnf.specs.Assignment.{value_of};
 ghost use Rattle.bd_cnf.specs.Clause.{Satisfies};
 ghost use Rattle.bd_lift.specs.Lifted.{AreKnown};
@@ -48,7 +49,9 @@ pub fn decide<S: HonestSolver>(
     requires known { IsKnownRoot (widened (design_view design.now) cycles) graph.now root }
     ensures decided { IfOk result
         (IsDecided (design_view design.now) cycles graph.now root Mode.Plain budget) }
-    ensures asked { IfOk result (IsDecisionSaid (S.says solver.old) budget) }
+    ensures asked { IfOk result (IsDecisionSaid (S.says solver.old solver.new) budget) }
+    ensures counted { OnOk result (Asks (S.asked solver.old) (S.asked solver.new) 1) }
+    ensures at_most { AsksAtMost (S.asked solver.old) (S.asked solver.new) 1 }
 {
     decide_by(
         alloc,
@@ -62,8 +65,10 @@ pub fn decide<S: HonestSolver>(
     )
 }
 
-/// Whether a root over the symbols of a design is true in every world that keeps the constants apart, in a mode.
-pub(crate) fn decide_by<S: HonestSolver>(
+/// Whether a root over the symbols of a design, with its inputs once for each cycle, is true in every world that keeps
+/// the constants apart, in this mode.
+#[tactic(auto, using(bd_cdcl::proofs::Questions::none_asked, bd_cdcl::proofs::Questions::one_asked))]
+pub fn decide_by<S: HonestSolver>(
     alloc: Global,
     solver: &mut S,
     design: &Design,
@@ -77,7 +82,9 @@ pub(crate) fn decide_by<S: HonestSolver>(
     requires known { IsKnownRoot (widened (design_view design.now) cycles) graph.now root }
     ensures decided { IfOk result
         (IsDecided (design_view design.now) cycles graph.now root mode budget) }
-    ensures asked { IfOk result (IsDecisionSaid (S.says solver.old) budget) }
+    ensures asked { IfOk result (IsDecisionSaid (S.says solver.old solver.new) budget) }
+    ensures counted { OnOk result (Asks (S.asked solver.old) (S.asked solver.new) 1) }
+    ensures at_most { AsksAtMost (S.asked solver.old) (S.asked solver.new) 1 }
 {
     let reduction = reduced(alloc, design, graph, root, mode)?;
     let mut log = Log::new(alloc);

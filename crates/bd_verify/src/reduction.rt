@@ -5,7 +5,7 @@ ghost use Rattle.bd_model.specs.declared.design.Sort.TheVariants as sort;
 ghost use Rattle.bd_symbolic.specs.Widened.{widened};
 ghost use Rattle.bd_terms.specs.Graph.{HasSort};
 ghost use Rattle.bd_verify.specs.Decided.{IsThis};
-ghost use Rattle.bd_verify.specs.Kept.{AreMarks, IsFlatOf, IsFormulaOf};
+ghost use Rattle.bd_verify.specs.Kept.{AreMarks, IsFlatOf, IsFormulaOf, IsNegation};
 ghost use Rattle.bd_verify.specs.inner.Reduced.{HasFlatOf, HasFormulaOf};
 
 use crate::edges::with_edges;
@@ -15,6 +15,7 @@ use bd_equality::encode;
 use bd_function::{Flat, Marked, flatten};
 use bd_memory::forward;
 use bd_model::Design;
+use bd_prop::{Gathered, Prop, gather};
 use bd_terms::{Graph, Id};
 use bd_transitive::{Order, order};
 use bd_tseitin::{Formula, clauses};
@@ -67,14 +68,24 @@ fn formula_of(
         (option_copied marked.entry) r.0 r.1.cnf r.1.atoms) }
 {
     let encoded = encode(alloc, flat, &design.distinct, marked)?;
-    let mut prop = encoded.prop;
-    let denied = prop.mk_not(encoded.root)?;
-    let nodes = prop.nodes();
+    let denied = negated(alloc, encoded.prop, encoded.root)?;
+    let nodes = denied.prop.nodes();
     prove!(nodes.len() < 1 << 60);
-    let formula = clauses(alloc, &prop, denied)?;
+    let formula = clauses(alloc, &denied.prop, denied.root)?;
     let order = order(alloc, &encoded.edges)?;
     let formula = with_edges(alloc, formula, &order, encoded.apart.as_slice())?;
     Ok((order, formula))
+}
+
+/// The negated root, whose choices are gathered into trees.
+pub fn negated(alloc: Global, prop: Prop, root: usize) -> Result<Gathered, AllocError>
+    requires { root < length prop }
+    ensures { IfOk result (λ g. IsNegation prop root g.prop g.root) }
+{
+    let mut prop = prop;
+    let negation = prop.mk_not(root)?;
+    let gathered = gather(alloc, &prop, negation)?;
+    Ok(gathered)
 }
 
 /// The root without memories and functions, and in diverse mode the variables that are taken as different from all

@@ -1,6 +1,7 @@
 //! A solver's answer, checked. Nobody need believe the solver: a proof counts if each of its lines is accepted and it
 //! ends as it should, and a model if it satisfies the formula.
 ghost use Rattle.std.specs.Prelude.{◌≡◌, IfOk};
+ghost use Rattle.bd_cdcl.specs.Asks.{Asks};
 ghost use Rattle.bd_cnf.specs.Assignment.{value_of};
 ghost use Rattle.bd_lrat.specs.Log.{additions, adds_literals};
 ghost use Rattle.bd_verify.specs.Settled.{Settles, false_from, refuted, settled_of, spent};
@@ -34,8 +35,9 @@ pub fn settle<S: Solver>(
     cnf: &Cnf,
     budget: u32,
 ) -> Result<Settled, AllocError>
-    ensures { IfOk result (λ settled.
-        Settles (S.says solver.old cnf.now budget) cnf.now budget settled) }
+    ensures settles { IfOk result (λ settled.
+        Settles (S.says solver.old solver.new cnf.now budget) cnf.now budget settled) }
+    ensures counted { Asks (S.asked solver.old) (S.asked solver.new) 1 }
 {
     let mut log = Log::new(alloc);
     let found = solver.solve(cnf, budget, &mut log)?;

@@ -1,11 +1,12 @@
 //! The verdict on a design.
-ghost use Rattle.std.specs.Prelude.{◌≡◌, true, false, is_some, Option, Ok, Some, IfOk, IfSome};
+ghost use Rattle.std.specs.Prelude.{◌≡◌, true, false, is_some, Option, Ok, Some, IfOk, IfSome, OnOk};
+ghost use Rattle.bd_cdcl.specs.Asks.{Asks, AsksAtMost};
 ghost use Rattle.bd_model.specs.DesignView.{design_view};
 ghost use Rattle.bd_model.specs.Fits.{Fits};
 ghost use Rattle.bd_model.specs.Conditions.{IsJudged, MeetsInvariant, SomeCaseMeetsInvariant};
 ghost use Rattle.bd_model.specs.Lawful.{IsLawful};
 ghost use Rattle.bd_model.specs.Right.{IsRight};
-ghost use Rattle.bd_verify.specs.Asked.{IsAskedInTurn, IsVerdictSaid};
+ghost use Rattle.bd_verify.specs.Asked.{IsAskedInTurn, IsVerdictSaid, most_questions, questions};
 ghost use Rattle.bd_verify.specs.Verdict.{HasWork, Says};
 ghost use Rattle.bd_verify.specs.inner.Answered.{IsFound};
 
@@ -86,9 +87,13 @@ pub fn verify<S: HonestSolver>(
         given ≡ true → SomeCaseMeetsInvariant (design_view design.now) }
     ensures work { IfOk result (HasWork (design_view design.now) mode budget) }
     ensures says { IfOk result (Says (design_view design.now) given) }
-    ensures asked { given ≡ false → IfOk result (IsVerdictSaid (S.says solver.old) budget) }
+    ensures asked { given ≡ false → IfOk result
+        (IsVerdictSaid (S.says solver.old solver.new) budget) }
     ensures asked_in_turn { given ≡ true → IfOk result
-        (IsAskedInTurn S.says solver.old (design_view design.now) mode budget) }
+        (IsAskedInTurn S.says solver.old solver.new (design_view design.now) mode budget) }
+    ensures counted { IfOk result (λ v.
+        Asks (S.asked solver.old) (S.asked solver.new) (questions given v)) }
+    ensures at_most { AsksAtMost (S.asked solver.old) (S.asked solver.new) (most_questions given) }
 {
     if !given {
         return breaks(alloc, solver, design, budget, None, mode);
@@ -101,6 +106,7 @@ pub fn verify<S: HonestSolver>(
 }
 
 /// The verdict by whether some case breaks a condition; `met`, if given, is a case that meets the invariant.
+#[tactic(auto, using(bd_cdcl::proofs::Questions::none_asked))]
 fn breaks<S: HonestSolver>(
     alloc: Global,
     solver: &mut S,
@@ -113,7 +119,9 @@ fn breaks<S: HonestSolver>(
     requires met { IfSome met (λ c. Fits (design_view design.now) c
         × MeetsInvariant (design_view design.now) c.interp c.state) }
     ensures found { IfOk result (IsFound (design_view design.now) mode budget met) }
-    ensures said { IfOk result (IsVerdictSaid (S.says solver.old) budget) }
+    ensures said { IfOk result (IsVerdictSaid (S.says solver.old solver.new) budget) }
+    ensures counted { OnOk result (Asks (S.asked solver.old) (S.asked solver.new) 1) }
+    ensures at_most { AsksAtMost (S.asked solver.old) (S.asked solver.new) 1 }
 {
     match ask(alloc, solver, design, budget, Question::Breaks, mode)? {
         Decision::NoCase(work) => Ok(Verdict::Correct(met, work)),

@@ -1,3 +1,4 @@
 pub mod Watchers
 pub mod Visits
 pub mod Loading
+pub mod Reasons

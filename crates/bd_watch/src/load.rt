@@ -150,7 +150,7 @@ impl Watch {
     }
 
     /// The clauses of a formula, with the ids from 1, and no literal yet. More than 2^31 - 1
-    /// variables or 2^32 clauses end as want of memory.
+    /// variables or 2^32 clauses end as out of memory.
     pub fn load(alloc: Global, cnf: &Cnf) -> Result<Watch, AllocError>
         ensures { IfOk result (IsLoaded (cnf.now.vars + 1) cnf.now.clauses) }
     {

@@ -15,12 +15,55 @@ use bd_cnf::{Assignment, Lit, PackedLit};
 use std::alloc::{AllocError, Global};
 use std::marker::Model;
 
+/// The id of the clause that implied a literal, if it is no decision. Ids are above 0, so that this
+/// takes eight bytes where an `Option` takes sixteen.
+#[derive(Clone, Copy)]
+struct Reason {
+    id: u64,
+}
+
+impl Model for Reason {
+    ghost use Rattle.std.specs.Prelude.{ℕ, Option};
+    ghost use Rattle.bd_watch.specs.inner.Reasons.{reason_of, id_of, id_of_reason};
+
+    ghost Value = { Option ℕ };
+
+    ghost view = { λ r. reason_of r.id };
+
+    ghost inverse = { λ o. record { id = id_of o } };
+
+    ghost inverse_ok = { λ a h i. record { id = id_of_reason a.id i } };
+}
+
+impl Reason {
+    /// The reason of a decision.
+    fn none() -> Reason
+        ensures { result ≡ None }
+    {
+        Reason { id: 0 }
+    }
+
+    /// The clause of that id.
+    fn clause(id: u64) -> Reason
+        requires { 0 < id }
+        ensures { result ≡ Some id }
+    {
+        Reason { id }
+    }
+
+    /// The id of the clause, if there is one.
+    fn id(self) -> Option<u64>
+        ensures { result ≡ self }
+    {
+        if self.id == 0 { None } else { Some(self.id) }
+    }
+}
+
 /// A literal on a trail: a decision where it has no reason.
 #[derive(Clone, Copy)]
 pub struct Assigned {
     literal: PackedLit,
-    /// The id of the clause that implied it.
-    reason: Option<u64>,
+    reason: Reason,
 }
 
 impl Model for Assigned {
@@ -45,7 +88,7 @@ impl Assigned {
     pub fn reason(self) -> Option<u64>
         ensures { result ≡ self.reason }
     {
-        self.reason
+        self.reason.id()
     }
 }
 
@@ -55,7 +98,7 @@ pub struct AssignmentTrail {
     /// By literal, whether it is on the trail.
     holds: Vec<bool>,
     /// By variable, where its literal stands, if it has one.
-    places: Vec<usize>,
+    places: Vec<u32>,
     /// Where the levels above 0 begin.
     starts: Vec<usize>,
     entries: Vec<Assigned>,
@@ -75,7 +118,7 @@ impl Model for AssignmentTrail {
 
 impl AssignmentTrail {
     /// No literal, with room for those of the variables up to `vars`. More than 2^31 - 1 of them
-    /// end as want of memory.
+    /// end as out of memory.
     pub fn new(alloc: Global, vars: u64) -> Result<AssignmentTrail, AllocError>
         ensures empty { IfOk result (λ t. t ≡ leveled (vars + 1) []) }
         ensures packable { OnOk result (vars < 2 ^ 31) }
@@ -145,7 +188,7 @@ impl AssignmentTrail {
         requires { has_variable (literals self.now.entries) packed.var ≡ true }
         ensures { IsPlaceOf self.now.entries packed.var result }
     {
-        self.places[packed.variable()]
+        self.places[packed.variable()] as usize
     }
 
     /// Where the current level begins, if it is above level 0.
@@ -182,24 +225,25 @@ impl AssignmentTrail {
         self.starts.push_reserved(self.entries.len());
         let literal = PackedLit::of(lit);
         self.holds[literal.index()] = true;
-        self.places[literal.variable()] = self.entries.len();
+        self.places[literal.variable()] = self.entries.len() as u32;
         self.entries.push_reserved(Assigned {
             literal,
-            reason: None,
+            reason: Reason::none(),
         });
     }
 
     /// Takes a literal whose variable has no value yet as implied by the clause of that id. Takes
     /// no memory.
     pub fn imply(&mut self, literal: PackedLit, id: u64)
+        requires id { 0 < id }
         requires within { literal.var < self.old.limit }
         requires unassigned { has_variable (literals self.old.entries) literal.var ≡ false }
         ensures implied { self.new ≡ extended self.old (assigned literal (Some id)) }
         ensures room { length self.new.entries ≤ self.new.limit }
     {
-        let reason = Some(id);
+        let reason = Reason::clause(id);
         self.holds[literal.index()] = true;
-        self.places[literal.variable()] = self.entries.len();
+        self.places[literal.variable()] = self.entries.len() as u32;
         self.entries.push_reserved(Assigned { literal, reason });
     }
 
@@ -212,7 +256,7 @@ impl AssignmentTrail {
     {
         let last = self.entries.pop()?;
         self.holds[last.literal.index()] = false;
-        if last.reason.is_none() {
+        if last.reason().is_none() {
             self.starts.pop();
         }
         Some(last)
@@ -226,7 +270,7 @@ impl AssignmentTrail {
         ensures level_zero { IfNone result (decisions self.old.entries ≡ []) }
     {
         while let Some(last) = self.pop() {
-            if last.reason.is_none() {
+            if last.reason().is_none() {
                 return Some(last.literal.lit());
             }
         }
@@ -250,7 +294,7 @@ impl AssignmentTrail {
     {
         let mut found = Vec::new(alloc);
         for entry in &self.entries {
-            if entry.reason.is_none() {
+            if entry.reason().is_none() {
                 found.push(entry.literal.lit())?;
             }
         }

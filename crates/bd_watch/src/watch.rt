@@ -19,7 +19,9 @@ use crate::watcher::{WatchList, WatchedPair, Watcher};
 use bd_cnf::{PackedClauses, PackedLit};
 use std::alloc::AllocError;
 
-/// Clauses and a trail.
+/// Clauses, each of which watches two of its literals while it has two, and the trail that they
+/// watch: what a trail makes unit or false is found by looking at those clauses alone that watch a
+/// literal which has become false.
 #[derive(Drop)]
 pub struct Watch {
     pub(crate) clauses: PackedClauses,

@@ -80,7 +80,7 @@ impl Files for Folder {
         }
     }
 
-    /// Puts a file of that name in front of the others; only want of memory makes it fail.
+    /// Puts a file of that name in front of the others; it fails only when out of memory.
     fn save(&mut self, name: &str, bytes: &[u8]) -> Result<(), SaveError>
         ensures ok { OnOk result (self.new ≡ saved self.old name.now bytes.now) }
         ensures never_fails { ¬ IsErrOf result SaveError.Failed }

@@ -1,26 +1,50 @@
 //! What is asked for, as it is typed.
 
-use bd_model::{Design, Entry, Sort};
-use bd_slice::Column;
+use bd_model::Design;
+use bd_slice::{Column, Cycle};
+use std::alloc::{AllocError, Global};
 
-/// An entry, or a word of a memory, and maybe a column.
-#[derive(Clone, Copy)]
+/// A name, maybe with an address in brackets or arguments in parentheses, and maybe a column.
+#[derive(Drop)]
 pub struct Asked<'a> {
     pub name: &'a [u8],
-    pub address: Option<u64>,
+    pub part: AskedPart,
     pub column: Option<Column>,
 }
 
-/// Why what is asked for isn't there.
-#[derive(Clone, Copy)]
-pub enum Missing {
-    Entry,
-    Address,
-    Column,
+/// What is asked for of a name: itself, a memory's word at an address, or a function's value at arguments.
+#[derive(Drop)]
+pub enum AskedPart {
+    Whole,
+    Word(u64),
+    Row(Vec<u64>),
 }
 
+impl AskedPart {
+    /// The address, where there is one.
+    pub fn address(&self) -> Option<u64> {
+        match self {
+            AskedPart::Word(address) => Some(*address),
+            _ => None,
+        }
+    }
+}
+
+/// Why what is asked for isn't there: there is no such name, an address is missing or too many, there is no such column,
+/// or none in which a let or an input has a value.
+#[derive(Clone, Copy)]
+pub enum Missing {
+    Name,
+    Address,
+    Column,
+    Cycle,
+}
+
+/// What is asked for, or why it isn't there.
+pub type Answered<T> = Result<T, Missing>;
+
 /// A text around the first of these bytes.
-fn split_at_byte(text: &[u8], byte: u8) -> Option<(&[u8], &[u8])> {
+pub fn split_at_byte(text: &[u8], byte: u8) -> Option<(&[u8], &[u8])> {
     let place = text.iter().position(|other| *other == byte)?;
     let before = text.get(..place)?;
     let after = text.get(place.checked_add(1)?..)?;
@@ -46,29 +70,8 @@ fn cycles_of(text: &[u8]) -> Option<u32> {
     u32::try_from(number_of(digits)?).ok()
 }
 
-/// The column after a number of steps, if there are so many.
-fn steps_column(design: &Design, number: &[u8]) -> Option<Column> {
-    let steps = u32::try_from(number_of(number)?).ok()?;
-    if steps <= design.steps {
-        Some(Column::Steps(steps))
-    } else {
-        None
-    }
-}
-
-/// The column that a text names: `before`, `after.2`, `after.f2`, `step.1`, or `j=1` as in the head of a table.
-fn column_of(design: &Design, text: &[u8]) -> Option<Column> {
-    if let Some(number) = text.strip_prefix(b"j=".as_slice()) {
-        return steps_column(design, number);
-    }
-    let (start, number) = match split_at_byte(text, b'.') {
-        Some((start, number)) => (start, number),
-        None => (text, b"0".as_slice()),
-    };
-    if start == b"step".as_slice() {
-        return steps_column(design, number);
-    }
-    let cycles = cycles_of(number).filter(|cycles| *cycles <= design.flush)?;
+/// The column after so many flush cycles from one that a word names.
+fn flushed_column(start: &[u8], cycles: u32) -> Option<Column> {
     if start == b"before".as_slice() {
         Some(Column::Before(cycles))
     } else if start == b"after".as_slice() {
@@ -78,57 +81,122 @@ fn column_of(design: &Design, text: &[u8]) -> Option<Column> {
     }
 }
 
+/// The column after a number of steps.
+fn steps_column(number: &[u8]) -> Option<Column> {
+    let steps = u32::try_from(number_of(number)?).ok()?;
+    Some(Column::Steps(steps))
+}
+
+/// The column in which a cycle ends that is named as it is printed: `before f1 to f2`, `step 1`.
+fn printed_column(text: &[u8]) -> Option<Column> {
+    let (start, rest) = split_at_byte(text, b' ')?;
+    if start == b"step".as_slice() {
+        return steps_column(rest);
+    }
+    let end = text.rsplit(|byte| *byte == b' ').next()?;
+    match cycles_of(end) {
+        Some(cycles) => flushed_column(start, cycles),
+        None => flushed_column(end, 0),
+    }
+}
+
+/// The column that a text names, whether it is there or not: `before`, `after.2`, `after.f2`, `f2`, `step.1`, or `j=1`
+/// as in the head of a table.
+pub fn column_of(text: &[u8]) -> Option<Column> {
+    if let Some(number) = text.strip_prefix(b"j=".as_slice()) {
+        return steps_column(number);
+    }
+    if let Some(number) = text.strip_prefix(b"f".as_slice()) {
+        return flushed_column(b"after", cycles_of(number)?);
+    }
+    if let Some(column) = printed_column(text) {
+        return Some(column);
+    }
+    let (start, number) = split_at_byte(text, b'.').unwrap_or((text, b"0".as_slice()));
+    if start == b"step".as_slice() {
+        return steps_column(number);
+    }
+    flushed_column(start, cycles_of(number)?)
+}
+
+/// The nearest column that is there.
+pub fn nearest_column(design: &Design, column: Column) -> Column {
+    match column {
+        Column::Before(cycles) => Column::Before(cycles.min(design.flush)),
+        Column::After(cycles) => Column::After(cycles.min(design.flush)),
+        Column::Steps(steps) => Column::Steps(steps.min(design.steps)),
+    }
+}
+
+/// The column in which a cycle ends.
+pub fn end_of_cycle(cycle: Cycle) -> Column {
+    match cycle {
+        Cycle::Case | Cycle::Invariant => Column::After(0),
+        Cycle::FlushBefore(number) => Column::Before(number.saturating_add(1)),
+        Cycle::FlushAfter(number) => Column::After(number.saturating_add(1)),
+        Cycle::Step(number) => Column::Steps(number.saturating_add(1)),
+    }
+}
+
 /// What a text asks for.
-pub fn asked_of<'a>(design: &Design, text: &'a [u8]) -> Result<Asked<'a>, Missing> {
+pub fn asked_of<'a>(
+    alloc: Global,
+    design: &Design,
+    text: &'a [u8],
+) -> Result<Answered<Asked<'a>>, AllocError> {
     let (value, column) = match split_at_byte(text, b'@') {
-        Some((value, column)) => match column_of(design, column) {
-            Some(column) => (value, Some(column)),
-            None => return Err(Missing::Column),
-        },
+        Some((value, column)) => (value, Some(column)),
         None => (text, None),
     };
-    let (name, address) = match split_at_byte(value, b'[') {
-        Some((name, address)) => match address_of(address) {
-            Some(address) => (name, Some(address)),
-            None => return Err(Missing::Address),
-        },
-        None => (value, None),
+    let column = match column.map(|column| column_there(design, column)) {
+        Some(None) => return Ok(Err(Missing::Column)),
+        Some(column) => column,
+        None => None,
     };
-    Ok(Asked {
-        name,
-        address,
-        column,
-    })
+    let Some((name, part)) = part_of(alloc, value)? else {
+        return Ok(Err(Missing::Address));
+    };
+    Ok(Ok(Asked { name, part, column }))
 }
 
-/// The number before a `]` that ends a text.
-fn address_of(text: &[u8]) -> Option<u64> {
-    let (last, digits) = text.split_last()?;
-    if *last != b']' {
-        return None;
-    }
-    number_of(digits)
+/// The column that a text names, if it is there.
+fn column_there(design: &Design, text: &[u8]) -> Option<Column> {
+    column_of(text).filter(|column| nearest_column(design, *column) == *column)
 }
 
-impl Asked<'_> {
-    /// The number of the entry that is asked for among these.
-    pub fn entry(self, entries: &[Entry]) -> Result<u32, Missing> {
-        let mut number = 0u32;
-        for entry in entries {
-            if entry.name.as_slice() == self.name {
-                return self.checked(number, entry);
-            }
-            number = number.saturating_add(1);
-        }
-        Err(Missing::Entry)
+/// A name, and what is asked for of it.
+fn part_of(alloc: Global, text: &[u8]) -> Result<Option<(&[u8], AskedPart)>, AllocError> {
+    if let Some((name, address)) = split_at_byte(text, b'[') {
+        let address = ended_by(address, b']').and_then(number_of);
+        return Ok(address.map(|address| (name, AskedPart::Word(address))));
     }
+    if let Some((name, arguments)) = split_at_byte(text, b'(') {
+        let Some(arguments) = ended_by(arguments, b')') else {
+            return Ok(None);
+        };
+        let words = words_of(alloc, arguments)?;
+        return Ok(words.map(|words| (name, AskedPart::Row(words))));
+    }
+    Ok(Some((text, AskedPart::Whole)))
+}
 
-    /// The number, where a memory has an address and a latch has none.
-    fn checked(self, number: u32, entry: &Entry) -> Result<u32, Missing> {
-        if (entry.sort == Sort::Memory) == self.address.is_some() {
-            Ok(number)
-        } else {
-            Err(Missing::Address)
+/// A text without the byte that ends it.
+fn ended_by(text: &[u8], byte: u8) -> Option<&[u8]> {
+    let (last, text) = text.split_last()?;
+    if *last == byte { Some(text) } else { None }
+}
+
+/// Words that are parted by commas.
+fn words_of(alloc: Global, text: &[u8]) -> Result<Option<Vec<u64>>, AllocError> {
+    let mut words = Vec::new(alloc);
+    if text.is_empty() {
+        return Ok(Some(words));
+    }
+    for part in text.split(|byte| *byte == b',') {
+        match number_of(part.trim_ascii()) {
+            Some(word) => words.push(word)?,
+            None => return Ok(None),
         }
     }
+    Ok(Some(words))
 }

@@ -18,9 +18,10 @@ pub fn decided_path(alloc: Global, reason: &Reason) -> Result<Vec<u64>, AllocErr
     Ok(path)
 }
 
-/// The way down to the part that the value comes from: as to the part that decides, and into a write that is met.
-pub fn value_path(alloc: Global, reason: &Reason) -> Result<Vec<u64>, AllocError> {
-    let mut path = Vec::new(alloc);
+/// The way down from a part to the one that its value comes from: as to the part that decides, and into a write that is
+/// met.
+pub fn value_path(alloc: Global, reason: &Reason, start: &[u64]) -> Result<Vec<u64>, AllocError> {
+    let mut path = Vec::from_slice(alloc, start)?;
     for fact in &reason.facts {
         if fact.path.as_slice() == path.as_slice() {
             let part = match fact.finding {

@@ -6,6 +6,7 @@
 #![tactic(auto)]
 
 mod asked;
+mod coincidence;
 mod decided;
 mod flushed;
 mod listing;
@@ -14,11 +15,15 @@ mod order;
 mod part;
 mod parting;
 mod report;
+mod room;
+mod sides;
 mod source;
-mod suspect;
+mod target;
 mod telling;
+mod trial;
 mod view;
 mod why;
+mod wish;
 mod words;
 
 pub use source::{Explanation, Source, Sources};

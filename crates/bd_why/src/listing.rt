@@ -1,8 +1,8 @@
 //! The items of a text: its lets, inputs and next values, each with its tree.
 
 use crate::source::Source;
-use bd_outline::{atom_at, is_headed, parts_of, trees_of};
 use bd_syntax::lists::offset_of;
+use bd_text::outline::{atom_at, is_headed, parts_of, trees_of};
 use bd_text::{Tree, Trees};
 use std::alloc::{AllocError, Global};
 
@@ -93,6 +93,20 @@ impl<'a> Listing<'a> {
             if let Some(item) = self.item(Some(place)) {
                 if item.name == name {
                     return Some(item);
+                }
+            }
+        }
+        None
+    }
+
+    /// The function of this name.
+    pub fn symbol_of(&self, name: &[u8]) -> Option<ListedItem<'_>> {
+        for part in list_of(&self.trees) {
+            if is_headed(part, b"function") {
+                if let Some(item) = item_of(part) {
+                    if item.name == name {
+                        return Some(item);
+                    }
                 }
             }
         }

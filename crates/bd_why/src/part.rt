@@ -1,7 +1,7 @@
 //! Parts of an expression in its text.
 
-use bd_outline::parts_of;
 use bd_text::Tree;
+use bd_text::outline::parts_of;
 
 /// The part at the end of a way down: a list's parts count from 0 after its head.
 pub fn part_at<'a>(tree: &'a Tree, path: &[u64]) -> Option<&'a Tree> {

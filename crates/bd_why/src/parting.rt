@@ -1,5 +1,6 @@
 //! Where both sides of the diagram part.
 
+use crate::trial::Goal;
 use bd_diagram::{Comparison, Diagram, Difference};
 use bd_model::{Design, Memory, Value};
 use bd_slice::{Column, Subject};
@@ -9,6 +10,20 @@ use bd_slice::{Column, Subject};
 pub struct Parting {
     pub pipe: Subject,
     pub spec: Subject,
+}
+
+impl Parting {
+    /// What should be true of a run in which both sides part so: they agree, above all in this entry.
+    pub fn goal(self) -> Goal {
+        let (column, entry) = match self.spec {
+            Subject::Latch(column, entry) | Subject::Cell(column, entry, _) => (column, entry),
+            _ => (Column::Steps(0), 0),
+        };
+        Goal::Agreement {
+            entry,
+            steps: column.number(),
+        }
+    }
 }
 
 /// How many entries differ after a number of steps, and how many are the same before the first of these.
@@ -28,6 +43,11 @@ fn differing(comparison: &Comparison) -> (usize, usize) {
 /// The number of steps after which fewest entries differ, among those that are allowed if any is. Of two it is the one
 /// with more entries the same before the first that differs, or the greater.
 pub fn nearest(diagram: &Diagram) -> u32 {
+    nearest_but(diagram, None).0
+}
+
+/// The number of steps that comes nearest beside this one, and how many entries differ then.
+fn nearest_but(diagram: &Diagram, but: Option<u32>) -> (u32, usize) {
     let comparisons = diagram.comparisons.as_slice();
     let some_allowed = comparisons.iter().any(|comparison| comparison.allowed);
     let mut steps = 0u32;
@@ -36,13 +56,24 @@ pub fn nearest(diagram: &Diagram) -> u32 {
     for comparison in comparisons {
         let (count, same) = differing(comparison);
         let is_nearer = count < best.0 || (count == best.0 && same >= best.1);
-        if is_nearer && (comparison.allowed || !some_allowed) {
+        if is_nearer && (comparison.allowed || !some_allowed) && but != Some(steps) {
             best = (count, same);
             nearest = steps;
         }
         steps = steps.saturating_add(1);
     }
-    nearest
+    (nearest, best.0)
+}
+
+/// What differs first after another number of steps that comes near: in as few entries as after the one that comes
+/// nearest, or in any case.
+pub fn second_parting(design: &Design, diagram: &Diagram, any: bool) -> Option<Parting> {
+    let (first, least) = nearest_but(diagram, None);
+    let (second, count) = nearest_but(diagram, Some(first));
+    if count == usize::MAX || (count > least && !any) {
+        return None;
+    }
+    parting_after(design, diagram, second)
 }
 
 /// Both sides of an entry of the specification, or of its word at an address.
@@ -69,7 +100,11 @@ pub fn both_sides(
 
 /// The first value that differs after the number of steps that comes nearest.
 pub fn parting_of(design: &Design, diagram: &Diagram) -> Option<Parting> {
-    let steps = nearest(diagram);
+    parting_after(design, diagram, nearest(diagram))
+}
+
+/// The first value that differs after a number of steps.
+fn parting_after(design: &Design, diagram: &Diagram, steps: u32) -> Option<Parting> {
     let comparison = diagram.comparisons.as_slice().get(steps as usize)?;
     let mut entry = 0u32;
     for difference in comparison.differences.as_slice() {

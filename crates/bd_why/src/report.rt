@@ -1,26 +1,41 @@
 //! The lines of an explanation, at most a screen.
 
-use crate::telling::{shown, told, told_short};
+use crate::asked::end_of_cycle;
+use crate::coincidence::Coincidence;
+use crate::order::{Told, ToldOrder, WouldDo};
+use crate::room::ALONE;
+use crate::telling::{Telling, held, is_for_long, shown, told, told_coincidence, told_short};
 use crate::view::{ItemPlace, ListedDesign};
-use crate::words::{push_column, push_name};
-use bd_label::{push_number, push_scalar};
-use bd_outline::parts_of;
-use bd_slice::{Column, Reasons, Subject};
+use crate::words::{push_column, push_name, symbol_name};
+use bd_label::{push_application, push_number, push_scalar};
+use bd_model::Scalar;
+use bd_slice::{Column, Cycle, Finding, Reason, Reasons, Subject};
+use bd_text::outline::parts_of;
 use indexmap::IndexSet;
 use std::alloc::{AllocError, Global};
 
-/// The lines so far, and the items that they tell.
+/// An item that is told: its place, its cycle, and what its line says after that.
+#[derive(Drop)]
+struct ToldItem {
+    spot: ItemPlace,
+    cycle: Cycle,
+    text: Vec<u8>,
+}
+
+/// The lines so far, the values that they tell, and the items.
 #[derive(Drop)]
 pub struct ToldLines {
     text: Vec<u8>,
     lines: usize,
-    spots: IndexSet<ItemPlace>,
+    subjects: IndexSet<Subject>,
+    items: Vec<ToldItem>,
 }
 
-/// How much is told of a side: so many lines in all, those of sides before it too, and the lines of the text of so many
-/// items.
+/// How much is told of a side: so many lines in all, those of sides before it too, of what decides and of all, and the
+/// lines of the text of so many items.
 #[derive(Clone, Copy)]
 pub struct Room {
+    pub decisive: usize,
     pub lines: usize,
     pub shown: usize,
 }
@@ -36,7 +51,8 @@ impl ToldLines {
         ToldLines {
             text: Vec::new(alloc),
             lines: 0,
-            spots: IndexSet::new(alloc),
+            subjects: IndexSet::new(alloc),
+            items: Vec::new(alloc),
         }
     }
 
@@ -47,7 +63,7 @@ impl ToldLines {
     }
 
     /// Puts lines after those that the report has.
-    fn put(&mut self, text: &[u8]) -> Result<(), AllocError> {
+    pub fn put(&mut self, text: &[u8]) -> Result<(), AllocError> {
         self.text.extend_from_slice(text)?;
         self.lines = self.lines.saturating_add(line_count(text));
         Ok(())
@@ -68,42 +84,80 @@ impl ToldLines {
         }
     }
 
-    /// Tells one side: its value, and the items behind it, as long as there is room.
+    /// Says that two constants are the same word, and that only that makes the difference.
+    pub fn coincidence(
+        &mut self,
+        alloc: Global,
+        view: &ListedDesign<'_, '_>,
+        coincidence: Coincidence,
+    ) -> Result<(), AllocError> {
+        let text = told_coincidence(alloc, view, coincidence)?;
+        self.put(text.as_slice())
+    }
+
+    /// Puts the line of a function's value at arguments.
+    pub fn row(
+        &mut self,
+        alloc: Global,
+        view: &ListedDesign<'_, '_>,
+        symbol: u32,
+        words: &[u64],
+        value: Scalar,
+    ) -> Result<(), AllocError> {
+        let mut text = Vec::new(alloc);
+        push_application(&mut text, symbol_name(view.design, symbol), words, value)?;
+        text.push(b'\n')?;
+        self.put(text.as_slice())
+    }
+
+    /// Tells the values whose items apply a function to arguments, as long as there is room.
+    pub fn applications(
+        &mut self,
+        alloc: Global,
+        view: &ListedDesign<'_, '_>,
+        reasons: &Reasons,
+        symbol: u32,
+        words: &[u64],
+    ) -> Result<(), AllocError> {
+        let mut left = Left { count: 0, shown: 0 };
+        for reason in reasons.as_slice() {
+            if applies(reason, symbol, words) {
+                let told = Told::Item {
+                    subject: reason.subject,
+                    would_do: None,
+                };
+                left = self.tell(alloc, view, reasons, told, ALONE.lines, left)?;
+            }
+        }
+        self.more(alloc, left.count)
+    }
+
+    /// Tells one side: its value, and what is behind it, as long as there is room.
     pub fn side(
         &mut self,
         alloc: Global,
         view: &ListedDesign<'_, '_>,
         reasons: &Reasons,
         root: Subject,
-        order: &[Subject],
+        order: &ToldOrder,
         room: Room,
     ) -> Result<(), AllocError> {
-        self.heading(alloc, view, reasons, root)?;
-        let mut left = 0u64;
-        let mut shown = room.shown;
-        for subject in order {
-            match self.item(alloc, view, reasons, *subject, room.lines, shown != 0)? {
-                Told::Line => {}
-                Told::Shown => shown = shown.saturating_sub(1),
-                Told::NoRoom => left = left.saturating_add(1),
-            }
-        }
-        self.more(alloc, left)
-    }
-
-    /// Puts the line that begins a side.
-    fn heading(
-        &mut self,
-        alloc: Global,
-        view: &ListedDesign<'_, '_>,
-        reasons: &Reasons,
-        root: Subject,
-    ) -> Result<(), AllocError> {
         let heading = heading(alloc, view, reasons, root)?;
-        self.put(heading.as_slice())
+        self.put(heading.as_slice())?;
+        let mut left = Left {
+            count: 0,
+            shown: room.shown,
+        };
+        for told in &order.decisive {
+            left = self.tell(alloc, view, reasons, *told, room.decisive, left)?;
+        }
+        for told in &order.further {
+            left = self.tell(alloc, view, reasons, *told, room.lines, left)?;
+        }
+        self.more(alloc, left.count)
     }
 
-    /// Says how many items have no room.
+    /// Says how much has no room.
     fn more(&mut self, alloc: Global, left: u64) -> Result<(), AllocError> {
         if left == 0 {
             return Ok(());
@@ -114,64 +168,193 @@ impl ToldLines {
         self.put(text.as_slice())
     }
 
-    /// Tells an item, if it isn't told and there is room, with the line of its text if that is wanted and says more
-    /// than a name.
-    fn item(
+    /// Tells a value, if it isn't told and there is room.
+    fn tell(
         &mut self,
         alloc: Global,
         view: &ListedDesign<'_, '_>,
         reasons: &Reasons,
-        subject: Subject,
+        told: Told,
         most: usize,
-        shows: bool,
-    ) -> Result<Told, AllocError> {
-        let Some(spot) = view.spot(subject) else {
-            return Ok(Told::Line);
+        left: Left,
+    ) -> Result<Left, AllocError> {
+        let subject = match told {
+            Told::Item { subject, .. } => subject,
+            Told::Hold { last, .. } => last,
         };
-        if self.spots.contains(&spot) {
-            return Ok(Told::Line);
+        if self.subjects.contains(&subject) {
+            return Ok(left);
         }
-        let (text, shows) = item_text(alloc, view, reasons, subject, shows)?;
-        let lines = line_count(text.as_slice());
-        if self.lines.saturating_add(lines).saturating_add(1) > most {
-            return Ok(Told::NoRoom);
+        let lines = match told {
+            Told::Item { would_do, .. } => {
+                self.item(alloc, view, reasons, subject, would_do, left.shown != 0)?
+            }
+            Told::Hold { first, last } if is_for_long(first, last) => {
+                held_lines(alloc, view, reasons, first, last)?
+            }
+            Told::Hold { .. } => {
+                self.item(alloc, view, reasons, subject, None, left.shown != 0)?
+            }
+        };
+        Ok(match self.put_new(subject, lines, most)? {
+            Put::Line => left,
+            Put::Shown => left.with_shown(),
+            Put::NoRoom => left.with_more(),
+        })
+    }
+
+    /// Puts the lines of a value, if there is room.
+    fn put_new(&mut self, subject: Subject, lines: Lines, most: usize) -> Result<Put, AllocError> {
+        let Lines { text, shows, item } = lines;
+        let count = line_count(text.as_slice());
+        if self.lines.saturating_add(count).saturating_add(1) > most {
+            return Ok(Put::NoRoom);
         }
-        self.spots.insert(spot)?;
+        self.subjects.insert(subject)?;
+        if let Some(item) = item {
+            self.items.push(item)?;
+        }
         self.put(text.as_slice())?;
-        Ok(if shows { Told::Shown } else { Told::Line })
+        Ok(if shows { Put::Shown } else { Put::Line })
+    }
+
+    /// The lines of an item, with that of its text if that is wanted, isn't there and says more than a name.
+    fn item(
+        &self,
+        alloc: Global,
+        view: &ListedDesign<'_, '_>,
+        reasons: &Reasons,
+        subject: Subject,
+        would_do: Option<WouldDo>,
+        shows: bool,
+    ) -> Result<Lines, AllocError> {
+        let (Some(reason), Some(cycle), Some(spot)) = (
+            reasons.of(subject),
+            subject.cycle(),
+            view.spot(subject),
+        ) else {
+            return Ok(Lines::none(alloc));
+        };
+        let telling = told(alloc, view, reason, would_do)?;
+        let as_in = self.told_alike(spot, telling.body.as_slice());
+        let mut text = telling.line(alloc, as_in)?;
+        let is_new = self.items.iter().all(|item| item.spot != spot);
+        let shows = shows && is_new && push_shown(alloc, &mut text, view, reason)?;
+        let Telling { body, .. } = telling;
+        let item = ToldItem {
+            spot,
+            cycle,
+            text: body,
+        };
+        Ok(Lines {
+            text,
+            shows,
+            item: Some(item),
+        })
+    }
+
+    /// The cycle in which the same was told of the same item.
+    fn told_alike(&self, spot: ItemPlace, text: &[u8]) -> Option<Cycle> {
+        let mut items = self.items.iter();
+        let found = items.find(|item| item.spot == spot && item.text.as_slice() == text)?;
+        Some(found.cycle)
     }
 }
 
-/// How an item is told.
+/// Lines that tell a value, whether the line of its text is one of them, and its item.
+#[derive(Drop)]
+struct Lines {
+    text: Vec<u8>,
+    shows: bool,
+    item: Option<ToldItem>,
+}
+
+impl Lines {
+    /// No line.
+    fn none(alloc: Global) -> Lines {
+        Lines {
+            text: Vec::new(alloc),
+            shows: false,
+            item: None,
+        }
+    }
+}
+
+/// How much of a side had no room, and of how many items more the line of the text is wanted.
 #[derive(Clone, Copy)]
-enum Told {
+struct Left {
+    count: u64,
+    shown: usize,
+}
+
+impl Left {
+    /// After the line of one text more.
+    fn with_shown(self) -> Left {
+        Left {
+            shown: self.shown.saturating_sub(1),
+            ..self
+        }
+    }
+
+    /// After one value more that has no room.
+    fn with_more(self) -> Left {
+        Left {
+            count: self.count.saturating_add(1),
+            ..self
+        }
+    }
+}
+
+/// How a value is told.
+#[derive(Clone, Copy)]
+enum Put {
     Line,
     Shown,
     NoRoom,
 }
 
-/// The lines of an item, and whether that of its text is one of them: if that is wanted and says more than a name.
-fn item_text(
+/// Puts the line of an item's text, if that says more than a name, and whether it does.
+fn push_shown(
+    alloc: Global,
+    out: &mut Vec<u8>,
+    view: &ListedDesign<'_, '_>,
+    reason: &Reason,
+) -> Result<bool, AllocError> {
+    let (Some(item), Some(source)) = (view.item(reason.subject), view.source(reason.subject)) else {
+        return Ok(false);
+    };
+    if parts_of(item.expression).is_none() {
+        return Ok(false);
+    }
+    let lines = shown(alloc, reason, source.text, &item)?;
+    out.extend_from_slice(lines.as_slice())?;
+    Ok(true)
+}
+
+/// Whether a value rests on a function's value at arguments.
+fn applies(reason: &Reason, symbol: u32, words: &[u64]) -> bool {
+    reason.facts.iter().any(|fact| match &fact.finding {
+        Finding::Applied(its, theirs, _) => *its == symbol && theirs.as_slice() == words,
+        _ => false,
+    })
+}
+
+/// The line of a value that stays what it was.
+fn held_lines(
     alloc: Global,
     view: &ListedDesign<'_, '_>,
     reasons: &Reasons,
-    subject: Subject,
-    shows: bool,
-) -> Result<(Vec<u8>, bool), AllocError> {
-    let (Some(reason), Some(item), Some(source)) = (
-        reasons.of(subject),
-        view.item(subject),
-        view.source(subject),
-    ) else {
-        return Ok((Vec::new(alloc), false));
+    first: Subject,
+    last: Subject,
+) -> Result<Lines, AllocError> {
+    let Some(reason) = reasons.of(last) else {
+        return Ok(Lines::none(alloc));
     };
-    let mut text = told(alloc, view, reason, source, item.offset)?;
-    if !shows || parts_of(item.expression).is_none() {
-        return Ok((text, false));
-    }
-    let lines = shown(alloc, reason, source.text, &item)?;
-    text.extend_from_slice(lines.as_slice())?;
-    Ok((text, true))
+    Ok(Lines {
+        text: held(alloc, view, reason, first)?,
+        shows: false,
+        item: None,
+    })
 }
 
 /// The line that begins a side: `pipeline: rf[8]@after.1=12`.
@@ -182,14 +365,19 @@ fn heading(
     root: Subject,
 ) -> Result<Vec<u8>, AllocError> {
     let mut text = Vec::new(alloc);
-    match root {
-        Subject::Latch(column, _) | Subject::Cell(column, _, _) => {
+    let column = match root {
+        Subject::Latch(column, _) | Subject::Cell(column, _, _) => Some(column),
+        Subject::Invariant => None,
+        _ => root.cycle().map(end_of_cycle),
+    };
+    match column {
+        Some(column) => {
             push_side(&mut text, column)?;
             push_name(&mut text, view, root)?;
             text.push(b'@')?;
             push_column(&mut text, column)?;
         }
-        _ => text.extend_from_slice(b"invariant@after")?,
+        None => text.extend_from_slice(b"invariant@after")?,
     }
     text.push(b'=')?;
     if let Some(reason) = reasons.of(root) {

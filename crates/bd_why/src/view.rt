@@ -5,6 +5,7 @@ use crate::source::Source;
 use crate::words::entry_name;
 use bd_model::{Design, Machine};
 use bd_slice::{Column, Cycle, Subject};
+use bd_text::outline::parts_of;
 
 /// A design, and the items of its texts.
 #[derive(Drop)]
@@ -68,6 +69,16 @@ impl<'a, 'b> ListedDesign<'a, 'b> {
         match subject {
             Subject::Input(Cycle::Case, _) => None,
             _ => self.named(subject),
+        }
+    }
+
+    /// Whether a word of a memory comes from an item that only names another memory.
+    pub fn is_copy(&self, subject: Subject) -> bool {
+        match (subject, self.item(subject)) {
+            (Subject::Cell(_, _, _) | Subject::LetCell(_, _, _), Some(item)) => {
+                parts_of(item.expression).is_none()
+            }
+            _ => false,
         }
     }
 

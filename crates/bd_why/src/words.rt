@@ -28,6 +28,36 @@ fn push_flushed(out: &mut Vec<u8>, start: &[u8], cycles: u32) -> Result<(), Allo
     push_number(out, u64::from(cycles))
 }
 
+/// Puts from which column to which, as the tables name them: `after to f2`, `before f1 to after`.
+pub fn push_span(out: &mut Vec<u8>, first: Column, last: Column) -> Result<(), AllocError> {
+    push_heading(out, first, None)?;
+    out.extend_from_slice(b" to ")?;
+    push_heading(out, last, Some(first))
+}
+
+/// Puts a column as the tables name it, without its side where that is said before.
+fn push_heading(out: &mut Vec<u8>, column: Column, said: Option<Column>) -> Result<(), AllocError> {
+    let (side, said) = match (column, said) {
+        (Column::Before(_), said) => (
+            b"before".as_slice(),
+            matches!(said, Some(Column::Before(_))),
+        ),
+        (Column::After(_), said) => (b"after".as_slice(), matches!(said, Some(Column::After(_)))),
+        (Column::Steps(_), _) => (b"step".as_slice(), false),
+    };
+    let number = u64::from(column.number());
+    if !said || number == 0 {
+        out.extend_from_slice(side)?;
+    }
+    match column {
+        Column::Steps(_) => out.push(b' ')?,
+        _ if number == 0 => return Ok(()),
+        _ if said => out.push(b'f')?,
+        _ => out.extend_from_slice(b" f")?,
+    }
+    push_number(out, number)
+}
+
 /// The name of an entry.
 pub fn entry_name(machine: &Machine, entry: u32) -> &[u8] {
     match machine.entries.as_slice().get(entry as usize) {

@@ -16,6 +16,8 @@ from .trees import read_trees
 Answer = TypeVar("Answer", Outcome, Judgement)
 
 REASON = re.compile(r":(\d+):(\d+): (.*)")
+# the second line of a reason whose first one is too narrow
+GOES_ON = re.compile(r"    (?:since|\(as in) ")
 FINDINGS = ("as it is", "one flush less", "one flush more", "one step more", "no invariant", "reset (all 0)",
             "(exact 0 true)")
 
@@ -169,7 +171,7 @@ class Client:
 
     def _shown(self, command: str, sources: Sources, *options: str) -> Printed:
         """What `bd_view` prints of its answer."""
-        return ask(VIEWER, self.view, command, sources, options, self.timeout)
+        return ask(VIEWER, self.view, command, sources, options, self.timeout, by_words=command == "why")
 
 
 # ---- the words that they take
@@ -207,9 +209,10 @@ def _answer(answers: type[Answer], line: str) -> Answer:
 
 
 def _judgement(text: str) -> Judgement:
-    """The judgement that a text of `bd_view` begins with."""
+    """The judgement that a text of `bd_view` begins with; it says first what is broken."""
     for judgement in Judgement:
-        if text.startswith(judgement.value + ":"):
+        words = " ".join(reversed(judgement.value.split()))
+        if text.startswith(words + ":"):
             return judgement
     raise _unknown(text)
 
@@ -221,12 +224,17 @@ def _unknown(printed: str) -> NoAnswer:
 def _explained(printed: Printed, sources: Sources) -> Explained:
     """The explanation that `bd_view` prints, with the files by the names that were given."""
     reasons, lines = [], []
+    is_open = False
     for line in printed.text.split("\n"):
+        if is_open and GOES_ON.match(line):
+            reasons[-1] = reasons[-1]._replace(text=f"{reasons[-1].text} {line.strip()}")
+        is_open = False
         for word, file in printed.files.items():
             found = REASON.match(line, len(file)) if line.startswith(file) else None
             if found:
                 reasons.append(Reason(word, int(found[1]), int(found[2]), found[3]))
                 line = name_of(word, sources[word]) + line[len(file):]
+                is_open = True
                 break
         lines.append(line)
     return Explained(_judgement(printed.text), tuple(reasons), "\n".join(lines))

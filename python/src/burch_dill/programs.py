@@ -53,16 +53,23 @@ class Printed(NamedTuple):
 
 
 def ask(program: Program, path: File | None, command: str, sources: Sources, options: Sequence[str],
-        timeout: float | None) -> Printed:
-    """What a program prints of its answer. Raises `Fault` for the first fault of a file, else `NoAnswer`."""
+        timeout: float | None, *, by_words: bool = False) -> Printed:
+    """What a program prints of its answer. Raises `Fault` for the first fault of a file, else `NoAnswer`.
+
+    With `by_words` it reads copies of the files that have their words as names, so that no path takes room in its lines.
+    """
     found = program.path(path)
     with tempfile.TemporaryDirectory() as folder:
         files = {word: _file(source, Path(folder, word)) for word, source in sources.items() if source is not None}
-        done = subprocess.run([found, command, *files.values(), *options], capture_output=True, encoding="ascii",
-                              errors="replace", timeout=timeout, stdin=subprocess.DEVNULL, check=False)
+        names = {word: _copied(file, Path(folder, word)) for word, file in files.items()} if by_words else files
+        done = subprocess.run([found, command, *names.values(), *options], capture_output=True, encoding="ascii",
+                              errors="replace", timeout=timeout, stdin=subprocess.DEVNULL, check=False,
+                              cwd=folder if by_words else None)
         if done.returncode in program.answered:
-            return Printed(done.returncode, done.stdout, files)
-        raise _fault(done.stderr, files, sources) or NoAnswer(done.returncode, done.stderr.rstrip("\n"))
+            return Printed(done.returncode, done.stdout, names)
+        told = next((files[word] + done.stderr[len(name):] for word, name in names.items()
+                     if done.stderr.startswith(f"{name}:")), done.stderr)
+        raise _fault(told, files, sources) or NoAnswer(done.returncode, done.stderr.rstrip("\n"))
 
 
 def name_of(word: str, source: Source | None) -> str:
@@ -97,6 +104,15 @@ def _file(source: Source, place: Path) -> str:
         return os.path.abspath(path)
     place.write_bytes(_bytes(source))
     return str(place)
+
+
+def _copied(file: str, place: Path) -> str:
+    """The name of a file's copy in its folder, or the file's own where it can't be read."""
+    if not os.path.isfile(file):
+        return file
+    if not place.exists():
+        shutil.copyfile(file, place)
+    return place.name
 
 
 def _bytes(source: Source) -> bytes:

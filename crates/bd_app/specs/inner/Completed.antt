@@ -1,6 +1,6 @@
 -- What is said of the texts of a design and of a completion function before anything is printed.
 use Rattle.std.specs.Prelude.{Bool, ℕ, List, Result, Ok, Err, IfOk, IfErr}
-use Rattle.bd_abstraction.specs.Abstraction.{AbstractionView}
+use Rattle.bd_model.specs.Abstraction.{AbstractionView}
 use Rattle.bd_completion.specs.Answer.{HasWork, Says}
 use Rattle.bd_model.specs.DesignView.{DesignView}
 use Rattle.bd_app.specs.Complete.{shown_break}

@@ -157,7 +157,7 @@ fn push_words(
 }
 
 /// The line of an answer, and the text of the trail after it.
-fn report(
+pub fn bounded_report(
     alloc: Global,
     answer: &Bounded,
     cycles: u32,
@@ -180,7 +180,7 @@ fn run_on(alloc: Global, design: &Design, cycles: u32, budget: u32) -> Result<An
         IsBoundedReport cycles budget (design_view design.now) a.ended a.report.items) }
 {
     let ShownRun { answer, trail } = shown_run(alloc, design, cycles, budget)?;
-    let report = report(alloc, &answer, cycles, budget, trail.as_slice())?;
+    let report = bounded_report(alloc, &answer, cycles, budget, trail.as_slice())?;
     Ok(Answer {
         ended: Ended::Bounded(answer),
         report,

@@ -1,18 +1,13 @@
 -- Clauses that are deleted: a literal of level 0 makes them true, so they are never unit or false again.
-use Rattle.std.specs.Prelude.{◌≡◌, ◌≢◌, ◌<◌, ℕ, true, List, [], ◌∷◌, ◌++◌, ◌⊎◌, None, Some, IsSomeAnd, IfSome, length, slice_index_or}
+use Rattle.std.specs.Prelude.{◌≡◌, ◌≢◌, ◌<◌, ℕ, Bool, true, false, List, None, Some, IsSomeAnd, IfSome, length, slice_index_or}
 use Rattle.std.specs.List.{All}
 use Rattle.std.specs.FinMap.{get}
 use Rattle.bd_cnf.specs.Literal.{Literal, has_literal}
 use Rattle.bd_cnf.specs.Standing.{Standing}
-use Rattle.bd_cnf.specs.Trail.{AreClosed}
-use Rattle.bd_lrat.specs.declared.line.Line.{Line}
-use Rattle.bd_lrat.specs.declared.line.Line.TheVariants.{Delete}
 use Rattle.bd_lrat.specs.Database.{numbered, remove_all}
 use Rattle.bd_lrat.specs.Deletions.{IsCovered}
-use Rattle.bd_watch.specs.declared.watch.Watch.{Watch}
-use Rattle.bd_watch.specs.Levels.{Assigned, literals}
+use Rattle.bd_watch.specs.Levels.{Assigned}
 use Rattle.bd_watch.specs.Trails.{IsDecisionAt}
-use Rattle.bd_cdcl.specs.declared.cdcl.reduce.Deletion.{Deletion}
 
 -- a literal of level 0: it stands in front of all decisions
 pub record IsFixed (trail : List Assigned) (a : Assigned) : Type 0 where
@@ -49,14 +44,18 @@ standing_of clauses deleted = remove_all (numbered clauses) deleted
 abbrev pub AreCovered : List (List Literal) → Standing → Type 0
 AreCovered clauses standing = (id : ℕ) → get standing id ≡ None → IfSome (get (numbered clauses) id) (IsCovered standing)
 
--- a line was logged that deletes clauses, with the id of the last clause, where no clause is false or unit
-pub record IsDeleting (clauses : List (List Literal)) (trail : List Assigned) (deleted all : List ℕ) (log lines : List Line) : Type 0 where
-  pub ids : List ℕ
-  pub satisfied : All (MayDelete clauses trail) ids
-  pub closed : AreClosed (numbered clauses) (literals trail)
-  pub noted : all ≡ deleted ++ ids
-  pub logged : lines ≡ log ++ Delete (length clauses) ids ∷ []
+-- each of these ids is marked
+abbrev pub AreMarked : List Bool → List ℕ → Type 0
+AreMarked marks ids = All (λ id. slice_index_or marks id false ≡ true) ids
 
--- or none was
-abbrev pub Deletes : Watch → Deletion → Deletion → List Line → List Line → Type 0
-Deletes watch old new log lines = ((new.deleted.items ≡ old.deleted.items) × (lines ≡ log)) ⊎ IsDeleting watch.clauses watch.trail.entries old.deleted.items new.deleted.items log lines
+-- this id isn't marked
+abbrev pub IsUnmarked : List Bool → ℕ → Type 0
+IsUnmarked marks id = slice_index_or marks id false ≡ false
+
+-- none of these ids is marked
+abbrev pub AreUnmarked : List Bool → List ℕ → Type 0
+AreUnmarked marks ids = All (IsUnmarked marks) ids
+
+-- what is marked stays so
+abbrev pub KeepsMarks : List Bool → List Bool → Type 0
+KeepsMarks old new = (id : ℕ) → slice_index_or old id false ≡ true → slice_index_or new id false ≡ true

@@ -39,10 +39,10 @@ impl Guide {
         self.phases.save(entries);
     }
 
-    /// Counts a learned clause of that LBD. Answers whether a restart is due. With each turn of quick
-    /// restarts the variables stand in their first order again.
-    pub(crate) fn count(&mut self, lbd: u64) -> bool {
-        let due = self.restarts.count(lbd);
+    /// Counts a learned clause of that glue. Answers whether a restart is due. With each turn of focused
+    /// mode the variables stand in their first order again.
+    pub(crate) fn count(&mut self, glue: u64) -> bool {
+        let due = self.restarts.count(glue);
         if self.restarts.begins_turn() {
             self.queue.start_over();
         }

@@ -5,15 +5,15 @@
 //! and the log alone says that they are gone. They are looked for after a restart, where level 0 has
 //! grown since the last time. No learned clause goes for its LBD: an honest log is fresh against
 //! deleted clauses too.
-ghost use Rattle.std.specs.Prelude.{◌≡◌, ◌≤◌, ℕ, [], IsSome, IfOk, OnOk, OnErr};
+ghost use Rattle.std.specs.Prelude.{◌≡◌, ◌≢◌, ◌<◌, ◌≤◌, ◌+◌, ◌^◌, ℕ, [], length, slice_index_or, IsSome, IfOk, OnOk, OnErr, false};
 ghost use Rattle.std.specs.Bool.{OnTrue};
-ghost use Rattle.std.specs.List.{All};
+ghost use Rattle.std.specs.List.{All, AllPairs};
 ghost use Rattle.std.specs.FinMap.{get};
 ghost use Rattle.bd_cnf.specs.Standing.{IsBelow};
 ghost use Rattle.bd_lrat.specs.Database.{numbered};
 ghost use Rattle.bd_watch.specs.Trails.{IsDecisionAt};
 ghost use Rattle.bd_watch.specs.Watch.{IsWatching, IsPropagated};
-ghost use Rattle.bd_cdcl.specs.inner.Deletions.{IsSatisfied, MayDelete, Deletes};
+ghost use Rattle.bd_cdcl.specs.inner.Deletions.{IsSatisfied, MayDelete, AreMarked, AreUnmarked, IsUnmarked, KeepsMarks};
 
 use bd_cnf::PackedLit;
 use bd_lrat::{ClauseIds, Line, Log};
@@ -29,6 +29,7 @@ pub(crate) struct Deletion {
     gone: Vec<bool>,
     /// How many literals level 0 had when the clauses were last looked at.
     fixed: usize,
+    ghost marked: { AreMarked gone.items deleted.items },
 }
 
 /// How many literals of the trail are in front of all decisions.
@@ -64,19 +65,24 @@ fn is_satisfied(watch: &Watch, clause: &[PackedLit], id: u64, zero: usize) -> bo
 }
 
 /// Marks those ids, which are `count` at most.
-fn note(gone: &mut Vec<bool>, ids: &[u64], count: usize) -> Result<(), AllocError> {
+fn note(gone: &mut Vec<bool>, ids: &[u64], count: usize) -> Result<(), AllocError>
+    requires low { All (λ id. id ≤ count) ids.now }
+    requires small { count < 2 ^ 63 }
+    ensures marked { OnOk result (AreMarked gone.new.items ids.now) }
+    ensures kept { KeepsMarks gone.old.items gone.new.items }
+{
     if gone.len() <= count {
-        gone.resize(count.saturating_add(1), false)?;
+        gone.resize(count + 1, false)?;
     }
     for &id in ids {
-        if let Some(mark) = gone.get_mut(id as usize) {
-            *mark = true;
-        }
+        gone[id as usize] = true;
     }
     Ok(())
 }
 
 impl Deletion {
+    ghost use Rattle.bd_cdcl.specs.inner.Deleting.{Deletes};
+
     /// Nothing was deleted. Takes no memory.
     pub(crate) fn new(alloc: Global) -> Deletion
         ensures { result.deleted.items ≡ [] }
@@ -89,8 +95,13 @@ impl Deletion {
     }
 
     /// Whether the clause of that id was deleted.
-    fn is_gone(&self, id: u64) -> bool {
-        self.gone.get(id as usize) == Some(&true)
+    fn is_gone(&self, id: u64) -> bool
+        ensures { result ≡ slice_index_or self.now.gone.items id false }
+    {
+        match self.gone.get(id as usize) {
+            Some(&gone) => gone,
+            None => false,
+        }
     }
 
     /// Whether the clause of that id may be deleted, and wasn't yet.
@@ -98,7 +109,8 @@ impl Deletion {
         requires watching { IsWatching watch.now }
         requires stands { IsSome (get (numbered watch.now.clauses) id) }
         requires zero { (place : ℕ) → IsDecisionAt watch.now.trail.entries place → zero ≤ place }
-        ensures { OnTrue result (MayDelete watch.now.clauses watch.now.trail.entries id) }
+        ensures may { OnTrue result (MayDelete watch.now.clauses watch.now.trail.entries id) }
+        ensures unmarked { OnTrue result (IsUnmarked self.now.gone.items id) }
     {
         if self.is_gone(id) {
             return false;
@@ -110,8 +122,10 @@ impl Deletion {
     fn found(&self, alloc: Global, watch: &Watch, zero: usize) -> Result<Vec<u64>, AllocError>
         requires watching { IsWatching watch.now }
         requires zero { (place : ℕ) → IsDecisionAt watch.now.trail.entries place → zero ≤ place }
-        ensures { IfOk result (λ ids.
+        ensures may { IfOk result (λ ids.
             All (MayDelete watch.now.clauses watch.now.trail.entries) ids.items) }
+        ensures unmarked { IfOk result (λ ids. AreUnmarked self.now.gone.items ids.items) }
+        ensures differ { IfOk result (λ ids. AllPairs (λ one other. one ≢ other) ids.items) }
     {
         let mut ids = Vec::new(alloc);
         for place in 0..watch.len() {

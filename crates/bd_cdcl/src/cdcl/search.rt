@@ -16,7 +16,8 @@ ghost use Rattle.bd_watch.specs.Watching.{IsConflict};
 ghost use Rattle.bd_watch.specs.Watch.{IsWatching, IsPropagated};
 ghost use Rattle.bd_cdcl.specs.Law.{IsLaw};
 ghost use Rattle.bd_cdcl.specs.inner.Analyses.{IsClear};
-ghost use Rattle.bd_cdcl.specs.inner.Deletions.{Deletes, AreCovered};
+ghost use Rattle.bd_cdcl.specs.inner.Deleting.{Deletes};
+ghost use Rattle.bd_cdcl.specs.inner.Deletions.{AreCovered};
 ghost use Rattle.bd_cdcl.specs.inner.Descents.{standing_in, IsBegun, IsDescending, GoesOn, Refutes, IsChoice, Advances, Follows, Steps};
 
 use super::analyze::Analysis;

@@ -3,7 +3,7 @@ use Rattle.std.specs.Prelude.{◌≡◌, ◌<◌, ℕ, Bool, true, List, Some, s
 use Rattle.bd_terms.specs.declared.node.Sym.{Sym}
 use Rattle.bd_terms.specs.declared.node.Node.{Node}
 use Rattle.bd_terms.specs.declared.node.Node.TheVariants.{App}
-use Rattle.bd_diverse.specs.declared.ways.Ways.{Ways}
+use Rattle.bd_diverse.specs.declared.occurrences.Occurrences.{Occurrences}
 use Rattle.bd_diverse.specs.inner.Walked.{is_any, ways_at}
 
 -- the term is a word that applies the symbol
@@ -19,8 +19,8 @@ pub record AppliesBelow (nodes : List Node) (place : ℕ) (test : ℕ → Bool) 
   pub there : slice_get nodes id ≡ Some (App symbol args)
   pub passes : test id ≡ true
 
-abbrev pub is_compared : List Ways → ℕ → Bool
+abbrev pub is_compared : List Occurrences → ℕ → Bool
 is_compared marks k = (ways_at marks k).compared
 
-abbrev pub is_reached : List Ways → ℕ → Bool
+abbrev pub is_reached : List Occurrences → ℕ → Bool
 is_reached marks k = is_any (ways_at marks k)

@@ -16,7 +16,7 @@ use Rattle.bd_typer.specs.declared.walk.Typed.{Typed}
 use Rattle.bd_typer.specs.NameMap as names
 use Rattle.bd_typer.specs.Walk as walk
 use Rattle.bd_typer.specs.Joined as joined
-use Rattle.bd_abstraction.specs.Abstraction.{abstraction_view}
+use Rattle.bd_model.specs.Abstraction.{abstraction_view}
 use Rattle.bd_typer.specs.declared.joining.Claims.{Claims}
 use Rattle.bd_typer.specs.declared.joining.TypedInv.{TypedInv}
 use Rattle.bd_typer.specs.declared.joining.TypedMachine.{TypedMachine}

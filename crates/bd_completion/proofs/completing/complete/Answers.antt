@@ -1,5 +1,5 @@
 use Rattle.std.proofs.Common.{subst}
-use Rattle.bd_abstraction.specs.Abstraction.{abstraction_view}
+use Rattle.bd_model.specs.Abstraction.{abstraction_view}
 use Rattle.bd_model.specs.DesignView.{design_view}
 use Rattle.bd_model.specs.Conditions.{JudgedBy}
 use Rattle.bd_cdcl.specs.declared.solver.Found.TheVariants.{Model, Refuted, Spent}
@@ -91,16 +91,16 @@ returns-clause-work g c =
     work-by d c.requires.lawful (abstraction_view c.args.abs.now) c.args.agree c.root_by.new.graph c.in_ok-root.root c.in_ok-root.ensures c.args.budget Spent c.in-Spent.work h
 
 pub returns-then-agree-clause-asked : goal.returns-then-agree-clause-asked
-returns-then-agree-clause-asked g c = subst (IsDecisionSaid (g.S.Solver.says c.args.solver.now) c.args.budget) c.in-Valid.is c.in_ok-work.ensures.asked
+returns-then-agree-clause-asked g c = subst (IsDecisionSaid (g.S.Solver.says c.args.solver.now c.decide.new.solver) c.args.budget) c.in-Valid.is c.in_ok-work.ensures.asked
 
 pub returns-in-Valid-clause-asked : goal.returns-in-Valid-clause-asked
-returns-in-Valid-clause-asked g c = subst (IsDecisionSaid (g.S.Solver.says c.args.solver.now) c.args.budget) c.in-Valid.is c.in_ok-work.ensures.asked
+returns-in-Valid-clause-asked g c = subst (IsDecisionSaid (g.S.Solver.says c.args.solver.now c.decide.new.solver) c.args.budget) c.in-Valid.is c.in_ok-work.ensures.asked
 
 pub returns-then-agree-2-clause-asked : goal.returns-then-agree-2-clause-asked
-returns-then-agree-2-clause-asked g c = subst (IsDecisionSaid (g.S.Solver.says c.args.solver.now) c.args.budget) c.in-False.is c.in_ok-work.ensures.asked
+returns-then-agree-2-clause-asked g c = subst (IsDecisionSaid (g.S.Solver.says c.args.solver.now c.decide.new.solver) c.args.budget) c.in-False.is c.in_ok-work.ensures.asked
 
 pub returns-in-False-clause-asked : goal.returns-in-False-clause-asked
-returns-in-False-clause-asked g c = subst (IsDecisionSaid (g.S.Solver.says c.args.solver.now) c.args.budget) c.in-False.is c.in_ok-work.ensures.asked
+returns-in-False-clause-asked g c = subst (IsDecisionSaid (g.S.Solver.says c.args.solver.now c.decide.new.solver) c.args.budget) c.in-False.is c.in_ok-work.ensures.asked
 
 pub returns-clause-asked : goal.returns-clause-asked
-returns-clause-asked g c = subst (IsDecisionSaid (g.S.Solver.says c.args.solver.now) c.args.budget) c.in-Spent.is c.in_ok-work.ensures.asked
+returns-clause-asked g c = subst (IsDecisionSaid (g.S.Solver.says c.args.solver.now c.decide.new.solver) c.args.budget) c.in-Spent.is c.in_ok-work.ensures.asked

@@ -1,5 +1,5 @@
 use Rattle.std.proofs.Common.{true, false, sym, subst}
-use Rattle.bd_abstraction.specs.Abstraction.{abstraction_view}
+use Rattle.bd_model.specs.Abstraction.{abstraction_view}
 use Rattle.bd_model.specs.DesignView.{design_view}
 use Rattle.bd_completion.specs.Kept.{IsRootBy}
 use Rattle.bd_completion.proofs.Roots.{made_root}

@@ -1,5 +1,5 @@
 use Rattle.std.proofs.Common.{map, ap, ◌∙◌}
-use Rattle.bd_abstraction.specs.Abstraction.{values_by}
+use Rattle.bd_model.specs.Abstraction.{values_by}
 use Rattle.bd_model.specs.Conditions.{Abstraction}
 use Rattle.bd_model.specs.DesignView.{design_view, local_view}
 use Rattle.bd_model.specs.ExprView.{expr_views, list_of_views}

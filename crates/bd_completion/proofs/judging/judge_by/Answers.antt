@@ -1,5 +1,5 @@
 use Rattle.std.proofs.Common.{IfOk, subst, sym}
-use Rattle.bd_abstraction.specs.Abstraction.{abstraction_of}
+use Rattle.bd_model.specs.Abstraction.{abstraction_of}
 use Rattle.bd_model.specs.Conditions.{JudgedBy}
 use Rattle.bd_model.specs.DesignView.{design_view}
 use Rattle.bd_completion.proofs.judging.judge_by.Goals as goal

@@ -5,14 +5,14 @@ use Rattle.bd_terms.specs.Denotation.{World, truth}
 use Rattle.bd_function.specs.declared.symbol_tables.SymTable.{SymTable}
 use Rattle.bd_function.specs.Flat.{ReachesNoMemory}
 use Rattle.bd_function.specs.Tables.{world_of_tables}
-use Rattle.bd_diverse.specs.declared.old.Old.{Old}
+use Rattle.bd_diverse.specs.declared.base_world.BaseWorld.{BaseWorld}
 use Rattle.bd_diverse.specs.Diverse.{IsDiverse, KeepsApart}
 use Rattle.bd_diverse.specs.inner.Rows.{IsOld, SpreadsAll}
 use Rattle.bd_diverse.proofs.Reading.{spread-apart, spread-diverse, spread-false}
 use Rattle.bd_diverse.proofs.Valuing.{all-spread}
 use Rattle.bd_diverse.proofs.diverse.diversify.Goals as goal
 
-module _ (tables before between after : List SymTable) (nodes : List Node) (root : ℕ) (old : Old) (inside : root < length nodes) (none : ReachesNoMemory nodes root)
+module _ (tables before between after : List SymTable) (nodes : List Node) (root : ℕ) (old : BaseWorld) (inside : root < length nodes) (none : ReachesNoMemory nodes root)
     (first : before ≡ tables) (second : between ≡ tables) (o : IsOld (world_of_tables before) nodes root old) (s : SpreadsAll (world_of_tables between) old nodes root (world_of_tables after)) where
   known : IsOld (world_of_tables tables) nodes root old
   known = subst (λ (l : List SymTable). IsOld (world_of_tables l) nodes root old) first o

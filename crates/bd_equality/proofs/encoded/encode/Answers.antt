@@ -13,7 +13,7 @@ pub returns-clause-by_edges : goal.returns-clause-by_edges
 returns-clause-by_edges c =
     by_edges_of c.args.flat.now.graph c.args.flat.now.root (option_copied c.args.marked) c.in_ok-edges.edges c.in_ok-prop.prop c.in_ok-prop.root c.in_ok-prop.ensures.atoms
     (λ e r. subst (λ l. Contains l e) (sym c.in_ok-edges.ensures.edges) ((c.in_ok-with_reached.ensures.edges e).1 (inl r)))
-    c.in_ok-with_reached.ensures.graph c.in_ok-prop.ensures.means
+    c.in_ok-with_reached.ensures.graph c.in_ok-prop.ensures.inside c.in_ok-prop.ensures.denotes
 
 pub returns-clause-vertices : goal.returns-clause-vertices
 returns-clause-vertices c = λ k d lt.
@@ -37,6 +37,3 @@ returns-clause-apart_simple c =
     (λ e h. edge_of_either c.args.flat.now.graph c.args.flat.now.syms c.args.distinct.now (option_copied c.args.marked) c.in_ok-prop.prop c.in_ok-prop.root e c.in_ok-prop.ensures.atoms
     (inr ((c.in_ok-pairs.ensures e).0 (subst (λ l. Contains l e) c.in_ok-apart.ensures.edges h))))
     (subst (AllPairs (λ e f. e ≢ f)) (sym c.in_ok-apart.ensures.edges) c.in_ok-apart.ensures.once)
-
-pub returns-clause-made : goal.returns-clause-made
-returns-clause-made c = c.in_ok-prop.ensures.means.made

@@ -1,8 +1,8 @@
 use Rattle.std.proofs.Common.{sym, subst}
 use Rattle.std.specs.Prelude.{IfOk}
 use Rattle.bd_model.specs.DesignView.{design_view}
-use Rattle.bd_abstraction.specs.Abstraction.{abstraction_of}
-use Rattle.bd_abstraction.specs.declared.abstraction.Abstraction.{Abstraction}
+use Rattle.bd_model.specs.Abstraction.{abstraction_of}
+use Rattle.bd_model.specs.declared.abstraction.Abstraction.{Abstraction}
 use Rattle.std.proofs.lemmas.Result.{IfOk-weaker}
 use Rattle.bd_goal.specs.Made.{AreVisible}
 use Rattle.bd_goal.specs.inner.Shown.{StandsFor}

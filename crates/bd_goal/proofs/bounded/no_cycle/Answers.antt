@@ -8,7 +8,7 @@ use Rattle.std.proofs.Common.{Ok}
 use Rattle.bd_terms.specs.declared.node.Sym.TheVariants as symbol
 use Rattle.bd_terms.specs.Graph.{Extends}
 use Rattle.bd_terms.proofs.Growth.{Extends-trans}
-use Rattle.bd_abstraction.specs.declared.abstraction.Abstraction.TheVariants as abstraction
+use Rattle.bd_model.specs.declared.abstraction.Abstraction.TheVariants as abstraction
 use Rattle.bd_symbolic.specs.declared.state.SymState.{SymState}
 use Rattle.bd_symbolic.proofs.Making.{called, first-Extends}
 use Rattle.bd_goal.proofs.Making.{invariant-Extends, visible-Extends}

@@ -10,7 +10,7 @@ use Rattle.bd_goal.proofs.Known.{KeepsAddresses-Known, Known-none, Known-trans, 
 use Rattle.bd_terms.specs.declared.node.Node.TheVariants as node
 use Rattle.bd_terms.specs.declared.node.Sym.TheVariants as symbol
 use Rattle.bd_terms.specs.Graph.{Extends}
-use Rattle.bd_abstraction.specs.declared.abstraction.Abstraction.TheVariants as abstraction
+use Rattle.bd_model.specs.declared.abstraction.Abstraction.TheVariants as abstraction
 use Rattle.bd_symbolic.specs.declared.state.SymState.{SymState}
 use Rattle.bd_symbolic.proofs.Making.{called, first-Extends, over-Extends}
 use Rattle.bd_goal.specs.Made.{IsCommuting}

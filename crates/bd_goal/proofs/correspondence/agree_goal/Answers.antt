@@ -7,9 +7,9 @@ use Rattle.bd_model.specs.declared.design.Sort.TheVariants as sort
 use Rattle.bd_terms.proofs.Growth.{Extends-trans, HasSort-Extends}
 use Rattle.bd_symbolic.specs.DesignSymbols.{GrowsWithin}
 use Rattle.bd_symbolic.proofs.Growing.{Grows-trans, KeepsDesign-Grows}
-use Rattle.bd_abstraction.specs.Abstraction.{abstraction_of}
+use Rattle.bd_model.specs.Abstraction.{abstraction_of}
 use Rattle.bd_terms.specs.Graph.{Extends}
-use Rattle.bd_abstraction.specs.declared.abstraction.Abstraction.TheVariants as abstraction
+use Rattle.bd_model.specs.declared.abstraction.Abstraction.TheVariants as abstraction
 use Rattle.bd_symbolic.proofs.Making.{first_state-Extends}
 use Rattle.bd_goal.proofs.Making.{equal-Extends, invariant-Extends, visible-Extends}
 use Rattle.bd_goal.specs.Claims.{case_world}

@@ -6,7 +6,7 @@ use Rattle.bd_model.specs.Lawful.{entry_sorts}
 use Rattle.bd_model.specs.declared.design.Sort.TheVariants as sort
 use Rattle.bd_terms.proofs.Growth.{Extends-trans, HasSort-Extends, inside-Extends}
 use Rattle.bd_symbolic.proofs.Growing.{Grows-trans, KeepsDesign-Grows}
-use Rattle.bd_abstraction.specs.Abstraction.{abstraction_of}
+use Rattle.bd_model.specs.Abstraction.{abstraction_of}
 use Rattle.bd_terms.specs.declared.node.Node.TheVariants as node
 use Rattle.bd_terms.specs.Graph.{Extends}
 use Rattle.bd_symbolic.proofs.Making.{called, called-Extends, first_state-Extends, over-Extends}

@@ -1,9 +1,8 @@
 use Rattle.std.proofs.Common.{◌≡◌, ◌+◌, ◌-◌, ◌<◌, ◌∙◌, ℕ, true, false, length, get_or, set, ap, sym, subst, arith, rules}
 use Rattle.std.proofs.lemmas.List.{take_at, get_or_default}
-use Rattle.std.proofs.lemmas.Option.{slice_get-get_or}
-use Rattle.bd_prop.specs.declared.node.PropNode.TheVariants.{True}
 use Rattle.bd_prop.specs.Node.{children}
 use Rattle.bd_prop.specs.Graph.{StandsAt}
+use Rattle.bd_prop.proofs.Forms.{read_stands}
 use Rattle.bd_prop.proofs.Marking.{AreMarks, AreMarks-start, AreMarks-down, marked_from_reach, off_at_start, mark_all, length-mark_all}
 use Rattle.bd_prop.proofs.reach.reached.Goals as goal
 
@@ -20,8 +19,8 @@ mark_children-requires c = λ k d h.
     let ns = c.nodes-nodes.result.now in
     let id = c.loop-id.id - 1 in
     let inside : id < length ns = omega arith in
-    let node = get_or ns id True in
-    let at : StandsAt c.args.prop.now id node = subst (λ xs. StandsAt xs id node) c.nodes-nodes.ensures.value (slice_get-get_or ns id True inside) in
+    let node = c.index-nodes-id.result in
+    let at : StandsAt c.args.prop.now id node = subst (λ xs. StandsAt xs id node) c.nodes-nodes.ensures.value (read_stands ns id node inside c.index-nodes-id.is) in
     let low : get_or (children node) k d < id = c.nodes-nodes.ensures.graph id node at k d h in
     let size : length c.loop-id.marks.items ≡ length c.args.prop.now = c.loop-id.invariant.size in
     let long : length ns ≡ length c.args.prop.now = ap length c.nodes-nodes.ensures.value in
@@ -37,8 +36,8 @@ loop-id-preserved-then-index c =
     let marks = c.loop-id.marks.items in
     let new = c.mark_children.new.marks in
     let inside : id < length ns = omega arith in
-    let node = get_or ns id True in
-    let at : StandsAt prop id node = subst (λ xs. StandsAt xs id node) c.nodes-nodes.ensures.value (slice_get-get_or ns id True inside) in
+    let node = c.index-nodes-id.result in
+    let at : StandsAt prop id node = subst (λ xs. StandsAt xs id node) c.nodes-nodes.ensures.value (read_stands ns id node inside c.index-nodes-id.is) in
     let long : length ns ≡ length prop = ap length c.nodes-nodes.ensures.value in
     let size : length marks ≡ length prop = c.loop-id.invariant.size in
     let back : id + 1 ≡ c.loop-id.id = omega arith in

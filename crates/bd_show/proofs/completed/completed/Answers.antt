@@ -1,5 +1,5 @@
 use Rattle.std.proofs.Common.{◌∙◌, ap}
-use Rattle.bd_abstraction.specs.Abstraction.{abstraction_of}
+use Rattle.bd_model.specs.Abstraction.{abstraction_of}
 use Rattle.bd_app.specs.Loading.{bytes_of}
 use Rattle.bd_model.specs.DesignView.{design_view}
 use Rattle.bd_show.specs.Claims.{completed_note}

@@ -1,4 +1,4 @@
-use Rattle.bd_abstraction.specs.Abstraction.{abstraction_of}
+use Rattle.bd_model.specs.Abstraction.{abstraction_of}
 use Rattle.bd_model.specs.DesignView.{design_view}
 use Rattle.bd_show.proofs.Joins.{outside_judged}
 use Rattle.bd_show.proofs.completed.on_case.Goals as goal

@@ -1,5 +1,5 @@
 use Rattle.std.proofs.Common.{◌≡◌, IfOk, subst, sym}
-use Rattle.bd_abstraction.specs.Abstraction.{IsLawfulAbstraction, abstraction_of}
+use Rattle.bd_model.specs.Abstraction.{IsLawfulAbstraction, abstraction_of}
 use Rattle.bd_model.specs.DesignView.{design_view}
 use Rattle.bd_show.proofs.completed.stands_for.Goals as goal
 

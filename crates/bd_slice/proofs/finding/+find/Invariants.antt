@@ -1,5 +1,12 @@
-use Rattle.std.proofs.Common.{◌+◌, ◌*◌}
-use Rattle.std.specs.Prelude.{max}
+use Rattle.std.proofs.Common.{◌≡◌, ◌+◌, ◌*◌, map, take}
+use Rattle.std.specs.Prelude.{max, not}
+use Rattle.bd_model.specs.DesignView.{DesignView}
+use Rattle.bd_model.specs.ExprView.{expr_view}
+use Rattle.bd_model.specs.Value.{Env, value_of, word_of}
+use Rattle.bd_model.specs.declared.case.Case.{Case}
+use Rattle.bd_model.specs.declared.table.Scalar.{Scalar}
+use Rattle.bd_slice.specs.Reasons.{AllHold}
+use Rattle.bd_slice.specs.inner.Found.{IsAt, Explained, env_at, joined_value}
 use Rattle.bd_model.specs.declared.expr.Expr.{size-Expr}
 use Rattle.bd_model.specs.declared.expr.Exprs.{size-Exprs}
 use Rattle.bd_slice.proofs.finding.+find.Given as goal
@@ -48,3 +55,16 @@ decreases-find_word_choice l = 4 * max (size-Expr l.p.now) (max (size-Expr l.a.n
 
 abbrev pub decreases-find_written : goal.decreases-find_written
 decreases-find_written l = 4 * max (size-Expr l.m.now) (max (size-Expr l.a.now) (size-Expr l.d.now)) + 3
+
+abbrev pub invariant-find_first-loop-part : goal.invariant-find_first-loop-part
+invariant-find_first-loop-part l = record {
+  value : l.all.value ≡ Scalar.Bool (not l.decides);
+  explained : Explained l.here (λ (env : Env). Scalar.Bool (joined_value l.decides (map (λ x. value_of env (expr_view x)) (take l.part-index l.part-items)))) l.all;
+}
+
+abbrev pub invariant-find_applied-loop-arg : goal.invariant-find_applied-loop-arg
+invariant-find_applied-loop-arg l = record {
+  holds : (d : DesignView) → IsAt d l.here → AllHold d l.here.case.now l.all.facts.items;
+  words : (d : DesignView) (o : Case) → AllHold d o l.all.facts.items
+      → map word_of (map (λ x. value_of (env_at d o l.here) (expr_view x)) (take l.arg-index l.arg-items)) ≡ l.words.items;
+}

@@ -6,7 +6,8 @@ use Rattle.bd_cnf.specs.Clause.{Satisfies}
 use Rattle.bd_cnf.specs.Problem.{Problem, problem, AreWithin}
 use Rattle.bd_tseitin.specs.declared.row.AtomVar.{AtomVar}
 use Rattle.bd_tseitin.specs.Rows.{AreRows, Agree, HasAtom}
-use Rattle.bd_tseitin.specs.Form.{IsTseitin, Extends}
+use Rattle.bd_tseitin.specs.Form.{AreLocal, IsTseitin, Extends}
+use Rattle.bd_tseitin.proofs.Local.{are_local}
 use Rattle.bd_tseitin.proofs.Laws.{within_form, AreRows-form, denoted, denoted_satisfies, denoted_agrees, value-denoted, satisfied_holds, rows_exact}
 use Rattle.bd_tseitin.proofs.form.clauses.Goals as goal
 
@@ -33,9 +34,10 @@ returns-clause-form c =
     let graph = c.in_ok-parts.ensures.graph in
     let form = c.in_ok-parts.ensures.form in
     let P : ℕ → List (List Literal) → List AtomVar → Type 0 = λ vars clauses rows.
-    (t : IsTseitin prop root vars clauses rows) × ((v : Atom → Bool) → truth_at v prop root ≡ true → Extends prop root v clauses rows t.inside t.literal_of) in
+    (t : IsTseitin prop root vars clauses rows) × AreLocal prop root t.literal_of clauses × ((v : Atom → Bool) → truth_at v prop root ≡ true → Extends prop root v clauses rows t.literal_of) in
     let made : P parts.vars parts.clauses.items parts.atoms.items = (
       form,
+      are_local prop root parts.vars parts.clauses.items parts.atoms.items form,
       λ v holds. record {
         assignment = denoted prop root parts.vars parts.clauses.items parts.atoms.items graph c.requires form v;
         satisfies = denoted_satisfies prop root parts.vars parts.clauses.items parts.atoms.items graph c.requires form v holds;

@@ -1,6 +1,6 @@
 use Rattle.std.proofs.Common.{refl, sym}
 use Rattle.std.proofs.lemmas.Result.{err_from_is_err_and}
-use Rattle.bd_abstraction.specs.Abstraction.{abstraction_view}
+use Rattle.bd_model.specs.Abstraction.{abstraction_view}
 use Rattle.bd_typer.specs.declared.fault.Text.TheVariants.{Comp}
 use Rattle.bd_typer.specs.Joined.{claimed}
 use Rattle.bd_typer.proofs.Files.{fails_then, located_gives, given_is, given_fails}

@@ -1,5 +1,5 @@
 use Rattle.std.proofs.Common.{Ok, ap, sym}
-use Rattle.bd_abstraction.specs.Abstraction.{abstraction_view}
+use Rattle.bd_model.specs.Abstraction.{abstraction_view}
 use Rattle.bd_typer.specs.Joined.{joined_machines}
 use Rattle.bd_typer.proofs.joining.joined_machines.Goals as goal
 

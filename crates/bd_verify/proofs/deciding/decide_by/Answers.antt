@@ -22,7 +22,7 @@ returns-in_ok-trail-in-Model-clause-decided g c =
     let d = design_view c.args.design.now in
     let r = c.in_ok-reduction.reduction in
     let h = c.in_ok-reduction.ensures in
-    let law = g.met.S.HonestSolver.law c.args.solver.now r.formula.cnf c.args.budget c.in_ok-assignment.field-0 c.solve.new.log c.in_ok-assignment.ensures.says in (
+    let law = g.met.S.HonestSolver.law c.args.solver.now c.solve.new.self r.formula.cnf c.args.budget c.in_ok-assignment.field-0 c.solve.new.log c.in_ok-assignment.ensures.says in (
       c.in_ok-trail-in-Model.ensures c.args.graph.now c.args.root c.args.mode c.requires.known h.flat,
       (
         c.in-Model.assignment,
@@ -39,7 +39,7 @@ returns-in-Refuted-clause-decided g c =
     let h = c.in_ok-reduction.ensures in
     let kept = kept-of (widened d c.args.cycles) c.args.graph.now c.args.root c.args.mode r h.flat (h.formula c.args.cycles) in
     let law = subst (λ a. IsLaw r.formula.cnf c.args.budget a c.solve.new.log) c.in-Refuted.is
-    (g.met.S.HonestSolver.law c.args.solver.now r.formula.cnf c.args.budget c.in_ok-assignment.field-0 c.solve.new.log c.in_ok-assignment.ensures.says) in (
+    (g.met.S.HonestSolver.law c.args.solver.now c.solve.new.self r.formula.cnf c.args.budget c.in_ok-assignment.field-0 c.solve.new.log c.in_ok-assignment.ensures.says) in (
       refuted-valid d c.args.cycles c.args.graph.now c.args.root c.args.mode c.requires.lawful c.requires.known r.formula.cnf kept c.args.budget c.solve.new.log law,
       root-work d c.args.cycles c.args.graph.now c.args.root c.args.mode c.requires.lawful c.requires.known r.formula.cnf kept c.args.budget c.solve.new.log
           Refuted c.work-in-Refuted.result c.work-in-Refuted.ensures.cnf c.work-in-Refuted.ensures.log law,
@@ -51,7 +51,7 @@ returns-in-Spent-clause-decided g c =
     let r = c.in_ok-reduction.reduction in
     let h = c.in_ok-reduction.ensures in
     let law = subst (λ a. IsLaw r.formula.cnf c.args.budget a c.solve.new.log) c.in-Spent.is
-    (g.met.S.HonestSolver.law c.args.solver.now r.formula.cnf c.args.budget c.in_ok-assignment.field-0 c.solve.new.log c.in_ok-assignment.ensures.says) in
+    (g.met.S.HonestSolver.law c.args.solver.now c.solve.new.self r.formula.cnf c.args.budget c.in_ok-assignment.field-0 c.solve.new.log c.in_ok-assignment.ensures.says) in
     root-work d c.args.cycles c.args.graph.now c.args.root c.args.mode c.requires.lawful c.requires.known r.formula.cnf
     (kept-of (widened d c.args.cycles) c.args.graph.now c.args.root c.args.mode r h.flat (h.formula c.args.cycles)) c.args.budget c.solve.new.log
     Spent c.work-in-Spent.result c.work-in-Spent.ensures.cnf c.work-in-Spent.ensures.log law
@@ -59,13 +59,13 @@ returns-in-Spent-clause-decided g c =
 pub returns-in_ok-trail-in-Model-clause-asked : goal.returns-in_ok-trail-in-Model-clause-asked
 returns-in_ok-trail-in-Model-clause-asked g c = (
   c.in-Model.assignment,
-  said (g.S.Solver.says c.args.solver.now) c.args.budget (Model c.in-Model.assignment) c.work.result c.in_ok-reduction.reduction.formula.cnf c.solve.new.log c.in_ok-assignment.field-0 c.work.ensures.cnf c.work.ensures.log c.in-Model.is c.in_ok-assignment.ensures.says,
+  said (g.S.Solver.says c.args.solver.now c.solve.new.self) c.args.budget (Model c.in-Model.assignment) c.work.result c.in_ok-reduction.reduction.formula.cnf c.solve.new.log c.in_ok-assignment.field-0 c.work.ensures.cnf c.work.ensures.log c.in-Model.is c.in_ok-assignment.ensures.says,
 )
 
 pub returns-in-Refuted-clause-asked : goal.returns-in-Refuted-clause-asked
 returns-in-Refuted-clause-asked g c =
-    said (g.S.Solver.says c.args.solver.now) c.args.budget Refuted c.work-in-Refuted.result c.in_ok-reduction.reduction.formula.cnf c.solve.new.log c.in_ok-assignment.field-0 c.work-in-Refuted.ensures.cnf c.work-in-Refuted.ensures.log c.in-Refuted.is c.in_ok-assignment.ensures.says
+    said (g.S.Solver.says c.args.solver.now c.solve.new.self) c.args.budget Refuted c.work-in-Refuted.result c.in_ok-reduction.reduction.formula.cnf c.solve.new.log c.in_ok-assignment.field-0 c.work-in-Refuted.ensures.cnf c.work-in-Refuted.ensures.log c.in-Refuted.is c.in_ok-assignment.ensures.says
 
 pub returns-in-Spent-clause-asked : goal.returns-in-Spent-clause-asked
 returns-in-Spent-clause-asked g c =
-    said (g.S.Solver.says c.args.solver.now) c.args.budget Spent c.work-in-Spent.result c.in_ok-reduction.reduction.formula.cnf c.solve.new.log c.in_ok-assignment.field-0 c.work-in-Spent.ensures.cnf c.work-in-Spent.ensures.log c.in-Spent.is c.in_ok-assignment.ensures.says
+    said (g.S.Solver.says c.args.solver.now c.solve.new.self) c.args.budget Spent c.work-in-Spent.result c.in_ok-reduction.reduction.formula.cnf c.solve.new.log c.in_ok-assignment.field-0 c.work-in-Spent.ensures.cnf c.work-in-Spent.ensures.log c.in-Spent.is c.in_ok-assignment.ensures.says

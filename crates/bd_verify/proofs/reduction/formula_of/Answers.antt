@@ -8,7 +8,7 @@ use Rattle.bd_verify.proofs.reduction.formula_of.Goals as goal
 pub with_edges-requires-clause-few : goal.with_edges-requires-clause-few
 with_edges-requires-clause-few c =
     let first = c.in_ok-formula.formula in
-    few-variables c.mk_not.new.self c.in_ok-denied.denied first.cnf.vars first.cnf.clauses first.atoms most_variables c.in_ok-formula.ensures.form.0
+    few-variables c.in_ok-denied.denied.prop c.in_ok-denied.denied.root first.cnf.vars first.cnf.clauses first.atoms most_variables c.in_ok-formula.ensures.form.0
     (subst (λ l. length l < most_variables) c.nodes-nodes.ensures.value c.if-prove.false)
 
 pub with_edges-requires-clause-apart : goal.with_edges-requires-clause-apart
@@ -46,10 +46,10 @@ returns c = λ cycles.
       first = first.cnf;
       first_rows = first.atoms;
       denied = record {
-        nodes = c.mk_not.new.self;
-        root = c.in_ok-denied.denied;
+        nodes = c.in_ok-denied.denied.prop;
+        root = c.in_ok-denied.denied.root;
+        negation = c.in_ok-denied.ensures;
         different = c.in_ok-formula.ensures.different;
-        negated = c.in_ok-denied.ensures.form;
         form = c.in_ok-formula.ensures.form.0;
       };
       adds = subst (λ l. AddsEdges order l first.cnf first.atoms new.cnf new.atoms) c.as_slice.ensures c.in_ok-formula-2.ensures;

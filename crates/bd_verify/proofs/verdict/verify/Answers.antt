@@ -1,5 +1,8 @@
 use Rattle.std.proofs.Common.{◌∙◌, Some, IfOk, None, subst, sym, true≢false}
+use Rattle.bd_cdcl.specs.Asks.{AsksAtMost}
+use Rattle.bd_cdcl.proofs.Questions.{one_more}
 use Rattle.bd_model.specs.DesignView.{design_view}
+use Rattle.bd_verify.specs.Asked.{most_questions}
 use Rattle.bd_verify.specs.inner.Answered.{IsAnswerSaid, IsAnswered, IsFound}
 use Rattle.bd_verify.specs.declared.verdict.Question.TheVariants as question
 use Rattle.bd_verify.proofs.Judgements.{holds-found, right-found, says-result}
@@ -34,9 +37,16 @@ returns-in-ThisCase-clause-says g c =
 pub returns-in-ThisCase-clause-asked_in_turn : goal.returns-in-ThisCase-clause-asked_in_turn
 returns-in-ThisCase-clause-asked_in_turn g c = λ given.
     let d = design_view c.args.design.now in
-    let says = g.S.Solver.says c.args.solver.now in
-    let first = meets-first g.S.Solver.says c.args.solver.now d c.args.mode c.args.budget c.in-ThisCase.case _
-    (λ answer h. g.met.S.HonestSolver.law c.args.solver.now _ c.args.budget answer _ h)
+    let between = c.ask.new.solver in
+    let says = g.S.Solver.says c.args.solver.now between in
+    let first = meets-first g.S.Solver.says c.args.solver.now between d c.args.mode c.args.budget c.in-ThisCase.case _
+    (λ answer h. g.met.S.HonestSolver.law c.args.solver.now between _ c.args.budget answer _ h)
     (subst (IsAnswered d question.Meets c.args.mode c.args.budget) c.in-ThisCase.is c.in_ok-work.ensures.answered)
     (subst (IsAnswerSaid says c.args.budget) c.in-ThisCase.is c.in_ok-work.ensures.said) in
-    in-turn g.S.Solver.says c.args.solver.now c.ask.new.solver d c.args.mode c.args.budget (Some c.in-ThisCase.case) c.breaks-in-ThisCase.result first c.breaks-in-ThisCase.ensures.found c.breaks-in-ThisCase.ensures.said
+    in-turn g.S.Solver.says c.args.solver.now between c.breaks-in-ThisCase.new.solver d c.args.mode c.args.budget (Some c.in-ThisCase.case) c.breaks-in-ThisCase.result first c.breaks-in-ThisCase.ensures.found c.breaks-in-ThisCase.ensures.said
+
+pub returns-in-ThisCase-clause-at_most : goal.returns-in-ThisCase-clause-at_most
+returns-in-ThisCase-clause-at_most g c =
+    let asked = g.S.Solver.asked in
+    subst (λ b. AsksAtMost (asked c.args.solver.now) (asked c.breaks-in-ThisCase.new.solver) (most_questions b)) (sym c.if-not-given.false)
+    (one_more (asked c.args.solver.now) (asked c.ask.new.solver) (asked c.breaks-in-ThisCase.new.solver) c.in_ok-work.ensures.counted c.breaks-in-ThisCase.ensures.at_most)

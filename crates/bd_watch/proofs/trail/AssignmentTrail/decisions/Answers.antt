@@ -12,14 +12,14 @@ loop-entry-preserved c =
     let xs = c.deref-entry-items.result.now in
     let i = c.loop-entry.entry-index in
     let a = c.entry-item.result in
-    let reason = ap (λ (e : Assigned). e.reason) c.entry.view_is in
+    let reason = c.reason.ensures ∙ ap (λ (e : Assigned). e.reason) c.entry.view_is in
     elim c.if-is_none.branch [
       | then-is_none+in_ok-push w ↦
           ap (λ (v : Vec Literal Global). v.items) w.found-is
-          ∙ decisions_pushed xs i a c.loop-entry.found.items w.push.new.self.items w.lit.result c.entry.inside.reason c.loop-entry-test.true c.entry-item.is (w.lit.ensures ∙ ap (λ (e : Assigned). e.literal) c.entry.view_is) reason w.if-is_none.ensures c.loop-entry.invariant w.in_ok-push.ensures.items
+          ∙ decisions_pushed xs i a c.loop-entry.found.items w.push.new.self.items w.lit.result c.reason.result c.loop-entry-test.true c.entry-item.is (w.lit.ensures ∙ ap (λ (e : Assigned). e.literal) c.entry.view_is) reason w.if-is_none.ensures c.loop-entry.invariant w.in_ok-push.ensures.items
       | else-is_none w ↦
           ap (λ (v : Vec Literal Global). v.items) w.found-is
-          ∙ decisions_passed xs i a c.loop-entry.found.items c.entry.inside.reason c.loop-entry-test.true c.entry-item.is reason w.if-is_none.ensures c.loop-entry.invariant
+          ∙ decisions_passed xs i a c.loop-entry.found.items c.reason.result c.loop-entry-test.true c.entry-item.is reason w.if-is_none.ensures c.loop-entry.invariant
     ]
 
 pub returns-clause-below : goal.returns-clause-below

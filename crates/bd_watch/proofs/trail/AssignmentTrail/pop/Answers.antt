@@ -18,14 +18,14 @@ pub invariant_of-self-then-is_none : goal.invariant_of-self-then-is_none
 invariant_of-self-then-is_none c =
     let inside = c.self.inside in
     let index = c.index.ensures ∙ ap (λ (a : Assigned). literal_index a.literal) c.last.view_is in
-    let started = undecided_places inside.starts.items c.pop-then-is_none.new.self.items _ inside.entries.items c.pop.new.self.items c.in_ok-last.last c.last.inside.reason c.self.invariant.started c.in_ok-last.ensures.items (ap (λ (a : Assigned). a.reason) c.last.view_is) c.if-is_none.ensures inside.starts.ok.0 c.pop-then-is_none.ensures.rest in
+    let started = undecided_places inside.starts.items c.pop-then-is_none.new.self.items _ inside.entries.items c.pop.new.self.items c.in_ok-last.last c.reason.result c.self.invariant.started c.in_ok-last.ensures.items c.reason.ensures c.if-is_none.ensures inside.starts.ok.0 c.pop-then-is_none.ensures.rest in
     leveled_popped inside.holds.items inside.places.items inside.starts.items c.pop-then-is_none.new.self.items inside.entries.items c.pop.new.self.items c.in_ok-last.last _ _ _ _ _ c.self.invariant c.in_ok-last.ensures.items index started c.in_ok-last.ensures.capacity c.pop-then-is_none.ensures.capacity
 
 pub invariant_of-self-else-is_none : goal.invariant_of-self-else-is_none
 invariant_of-self-else-is_none c =
     let inside = c.self.inside in
     let index = c.index.ensures ∙ ap (λ (a : Assigned). literal_index a.literal) c.last.view_is in
-    let started = unimplied_places inside.starts.items inside.entries.items c.pop.new.self.items c.in_ok-last.last c.last.inside.reason c.self.invariant.started c.in_ok-last.ensures.items (ap (λ (a : Assigned). a.reason) c.last.view_is) c.if-is_none.ensures in
+    let started = unimplied_places inside.starts.items inside.entries.items c.pop.new.self.items c.in_ok-last.last c.reason.result c.self.invariant.started c.in_ok-last.ensures.items c.reason.ensures c.if-is_none.ensures in
     leveled_popped inside.holds.items inside.places.items inside.starts.items inside.starts.items inside.entries.items c.pop.new.self.items c.in_ok-last.last _ _ _ _ _ c.self.invariant c.in_ok-last.ensures.items index started c.in_ok-last.ensures.capacity refl
 
 pub returns-clause-below : goal.returns-clause-below

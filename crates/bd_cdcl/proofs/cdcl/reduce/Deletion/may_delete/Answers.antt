@@ -10,7 +10,7 @@ is_satisfied-requires-clause-below c =
     let w = c.args.watch.now in
     stands_below w.trail.limit w.clauses c.args.id c.clause.result.now c.requires.watching.watched.below c.clause.ensures
 
-pub returns : goal.returns
-returns c =
+pub returns-clause-may : goal.returns-clause-may
+returns-clause-may c =
     let w = c.args.watch.now in
     subst (λ o. OnTrue c.is_satisfied.result (IsSomeAnd o (IsSatisfied w.trail.entries c.args.id))) (sym c.clause.ensures) c.is_satisfied.ensures

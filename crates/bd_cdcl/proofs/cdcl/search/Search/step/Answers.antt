@@ -7,7 +7,8 @@ use Rattle.bd_watch.specs.Levels.{literals, IsComplete}
 use Rattle.bd_watch.specs.Trails.{LeveledTrail, MakesTrue, AllAssigned}
 use Rattle.bd_watch.specs.Watch.{Propagates}
 use Rattle.bd_cdcl.specs.declared.cdcl.search.Search.{Search}
-use Rattle.bd_cdcl.specs.inner.Deletions.{Deletes, AreCovered, standing_of}
+use Rattle.bd_cdcl.specs.inner.Deleting.{Deletes}
+use Rattle.bd_cdcl.specs.inner.Deletions.{AreCovered, standing_of}
 use Rattle.bd_cdcl.specs.inner.Descents.{IsDescending, Advances}
 use Rattle.bd_cdcl.proofs.DescentSteps.{propagated, deleting, descent_propagates, descent_moves, descent_deletes, descent_complete, descent_covered, descent_followed, descent_advances, descent_satisfies, both_if_ok}
 use Rattle.bd_cdcl.proofs.cdcl.search.Search.step.Goals as goal

@@ -1,5 +1,0 @@
-use Rattle.bd_diverse.proofs.Passing.{IsWalked}
-use Rattle.bd_diverse.proofs.ways.walked.Given as goal
-
-abbrev pub invariant-loop-index : goal.invariant-loop-index
-invariant-loop-index l = IsWalked l.graph l.fn.root l.index l.marks.items
