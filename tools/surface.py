@@ -53,7 +53,7 @@ PROGRAMS: Dict[str, Tuple[Command, ...]] = {
     ),
     "bd_view": (
         Command("check", "whether a pipeline is right, and where it isn't, what a case shows", ("PIPE", "SPEC"),
-                ("INV",), (("--diverse", ""), BUDGET)),
+                ("INV",), (("--diverse", ""), BUDGET, ("--start", "START"), ("--cycles", "C"), ("--case", "FILE"))),
         Command("show", "both ways round a case's diagram", ("PIPE", "SPEC", "CASE"), ("INV",),
                 (("--whole", ""), ("--comp", "COMP"), ("--html", "FILE"))),
         Command("shrink", "a small case that breaks the same condition", ("PIPE", "SPEC", "CASE"), ("INV",)),

@@ -13,14 +13,16 @@ import unittest
 from pathlib import Path
 
 from burch_dill import FALSE, TRUE, Bool, Case, Declarations, DesignError, Fault, Function, Group, Invariant, Judgement
-from burch_dill import NoAnswer, NoFile, Outcome, Pipeline, Specification, Vector, Word, about, check, check_and_show
-from burch_dill import conj, disj, equal, first_of, gen, grid, held, ite, replay, show, shrink, why, xor
+from burch_dill import NoAnswer, NoFile, Outcome, Pipeline, Specification, Start, Trail, Vector, Word, about, bounded
+from burch_dill import check, check_and_show, conj, disj, equal, first_of, gen, grid, held, ite, replay, retrace, show
+from burch_dill import shrink, why, xor
 from burch_dill.machines import forwarding, superscalar
 from burch_dill.trees import item_at
 
 ROOT = Path(__file__).resolve().parent.parent.parent
 DATA = ROOT / "crates" / "burch_dill" / "data"
 TWO_STAGE, STALE, SPEC = (DATA / name for name in ("two_stage.pipe", "stale_operand.pipe", "two_stage.spec"))
+TWIN = DATA / "twin_valid_bits.pipe"
 IS_THERE = shutil.which(os.environ.get("BURCH_DILL", "burch_dill")) is not None
 VIEW_IS_THERE = IS_THERE and shutil.which(os.environ.get("BD_VIEW", "bd_view")) is not None
 
@@ -164,6 +166,43 @@ class Shown(unittest.TestCase):
         spent = check_and_show(DATA / "five_stage.pipe", DATA / "five_stage.spec", budget=100)
         self.assertEqual((spent.outcome, spent.learned, spent.seeks_state), (Outcome.UNDECIDED, 100, False))
         self.assertEqual(check_and_show(TWO_STAGE, SPEC, DATA / "no_state.inv").outcome, Outcome.VOID)
+
+    def test_check_and_show_from_a_start(self) -> None:
+        alike, apart = Start(equal(Bool("v"), Bool("w"))), DATA / "valid_bits_apart.start"
+        right = check_and_show(TWIN, SPEC, start=alike, cycles=3, diverse=True)
+        self.assertEqual((right.outcome, right.is_right), (Outcome.CORRECT, True))
+        self.assertEqual((right.shown, right.broken), (None, None))
+        wrong = check_and_show(TWIN, SPEC, start=apart, cycles=2)
+        self.assertEqual((wrong.outcome, wrong.broken, wrong.is_right), (Outcome.WRONG_COMMUTE, 1, False))
+        assert wrong.shown is not None
+        self.assertEqual(wrong.shown.judgement, Judgement.BROKEN_COMMUTE)
+        trail = bounded(TWIN, SPEC, apart, 2).trail
+        assert trail is not None
+        self.assertEqual(wrong.shown.text, show(TWIN, SPEC, trail, apart).text)
+        self.assertEqual(show(TWIN, SPEC, trail, alike).judgement, Judgement.OUTSIDE)
+        spent = check_and_show(TWIN, SPEC, start=apart, cycles=2, budget=0)
+        self.assertEqual((spent.outcome, spent.learned), (Outcome.UNDECIDED, 0))
+        with self.assertRaisesRegex(Fault, "^start:1:8: E08"):
+            check_and_show(TWIN, SPEC, start="(start none)", cycles=1)
+        for words in ({"start": alike}, {"cycles": 1}, {"start": alike, "cycles": 17},
+                      {"start": alike, "cycles": 1, "inv": DATA / "no_state.inv"}):
+            with self.subTest(tuple(words)), self.assertRaises(NoAnswer) as raised:
+                check_and_show(TWIN, SPEC, **words)
+            self.assertEqual(raised.exception.status, 2)
+
+    def test_check_and_show_saves(self) -> None:
+        with tempfile.TemporaryDirectory() as folder:
+            case, trail, none = (Path(folder, name) for name in ("wrong.case", "wrong.trail", "right.case"))
+            wrong = check_and_show(STALE, SPEC, case=case)
+            self.assertEqual(wrong, check_and_show(STALE, SPEC))
+            self.assertEqual(replay(STALE, SPEC, case), Judgement.BROKEN_COMMUTE)
+            assert wrong.shown is not None
+            self.assertEqual(wrong.shown, show(STALE, SPEC, Case.read(case.read_text())))
+            start = DATA / "valid_bits_apart.start"
+            check_and_show(TWIN, SPEC, start=start, cycles=1, case=trail)
+            self.assertEqual(retrace(TWIN, SPEC, Trail.read(trail.read_text()), start).broken, 1)
+            check_and_show(TWO_STAGE, SPEC, case=none)
+            self.assertFalse(none.exists())
 
     def test_why(self) -> None:
         case = check(STALE, SPEC).case

@@ -20,7 +20,7 @@ use Rattle.bd_typer.specs.declared.fault.TypeFault.TheVariants.{Bad, Memory}
 use Rattle.bd_app.proofs.Completions.{completed_same}
 use Rattle.bd_app.proofs.Sources.{denotes_same}
 use Rattle.bd_show.specs.Files.{AreCase, AreDesign, AreJoined, AreJoinedBy, AreJoinedCase, IsCaseOf, AreStarted, IsJoinedFault, IsStartedFault, IsTextFault, IsTrailOf, Names, Texts, commented, has_trail}
-use Rattle.bd_show.specs.Meaning.{IsAskedFault, IsRefusedText, IsShownFault, Question, Says, Show, about, asked_names, check, explain, recheck, show, shrink}
+use Rattle.bd_show.specs.Meaning.{BoundedCheck, IsAskedFault, IsRefusedText, IsShownFault, Question, Says, Show, about, asked_names, bounded, check, explain, recheck, show, shrink}
 use Rattle.bd_show.specs.declared.answer.Answer.{Answer}
 use Rattle.bd_show.specs.declared.answer.Ended.{Ended}
 use Rattle.bd_show.specs.declared.answer.Ended.TheVariants.{Refused}
@@ -97,6 +97,7 @@ case_read t d (Err e) design is fits = tt
 -- a fault of texts is one of those that are asked about, unless a trail or a completion function is taken
 pub asked_fault : (q : Question) (t : Texts) (file : Text) (offset : ℕ) (code : Code) → TakesCase q t → IsTextFault t file offset code → IsAskedFault q t file offset code
 asked_fault (check q) t file offset code takes fault = fault
+asked_fault (bounded q) t file offset code takes fault = absurd takes
 asked_fault (show q) t file offset code (none, case) fault =
     subst (λ comp. IsShownFault comp t file offset code) (sym none) (inr (case, fault))
 asked_fault (shrink names) t file offset code takes fault = fault
@@ -140,6 +141,14 @@ text_told t names fault r are says = IfOk-weaker r _ _ (λ a said q same takes. 
 pub trail_told : (t : Texts) (names : Names) (fault : TypeFault) (r : Result Answer AllocError) → t.comp ≡ None → has_trail t ≡ true → IsRefusedBy (IsStartedFault t) fault
     → IfOk r (λ a. (q : Question) → asked_names q ≡ names → IsRefusedBy (IsAskedFault q t) fault → Says q t a.ended a.text.items) → IfOk r (λ a. (q : Show) → q.names ≡ names → Says (show q) t a.ended a.text.items)
 trail_told t names fault r none trail is says = IfOk-weaker r _ _ (λ a said q same. said (show q) same (trail_fault_by q t fault none trail is)) says
+
+start_fault_by : (q : BoundedCheck) (t : Texts) (fault : TypeFault) → IsRefusedBy (IsStartedFault t) fault → IsRefusedBy (IsAskedFault (bounded q) t) fault
+start_fault_by q t (Bad file offset code) fault = fault
+start_fault_by q t Memory fault = tt
+
+pub start_told : (t : Texts) (names : Names) (fault : TypeFault) (r : Result Answer AllocError) → IsRefusedBy (IsStartedFault t) fault
+    → IfOk r (λ a. (q : Question) → asked_names q ≡ names → IsRefusedBy (IsAskedFault q t) fault → Says q t a.ended a.text.items) → IfOk r (λ a. (q : BoundedCheck) → q.names ≡ names → Says (bounded q) t a.ended a.text.items)
+start_told t names fault r is says = IfOk-weaker r _ _ (λ a said q same. said (bounded q) same (start_fault_by q t fault is)) says
 
 pub joined_told : (t : Texts) (names : Names) (fault : TypeFault) (r : Result Answer AllocError) → is_some t.comp ≡ true → IsRefusedBy (IsJoinedFault t) fault
     → IfOk r (λ a. (q : Question) → asked_names q ≡ names → IsRefusedBy (IsAskedFault q t) fault → Says q t a.ended a.text.items) → IfOk r (λ a. (q : Show) → q.names ≡ names → Says (show q) t a.ended a.text.items)

@@ -80,16 +80,26 @@ shown_cycle d t cycle b title drawn is (rest, begins) = record {
   begins = begins ∙ ap (λ x. x ++ rest) is;
 }
 
+broken_shown : (d : DesignView) (t : Trail) (cycle : ℕ) (title drawn text : List ℕ) → IsBreaking d t cycle → title ≡ sentence d (of_case.Broken Commute) → ((rest : List ℕ) × (drawn ≡ title ++ rest))
+    → text ≡ ((retraced_words (Broken cycle) ++ 10 ∷ cycles_text d.pipe.ports 1 t.inputs) ++ 10 ∷ []) ++ drawn → IsTrailShown d t (Broken cycle) text
+broken_shown d t cycle title drawn text b named begins is = record {
+  shown = 10 ∷ drawn;
+  is_shown = record { place = b.place; is_place = b.is_place; drawn = drawn; is_drawn = shown_cycle d t cycle b title drawn named begins; begins = refl };
+  lines = is ∙ after_lines (retraced_words (Broken cycle)) (cycles_text d.pipe.ports 1 t.inputs) drawn;
+}
+
+-- of the cycle that breaks: the lines of its trail, an empty line and the picture
+pub break_shown : (d : DesignView) (t : Trail) (cycle : ℕ) (title drawn slice lines apart text : List ℕ) → IsBreaking d t cycle → title ≡ sentence d (of_case.Broken Commute) → ((rest : List ℕ) × (drawn ≡ title ++ rest))
+    → slice ≡ drawn → lines ≡ retraced_words (Broken cycle) ++ 10 ∷ cycles_text d.pipe.ports 1 t.inputs → apart ≡ lines ++ 10 ∷ [] → text ≡ apart ++ slice → IsTrailShown d t (Broken cycle) text
+break_shown d t cycle title drawn slice lines apart text b named begins same are ends is =
+    broken_shown d t cycle title drawn text b named begins (is ∙ ap (λ s. apart ++ s) same ∙ ap (λ l. l ++ drawn) (ends ∙ ap (λ l. l ++ 10 ∷ []) are))
+
 broken_seen : (d : DesignView) (t : Trail) (cycle : ℕ) (title drawn page text : List ℕ) → IsBreaking d t cycle → title ≡ sentence d (of_case.Broken Commute) → ((rest : List ℕ) × (drawn ≡ title ++ rest))
     → IsPage title page → text ≡ ((retraced_words (Broken cycle) ++ 10 ∷ cycles_text d.pipe.ports 1 t.inputs) ++ 10 ∷ []) ++ drawn
     → IsTrailSeen d t (Broken cycle) (Traced (Broken cycle)) text (Some page)
 broken_seen d t cycle title drawn page text b named begins titled is = record {
   ended = refl;
-  shown = record {
-    shown = 10 ∷ drawn;
-    is_shown = record { place = b.place; is_place = b.is_place; drawn = drawn; is_drawn = shown_cycle d t cycle b title drawn named begins; begins = refl };
-    lines = is ∙ after_lines (retraced_words (Broken cycle)) (cycles_text d.pipe.ports 1 t.inputs) drawn;
-  };
+  shown = broken_shown d t cycle title drawn text b named begins is;
   drawn = subst (λ x. IsPage x page) named titled;
 }
 

@@ -1,6 +1,6 @@
 -- The command line: which words are taken, and what they ask for.
 -- Source: what `clap` makes of the words of a simple command, as the crate states it.
-use Rattle.std.specs.Prelude.{◌≡◌, ◌≢◌, ◌⊎◌, ℕ, true, false, List, [], ◌∷◌, codes, Option, Some, None, if◌then◌else◌}
+use Rattle.std.specs.Prelude.{◌≡◌, ◌≢◌, ◌⊎◌, ℕ, true, false, List, [], ◌∷◌, codes, min, Option, Some, None, if◌then◌else◌}
 use Rattle.std.specs.Str.{bytes_eq}
 use Rattle.clap.specs.Faults.{fault_of}
 use Rattle.clap.specs.Kinds.{IsAmong}
@@ -9,15 +9,17 @@ use Rattle.clap.specs.Walk.{Row, Rule, first_of}
 use Rattle.clap.specs.declared.error.kind.ErrorKind.{ErrorKind}
 use Rattle.clap.specs.declared.error.kind.ErrorKind.TheVariants.{DisplayHelp, DisplayVersion}
 use Rattle.bd_app.specs.Commands.{if_faultless}
-use Rattle.bd_app.specs.Words.{budget_option, flag, flag_at, machines_command, mode_at, number_of, option, text_command, text_of_required, ◌>>=◌}
+use Rattle.bd_model.specs.Limits.{most_cycles}
+use Rattle.bd_app.specs.Words.{Name, budget_option, flag, flag_at, in_range, machines_command, mode_at, number_at, number_of, option, text_command, text_of_required, ◌>>=◌}
 use Rattle.bd_show.specs.Files.{Names}
-use Rattle.bd_show.specs.Meaning.{Check, Explain, Question, Recheck, Show, check, show, shrink, explain, about, recheck}
+use Rattle.bd_show.specs.Meaning.{BoundedCheck, Check, Explain, Question, Recheck, Show, bounded, check, show, shrink, explain, about, recheck}
 
--- check PIPE SPEC [INV] [--diverse] [--budget N]
+-- check PIPE SPEC [INV] [--diverse] [--budget N] [--start START] [--cycles C] [--case FILE]
 abbrev pub check_command : Shape
 check_command =
     machines_command (codes "check") (new_rule (codes "INV") ∷ flag (codes "diverse")
-    ∷ budget_option ∷ [])
+    ∷ budget_option ∷ option (codes "start")
+    ∷ in_range 0 most_cycles (option (codes "cycles")) ∷ option (codes "case") ∷ [])
 
 -- show PIPE SPEC CASE [INV] [--whole] [--comp COMP] [--html FILE]
 abbrev pub show_command : Shape
@@ -69,7 +71,29 @@ check_question rows = record {
   names = design_names rows;
   mode = mode_at (codes "diverse") rows;
   budget = number_of (codes "budget") rows;
+  case = first_of (codes "case") rows;
 }
+
+abbrev pub bounded_question : ℕ → List Row → BoundedCheck
+bounded_question cycles rows = record {
+  names = record (design_names rows) { inv = first_of (codes "start") rows };
+  cycles = min cycles most_cycles;
+  mode = mode_at (codes "diverse") rows;
+  budget = number_of (codes "budget") rows;
+  trail = first_of (codes "case") rows;
+}
+
+-- a start and a number of cycles stand together, and not with an invariant
+abbrev pub check_asked_by : Option Name → Option ℕ → Option Name → List Row → Option Question
+check_asked_by None None inv rows = Some (check (check_question rows))
+check_asked_by (Some start) (Some cycles) None rows =
+    Some (bounded (bounded_question cycles rows))
+check_asked_by start cycles inv rows = None
+
+abbrev pub check_asked : List Row → Option Question
+check_asked rows =
+    check_asked_by (first_of (codes "start") rows) (number_at (codes "cycles") rows)
+    (first_of (codes "INV") rows) rows
 
 abbrev pub show_question : List Row → Show
 show_question rows = record {
@@ -98,7 +122,7 @@ command_line = record {
 -- what the command of this name asks
 unfoldable pub question_of : List ℕ → List Row → Option Question
 question_of name rows =
-    if bytes_eq name (codes "check") then Some (check (check_question rows))
+    if bytes_eq name (codes "check") then check_asked rows
     else (if bytes_eq name (codes "show") then Some (show (show_question rows))
     else (if bytes_eq name (codes "shrink") then Some (shrink (case_names rows))
     else (if bytes_eq name (codes "why") then Some (explain (why_question rows))

@@ -4,6 +4,7 @@ pub mod Files
 pub mod LetNames
 pub mod Trails
 pub mod Claims
+pub mod Next
 pub mod Answer
 pub mod Commands
 pub mod Meaning

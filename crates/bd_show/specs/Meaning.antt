@@ -1,6 +1,7 @@
 -- What the answers to a question say of its texts, and what is left of the files.
 use Rattle.std.specs.Prelude.{◌≡◌, ◌↔◌, ◌⊎◌, ◌≤◌, ◌+◌, ◌++◌, ℕ, Bool, true, false, IsTrue, List, [], ◌∷◌, codes, Option, None, Some, IfSome, MatchOption, is_some, Ok}
 use Rattle.bd_model.specs.DesignView.{DesignView}
+use Rattle.bd_model.specs.Fits.{Fits}
 use Rattle.bd_cnf.specs.Problem.{Problem}
 use Rattle.bd_lrat.specs.Log.{IsRefutation}
 use Rattle.bd_model.specs.Conditions.{Abstraction, IsJudged, JudgedBy, MeetsInvariant}
@@ -31,6 +32,7 @@ use Rattle.bd_about.specs.AllLines.{about_lines}
 use Rattle.bd_about.specs.Conjuncts.{AreConjuncts}
 use Rattle.bd_about.specs.Unread.{IsUnread}
 use Rattle.bd_about.specs.declared.asking.Finding.{Finding}
+use Rattle.bd_about.specs.declared.asking.Finding.TheVariants as finding
 use Rattle.bd_about.specs.declared.asking.Findings.{Findings}
 use Rattle.bd_about.specs.declared.counting.Applications.{Applications}
 use Rattle.bd_about.specs.declared.unread.Unread.{Unread as AllUnread}
@@ -38,12 +40,16 @@ use Rattle.bd_about.specs.declared.unread_lines.LetNames.{LetNames}
 use Rattle.bd_files.specs.Devices.{Held, Holds as IsHeld, Rose, saving}
 use Rattle.bd_picture.specs.Page.{IsPage}
 use Rattle.bd_picture.specs.Sentence.{compared_sentence, completed_sentence, sentence}
+use Rattle.bd_bounded.specs.Answer.{HasWorkIn, Says as SaysOfRuns}
+use Rattle.bd_bounded.specs.declared.answer.Bounded.{Bounded}
+use Rattle.bd_bounded.specs.declared.answer.Bounded.TheVariants as run
+use Rattle.bd_app.specs.Bounded.{bounded_words}
 use Rattle.bd_app.specs.Completions.{abstraction_by}
 use Rattle.bd_app.specs.Files.{IsFirstLong, KeepsAllBut, loads}
 use Rattle.bd_app.specs.Meaning.{Called, CalledFirst, FilesSeen, LoadedUpTo}
 use Rattle.bd_app.specs.ProofFaults.{cause_text}
 use Rattle.bd_app.specs.Retrace.{retraced_words}
-use Rattle.bd_app.specs.Texts.{IsTextOf, case_kind}
+use Rattle.bd_app.specs.Texts.{IsTextOf, case_kind, trail_kind}
 use Rattle.bd_app.specs.Verdicts.{IsVerdict, verdict_words}
 use Rattle.bd_app.specs.Words.{Name}
 use Rattle.bd_app.specs.declared.verdict.Asked.{Asked}
@@ -53,13 +59,16 @@ use Rattle.bd_typer.specs.Joined.{JoinedView}
 use Rattle.bd_typer.specs.declared.fault.Text.{Text}
 use Rattle.bd_show.specs.Files.{AreCase, AreDesign, AreJoined, AreJoinedCase, AreStarted, AreTrail, BlamesLoad, BlamesSave, HoldTexts, IsJoinedFault, IsStartedFault, IsTextFault, Names, Texts, bytes_in, files_of, has_trail, name_in, or_none}
 use Rattle.bd_show.specs.Trails.{cycle_case, cycles_text, unstarted}
+use Rattle.bd_goal.specs.Bounded.{IsTrailOver}
+use Rattle.bd_show.specs.Next.{goes_on}
 use Rattle.bd_show.specs.Claims.{claim_in, claim_note, compared_note, completed_note}
 use Rattle.bd_show.specs.declared.claim.Claim.TheVariants.{Differ}
 use Rattle.bd_show.specs.LetNames.{AreLetNames}
 use Rattle.bd_show.specs.declared.answer.Ended.{Ended}
 use Rattle.bd_show.specs.declared.answer.Ended.TheVariants.{Checked, Shown, Completed, Compared, Traced, Shrunk, Explained, Unknown, Unbroken, Described, Proved, BadProof, Refused, TooLong, Unread, Unsaved, Memory}
 
--- what is asked: whether a design is right, in a mode and with a budget; what a case shows, all of it or what is left
+-- what is asked: whether a design is right, in a mode and with a budget, or so for a number of cycles from a start, which
+-- stands in the place of an invariant; what a case shows, all of it or what is left
 -- of it, maybe with a page; what is left of a case; why a value of a case, all of it or what is left of it, is what it
 -- is; what can be said of a design without a case; or whether a text over the formula that is kept in a mode proves a
 -- design right
@@ -67,6 +76,14 @@ pub record Check : Type 0 where
   pub names : Names
   pub mode : Mode
   pub budget : ℕ
+  pub case : Option Name
+
+pub record BoundedCheck : Type 0 where
+  pub names : Names
+  pub cycles : ℕ
+  pub mode : Mode
+  pub budget : ℕ
+  pub trail : Option Name
 
 pub record Show : Type 0 where
   pub names : Names
@@ -84,6 +101,7 @@ pub record Recheck : Type 0 where
 
 pub data Question : Type 0 where
   check : Check → Question
+  bounded : BoundedCheck → Question
   show : Show → Question
   shrink : Names → Question
   explain : Explain → Question
@@ -92,19 +110,22 @@ pub data Question : Type 0 where
 
 abbrev pub asked_names : Question → Names
 asked_names (check q) = q.names
+asked_names (bounded q) = q.names
 asked_names (show q) = q.names
 asked_names (shrink names) = names
 asked_names (explain q) = q.names
 asked_names (about names) = names
 asked_names (recheck q) = q.names
 
-abbrev pub asked_page : Question → Option Name
-asked_page (check q) = None
-asked_page (show q) = q.page
-asked_page (shrink names) = None
-asked_page (explain q) = None
-asked_page (about names) = None
-asked_page (recheck q) = None
+-- the file that is saved to, where one is asked for: a page, or the case or the trail that breaks
+abbrev pub asked_save : Question → Option Name
+asked_save (check q) = q.case
+asked_save (bounded q) = q.trail
+asked_save (show q) = q.page
+asked_save (shrink names) = None
+asked_save (explain q) = None
+asked_save (about names) = None
+asked_save (recheck q) = None
 
 -- ---- what an answer says of texts
 
@@ -187,16 +208,56 @@ abbrev pub IsShownOf : DesignView → Verdict → List ℕ → Type 0
 IsShownOf d (verdict.Wrong k c work) text = IsShown false d c (Broken k) text
 IsShownOf d v text = text ≡ []
 
--- what was found is a verdict that may come and is true of the design, with its work; the text is its line, and what
--- is shown of its case
-pub record IsChecked (asked : Asked) (d : DesignView) (found : Finding) (text : List ℕ) :
+-- what was found is a verdict that may come and is true of the design, with its work; the text is its line, what is
+-- shown of its case, and where that is saved the command that goes on from it
+pub record IsChecked (q : Check) (d : DesignView) (found : Finding) (text : List ℕ) :
     Type 0 where
   pub verdict : Verdict
-  pub is_verdict : IsVerdict d asked verdict
+  pub is_verdict : IsVerdict d (asked_of q) verdict
   pub finding : found ≡ finding_of verdict
   pub shown : List ℕ
   pub is_shown : IsShownOf d verdict shown
-  pub lines : text ≡ (verdict_words asked.budget verdict ++ 10 ∷ []) ++ shown
+  pub lines : text ≡ ((verdict_words q.budget verdict ++ 10 ∷ []) ++ shown)
+      ++ goes_on (codes "why") q.names q.case found
+
+-- what was found over so many cycles, without its trail and its work
+abbrev pub run_finding : Bounded → Finding
+run_finding (run.Kept work) = finding.Right
+run_finding (run.Broken cycle t work) = finding.Wrong Commute
+run_finding (run.Undecided work) = finding.Undecided
+
+-- what is shown of the trail that breaks, of a design without its start; nothing of another answer
+abbrev pub IsRunShown : DesignView → Bounded → List ℕ → Type 0
+IsRunShown d (run.Broken cycle t work) text = IsTrailShown d t (trail.Broken cycle) text
+IsRunShown d found text = text ≡ []
+
+-- what was found of so many cycles from the start is true of the design, and has its work; the text is its line, what
+-- is shown of its trail, and where that is saved the command that goes on from it
+pub record IsBoundedChecked (q : BoundedCheck) (d : DesignView) (found : Finding)
+    (text : List ℕ) : Type 0 where
+  pub answer : Bounded
+  pub says : SaysOfRuns d q.cycles answer
+  pub work : HasWorkIn d q.cycles q.mode q.budget answer
+  pub finding : found ≡ run_finding answer
+  pub shown : List ℕ
+  pub is_shown : IsRunShown (unstarted d) answer shown
+  pub lines : text ≡ ((bounded_words q.cycles q.budget answer ++ 10 ∷ []) ++ shown)
+      ++ goes_on (codes "show") q.names q.trail found
+
+-- the bytes are the text of a case that breaks the condition, and read back as that case
+pub record IsCaseText (d : DesignView) (k : Condition) (bytes : List ℕ) : Type 0 where
+  pub case : Case
+  pub fits : Fits d case
+  pub is_judged : IsJudged d case (Broken k)
+  pub printed : IsTextOf case_kind d case bytes
+
+-- the bytes are the text of a trail of so many cycles that breaks, and read back as that trail
+pub record IsTrailText (d : DesignView) (cycles : ℕ) (bytes : List ℕ) : Type 0 where
+  pub breaking : Trail
+  pub over : IsTrailOver d cycles breaking
+  pub cycle : ℕ
+  pub is_judged : IsTrailJudged d breaking (trail.Broken cycle)
+  pub printed : IsTextOf trail_kind d breaking bytes
 
 -- the text is a small case that breaks the same condition, and reads back as that case
 pub record IsSmaller (d : DesignView) (c : Case) (k : Condition) (text : List ℕ) : Type 0 where
@@ -261,6 +322,9 @@ OfDesign texts P = (d : DesignView) × AreDesign texts (Ok d) × P d
 abbrev pub OfCase : Texts → (DesignView → Case → Type 0) → Type 0
 OfCase texts P = (d : DesignView) × (c : Case) × AreCase texts d c × P d c
 
+abbrev pub OfStarted : Texts → (DesignView → Type 0) → Type 0
+OfStarted texts P = (d : DesignView) × AreStarted texts (Ok d) × P d
+
 abbrev pub OfTrail : Texts → (DesignView → Trail → Type 0) → Type 0
 OfTrail texts P = (d : DesignView) × (t : Trail) × AreTrail texts d t × P d t
 
@@ -280,6 +344,7 @@ IsShownFault (Some comp) texts file offset code = IsJoinedFault texts file offse
 abbrev pub IsAskedFault : Question → Texts → Text → ℕ → Code → Type 0
 IsAskedFault (show q) texts file offset code = IsShownFault texts.comp texts file offset code
 IsAskedFault (check q) texts file offset code = IsTextFault texts file offset code
+IsAskedFault (bounded q) texts file offset code = IsStartedFault texts file offset code
 IsAskedFault (shrink names) texts file offset code = IsTextFault texts file offset code
 IsAskedFault (explain q) texts file offset code = IsTextFault texts file offset code
 IsAskedFault (about names) texts file offset code = IsTextFault texts file offset code
@@ -297,7 +362,9 @@ Says q texts (Refused file offset code) text =
     IsAskedFault q texts file offset code
     × IsRefusedText (asked_names q) texts file offset code text
 Says (check q) texts (Checked found) text =
-    OfDesign texts (λ d. IsChecked (asked_of q) d found text)
+    OfDesign texts (λ d. IsChecked q d found text)
+Says (bounded q) texts (Checked found) text =
+    OfStarted texts (λ d. IsBoundedChecked q d found text)
 Says (show q) texts (Shown j) text =
     (texts.comp ≡ None) × OfCase texts (λ d c. IsShownOfText texts.case q.whole d c j text)
 Says (show q) texts (Completed j) text =
@@ -336,7 +403,7 @@ Means q held (TooLong file) text =
     × (text ≡ name_in (asked_names q) file ++ codes ": E00 file too long\n")
 Means q held (Unread file) text =
     text ≡ codes "cannot read " ++ name_in (asked_names q) file ++ codes "\n"
-Means q held Unsaved text = text ≡ codes "cannot save " ++ or_none (asked_page q) ++ codes "\n"
+Means q held Unsaved text = text ≡ codes "cannot save " ++ or_none (asked_save q) ++ codes "\n"
 Means q held Memory text = text ≡ codes "out of memory\n"
 Means q held e text = IfSome held (λ h. SaysHeld q h e text)
 
@@ -346,7 +413,7 @@ abbrev pub Blames : Question → FilesSeen → FilesSeen → Ended → Type 0
 Blames q before after (Unread file) =
     Rose before.faults after.faults × BlamesLoad after.blame (asked_names q) file
 Blames q before after Unsaved =
-    Rose before.faults after.faults × BlamesSave after.blame (asked_page q)
+    Rose before.faults after.faults × BlamesSave after.blame (asked_save q)
 Blames q before after Memory = Unit {0}
 Blames q before after e = after.blame ≡ before.blame
 
@@ -354,25 +421,35 @@ Blames q before after e = after.blame ≡ before.blame
 abbrev pub AreJoinedDesign : Texts → DesignView → Type 0
 AreJoinedDesign texts d = (j : JoinedView) × AreJoined texts (Ok j) × (d ≡ j.design)
 
--- these bytes are a page whose title is the sentence of what is found, on a design as which the texts are read
-pub record IsPageOn (AreRead : Texts → DesignView → Type 0) (names : Names) (held : Option Held)
-    (title : DesignView → List ℕ) (bytes : List ℕ) : Type 0 where
+-- this is said of the bytes and of a design as which the texts are read
+pub record IsOnDesign (AreRead : Texts → DesignView → Type 0) (names : Names) (held : Option Held)
+    (IsText : DesignView → List ℕ → Type 0) (bytes : List ℕ) : Type 0 where
   pub design : DesignView
   pub is_design : IfSome held (λ h. (texts : Texts) × HoldTexts h names texts
       × AreRead texts design)
-  pub page : IsPage (title design) bytes
+  pub text : IsText design bytes
 
--- these bytes are the page of an answer
+-- these bytes are the page of what is shown
 abbrev pub IsPageOf : Names → Option Held → Ended → List ℕ → Type 0
 IsPageOf names held (Shown j) bytes =
-    IsPageOn (λ t d. AreDesign t (Ok d)) names held (λ d. sentence d j) bytes
+    IsOnDesign (λ t d. AreDesign t (Ok d)) names held (λ d. IsPage (sentence d j)) bytes
 IsPageOf names held (Completed j) bytes =
-    IsPageOn AreJoinedDesign names held (λ d. completed_sentence d j) bytes
+    IsOnDesign AreJoinedDesign names held (λ d. IsPage (completed_sentence d j)) bytes
 IsPageOf names held (Compared same) bytes =
-    IsPageOn AreJoinedDesign names held (λ d. compared_sentence same) bytes
+    IsOnDesign AreJoinedDesign names held (λ d. IsPage (compared_sentence same)) bytes
 IsPageOf names held (Traced (trail.Broken cycle)) bytes =
-    IsPageOn (λ t d. AreStarted t (Ok d)) names held (λ d. sentence d (Broken Commute)) bytes
+    IsOnDesign (λ t d. AreStarted t (Ok d)) names held
+    (λ d. IsPage (sentence d (Broken Commute))) bytes
 IsPageOf names held e bytes = ⊥
+
+-- these bytes are what is saved of an answer: the page of what is shown, or the text of the case or the trail that breaks
+abbrev pub IsSaveOf : Question → Option Held → Ended → List ℕ → Type 0
+IsSaveOf (check q) held (Checked (finding.Wrong k)) bytes =
+    IsOnDesign (λ t d. AreDesign t (Ok d)) q.names held (λ d. IsCaseText d k) bytes
+IsSaveOf (bounded q) held (Checked (finding.Wrong k)) bytes =
+    IsOnDesign (λ t d. AreStarted t (Ok d)) q.names held (λ d. IsTrailText d q.cycles) bytes
+IsSaveOf (show q) held e bytes = IsPageOf q.names held e bytes
+IsSaveOf q held e bytes = ⊥
 
 -- an answer with a page: a case is shown, by flushing or by a completion function, or a trail with the cycle that breaks
 abbrev pub HasPage : Ended → Type 0
@@ -382,29 +459,38 @@ HasPage (Compared same) = Unit {0}
 HasPage (Traced (trail.Broken cycle)) = Unit {0}
 HasPage e = ⊥
 
--- the files stand as they were, or there was a page to be saved
+-- an answer of which something is saved
+abbrev pub HasSave : Question → Ended → Type 0
+HasSave (check q) (Checked (finding.Wrong k)) = Unit {0}
+HasSave (bounded q) (Checked (finding.Wrong k)) = Unit {0}
+HasSave (show q) e = HasPage e
+HasSave q e = ⊥
+
+-- the files stand as they were, or there was something to be saved
 abbrev pub MayHaveSaved : Question → FilesSeen → FilesSeen → Type 0
 MayHaveSaved q before after =
     (after.held ≡ before.held)
-    ⊎ ((e : Ended) × (text : List ℕ) × HasPage e × Means q before.held e text)
+    ⊎ ((e : Ended) × (text : List ℕ) × HasSave q e × Means q before.held e text)
 
--- the page of an answer is held under its name, where one is asked for
-abbrev pub HoldsPage : Question → FilesSeen → FilesSeen → Ended → Type 0
-HoldsPage q before after e =
-    (name : Name) → asked_page q ≡ Some name →
-    (bytes : List ℕ) × IsPageOf (asked_names q) before.held e bytes × IsHeld after.held name bytes
+-- what is saved of an answer is held under its name, where one is asked for
+abbrev pub HoldsSave : Question → FilesSeen → FilesSeen → Ended → Type 0
+HoldsSave q before after e =
+    (name : Name) → asked_save q ≡ Some name →
+    (bytes : List ℕ) × IsSaveOf q before.held e bytes × IsHeld after.held name bytes
 
--- what is saved: the page of what is shown, where one is asked for; nothing before another answer, unless the save of
--- such a page failed or wanted memory
+-- an answer of which something is saved has it held, and before another the files stand
+pub record SavesIts (q : Question) (before after : FilesSeen) (e : Ended) : Type 0 where
+  pub held : HasSave q e → HoldsSave q before after e
+  pub stands : ¬ HasSave q e → after.held ≡ before.held
+
+-- what is saved: the page of what is shown, or the case or trail that breaks, where a name is given; nothing before
+-- another answer, unless the save failed or wanted memory
 abbrev pub Saves : Question → FilesSeen → FilesSeen → Ended → Type 0
-Saves q before after (Shown j) = HoldsPage q before after (Shown j)
-Saves q before after (Completed j) = HoldsPage q before after (Completed j)
-Saves q before after (Compared same) = HoldsPage q before after (Compared same)
-Saves q before after (Traced (trail.Broken cycle)) =
-    HoldsPage q before after (Traced (trail.Broken cycle))
+Saves q before after (TooLong file) = after.held ≡ before.held
+Saves q before after (Unread file) = after.held ≡ before.held
 Saves q before after Unsaved = MayHaveSaved q before after
 Saves q before after Memory = MayHaveSaved q before after
-Saves q before after e = after.held ≡ before.held
+Saves q before after e = SavesIts q before after e
 
 -- ---- the calls on the files
 
@@ -417,32 +503,32 @@ abbrev pub AreLoadedUpTo : Names → FilesSeen → FilesSeen → Text → Type 0
 AreLoadedUpTo names before after file =
     LoadedUpTo before after (files_of names) (file, name_in names file)
 
--- each file was loaded once, and then the page of an answer was saved once, where one is asked for
-abbrev pub IsCalledWithPage : Question → FilesSeen → FilesSeen → Ended → Type 0
-IsCalledWithPage q before after e =
-    MatchOption (asked_page q) (AreLoaded (asked_names q) before after) (λ name. (bytes : List ℕ)
-    × IsPageOf (asked_names q) before.held e bytes
+-- each file was loaded once, and then what is saved of an answer was saved once, where a name is given
+abbrev pub IsCalledWithSave : Question → FilesSeen → FilesSeen → Ended → Type 0
+IsCalledWithSave q before after e =
+    MatchOption (asked_save q) (AreLoaded (asked_names q) before after) (λ name. (bytes : List ℕ)
+    × IsSaveOf q before.held e bytes
     × Called before after (loads (files_of (asked_names q)) ++ saving name bytes ∷ []))
 
--- there was an answer with a page, and these are its calls
-abbrev pub IsCalledForPage : Question → FilesSeen → FilesSeen → Type 0
-IsCalledForPage q before after =
-    (e : Ended) × (text : List ℕ) × HasPage e × Means q before.held e text
-    × IsCalledWithPage q before after e
+-- there was an answer of which something is saved, and these are its calls
+abbrev pub IsCalledForSave : Question → FilesSeen → FilesSeen → Type 0
+IsCalledForSave q before after =
+    (e : Ended) × (text : List ℕ) × HasSave q e × Means q before.held e text
+    × IsCalledWithSave q before after e
 
--- the calls before an answer: the loads, all of them or up to the file that gives no bytes, and then the save of its page
+-- the calls before an answer: with what is saved of it, or the loads alone
+pub record CallsIts (q : Question) (before after : FilesSeen) (e : Ended) : Type 0 where
+  pub saved : HasSave q e → IsCalledWithSave q before after e
+  pub loaded : ¬ HasSave q e → AreLoaded (asked_names q) before after
+
+-- the calls before an answer: the loads, all of them or up to the file that gives no bytes, and then the save
 abbrev pub IsCalled : Question → FilesSeen → FilesSeen → Ended → Type 0
 IsCalled q before after (TooLong file) = AreLoadedUpTo (asked_names q) before after file
 IsCalled q before after (Unread file) = AreLoadedUpTo (asked_names q) before after file
-IsCalled q before after (Shown j) = IsCalledWithPage q before after (Shown j)
-IsCalled q before after (Completed j) = IsCalledWithPage q before after (Completed j)
-IsCalled q before after (Compared same) = IsCalledWithPage q before after (Compared same)
-IsCalled q before after (Traced (trail.Broken cycle)) =
-    IsCalledWithPage q before after (Traced (trail.Broken cycle))
-IsCalled q before after Unsaved = IsCalledForPage q before after
+IsCalled q before after Unsaved = IsCalledForSave q before after
 IsCalled q before after Memory =
-    CalledFirst before after (loads (files_of (asked_names q))) ⊎ IsCalledForPage q before after
-IsCalled q before after e = AreLoaded (asked_names q) before after
+    CalledFirst before after (loads (files_of (asked_names q))) ⊎ IsCalledForSave q before after
+IsCalled q before after e = CallsIts q before after e
 
 -- the answer to a question, with its text
 pub record IsAnswered (q : Question) (before after : FilesSeen) (e : Ended) (text : List ℕ) :
@@ -450,8 +536,8 @@ pub record IsAnswered (q : Question) (before after : FilesSeen) (e : Ended) (tex
   pub means : Means q before.held e text
   pub blames : Blames q before after e
   pub saves : Saves q before after e
-  -- nothing is saved under another name than the page's
-  pub others : KeepsAllBut before.held after.held (λ name. asked_page q ≡ Some name)
-  -- each file is loaded once, and then the page is saved once
+  -- nothing is saved under another name than the one given
+  pub others : KeepsAllBut before.held after.held (λ name. asked_save q ≡ Some name)
+  -- each file is loaded once, and then at most one is saved, once
   pub called : IsCalled q before after e
   pub never_falls : before.faults ≤ after.faults

@@ -11,7 +11,8 @@ use bd_typer::Text;
 /// The answer of a run.
 #[derive(Clone, Copy, PartialEq, Eq)]
 pub enum Ended {
-    /// The verdict on the design was printed, and where it is `wrong` what its case shows.
+    /// The verdict on the design, or on so many cycles of it, was printed, and where it is `wrong` what its case or its
+    /// trail shows.
     Checked(Finding),
     /// What the case shows was shown.
     Shown(Judged),

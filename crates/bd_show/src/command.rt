@@ -1,25 +1,28 @@
 //! The command line, read with `clap`.
-ghost use Rattle.std.specs.Prelude.{◌≡◌, [], false, is_some, true, None, Some, IfOk, IfErr, IfSome};
+ghost use Rattle.std.specs.Prelude.{◌≡◌, [], codes, false, is_some, true, None, Some, IfOk, IfErr, IfSome};
 ghost use Rattle.std.specs.Option.{option_map};
 ghost use Rattle.clap.specs.Values.{kind_of};
 ghost use Rattle.clap.specs.Words.{app_of, found_of, rows_of, rule_of, shape_of, with_subcommand};
 ghost use Rattle.clap.specs.declared.builder.command.Command.TheViews.{out-Command as fields_of};
-ghost use Rattle.bd_app.specs.Words.{texts_of};
+ghost use Rattle.bd_app.specs.Words.{in_range, option, texts_of};
+ghost use Rattle.bd_model.specs.Limits.{most_cycles};
 ghost use Rattle.bd_show.specs.Files.{names_of};
-ghost use Rattle.bd_show.specs.Commands.{about_command, case_names, check_command, command_line, design_names, proof_names, question_of, recheck_command, show_command, shrink_command, taken, why_command};
-ghost use Rattle.bd_show.specs.inner.Asked.{IsParsed, IsToldBy, IsWordsFault, NamesCase, asked, first_commands};
+ghost use Rattle.bd_show.specs.Commands.{about_command, bounded_question, case_names, check_asked, check_command, check_question, command_line, design_names, proof_names, question_of, recheck_command, show_command, shrink_command, taken, why_command};
+ghost use Rattle.bd_show.specs.Meaning.{bounded, check};
+ghost use Rattle.bd_show.specs.inner.Asked.{IsParsed, IsToldBy, IsWellAsked, IsWordsFault, asked, first_commands};
 
+use crate::bounding::BoundedOptions;
 use crate::checking::CheckOptions;
 use crate::load::FileNames;
 use crate::rechecking::RecheckOptions;
 use crate::show::ShowOptions;
 use crate::why::WhyOptions;
 use bd_app::words::{
-    budget, flag, flag_at, machines_command, mode_at, option, required_number, required_word,
-    text_command, with, word_at,
+    budget, flag, flag_at, machines_command, mode_at, number_at, option, required_number,
+    required_word, text_command, with, word_at,
 };
 use clap::error::ErrorKind;
-use clap::{Arg, ArgMatches};
+use clap::{Arg, ArgMatches, value_parser};
 use std::alloc::{AllocError, Global};
 
 /// What the words ask for.
@@ -27,6 +30,8 @@ use std::alloc::{AllocError, Global};
 pub enum Command<'a> {
     /// Whether a pipeline is right, and else what a case shows.
     Check(CheckOptions<'a>),
+    /// Whether it is right for so many cycles from a start, and else what a trail shows.
+    Bounded(BoundedOptions<'a>),
     /// What a case shows.
     Show(ShowOptions<'a>),
     /// What is left of a case.
@@ -77,6 +82,14 @@ fn explained<'a>(command: clap::Command<'a>, text: &'a str) -> clap::Command<'a>
     command.after_help(text)
 }
 
+/// How many cycles from a start.
+fn cycles<'a>(alloc: Global) -> Arg<'a>
+    ensures rule { rule_of result ≡ in_range 0 most_cycles (option (codes "cycles")) }
+    ensures local { result.global ≡ false }
+{
+    option(alloc, "cycles").value_parser(value_parser!(u32).range(0..=16))
+}
+
 /// The words of `check`.
 fn check_command<'a>(alloc: Global) -> Result<clap::Command<'a>, AllocError>
     ensures shape { IfOk result (λ c. shape_of c ≡ check_command) }
@@ -86,6 +99,9 @@ fn check_command<'a>(alloc: Global) -> Result<clap::Command<'a>, AllocError>
     let command = with(command, Arg::new(alloc, "INV"))?;
     let command = with(command, described(flag(alloc, "diverse"), DIVERSE))?;
     let command = with(command, described(budget(alloc), BUDGET))?;
+    let command = with(command, described(option(alloc, "start"), START))?;
+    let command = with(command, described(cycles(alloc), CYCLE_COUNT))?;
+    let command = with(command, described(option(alloc, "case"), CASE))?;
     Ok(explained(command, LEGEND))
 }
 
@@ -187,6 +203,13 @@ const DIVERSE: &str = "By positive equality: mostly a smaller formula, of the sa
 
 const BUDGET: &str = "At most so many learned clauses";
 
+const START: &str =
+    "Asks of runs that begin where START is true, with --cycles in the place of INV";
+
+const CYCLE_COUNT: &str = "How many cycles from there, 0 to 16";
+
+const CASE: &str = "Saves the case or the trail that breaks, as burch_dill prints it";
+
 const WHOLE: &str = "The case as it is, with all of its values";
 
 const COMP: &str = "By this completion function, in place of flushing; after `differ`, beside it";
@@ -246,19 +269,69 @@ fn proof_names<'a>(matches: &ArgMatches<'a>) -> FileNames<'a>
     }
 }
 
+/// What `check` asks of each state.
+fn whole_question<'a>(matches: &ArgMatches<'a>) -> Command<'a>
+    ensures asked { asked result ≡ check (check_question (rows_of (found_of matches.now))) }
+    ensures well { IsWellAsked result }
+{
+    Command::Check(CheckOptions {
+        names: design_names(matches),
+        mode: mode_at(matches, "diverse"),
+        budget: required_number(matches, "budget"),
+        case: word_at(matches, "case"),
+    })
+}
+
+/// What `check` asks of so many cycles from a start.
+fn run_question<'a>(matches: &ArgMatches<'a>, cycles: u32) -> Command<'a>
+    ensures asked { asked result
+        ≡ bounded (bounded_question cycles (rows_of (found_of matches.now))) }
+    ensures well { IsWellAsked result }
+{
+    Command::Bounded(BoundedOptions {
+        names: FileNames {
+            inv: word_at(matches, "start"),
+            ..design_names(matches)
+        },
+        cycles: cycles.min(MOST_CYCLES),
+        mode: mode_at(matches, "diverse"),
+        budget: required_number(matches, "budget"),
+        trail: word_at(matches, "case"),
+    })
+}
+
+/// What `check` asks for: a start and a number of cycles stand together, and not with an invariant.
+fn check_question<'a>(matches: &ArgMatches<'a>) -> Option<Command<'a>>
+    ensures asked { option_map asked result ≡ check_asked (rows_of (found_of matches.now)) }
+    ensures well { IfSome result IsWellAsked }
+{
+    match word_at(matches, "start") {
+        None => match number_at(matches, "cycles") {
+            None => Some(whole_question(matches)),
+            Some(_) => None,
+        },
+        Some(_) => match number_at(matches, "cycles") {
+            None => None,
+            Some(cycles) => match word_at(matches, "INV") {
+                None => Some(run_question(matches, cycles)),
+                Some(_) => None,
+            },
+        },
+    }
+}
+
+/// The most cycles from a start.
+const MOST_CYCLES: u32 = 16;
+
 /// What the command of this name with these arguments asks for.
 #[tactic(auto, unfolding(crate::specs::Commands::question_of))]
 fn question<'a>(name: &str, matches: &ArgMatches<'a>) -> Option<Command<'a>>
     ensures asked { option_map asked result
         ≡ question_of name.now (rows_of (found_of matches.now)) }
-    ensures named { IfSome result NamesCase }
+    ensures well { IfSome result IsWellAsked }
 {
     if name == "check" {
-        Some(Command::Check(CheckOptions {
-            names: design_names(matches),
-            mode: mode_at(matches, "diverse"),
-            budget: required_number(matches, "budget"),
-        }))
+        check_question(matches)
     } else if name == "show" {
         Some(Command::Show(ShowOptions {
             names: FileNames {
@@ -314,7 +387,7 @@ fn parsed<'a>(alloc: Global, words: &'a [String]) -> Result<ArgMatches<'a>, Word
 /// What the words ask for, the program's name first.
 pub fn command_of<'a>(alloc: Global, words: &'a [String]) -> Result<Command<'a>, WordsFault>
     ensures asked { IfOk result (λ c. taken (texts_of words.entry.now) ≡ Some (asked c)) }
-    ensures named { IfOk result NamesCase }
+    ensures well { IfOk result IsWellAsked }
     ensures fault { IfErr result (IsWordsFault (texts_of words.entry.now)) }
 {
     let matches = parsed(alloc, words)?;
@@ -327,6 +400,5 @@ pub fn command_of<'a>(alloc: Global, words: &'a [String]) -> Result<Command<'a>,
     }
 }
 
-const NONE: &[u8] =
-    b"usage: bd_view check PIPE SPEC [INV] [--diverse], show|shrink|why PIPE SPEC CASE [INV], \
-about PIPE SPEC [INV], or recheck PIPE SPEC PROOF [INV] [--diverse]; --help says more\n";
+const NONE: &[u8] = b"usage: bd_view check PIPE SPEC [INV | --start START --cycles C] [--diverse], \
+show|shrink|why PIPE SPEC CASE [INV], about PIPE SPEC [INV], or recheck PIPE SPEC PROOF [INV] [--diverse]; --help says more\n";

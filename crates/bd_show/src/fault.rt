@@ -2,7 +2,7 @@
 ghost use Rattle.std.specs.Prelude.{◌≡◌, ◌++◌, None, codes, is_some, true, IfOk};
 ghost use Rattle.bd_app.specs.Loading.{bytes_of};
 ghost use Rattle.bd_show.specs.Files.{IsJoinedFault, IsStartedFault, bytes_in, has_trail, name_in, names_of, or_none};
-ghost use Rattle.bd_show.specs.Meaning.{IsAskedFault, IsRefusedText, Question, Says, Show, asked_names};
+ghost use Rattle.bd_show.specs.Meaning.{BoundedCheck, IsAskedFault, IsRefusedText, Question, Says, Show, asked_names};
 ghost use Rattle.bd_show.specs.inner.Loaded.{texts_view};
 ghost use Rattle.bd_show.specs.inner.Read.{AreRefused, IsRefusedBy};
 ghost use Rattle.bd_show.specs.inner.Answered.{IsRefusal, IsUnloaded, TakesCase};
@@ -177,6 +177,21 @@ pub fn refused_trail(
     ensures ended { IfOk result (λ a. IsRefusal a.ended) }
     ensures says { IfOk result (λ a. (q : Show) → q.names ≡ names_of names.entry →
         Says (Question.show q) (texts_view texts.now) a.ended a.text.items) }
+{
+    fault_answer(alloc, names, texts, fault)
+}
+
+/// The answer that texts with a start are refused.
+pub fn refused_start(
+    alloc: Global,
+    names: FileNames<'_>,
+    texts: &Texts,
+    fault: DesignFault,
+) -> Result<Answer, AllocError>
+    requires { IsRefusedBy (IsStartedFault (texts_view texts.now)) fault }
+    ensures ended { IfOk result (λ a. IsRefusal a.ended) }
+    ensures says { IfOk result (λ a. (q : BoundedCheck) → q.names ≡ names_of names.entry →
+        Says (Question.bounded q) (texts_view texts.now) a.ended a.text.items) }
 {
     fault_answer(alloc, names, texts, fault)
 }

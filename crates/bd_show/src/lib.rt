@@ -3,6 +3,7 @@
 
 mod about;
 mod answer;
+mod bounding;
 mod checking;
 mod claim;
 mod claim_names;
@@ -11,6 +12,7 @@ mod completed;
 mod fault;
 mod load;
 mod names;
+mod next;
 mod open;
 mod place;
 mod program;

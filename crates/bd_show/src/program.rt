@@ -8,7 +8,7 @@ ghost use Rattle.bd_show.specs.inner.Answered.{ended_of, text_of};
 
 use crate::answer::{Answer, Ended};
 use crate::command::{Command, WordsFault, command_of};
-use crate::{about, checking, rechecking, show, shrinking, why};
+use crate::{about, bounding, checking, rechecking, show, shrinking, why};
 use bd_files::{Files, Sink};
 use std::alloc::{AllocError, Global};
 
@@ -19,6 +19,7 @@ fn answer_of<F: Files>(alloc: Global, words: &[String], files: &mut F) -> Result
 {
     match command_of(alloc, words) {
         Ok(Command::Check(options)) => checking::answer(alloc, files, options),
+        Ok(Command::Bounded(options)) => bounding::answer(alloc, files, options),
         Ok(Command::Show(options)) => show::answer(alloc, files, options),
         Ok(Command::Shrink(names)) => shrinking::answer(alloc, files, names),
         Ok(Command::Why(options)) => why::answer(alloc, files, options),

@@ -287,8 +287,8 @@ fn on_texts(alloc: Global, options: ShowOptions<'_>, texts: &Texts) -> Result<Sh
     }
 }
 
-/// Saves the page of an answer, where one is asked for.
-fn saved<F: Files>(
+/// Saves the page of an answer, or another text with it, where a name is given.
+pub fn saved<F: Files>(
     alloc: Global,
     files: &mut F,
     page: Option<&str>,

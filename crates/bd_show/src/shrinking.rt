@@ -33,7 +33,7 @@ pub fn unbroken(alloc: Global, judged: Judged, line: &str) -> Result<Answer, All
 }
 
 /// The text of a case, which reads back as that case.
-fn printed(alloc: Global, design: &Design, case: &Case) -> Result<Vec<u8>, AllocError>
+pub fn printed(alloc: Global, design: &Design, case: &Case) -> Result<Vec<u8>, AllocError>
     requires lawful { IsLawful (design_view design.now) }
     requires fits { Fits (design_view design.now) case.now }
     ensures { IfOk result (λ text.

@@ -10,6 +10,7 @@ ghost use Rattle.bd_picture.specs.Sentence.{sentence};
 ghost use Rattle.bd_syntax.specs.declared.ast.Kind.TheVariants.{Pipeline, Specification};
 ghost use Rattle.bd_show.specs.Files.{AreStarted, AreTrail, IsStartedFault, has_trail};
 ghost use Rattle.bd_show.specs.LetNames.{IsMachineText};
+ghost use Rattle.bd_show.specs.Meaning.{IsTrailShown};
 ghost use Rattle.bd_show.specs.Trails.{cycle_case, cycle_text, cycles_text, input_text, inputs_text, unstarted};
 ghost use Rattle.bd_show.specs.inner.Answered.{HasAnswer, HasDrawn, IsBreaking, IsBreakingIf, IsTrailSeen};
 ghost use Rattle.bd_app.specs.Loading.{bytes_of};
@@ -98,14 +99,19 @@ fn push_cycles(out: &mut Vec<u8>, ports: &[Port], cycles: &[Inputs]) -> Result<(
 }
 
 /// The line of a judgement, and the lines of the cycles.
-fn lines(alloc: Global, design: &Design, judging: &Judging) -> Result<Vec<u8>, AllocError>
-    requires { length judging.now.trail.inputs ≤ most_cycles }
-    ensures { IfOk result (λ text. text.items ≡ retraced_words judging.now.judged
-        ++ 10 ∷ cycles_text (design_view design.now).pipe.ports 1 judging.now.trail.inputs) }
+fn lines(
+    alloc: Global,
+    design: &Design,
+    trail: &Trail,
+    judged: TrailJudged,
+) -> Result<Vec<u8>, AllocError>
+    requires { length trail.now.inputs ≤ most_cycles }
+    ensures { IfOk result (λ text. text.items ≡ retraced_words judged
+        ++ 10 ∷ cycles_text (design_view design.now).pipe.ports 1 trail.now.inputs) }
 {
-    let mut text = retraced_line(alloc, judging.judged)?;
+    let mut text = retraced_line(alloc, judged)?;
     let ports = design.pipe.ports.as_slice();
-    push_cycles(&mut text, ports, judging.trail.inputs.as_slice())?;
+    push_cycles(&mut text, ports, trail.inputs.as_slice())?;
     Ok(text)
 }
 
@@ -144,20 +150,54 @@ fn cycle_case(alloc: Global, design: &Design, trail: &Trail, place: u32) -> Resu
 /// The picture of the cycle of this number, which breaks.
 fn picture(
     alloc: Global,
+    texts: &Texts,
     design: &Design,
     trail: &Trail,
     cycle: u32,
     whole: bool,
-    names: ShownNames<'_>,
 ) -> Result<Picture, AllocError>
+    requires readable { IsMachineText Pipeline (texts_view texts.now).pipe }
+    requires spec_readable { IsMachineText Specification (texts_view texts.now).spec }
     requires lawful { IsLawful (design_view design.now) }
     requires breaking { IsBreaking (design_view design.now) trail.now cycle }
     ensures { IfOk result (λ p. p.sentence.items
         ≡ sentence (design_view design.now) (Judged.Broken Condition.Commute)) }
 {
+    let lets = machine_lets(alloc, texts.pipe.as_slice(), Kind::Pipeline)?;
+    let steps = machine_lets(alloc, texts.spec.as_slice(), Kind::Specification)?;
+    let names = ShownNames {
+        lets: lets.as_slice(),
+        steps: steps.as_slice(),
+        claims: &[],
+    };
     let case = cycle_case(alloc, design, trail, cycle - 1)?;
     let judged = Judged::Broken(Condition::Commute);
     drawn(alloc, design, &case, judged, whole, names)
+}
+
+/// The text of a trail of which the cycle of this number breaks first, of a design without its start.
+pub fn broken_text(
+    alloc: Global,
+    texts: &Texts,
+    design: &Design,
+    trail: &Trail,
+    cycle: u32,
+) -> Result<Vec<u8>, AllocError>
+    requires lawful { IsLawful (design_view design.now) }
+    requires few { length trail.now.inputs ≤ most_cycles }
+    requires readable { IsMachineText Pipeline (texts_view texts.now).pipe }
+    requires spec_readable { IsMachineText Specification (texts_view texts.now).spec }
+    requires breaking { IsBreaking (design_view design.now) trail.now cycle }
+    ensures { IfOk result (λ text. IsTrailShown (design_view design.now) trail.now
+        (TrailJudged.Broken cycle) text.items) }
+{
+    let picture = picture(alloc, texts, design, trail, cycle, false)?;
+    let shown = text_of(alloc, &picture)?;
+    let tables = shown.as_slice();
+    let mut text = lines(alloc, design, trail, TrailJudged::Broken(cycle))?;
+    text.push(b'\n')?;
+    text.extend_from_slice(tables)?;
+    Ok(text)
 }
 
 /// The answer on a trail of which the cycle of this number breaks.
@@ -178,18 +218,11 @@ fn on_break(
     ensures { IfOk result (λ r. IsTrailSeen (design_view design.now) judging.now.trail
         judging.now.judged r.answer.ended r.answer.text.items (bytes_of r.page)) }
 {
-    let lets = machine_lets(alloc, texts.pipe.as_slice(), Kind::Pipeline)?;
-    let steps = machine_lets(alloc, texts.spec.as_slice(), Kind::Specification)?;
-    let names = ShownNames {
-        lets: lets.as_slice(),
-        steps: steps.as_slice(),
-        claims: &[],
-    };
-    let picture = picture(alloc, design, &judging.trail, cycle, options.whole, names)?;
+    let picture = picture(alloc, texts, design, &judging.trail, cycle, options.whole)?;
     let shown = text_of(alloc, &picture)?;
     let tables = shown.as_slice();
     let page = page_of(alloc, &picture)?;
-    let mut text = lines(alloc, design, judging)?;
+    let mut text = lines(alloc, design, &judging.trail, judging.judged)?;
     text.push(b'\n')?;
     text.extend_from_slice(tables)?;
     let ended = Ended::Traced(judging.judged);
@@ -207,7 +240,7 @@ fn on_whole(alloc: Global, design: &Design, judging: &Judging) -> Result<Showing
     ensures { IfOk result (λ r. IsTrailSeen (design_view design.now) judging.now.trail
         judging.now.judged r.answer.ended r.answer.text.items (bytes_of r.page)) }
 {
-    let text = lines(alloc, design, judging)?;
+    let text = lines(alloc, design, &judging.trail, judging.judged)?;
     let ended = Ended::Traced(judging.judged);
     Ok(Showing {
         answer: Answer { ended, text },
@@ -240,7 +273,7 @@ fn on_judged(
 }
 
 /// The design without its start.
-fn unstarted(alloc: Global, design: Design) -> Design
+pub fn unstarted(alloc: Global, design: Design) -> Design
     ensures { design_view result ≡ unstarted (design_view design) }
 {
     Design {

@@ -82,7 +82,7 @@ class Generated(NamedTuple):
 
 @dataclass(frozen=True)
 class Shown:
-    """What `show` prints of a case: the judgement, and the tables as text, which printing gives."""
+    """What `show` prints of a case or a trail: the judgement, and the tables as text, which printing gives."""
 
     judgement: Judgement
     text: str
@@ -95,8 +95,8 @@ class Shown:
 class Checked:
     """What `check_and_show` prints of a pipeline: the verdict, and of a wrong one what a case shows.
 
-    `shown` is that of the small case, and None where the outcome isn't wrong. `learned` and `seeks_state` are those of
-    a `Verdict`. `text` is all of it, which printing gives.
+    `shown` is that of the small case, or of the trail, and None where the outcome isn't wrong. `learned` and
+    `seeks_state` are those of a `Verdict`, `broken` that of a `Bounded`. `text` is all of it, which printing gives.
     """
 
     outcome: Outcome
@@ -104,13 +104,14 @@ class Checked:
     learned: int | None
     seeks_state: bool
     text: str
+    broken: int | None = None
 
     def __str__(self) -> str:
         return self.text
 
     @property
     def is_right(self) -> bool:
-        """Whether the pipeline is right over every run."""
+        """Whether the pipeline is right over every run, or over the runs that were asked about."""
         return self.outcome is Outcome.CORRECT
 
 

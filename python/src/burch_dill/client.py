@@ -3,7 +3,7 @@ from __future__ import annotations
 
 import os
 import re
-from dataclasses import dataclass
+from dataclasses import dataclass, replace
 from typing import TypeVar
 
 from .answers import About, Bounded, Checked, Explained, Generated, Judgement, Outcome, Reason, Retraced, Shown
@@ -16,6 +16,9 @@ from .trees import read_trees
 Answer = TypeVar("Answer", Outcome, Judgement)
 
 REASON = re.compile(r":(\d+):(\d+): (.*)")
+BOUNDED = re.compile(r"(correct) to \d+|(wrong commute) (\d+)|(undecided) (\d+)")
+# the last line of a verdict whose case or trail is saved
+GOES_ON_FROM = re.compile(r"\nnext: bd_view .*\n\Z")
 # the second line of a reason whose first one is too narrow
 GOES_ON = re.compile(r"    (?:since|\(as in) ")
 FINDINGS = ("as it is", "one flush less", "one flush more", "one step more", "no invariant", "reset (all 0)",
@@ -87,12 +90,8 @@ class Client:
         """
         files = {"pipe": pipe, "spec": spec, "start": start}
         line, _, trail = self._decided("bounded", files, str(cycles), *_value("--budget", budget)).partition("\n")
-        found = re.fullmatch(r"(correct) to \d+|(wrong commute) (\d+)|(undecided) (\d+)", line)
-        if not found:
-            raise _unknown(line)
-        broken, learned = (int(number) if number else None for number in found.group(3, 5))
-        outcome = Outcome(found[1] or found[2] or found[4])
-        return Bounded(outcome, Trail.read(trail) if trail else None, broken, learned)
+        found = _bounded(line)
+        return replace(found, trail=Trail.read(trail)) if trail else found
 
     def retrace(self, pipe: Source, spec: Source, trail: Source, start: Source) -> Retraced:
         """What a trail shows: the first of its cycles that is wrong, or that it doesn't begin where the start is true.
@@ -114,16 +113,23 @@ class Client:
     # ---- for people
 
     def check_and_show(self, pipe: Source, spec: Source, inv: Source | None = None, *, budget: int | None = None,
-                       diverse: bool = False) -> Checked:
+                       diverse: bool = False, start: Source | None = None, cycles: int | None = None,
+                       case: File | None = None) -> Checked:
         """What `check` asks, and where the answer is wrong, what `show` prints of the case.
 
-        It gives no case and saves no formula; for those ask `check`.
+        With `start` and `cycles`, both or neither and without `inv`, what `bounded` asks, and what `show` prints of the
+        trail. The case or the trail is saved to the file `case`, whose text `Case.read` or `Trail.read` reads. No
+        formula is saved; for that ask `check`.
         """
-        options = [*_value("--budget", budget), *_flag("--diverse", diverse)]
-        text = self._shown("check", {"pipe": pipe, "spec": spec, "inv": inv}, *options).text
+        options = [*_value("--budget", budget), *_flag("--diverse", diverse), *_value("--cycles", cycles)]
+        files = {"pipe": pipe, "spec": spec, "inv": inv, "start": start}
+        text = GOES_ON_FROM.sub("", self._shown("check", files, *options, *_saved("--case", case)).text)
         line, _, tables = text.partition("\n")
-        verdict = _verdict(line)
         shown = Shown(_judgement(tables), tables) if tables else None
+        if start is not None:
+            bounded = _bounded(line)
+            return Checked(bounded.outcome, shown, bounded.learned, False, text, bounded.broken)
+        verdict = _verdict(line)
         return Checked(verdict.outcome, shown, verdict.learned, verdict.seeks_state, text)
 
     def why(self, pipe: Source, spec: Source, case: Source, inv: Source | None = None, *, of: str | None = None,
@@ -142,7 +148,8 @@ class Client:
              page: File | None = None) -> Shown:
         """Both ways round a case's diagram, as tables: the case made small, or with `whole` as it is.
 
-        The same is saved to the file `page` as a page with a drawing.
+        For a trail, with its start as `inv`, that of the first cycle that breaks. The same is saved to the file `page`
+        as a page with a drawing.
         """
         files = {"pipe": pipe, "spec": spec, "case": case, "inv": inv}
         text = self._shown("show", files, *_flag("--whole", whole), *_saved("--html", page)).text
@@ -171,7 +178,8 @@ class Client:
 
     def _shown(self, command: str, sources: Sources, *options: str) -> Printed:
         """What `bd_view` prints of its answer."""
-        return ask(VIEWER, self.view, command, sources, options, self.timeout, by_words=command == "why")
+        return ask(VIEWER, self.view, command, sources, options, self.timeout, by_words=command == "why",
+                   by_option=("start",))
 
 
 # ---- the words that they take
@@ -200,6 +208,15 @@ def _verdict(printed: str) -> Verdict:
     return Verdict(_answer(Outcome, line), Case.read(case) if case else None)
 
 
+def _bounded(line: str) -> Bounded:
+    """The answer on some cycles that a line is, without its trail."""
+    found = BOUNDED.fullmatch(line)
+    if not found:
+        raise _unknown(line)
+    broken, learned = (int(number) if number else None for number in found.group(3, 5))
+    return Bounded(Outcome(found[1] or found[2] or found[4]), None, broken, learned)
+
+
 def _answer(answers: type[Answer], line: str) -> Answer:
     """The answer that a line is."""
     for answer in answers:
@@ -209,10 +226,11 @@ def _answer(answers: type[Answer], line: str) -> Answer:
 
 
 def _judgement(text: str) -> Judgement:
-    """The judgement that a text of `bd_view` begins with; it says first what is broken."""
+    """The judgement that a text of `bd_view` begins with; of a case it says first what is broken."""
+    line = text.partition("\n")[0]
     for judgement in Judgement:
         words = " ".join(reversed(judgement.value.split()))
-        if text.startswith(words + ":"):
+        if line.startswith(words + ":") or re.fullmatch(rf"{judgement.value}(?: \d+)?", line):
             return judgement
     raise _unknown(text)
 

@@ -53,16 +53,19 @@ class Printed(NamedTuple):
 
 
 def ask(program: Program, path: File | None, command: str, sources: Sources, options: Sequence[str],
-        timeout: float | None, *, by_words: bool = False) -> Printed:
+        timeout: float | None, *, by_words: bool = False, by_option: tuple[str, ...] = ()) -> Printed:
     """What a program prints of its answer. Raises `Fault` for the first fault of a file, else `NoAnswer`.
 
-    With `by_words` it reads copies of the files that have their words as names, so that no path takes room in its lines.
+    With `by_words` it reads copies of the files that have their words as names, so no path takes room in its lines. A
+    file whose word is in `by_option` is given by the option of that name; the others stand one after another.
     """
     found = program.path(path)
     with tempfile.TemporaryDirectory() as folder:
         files = {word: _file(source, Path(folder, word)) for word, source in sources.items() if source is not None}
         names = {word: _copied(file, Path(folder, word)) for word, file in files.items()} if by_words else files
-        done = subprocess.run([found, command, *names.values(), *options], capture_output=True, encoding="ascii",
+        words = [name for word, name in names.items() if word not in by_option]
+        words += [part for word in by_option if word in names for part in (f"--{word}", names[word])]
+        done = subprocess.run([found, command, *words, *options], capture_output=True, encoding="ascii",
                               errors="replace", timeout=timeout, stdin=subprocess.DEVNULL, check=False,
                               cwd=folder if by_words else None)
         if done.returncode in program.answered:

@@ -1,5 +1,5 @@
 -- What the parts of a run say.
-use Rattle.std.specs.Prelude.{◌≡◌, ◌⊎◌, ◌≤◌, ◌<◌, ◌+◌, ◌++◌, ℕ, List, [], length, codes, true, false, is_some, Option, Some, None, Result, Ok, Err, IfOk, MatchOption}
+use Rattle.std.specs.Prelude.{◌≡◌, ◌⊎◌, ◌≤◌, ◌<◌, ◌+◌, ◌++◌, ℕ, List, [], ◌∷◌, length, codes, true, false, is_some, Option, Some, None, Result, Ok, Err, IfOk, MatchOption}
 use Rattle.std.specs.declared.alloc.AllocError.{AllocError}
 use Rattle.bd_text.specs.declared.code.Code.{Code}
 use Rattle.bd_typer.specs.declared.fault.Text.{Text}
@@ -12,6 +12,10 @@ use Rattle.bd_model.specs.declared.case.Trail.{Trail}
 use Rattle.bd_model.specs.declared.case.TrailJudged.{TrailJudged}
 use Rattle.bd_model.specs.declared.case.TrailJudged.TheVariants as trail
 use Rattle.bd_files.specs.Devices.{Call, Held, Holds, Rose}
+use Rattle.bd_bounded.specs.declared.answer.Bounded.{Bounded}
+use Rattle.bd_bounded.specs.declared.answer.Bounded.TheVariants as run
+use Rattle.bd_model.specs.Limits.{most_cycles}
+use Rattle.bd_app.specs.Bounded.{bounded_words}
 use Rattle.bd_app.specs.Files.{KeepsAllBut, save_if}
 use Rattle.bd_app.specs.Loading.{bytes_of}
 use Rattle.bd_app.specs.Meaning.{FilesSeen}
@@ -21,11 +25,14 @@ use Rattle.bd_app.specs.declared.loading.LoadFault.TheVariants.{Failed, TooLong,
 use Rattle.bd_picture.specs.Page.{IsPage}
 use Rattle.bd_picture.specs.Sentence.{compared_sentence, completed_sentence, sentence}
 use Rattle.bd_show.specs.Files.{AreStarted, BlamesSave, Names, Texts, has_trail, name_in, names_of, or_none}
-use Rattle.bd_show.specs.Meaning.{AreJoinedDesign, Check, Explain, IsAnswered, IsChecked, IsCompared, IsCompleted, IsBadProof, IsDescribed, IsProved, IsShown, IsSmaller, IsTrailShown, IsUnbroken, OfDesign, Question, Recheck, Says, Show, asked_of, nothing_to_explain, nothing_to_shrink, show}
+use Rattle.bd_show.specs.Meaning.{AreJoinedDesign, BoundedCheck, Check, Explain, IsAnswered, IsBoundedChecked, IsCaseText, IsChecked, IsRunShown, IsTrailText, IsCompared, IsCompleted, IsBadProof, IsDescribed, IsProved, IsShown, IsSmaller, IsTrailShown, IsUnbroken, OfDesign, OfStarted, Question, Recheck, Says, Show, bounded, check, nothing_to_explain, nothing_to_shrink, run_finding, show}
+use Rattle.bd_about.specs.declared.asking.Finding.TheVariants as finding
+use Rattle.bd_show.specs.Next.{goes_on}
 use Rattle.bd_show.specs.Trails.{cycle_case}
 use Rattle.bd_show.specs.declared.answer.Answer.{Answer}
 use Rattle.bd_show.specs.declared.answer.Ended.{Ended}
 use Rattle.bd_show.specs.declared.answer.Ended.TheVariants as ended
+use Rattle.bd_show.specs.declared.bounding.BoundedOptions.{BoundedOptions}
 use Rattle.bd_show.specs.declared.checking.CheckOptions.{CheckOptions}
 use Rattle.bd_show.specs.declared.rechecking.RecheckOptions.{RecheckOptions}
 use Rattle.bd_show.specs.declared.show.ShowOptions.{ShowOptions}
@@ -34,8 +41,25 @@ use Rattle.bd_show.specs.declared.why.WhyOptions.{WhyOptions}
 
 -- the question of these options
 abbrev pub check_of : CheckOptions → Check
-check_of options =
-    record { names = names_of options.names; mode = options.mode; budget = options.budget }
+check_of options = record {
+  names = names_of options.names;
+  mode = options.mode;
+  budget = options.budget;
+  case = given options.case;
+}
+
+abbrev pub bounded_of : BoundedOptions → BoundedCheck
+bounded_of options = record {
+  names = names_of options.names;
+  cycles = options.cycles;
+  mode = options.mode;
+  budget = options.budget;
+  trail = given options.trail;
+}
+
+-- there are at most 16 cycles
+abbrev pub HasFewCycles : BoundedOptions → Type 0
+HasFewCycles options = options.cycles ≤ most_cycles
 
 abbrev pub show_of : ShowOptions → Show
 show_of options = record {
@@ -71,9 +95,10 @@ IsDoneOn q before after r = IsAnswered q before after (ended_of r) (text_of r)
 abbrev pub IsRefusal : Ended → Type 0
 IsRefusal e = (file : Text) × (offset : ℕ) × (code : Code) × (e ≡ ended.Refused file offset code)
 
--- a question that takes neither a trail nor a completion function, or is given none
+-- a question that takes neither a start, a trail nor a completion function, or is given none
 abbrev pub TakesCase : Question → Texts → Type 0
 TakesCase (show q) texts = (texts.comp ≡ None) × (has_trail texts ≡ false)
+TakesCase (bounded q) texts = ⊥
 TakesCase _ texts = Unit {0}
 
 -- the answer that a file gave no bytes
@@ -86,8 +111,19 @@ IsUnloaded names Memory e text = ⊥
 
 -- what `check` says of a design
 abbrev pub IsOfVerdict : Check → DesignView → Ended → List ℕ → Type 0
-IsOfVerdict q d (ended.Checked found) text = IsChecked (asked_of q) d found text
+IsOfVerdict q d (ended.Checked found) text = IsChecked q d found text
 IsOfVerdict q d e text = ⊥
+
+-- the text of the case of `wrong`, as it is saved; another answer has none
+abbrev pub IsCaseSaved : DesignView → Ended → Option (List ℕ) → Type 0
+IsCaseSaved d (ended.Checked (finding.Wrong k)) bytes = MatchOption bytes ⊥ (IsCaseText d k)
+IsCaseSaved d e bytes = bytes ≡ None
+
+-- the same of the trail of so many cycles
+abbrev pub IsTrailSaved : ℕ → DesignView → Ended → Option (List ℕ) → Type 0
+IsTrailSaved cycles d (ended.Checked (finding.Wrong k)) bytes =
+    MatchOption bytes ⊥ (IsTrailText d cycles)
+IsTrailSaved cycles d e bytes = bytes ≡ None
 
 -- what `shrink` says of a case
 abbrev pub IsOfCase : DesignView → Case → Ended → List ℕ → Type 0
@@ -122,9 +158,6 @@ IsTrailPage d (trail.Broken cycle) page =
 IsTrailPage d trail.Holds page = page ≡ None
 IsTrailPage d trail.Outside page = page ≡ None
 
-abbrev pub OfStarted : Texts → (DesignView → Type 0) → Type 0
-OfStarted texts P = (d : DesignView) × AreStarted texts (Ok d) × P d
-
 -- the cycle of this number breaks, as a case of the design
 pub record IsBreaking (d : DesignView) (t : Trail) (cycle : ℕ) : Type 0 where
   pub place : ℕ
@@ -135,6 +168,25 @@ pub record IsBreaking (d : DesignView) (t : Trail) (cycle : ℕ) : Type 0 where
 -- the cycle that is judged to break does so
 abbrev pub IsBreakingIf : DesignView → Trail → TrailJudged → Type 0
 IsBreakingIf d t judged = (cycle : ℕ) → judged ≡ trail.Broken cycle → IsBreaking d t cycle
+
+-- the trail of an answer on so many cycles breaks, in a design without its start
+abbrev pub IsBreakingRun : DesignView → Bounded → Type 0
+IsBreakingRun d (run.Broken cycle t work) =
+    (length t.inputs ≤ most_cycles) × IsBreaking d t cycle
+IsBreakingRun d _ = Unit {0}
+
+-- the text of an answer on so many cycles, in a design without its start
+pub record IsRunText (q : BoundedCheck) (d : DesignView) (found : Bounded) (text : List ℕ) :
+    Type 0 where
+  pub shown : List ℕ
+  pub is_shown : IsRunShown d found shown
+  pub lines : text ≡ ((bounded_words q.cycles q.budget found ++ 10 ∷ []) ++ shown)
+      ++ goes_on (codes "show") q.names q.trail (run_finding found)
+
+-- what `check` says of a design with a start
+abbrev pub IsOfRun : BoundedCheck → DesignView → Ended → List ℕ → Type 0
+IsOfRun q d (ended.Checked found) text = IsBoundedChecked q d found text
+IsOfRun q d e text = ⊥
 
 -- what `show` says of a trail of a design without its start
 pub record IsTrailSeen (d : DesignView) (t : Trail) (judged : TrailJudged) (e : Ended)
@@ -166,6 +218,25 @@ IsDrawn texts (ended.Compared same) page =
 IsDrawn texts (ended.Traced j) page =
     OfStarted texts (λ d. IsTrailPage d j page)
 IsDrawn texts e page = page ≡ None
+
+-- the case of `wrong` is one of the design of texts
+abbrev pub IsCaseKept : Texts → Ended → Option (List ℕ) → Type 0
+IsCaseKept texts (ended.Checked (finding.Wrong k)) bytes =
+    OfDesign texts (λ d. MatchOption bytes ⊥ (IsCaseText d k))
+IsCaseKept texts e bytes = bytes ≡ None
+
+-- and the trail one of the design with its start
+abbrev pub IsTrailKept : ℕ → Texts → Ended → Option (List ℕ) → Type 0
+IsTrailKept cycles texts (ended.Checked (finding.Wrong k)) bytes =
+    OfStarted texts (λ d. MatchOption bytes ⊥ (IsTrailText d cycles))
+IsTrailKept cycles texts e bytes = bytes ≡ None
+
+-- what is to be saved is that of the answer to a question
+abbrev pub IsToSave : Question → Texts → Ended → Option (List ℕ) → Type 0
+IsToSave (check q) texts e bytes = IsCaseKept texts e bytes
+IsToSave (bounded q) texts e bytes = IsTrailKept q.cycles texts e bytes
+IsToSave (show q) texts e bytes = IsDrawn texts e bytes
+IsToSave q texts e bytes = bytes ≡ None
 
 -- what is shown has the answer and the text that `show` gives on the texts
 abbrev pub HasAnswer : ShowOptions → Texts → Showing → Type 0

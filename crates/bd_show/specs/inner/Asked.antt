@@ -7,28 +7,30 @@ use Rattle.clap.specs.declared.error.kind.ErrorKind.TheVariants as kind
 use Rattle.clap.specs.declared.parser.matches.ArgMatches.{ArgMatches}
 use Rattle.bd_show.specs.Commands.{AreMisused, AskHelp, check_command, command_line, show_command, shrink_command, taken}
 use Rattle.bd_show.specs.Files.{names_of}
-use Rattle.bd_show.specs.Meaning.{Question, check, show, shrink, explain, about, recheck}
-use Rattle.bd_show.specs.inner.Answered.{check_of, recheck_of, show_of, why_of}
+use Rattle.bd_show.specs.Meaning.{Question, bounded, check, show, shrink, explain, about, recheck}
+use Rattle.bd_show.specs.inner.Answered.{HasFewCycles, bounded_of, check_of, recheck_of, show_of, why_of}
 use Rattle.bd_show.specs.declared.command.Command.{Command}
-use Rattle.bd_show.specs.declared.command.Command.TheVariants.{Check, Show, Shrink, Why, About, Recheck}
+use Rattle.bd_show.specs.declared.command.Command.TheVariants.{Bounded, Check, Show, Shrink, Why, About, Recheck}
 use Rattle.bd_show.specs.declared.command.WordsFault.{WordsFault}
 use Rattle.bd_show.specs.declared.command.WordsFault.TheVariants.{Told, Usage, Memory}
 
 -- the question that a command asks
 abbrev pub asked : Command → Question
 asked (Check options) = check (check_of options)
+asked (Bounded options) = bounded (bounded_of options)
 asked (Show options) = show (show_of options)
 asked (Shrink names) = shrink (names_of names)
 asked (Why options) = explain (why_of options)
 asked (About names) = about (names_of names)
 asked (Recheck options) = recheck (recheck_of options)
 
--- a command on a case names its file
-abbrev pub NamesCase : Command → Type 0
-NamesCase (Show options) = is_some (names_of options.names).case ≡ true
-NamesCase (Shrink names) = is_some (names_of names).case ≡ true
-NamesCase (Why options) = is_some (names_of options.names).case ≡ true
-NamesCase _ = Unit {0}
+-- a command on a case names its file, and one on cycles from a start asks of few
+abbrev pub IsWellAsked : Command → Type 0
+IsWellAsked (Bounded options) = HasFewCycles options
+IsWellAsked (Show options) = is_some (names_of options.names).case ≡ true
+IsWellAsked (Shrink names) = is_some (names_of names).case ≡ true
+IsWellAsked (Why options) = is_some (names_of options.names).case ≡ true
+IsWellAsked _ = Unit {0}
 
 -- the command line with its first three commands
 abbrev pub first_commands : App
