@@ -388,8 +388,8 @@ def said(words: argparse.Namespace) -> str:
     version = (ROOT / "VERSION").read_text(encoding="ascii").strip()
     if words.counts:
         return f"Counts by version {version}, beside other work, so without seconds."
-    return (f"By version {version}, on {processor()}: processor seconds, medians of up to {words.runs} runs;\n"
-            f"what takes more than {words.long} s ran once.")
+    return (f"By the state after version {version}, on {processor()}: processor seconds, medians of up to\n"
+            f"{words.runs} runs; what takes more than {words.long} s ran once.")
 
 
 def put(name: str, text: str, document: str) -> None:
