@@ -77,7 +77,7 @@ pub enum Ended {
     },
     /// A device failed.
     Device(Which),
-    /// Want of memory.
+    /// Out of memory.
     Memory,
 }
 

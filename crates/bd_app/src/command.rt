@@ -57,7 +57,7 @@ pub enum Command<'a> {
 pub enum WordsFault {
     /// The words aren't taken.
     Usage,
-    /// Want of memory.
+    /// Out of memory.
     Memory,
 }
 
@@ -66,7 +66,7 @@ impl From<AllocError> for WordsFault {
 
     ghost from_gives = { λ _ fault. fault ≡ Memory };
 
-    /// Want of memory.
+    /// Out of memory.
     fn from(_: AllocError) -> Self {
         WordsFault::Memory
     }

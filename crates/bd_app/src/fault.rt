@@ -39,14 +39,14 @@ pub enum Fault {
     Load,
     /// A save failed.
     Save,
-    /// Want of memory.
+    /// Out of memory.
     Memory,
 }
 
 impl From<AllocError> for Fault {
     ghost from_gives = { λ _ fault. fault ≡ Memory };
 
-    /// Want of memory.
+    /// Out of memory.
     fn from(_: AllocError) -> Fault {
         Fault::Memory
     }

@@ -17,7 +17,7 @@ pub enum LoadFault {
     Failed(Text),
     /// The file has too many bytes.
     TooLong(Text),
-    /// Want of memory.
+    /// Out of memory.
     Memory,
 }
 

@@ -17,7 +17,7 @@ use std::{env, io};
 pub enum WordsError {
     /// A word isn't text.
     NotText,
-    /// Want of memory.
+    /// Out of memory.
     Memory,
 }
 

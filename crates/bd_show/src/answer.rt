@@ -58,7 +58,7 @@ pub enum Ended {
     Unsaved,
     /// The output failed.
     Unwritten,
-    /// Want of memory.
+    /// Out of memory.
     Memory,
 }
 
