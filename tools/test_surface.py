@@ -9,7 +9,7 @@ import subprocess
 import tempfile
 import unittest
 from pathlib import Path
-from typing import List
+from typing import Dict, List, Tuple
 
 import manual
 import surface
@@ -58,7 +58,7 @@ class Words(unittest.TestCase):
             self.assertEqual(found, [command.synopsis() for command in commands])
 
     def test_each_command_has_its_page(self) -> None:
-        wanted = {}
+        wanted: Dict[str, Tuple[str, ...]] = {}
         for program, commands in surface.PROGRAMS.items():
             wanted.update({f"{program}-{command.name}": (command.does, f"`{program} {command.synopsis()}`")
                            for command in commands})
@@ -147,8 +147,8 @@ class Completions(unittest.TestCase):
     def test_zsh(self) -> None:
         (self.folder / "functions").mkdir()
         (self.folder / "functions" / "_burch_dill").write_text(surface.zsh())
-        wanted = {**OFFERED, **{words: OPTIONS[words] for words in ("bd_view check --", "burch_dill recheck --")}}
-        found = {}
+        wanted: Dict[str, List[str]] = {**OFFERED, **{words: OPTIONS[words] for words in ("bd_view check --", "burch_dill recheck --")}}
+        found: Dict[str, List[str]] = {}
         for line in self.asked("zsh", "-f", "-c", ZSH, "zsh", *wanted).splitlines():
             words, _, offers = line.rpartition(":")
             found[words] = sorted(set(offers.split()) - {"functions"})

@@ -241,7 +241,8 @@ def _unknown(printed: str) -> NoAnswer:
 
 def _explained(printed: Printed, sources: Sources) -> Explained:
     """The explanation that `bd_view` prints, with the files by the names that were given."""
-    reasons, lines = [], []
+    reasons: list[Reason] = []
+    lines = []
     is_open = False
     for line in printed.text.split("\n"):
         if is_open and GOES_ON.match(line):
