@@ -2,7 +2,7 @@
 from __future__ import annotations
 
 import re
-from typing import Callable, Dict, List, NamedTuple, Optional, Set, Tuple, Union
+from typing import Callable, Dict, List, NamedTuple, Set, Tuple, Union
 
 TOKEN = re.compile(r";[^\n]*|[()]|[^\s();]+")
 

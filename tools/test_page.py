@@ -103,7 +103,7 @@ class Visit(Clicks):
         self.wait("#verdict", "wrong commute$")
         room = "const page = document.getElementById('diagram').contentDocument.documentElement;" \
                "return page.clientHeight - page.scrollHeight"
-        self.until(lambda: self.browser.script(room) == 0)
+        self.until(lambda: bool(self.browser.script(room) == 0))
 
     def test_case_of_a_correct_design(self) -> None:
         self.browser.choose("multiplier/multiplier.pipe")

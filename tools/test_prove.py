@@ -16,7 +16,7 @@ import sys
 import tempfile
 import unittest
 from pathlib import Path
-from typing import List, Tuple
+from typing import ClassVar, List, Tuple
 
 import conquer
 import prove
@@ -110,6 +110,9 @@ def binary(proof: str) -> bytes:
 @unittest.skipUnless(HAS_CC, "cc isn't there")
 class InFolder(unittest.TestCase):
     """What is built once, and a folder for each test."""
+
+    built: ClassVar[tempfile.TemporaryDirectory[str]]
+    elaborator: ClassVar[Path]
 
     @classmethod
     def setUpClass(cls) -> None:
@@ -261,7 +264,8 @@ class Proving(InFolder):
     def test_the_program_itself(self) -> None:
         view, self.program = os.environ.get("BD_VIEW", "bd_view"), os.environ.get("BURCH_DILL", "burch_dill")
         files = [str(DATA / "two_stage.pipe"), str(DATA / "two_stage.spec")]
-        for mode in ([], ["--diverse"]):
+        modes: List[List[str]] = [[], ["--diverse"]]
+        for mode in modes:
             with self.subTest(mode=mode), contextlib.redirect_stderr(io.StringIO()):
                 kept = [*files, *mode, "--program", self.program, "--view", view]
                 self.assertEqual(prove.main(kept if HAS_CADICAL else [*kept, "--solver", self.solver]), 0)
@@ -308,7 +312,8 @@ class Conquering(InFolder):
     def test_the_program_itself_takes_the_joined_proof(self) -> None:
         program, view = (os.environ.get(name.upper(), name) for name in ("burch_dill", "bd_view"))
         files = [str(DATA / "two_stage.pipe"), str(DATA / "two_stage.spec")]
-        for mode, checker in (([], program), (["--diverse"], view)):
+        modes: List[Tuple[List[str], str]] = [([], program), (["--diverse"], view)]
+        for mode, checker in modes:
             with self.subTest(mode=mode), contextlib.redirect_stderr(io.StringIO()):
                 joined = str(self.folder / "joined.lrat")
                 kept = [*files, joined, *mode, "--cubes", "4", "--program", program]
