@@ -4,8 +4,8 @@
 A design has some latches, memories, inputs, functions and predicates, lets, cycles that flush it, steps, and perhaps
 distinct constants, an exact item and an invariant; its specification keeps some of its entries. Each case that is
 printed is replayed: it must break the condition that the program named, or hold where an invariant came with
-`correct`. Each proof that is saved is checked (`tools/lrat_check.py`). It stops at the first design on which they differ,
-and leaves its files.
+`correct`. Each proof that is saved is checked (`tools/lrat_check.py`). It stops at the first design on which they
+differ, and leaves its files.
 """
 from __future__ import annotations
 

@@ -59,8 +59,8 @@ def parts_of(node: Node) -> List[Node]:
 
 
 class Machine:
-    """A pipeline: its lets and next values by name, and which of them begins at which place. A next value has its entry's
-    name after an apostrophe."""
+    """A pipeline: its lets and next values by name, and which of them begins at which place. A next value has its
+    entry's name after an apostrophe."""
 
     def __init__(self, text: str) -> None:
         self.items: Dict[str, Tree] = {}

@@ -30,8 +30,9 @@ from burch_dill.machines import dlx, vliw  # noqa: E402
 MACHINES = ("1xDLX-C", "1xDLX-C-MC-EX-BP", "2xDLX-CA", "2xDLX-CA-MC-EX-BP", "2xDLX-CC", "2xDLX-CC-MC", "2xDLX-CC-EX",
             "2xDLX-CC-BP", "2xDLX-CC-MC-EX-BP", "4VLIW-MC", "4VLIW-MC-BP", "9VLIW-MC", "9VLIW-MC-BP")
 WRITTEN = ("1xDLX-C", "1xDLX-C-MC-EX-BP", "2xDLX-CA")
-WAYS: dict[str, dict[str, bool]] = {"as it is": {}, "decode written without a fetch": {"idle": True}, "fields taken in decode": {"late": True},
-        "a memory for data": {"ordered": True}, "all three": {"idle": True, "late": True, "ordered": True}}
+WAYS: dict[str, dict[str, bool]] = {
+    "as it is": {}, "decode written without a fetch": {"idle": True}, "fields taken in decode": {"late": True},
+    "a memory for data": {"ordered": True}, "all three": {"idle": True, "late": True, "ordered": True}}
 LONG = 30  # seconds, from which on nothing runs twice
 EVERY = [*dlx.machines(), *vliw.machines()]
 

@@ -31,7 +31,7 @@ LONG, LARGE = 30, 2048  # seconds and MB, from which on a design is named
 
 
 class Design(NamedTuple):
-    """A line of verdicts.txt: a pipeline's name, the files of both machines, the invariant's if it has one, a verdict."""
+    """A line of verdicts.txt: a pipeline's name, the files of both machines and perhaps an invariant, and a verdict."""
 
     name: str
     files: list[str]

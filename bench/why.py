@@ -7,12 +7,12 @@ NAME.edit with a sentence and pairs of lines, `old:` with a text that the machin
 there in the twin.
 
 Each twin is checked, and its case goes to `bd_view why`. A let or next value that isn't the right machine's is told
-decisively where a line `FILE:LINE:COLUMN: CYCLE: ..` tells it of a cycle in which its value differs from the right item's
-(`cycles.py` works both out for the case made small). Twins that differ in no item are counted apart. `bd_view show` has to show
-the same differences, with the same values, in the small case as in the whole one.
+decisively where a line `FILE:LINE:COLUMN: CYCLE: ..` tells it of a cycle in which its value differs from the right
+item's (`cycles.py` works both out for the case made small). Twins that differ in no item are counted apart. `bd_view
+show` has to show the same differences, with the same values, in the small case as in the whole one.
 
-It prints a line for each twin, with the place of the first line that tells the bug, and the counts: nine of ten should be
-told decisively, and eight of ten within the first 24 lines.
+It prints a line for each twin, with the place of the first line that tells the bug, and the counts: nine of ten
+should be told decisively, and eight of ten within the first 24 lines.
 """
 from __future__ import annotations
 
@@ -136,7 +136,7 @@ def differences(output: str) -> tuple[str, set[tuple[object, ...]]]:
 
 
 def keeps(view: str, files: Sequence[str], case: str, inv: Sequence[str]) -> bool:
-    """Whether a case that is made small shows the same differences. Where the invariant is broken, only that is kept."""
+    """Whether a case that is made small shows the same differences. If the invariant is broken, only that is kept."""
     judged, whole = differences(printed(view, "show", *files, case, *inv, "--whole"))
     small = differences(printed(view, "show", *files, case, *inv))
     return small[0] == judged and (judged.startswith("invariant broken") or small[1] == whole != set())

@@ -9,8 +9,8 @@
 - docs/develop/MAP.md: the last column of the table of crates, who uses each, follows from crates.txt.
 - docs/PROVED.md: the list of what `correct` rests on, by following the definitions that the promise of that name cites;
   and the calls that can't want memory.
-- docs/develop/DEFINITIONS.md: each definition that a public contract cites, with its module and its source. Contracts are those
-  of public calls and of the methods of public traits; how a public type is seen counts too.
+- docs/develop/DEFINITIONS.md: each definition that a public contract cites, with its module and its source. Contracts
+  are those of public calls and of the methods of public traits; how a public type is seen counts too.
 
 What the programs take and print stands in users' pages, in examples that are run (`shown.py`). The two languages are
 read by `antt.py` and `rattle.py`.
@@ -49,7 +49,8 @@ CORRECT = [
     ("bd_app", "Sources", "IsDesign"),
     ("bd_app", "Program", "ForDesign"),
 ]
-COMMANDS = ("Bounded", "Cases", "Complete", "Completions", "Generate", "Recheck", "Replay", "Retrace", "Run", "Verdicts")
+COMMANDS = ("Bounded", "Cases", "Complete", "Completions", "Generate", "Recheck", "Replay", "Retrace", "Run",
+            "Verdicts")
 LEFT_OUT = {("bd_app", name) for name in COMMANDS}
 LIST = ("<!-- correct: made by tools/documents.py -->", "<!-- correct: to here -->")
 NAMED = re.compile(r"`((?:crates/)?(?:bd_\w+|burch_dill)/[\w/.]+|(?:bench|tools|docs)/[\w.]+|python/[\w./]+)`")
@@ -119,7 +120,8 @@ def map_text() -> Made:
         lines.append(line)
     wanted = list(programs) + list(tests)
     faults = [f"docs/develop/MAP.md has no row for {name}" for name in wanted if name not in rows]
-    faults += [f"docs/develop/MAP.md has a row for {name}, which crates.txt lacks" for name in rows if name not in wanted]
+    faults += [f"docs/develop/MAP.md has a row for {name}, which crates.txt lacks" for name in rows
+               if name not in wanted]
     return "\n".join(lines) + "\n", faults
 
 
@@ -184,7 +186,8 @@ def printed_definitions(wanted: Set[str]) -> List[str]:
             if found:
                 head = f"{crate}/specs/{name.replace('.', '/')}.antt"
                 out.append(folded(f"{head}: {sentence(head_of(lines))}" if head_of(lines) else head, rest=""))
-                out += [folded(f"{word}: {sentence(said)}" if said else f"{word}.", "  ", "    ") for word, said in found]
+                out += [folded(f"{word}: {sentence(said)}" if said else f"{word}.", "  ", "    ")
+                        for word, said in found]
     return out
 
 
@@ -303,9 +306,9 @@ def calls() -> List[Tuple[str, str, Tuple[str, str, str, str]]]:
 
 
 CALLS_HEAD = """
-Calls: what each needs of its caller (its `requires`); whether it wants memory, by the answer that says so, where `never`
-means that no answer of its type could; its promises (its `ensures`), by name, "one" where a single one has none; and
-which of them say what an error leaves of what was handed in by `&mut`. Each is proved safe and to end.
+Calls: what each needs of its caller (its `requires`); whether it wants memory, by the answer that says so, where
+`never` means that no answer of its type could; its promises (its `ensures`), by name, "one" where a single one has
+none; and which of them say what an error leaves of what was handed in by `&mut`. Each is proved safe and to end.
 """
 
 

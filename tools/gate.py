@@ -1,11 +1,11 @@
 #!/usr/bin/env python3
 """Runs the gate from nothing and says what it cost, crate by crate.
 
-At the top of the repository it calls `rt ci`, or `rt ci NAME ..` where crates are named, reads the clock of each process
-that this starts, and prints a table in Markdown, in processor minutes: each crate's proof, its tests (their proofs, and
-building them), its wrong bodies. `--processors N` runs it on N processors alone; `--log` keeps what `rt ci` prints, and
-`--table` writes the table to a file too. It ends with the status of `rt ci`; ended by SIGTERM, it prints what was
-measured up to there. It needs Linux, where /proc tells each process's clock.
+At the top of the repository it calls `rt ci`, or `rt ci NAME ..` where crates are named, reads the clock of each
+process that this starts, and prints a table in Markdown, in processor minutes: each crate's proof, its tests (their
+proofs, and building them), its wrong bodies. `--processors N` runs it on N processors alone; `--log` keeps what `rt
+ci` prints, and `--table` writes the table to a file too. It ends with the status of `rt ci`; ended by SIGTERM, it
+prints what was measured up to there. It needs Linux, where /proc tells each process's clock.
 """
 from __future__ import annotations
 

@@ -26,7 +26,8 @@ class Words(unittest.TestCase):
     def test_only_the_documents_are_counted(self) -> None:
         with tempfile.TemporaryDirectory() as name:
             root = Path(name)
-            for path in ("README.md", "docs/develop/MAP.md", "docs/develop/GATE.md", "gallery/dlx/README.md", "docs/a.pipe"):
+            for path in ("README.md", "docs/develop/MAP.md", "docs/develop/GATE.md", "gallery/dlx/README.md",
+                         "docs/a.pipe"):
                 (root / path).parent.mkdir(parents=True, exist_ok=True)
                 (root / path).write_text("one two\n", encoding="utf-8")
             counts = {page.as_posix(): count for page, count in word_counts.counts_of(root).items()}

@@ -587,7 +587,7 @@ class Access(Clicks):
         self.assertEqual(sides[0][2], sides[1][2])
 
     def test_contrast(self) -> None:
-        """Each colour has the contrast with what it stands on that WCAG 2.1 asks of text, 4.5 to 1, by day and night."""
+        """Each colour has the contrast with its ground that WCAG 2.1 asks of text, 4.5 to 1, by day and night."""
         self.browser.choose("riddles/riddle_01.pipe")
         self.browser.click("#check")
         self.wait("#verdict", "wrong commute$")

@@ -238,7 +238,8 @@ class Proving(InFolder):
         cnf = written(self.folder, "pipe.cnf", unsatisfiable(6, 1))
         status, out, err = self.answer(self.pipe, "spec", "--proof", f"{self.folder}/kept.lrat")
         self.assertEqual((status, out), (0, "correct by proof\n"))
-        self.assertEqual([line.split(":")[0] for line in err.splitlines()], ["formula", sys.executable, "LRAT", "recheck"])
+        self.assertEqual([line.split(":")[0] for line in err.splitlines()],
+                         ["formula", sys.executable, "LRAT", "recheck"])
         self.assertEqual(check(str(cnf), f"{self.folder}/kept.lrat"), REFUTED)
 
     def test_diverse_with_an_invariant(self) -> None:
@@ -256,7 +257,7 @@ class Proving(InFolder):
         self.assertEqual(self.answer(str(self.folder / "none"), "spec")[0], 3)
         self.solver = "false {cnf} {drat}"
         self.assertEqual(self.answer(self.pipe, "spec")[::2][0], 3)
-        self.solver = f"sh -c 'echo \"2 1 0\" > {{drat}}; exit 20'"
+        self.solver = "sh -c 'echo \"2 1 0\" > {drat}; exit 20'"
         status, _, err = self.answer(self.pipe, "spec")
         self.assertEqual((status, err.splitlines()[-1].split(": ")[-1]), (3, "it ends without the empty clause"))
 
@@ -279,8 +280,8 @@ class Conquering(InFolder):
         self.cnf = written(self.folder, "pipe.cnf", clauses)
         err = io.StringIO()
         with contextlib.redirect_stderr(err):
-            status = conquer.main([str(self.folder / "pipe"), "spec", str(self.folder / "joined.lrat"), "--program", program,
-                                   "--solver", self.solver, *words])
+            status = conquer.main([str(self.folder / "pipe"), "spec", str(self.folder / "joined.lrat"),
+                                   "--program", program, "--solver", self.solver, *words])
         return status, err.getvalue()
 
     def test_cubes_are_solved_and_joined(self) -> None:
@@ -318,7 +319,8 @@ class Conquering(InFolder):
                 joined = str(self.folder / "joined.lrat")
                 kept = [*files, joined, *mode, "--cubes", "4", "--program", program]
                 self.assertEqual(conquer.main(kept), 0)
-                done = subprocess.run([checker, "recheck", *files, joined, *mode], capture_output=True, text=True, check=False)
+                done = subprocess.run([checker, "recheck", *files, joined, *mode], capture_output=True, text=True,
+                                      check=False)
                 self.assertEqual((done.returncode, done.stdout), (0, "correct by proof\n"))
 
 

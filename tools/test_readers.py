@@ -121,7 +121,8 @@ class Antt(InFile):
 
     def test_a_constructor_stands_by_its_type(self) -> None:
         lines = DEFINITIONS.splitlines()
-        self.assertEqual([antt.owner_of(lines, name) for name in ("Zero", "even", "nowhere")], ["Bit", "even", "nowhere"])
+        self.assertEqual([antt.owner_of(lines, name) for name in ("Zero", "even", "nowhere")],
+                         ["Bit", "even", "nowhere"])
 
     def test_what_a_source_takes_from_definitions(self) -> None:
         self.assertEqual(antt.imported(SOURCES), {"W": ("bd_model", "Value", "Word"),
