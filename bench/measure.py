@@ -65,7 +65,7 @@ KINDS_ROW = PROVE_ROW
 BOTH = tuple(MODES)
 SUPERSCALARS = (("4 x 4", BOTH), ("4 x 8", BOTH), ("6 x 5", BOTH), ("6 x 8", ["diverse"]), ("8 x 3", BOTH),
                 ("8 x 4", ["diverse"]), ("8 x 5", ["diverse"]))
-WIDE = ("8 x 8", "8 x 16", "8 x 32", "8 x 64", "4 x 16", "4 x 48", "4 x 128")  # by the program alone
+WIDE = ("8 x 8", "8 x 16", "8 x 32", "8 x 64", "4 x 16", "4 x 48")  # by the program alone
 MISSING = ("4 x 4", "8 x 5")  # with one path missing, in plain mode
 FORMULAS = ("pigeons 8", "parity 32 1", "random 200 1")
 MACHINES = ("1xDLX-C", "1xDLX-C-MC-EX-BP", "2xDLX-CA", "2xDLX-CA-MC-EX-BP", "2xDLX-CC", "2xDLX-CC-MC", "2xDLX-CC-EX",
