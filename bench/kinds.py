@@ -5,14 +5,12 @@ A kept formula (`check .. --cnf FILE`) begins with the clauses of its gates, in 
 than the gate's own, and with the root's unit; then come the triangles of edges, three clauses over three variables
 each, and a unit for each edge that is false. So the text tells the kinds. What is left are the variables that nothing
 defines: edges in no triangle, and predicates, latches and inputs that are true or false.
-
-usage: kinds.py FORMULA ..
 """
-import sys
+import argparse
 from collections import defaultdict
 from typing import Dict, Iterator, List, Set, Tuple
 
-from shared import File, formula_size
+from shared import File, formula_size, table_text
 
 Clause = List[int]
 Counts = Dict[str, Tuple[int, int]]  # by kind, how many variables and clauses
@@ -75,10 +73,10 @@ def table(name: File) -> List[List[str]]:
 
 
 def main() -> None:
-    if len(sys.argv) < 2 or sys.argv[1].startswith("-"):
-        sys.exit(__doc__)
-    for name in sys.argv[1:]:
-        print(f"{name}\n\n" + "\n".join("| " + " | ".join(cells) + " |" for cells in table(name)) + "\n")
+    parser = argparse.ArgumentParser(description=__doc__, formatter_class=argparse.RawDescriptionHelpFormatter)
+    parser.add_argument("formula", metavar="FORMULA", nargs="+")
+    for name in parser.parse_args().formula:
+        print(f"{name}\n\n{table_text(table(name))}\n")
 
 
 if __name__ == "__main__":

@@ -36,7 +36,7 @@ from pathlib import Path
 from typing import Any, Callable, Dict, Iterator, List, NamedTuple, Optional, Sequence, Union
 
 from kinds import table as kinds_table
-from shared import HERE, MODES, added_clauses, answer_of, formula_size, run
+from shared import added_clauses, answer_of, formula_size, HERE, MODES, run, table_text
 
 ROOT = Path(HERE).parent
 sys.path.append(str(ROOT / "python" / "src"))
@@ -416,12 +416,6 @@ def put(name: str, text: str, document: str) -> None:
     Path(document).write_text(f"{before}{first}\n\n{text}\n\n{last}{rest.split(last, 1)[1]}", encoding="ascii")
 
 
-def lines(table: List[List[str]]) -> str:
-    """A table as text."""
-    made = ["| " + " | ".join(cells) + " |" for cells in table]
-    return "\n".join([made[0], "|" + "---|" * len(table[0]), *made[1:]])
-
-
 def arguments() -> argparse.Namespace:
     """The words of the command line."""
     parser = argparse.ArgumentParser(description="Measures the program beside other solvers.")
@@ -445,17 +439,17 @@ def main() -> None:
     words.folder.mkdir(exist_ok=True)
     kept = Kept(words.folder, words.program)
     measure(words, kept)
-    first = f"{said(words)}\n\n{lines(measured_table(kept, words.counts))}{summary(kept)}"
-    texts = {"measured": first, "rules": lines(rules_table(kept, words.counts))}
+    first = f"{said(words)}\n\n{table_text(measured_table(kept, words.counts))}{summary(kept)}"
+    texts = {"measured": first, "rules": table_text(rules_table(kept, words.counts))}
     if any(kept.of(row, OWN) for row in rows("") if row.design in WIDE):
-        texts["wide"] = lines(wide_table(kept, words.counts))
+        texts["wide"] = table_text(wide_table(kept, words.counts))
     for row in rows(KINDS_ROW):
         if kept.of(row, OWN):
-            texts["kinds"] = lines(kinds_table(file_of(row, words.folder, ".cnf")))
+            texts["kinds"] = table_text(kinds_table(file_of(row, words.folder, ".cnf")))
     if any(kept.of(row, PROVE) for row in rows("")):
-        texts["prove"] = lines(prove_table(kept))
+        texts["prove"] = table_text(prove_table(kept))
     if any(kept.of(row, name) for row in rows("") for name in SMT):
-        texts["smt"] = lines(smt_table(kept))
+        texts["smt"] = table_text(smt_table(kept))
     for name, text in texts.items():
         print(f"{text}\n")
         if words.write:

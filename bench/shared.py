@@ -59,3 +59,9 @@ def added_clauses(name: File) -> int:
     """How many clauses a proof in LRAT adds."""
     with open(name, encoding="ascii") as file:
         return sum(1 for line in file if " d " not in line)
+
+
+def table_text(table: Sequence[Sequence[str]]) -> str:
+    """A table as Markdown has it, its first row the head."""
+    made = ["| " + " | ".join(cells) + " |" for cells in table]
+    return "\n".join([made[0], "|" + "---|" * len(table[0]), *made[1:]])
