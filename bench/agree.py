@@ -4,9 +4,11 @@
 A design has some latches, memories, inputs, functions and predicates, lets, cycles that flush it, steps, and perhaps
 distinct constants, an exact item and an invariant; its specification keeps some of its entries. Each case that is
 printed is replayed: it must break the condition that the program named, or hold where an invariant came with
-`correct`. Each proof that is saved is checked (`tools/lrat_check.py`). It stops at the first design on which they differ,
-and leaves its files.
+`correct`. Each proof that is saved is checked (`tools/lrat_check.py`). It stops at the first design on which they
+differ, and leaves its files.
 """
+from __future__ import annotations
+
 import argparse
 import os
 import random
@@ -14,18 +16,23 @@ import shutil
 import subprocess
 import sys
 import tempfile
+from typing import Callable, Dict, Iterable, Iterator, List, Optional, Sequence, Tuple
 
-HERE = os.path.dirname(os.path.abspath(__file__))
+from shared import HERE, MODES
+
 sys.path.append(os.path.join(os.path.dirname(HERE), "tools"))
 
-from lrat_check import check
+from lrat_check import check  # noqa: E402
 
 REFUTES, ENDS_OPEN = "accepted, and refutes the formula", "accepted, without the empty clause"
 PROOFS = {"correct": REFUTES, "void": REFUTES, "wrong": ENDS_OPEN}
+Names = Dict[str, str]  # the sort of each name
 
 
 class Design:
-    def __init__(self, chance):
+    """A random design: its symbols, entries and inputs."""
+
+    def __init__(self, chance: random.Random) -> None:
         self.chance = chance
         self.functions = {f"f{n}": chance.randint(0, 2) for n in range(chance.randint(1, 2))}
         if chance.random() < 0.3:
@@ -36,18 +43,20 @@ class Design:
         self.memories = [f"m{n}" for n in range(chance.randint(0, 1))]
         self.inputs = {f"i{n}": chance.choice(["word", "bool"]) for n in range(chance.randint(0, 2))}
 
-    def leaf(self, names, sort):
+    def leaf(self, names: Names, sort: str) -> str:
+        """A name of a sort."""
         fitting = [name for name, its in names.items() if its == sort]
         return self.chance.choice(fitting or (["true", "false"] if sort == "bool" else ["w0"]))
 
-    def expr(self, names, sort, depth):
+    def expr(self, names: Names, sort: str, depth: int) -> str:
+        """An expression of a sort."""
         if depth == 0 or self.chance.random() < 0.25:
             return self.leaf(names, sort)
 
-        def part(its):
+        def part(its: str) -> str:
             return self.expr(names, its, depth - 1)
 
-        forms = [lambda: f"(ite {part('bool')} {part(sort)} {part(sort)})"]
+        forms: List[Callable[[], str]] = [lambda: f"(ite {part('bool')} {part(sort)} {part(sort)})"]
         if sort == "word":
             name, arity = self.chance.choice(list(self.functions.items()))
             forms.append(lambda: f"({' '.join([name] + [part('word') for _ in range(arity)])})")
@@ -64,17 +73,21 @@ class Design:
                 forms.append(lambda: f"({' '.join([name] + [part('word') for _ in range(arity)])})")
         return self.chance.choice(forms)()
 
-    def symbols(self):
+    def symbols(self) -> Iterator[str]:
+        """The items of the symbols."""
         yield from (f" (function {name} {arity})" for name, arity in self.functions.items())
         yield from (f" (predicate {name} {arity})" for name, arity in self.predicates.items())
         if "c0" in self.functions:
             yield " (distinct c0 c1)"
 
-    def entries(self):
+    def entries(self) -> Names:
+        """The entries with their sorts."""
         return {**dict.fromkeys(self.words, "word"), **dict.fromkeys(self.truths, "bool"),
                 **dict.fromkeys(self.memories, "memory")}
 
-    def machine(self, head, entries, inputs, depth, lets, items):
+    def machine(self, head: str, entries: Names, inputs: Names, depth: int, lets: int,
+                items: Callable[[Names], Iterable[str]]) -> str:
+        """The text of a machine, which ends with some items over its names."""
         names = {**entries, **inputs}
         lines = [f"({head}", *self.symbols()]
         for name, sort in entries.items():
@@ -88,13 +101,14 @@ class Design:
         lines += [f" (next {name} {self.expr(names, sort, depth)})" for name, sort in entries.items()]
         return "\n".join([*lines, *items(names)]) + ")\n"
 
-    def items(self, names):
+    def items(self, names: Names) -> Iterator[str]:
+        """The items of a pipeline alone."""
         steps = self.chance.randint(0, 2)
         yield f" (flush {self.chance.randint(0, 2)}) (steps {steps})"
         if self.chance.random() < 0.2:
             yield f" (exact {self.chance.randint(0, steps)} {self.expr(names, 'bool', 1)})"
 
-    def texts(self):
+    def texts(self) -> Iterator[str]:
         """The pipeline, the specification, which is often the pipeline's own machine, and perhaps an invariant."""
         entries = self.entries()
         kept = {name: sort for name, sort in entries.items() if name == "w0" or self.chance.random() < 0.6}
@@ -107,12 +121,13 @@ class Design:
             yield f"(invariant {self.expr(entries, 'bool', 2)})\n"
 
 
-def said(words):
+def said(words: Sequence[str]) -> Tuple[str, str]:
+    """What a command prints, to both outputs."""
     done = subprocess.run(words, capture_output=True, text=True, timeout=60)
     return done.stdout, done.stderr
 
 
-def answer(program, texts, folder, mode):
+def answer(program: str, texts: Sequence[str], folder: str, mode: Sequence[str]) -> str:
     """The first word of the answer, after its proof was checked and its case replayed."""
     case, cnf, proof = (os.path.join(folder, name) for name in ("case", "kept.cnf", "proof.lrat"))
     output, errors = said([program, "check", *texts, *mode, "--cnf", cnf, "--lrat", proof])
@@ -132,7 +147,8 @@ def answer(program, texts, folder, mode):
     return word
 
 
-def expected(texts, smt):
+def expected(texts: Sequence[str], smt: str) -> Optional[str]:
+    """The first word of the answer by `z3`, or nothing where it has none."""
     with open(smt, "w") as file:
         subprocess.run([sys.executable, os.path.join(HERE, "smtlib.py"), *texts], stdout=file, check=True)
     lines = said(["z3", "-T:20", smt])[0].split()
@@ -141,19 +157,22 @@ def expected(texts, smt):
     return {"unsat": "correct", "sat": "wrong"}.get(lines[-1])
 
 
-def main():
+def main() -> None:
+    """Compares the answers."""
     parser = argparse.ArgumentParser(description=__doc__, formatter_class=argparse.RawDescriptionHelpFormatter)
-    parser.add_argument("program", metavar="PROGRAM", type=os.path.abspath, help="burch_dill")
+    parser.add_argument("program", metavar="PROGRAM", help="burch_dill")
     parser.add_argument("count", metavar="COUNT", type=int, help="how many designs")
     parser.add_argument("seed", metavar="SEED", type=int, nargs="?", default=0, help="of the random numbers (0)")
     words = parser.parse_args()
-    for program in (words.program, "z3"):
-        if shutil.which(program) is None:
-            parser.error(f"{program} can't be run")
+    program = os.path.abspath(words.program)
+    for name in (program, "z3"):
+        if shutil.which(name) is None:
+            parser.error(f"{name} can't be run")
     chance = random.Random(words.seed)
     folder = tempfile.mkdtemp()
     names = [os.path.join(folder, name) for name in ("pipe", "spec", "inv")]
-    smt, counts = os.path.join(folder, "question.smt2"), {}
+    smt = os.path.join(folder, "question.smt2")
+    counts: Dict[Optional[str], int] = {}
     for _ in range(words.count):
         texts = []
         for name, text in zip(names, Design(chance).texts()):
@@ -161,7 +180,7 @@ def main():
             with open(name, "w") as file:
                 file.write(text)
         want = expected(texts, smt)
-        answers = {answer(words.program, texts, folder, mode) for mode in ([], ["--diverse"])}
+        answers = {answer(program, texts, folder, mode) for mode in MODES.values()}
         if want is not None and answers != {want}:
             raise SystemExit(f"they differ on {folder}: {answers}, {want}")
         counts[want] = counts.get(want, 0) + 1

@@ -5,12 +5,13 @@ A completion function writes the results of the instructions in flight, the olde
 is asked of it: that it is right by flushing (`check`), that it is right by the function (`complete`), and that the
 function agrees with flushing (`complete --agree`). It has the terms and clauses of the question, which are counted
 under `gdb`, where that is there, and the processor seconds, peak memory and answer.
-
-usage: complete.py PROGRAM [--seconds N] [--deepest D]
 """
+from __future__ import annotations
+
 import argparse
 import os
 import tempfile
+from collections.abc import Iterator, Sequence
 
 import generator
 import superscalar
@@ -18,7 +19,7 @@ from bounded import asked
 from inside import inside
 
 
-def completion(writes):
+def completion(writes: Sequence[tuple[str, str, str]]) -> str:
     """The function that makes these writes of the registers in turn, each by a condition, a place and a value."""
     lines = ["(completion", " (let done_0 memory rf)"]
     for n, (condition, place, value) in enumerate(writes):
@@ -26,21 +27,21 @@ def completion(writes):
     return "\n".join([*lines, " (abstract pc pc)", f" (abstract rf done_{len(writes)}))"]) + "\n"
 
 
-def of_generated(depth):
+def of_generated(depth: int) -> str:
     """That of a generated pipeline."""
     return completion([(f"v{i}", f"d{i}", f"x{i}" if i > 2 else "(alu o a)") for i in range(depth, 1, -1)])
 
 
-def of_superscalar(width, depth, operands):
+def of_superscalar(width: int, depth: int, operands: int) -> str:
     """That of a superscalar pipeline."""
-    def value(stage, slot):
+    def value(stage: int, slot: int) -> str:
         parts = " ".join(f"a{n}_{slot}" for n in range(operands))
         return f"x{stage}_{slot}" if stage > 2 else f"(alu o_{slot} {parts})"
     return completion([(f"v{stage}_{slot}", f"d{stage}_{slot}", value(stage, slot))
                        for stage in range(depth, 1, -1) for slot in range(width)])
 
 
-def designs(deepest):
+def designs(deepest: int) -> Iterator[tuple[str, str, str, str]]:
     """The name, the pipeline, the specification and the completion function of each design."""
     for depth in range(2, deepest + 1):
         yield f"generated, {depth} stages", generator.pipeline(depth, 0), generator.SPECIFICATION, of_generated(depth)
@@ -49,11 +50,12 @@ def designs(deepest):
                superscalar.specification(1), of_superscalar(width, depth, 1))
 
 
-def main():
-    parser = argparse.ArgumentParser(description=__doc__.split("\n")[0])
-    parser.add_argument("program")
-    parser.add_argument("--seconds", type=float, default=120)
-    parser.add_argument("--deepest", type=int, default=12)
+def main() -> None:
+    """Prints the table."""
+    parser = argparse.ArgumentParser(description=__doc__, formatter_class=argparse.RawDescriptionHelpFormatter)
+    parser.add_argument("program", metavar="PROGRAM", help="burch_dill")
+    parser.add_argument("--seconds", metavar="N", type=float, default=120, help="for each run (120)")
+    parser.add_argument("--deepest", metavar="D", type=int, default=12, help="the most stages (12)")
     options = parser.parse_args()
     print("| Design | Asked | Terms | Clauses | Seconds | MB | Answer |\n|---|---|---|---|---|---|---|")
     with tempfile.TemporaryDirectory() as folder:

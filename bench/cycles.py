@@ -1,21 +1,27 @@
 """The values of a case's run, cycle by cycle, apart from the program: for scripts that compare what it says of them."""
+from __future__ import annotations
+
 import re
-from typing import NamedTuple
+from typing import Callable, Dict, List, NamedTuple, Set, Tuple, Union
 
 TOKEN = re.compile(r";[^\n]*|[()]|[^\s();]+")
+
+
+Place = Tuple[int, int]
+Tree = Union[str, Tuple["Tree", ...]]
 
 
 class Node(NamedTuple):
     """A list or an atom of a text, and where it begins: its line and column, from 1."""
 
-    what: object
-    place: tuple
+    what: Union[str, List["Node"]]
+    place: Place
 
 
-def trees(text):
+def trees(text: str) -> List[Node]:
     """The lists and atoms of a text."""
-    stack = [[]]
-    starts = []
+    stack: List[List[Node]] = [[]]
+    starts: List[Place] = []
     for found in TOKEN.finditer(text):
         token = found.group()
         line = text.count("\n", 0, found.start()) + 1
@@ -33,21 +39,40 @@ def trees(text):
     return stack[0]
 
 
-def plain(node):
+def plain(node: Node) -> Tree:
     """A tree as nested tuples of words."""
     return tuple(plain(part) for part in node.what) if isinstance(node.what, list) else node.what
 
 
-class Machine:
-    """A pipeline: its lets and next values by name, and which of them begins at which place. A next value has its entry's
-    name after an apostrophe."""
+def word(tree: Tree) -> str:
+    """A tree that has to be a word."""
+    if not isinstance(tree, str):
+        raise ValueError(f"a list where a word is to stand: {tree}")
+    return tree
 
-    def __init__(self, text):
-        self.items, self.names, self.inputs, self.symbols = {}, {}, {}, []
-        self.entries, self.others, self.flush = set(), [], 0
-        for item in trees(text)[0].what[1:]:
+
+def parts_of(node: Node) -> List[Node]:
+    """The parts of a tree that has to be a list."""
+    if isinstance(node.what, str):
+        raise ValueError(f"a word where a list is to stand: {node.what}")
+    return node.what
+
+
+class Machine:
+    """A pipeline: its lets and next values by name, and which of them begins at which place. A next value has its
+    entry's name after an apostrophe."""
+
+    def __init__(self, text: str) -> None:
+        self.items: Dict[str, Tree] = {}
+        self.names: Dict[Place, str] = {}
+        self.inputs: Dict[str, Tree] = {}
+        self.symbols: List[Tuple[str, str]] = []
+        self.entries: Set[str] = set()
+        self.others: List[Tree] = []
+        self.flush = 0
+        for item in parts_of(trees(text)[0])[1:]:
             parts = plain(item)
-            head, name = parts[0], parts[1]
+            head, name = word(parts[0]), word(parts[1])
             if head in ("let", "next"):
                 name = name if head == "let" else "'" + name
                 self.items[name] = parts[-1]
@@ -67,56 +92,84 @@ class Machine:
 class Memory:
     """A memory: a word for each address, and one for all others."""
 
-    def __init__(self, default, words):
+    def __init__(self, default: int, words: Dict[int, int]) -> None:
         self.default, self.words = default, words
 
-    def read(self, address):
+    def read(self, address: int) -> int:
+        """The word at an address."""
         return self.words.get(address, self.default)
 
-    def write(self, address, word):
+    def write(self, address: int, word: int) -> Memory:
+        """The same with a word at an address."""
         return Memory(self.default, {**self.words, address: word})
 
-    def __eq__(self, other):
+    def __eq__(self, other: object) -> bool:
+        if not isinstance(other, Memory):
+            return NotImplemented
         addresses = set(self.words) | set(other.words)
         return self.default == other.default and all(self.read(x) == other.read(x) for x in addresses)
 
 
-def value_of(word):
-    return word == "true" if word in ("true", "false") else int(word)
+Value = Union[bool, int, Memory]
+Table = Tuple[Value, Dict[Tuple[Value, ...], Value]]
+State = Dict[str, Value]
+Tables = Dict[str, Table]
+
+
+def value_of(tree: Tree) -> Union[bool, int]:
+    """The truth or the number that a word is."""
+    return tree == "true" if tree in ("true", "false") else int(word(tree))
+
+
+def memory_of(value: Value) -> Memory:
+    """A value that has to be a memory."""
+    if not isinstance(value, Memory):
+        raise ValueError(f"no memory: {value}")
+    return value
+
+
+def number_of(value: Value) -> int:
+    """A value that has to be a number."""
+    if isinstance(value, Memory):
+        raise ValueError("a memory where a number is to stand")
+    return value
 
 
 class Case(NamedTuple):
     """A case: a table for each symbol, a state and inputs."""
 
-    tables: dict
-    state: dict
-    inputs: dict
+    tables: Tables
+    state: State
+    inputs: State
 
 
-def read_case(text, machine):
+def read_case(text: str, machine: Machine) -> Case:
     """The case of a text."""
-    tables, state, inputs = {}, {}, {}
+    tables: Tables = {}
+    state: State = {}
+    inputs: State = {}
     for head, name in machine.symbols:
-        tables[name] = (head == "function" and 0, {})
-    for entry in plain(trees(text)[0])[2:]:
-        head, name, first = entry[0], entry[1], value_of(entry[2])
-        rows = [tuple(value_of(word) for word in row) for row in reversed(entry[3:])]
+        tables[name] = (0 if head == "function" else False, {})
+    for entry in parts_of(trees(text)[0])[2:]:
+        parts = plain(entry)
+        head, name, first = word(parts[0]), word(parts[1]), value_of(parts[2])
+        rows = [tuple(value_of(part) for part in row) for row in reversed(parts[3:])]
         if head == "latch":
             state[name] = first
         elif head == "input":
             inputs[name] = first
         elif head == "memory":
-            state[name] = Memory(first, dict(rows))
+            state[name] = Memory(first, {row[0]: row[1] for row in rows})
         else:
             tables[name] = (first, {row[:-1]: row[-1] for row in rows})
     return Case(tables, state, inputs)
 
 
-def valued(expression, look, tables):
+def valued(expression: Tree, look: Callable[[str], Value], tables: Tables) -> Value:
     """The value of an expression, where `look` gives that of a name."""
     if isinstance(expression, str):
         return expression == "true" if expression in ("true", "false") else look(expression)
-    head, *parts = expression
+    head, parts = word(expression[0]), expression[1:]
     if head in ("and", "or"):
         return (all if head == "and" else any)(valued(part, look, tables) for part in parts)
     if head == "ite":
@@ -129,9 +182,9 @@ def valued(expression, look, tables):
     if head in ("=", "iff"):
         return values[0] == values[1]
     if head == "read":
-        return values[0].read(values[1])
+        return memory_of(values[0]).read(number_of(values[1]))
     if head == "write":
-        return values[0].write(values[1], values[2])
+        return memory_of(values[0]).write(number_of(values[1]), number_of(values[2]))
     default, rows = tables[head]
     return rows.get(tuple(values), default)
 
@@ -139,27 +192,28 @@ def valued(expression, look, tables):
 class Cycle:
     """A cycle of a run: what each name stands for in it."""
 
-    def __init__(self, machine, case, state, inputs):
+    def __init__(self, machine: Machine, case: Case, state: State, inputs: State) -> None:
         self.machine, self.tables = machine, case.tables
         self.known = {**state, **inputs}
 
-    def look(self, name):
+    def look(self, name: str) -> Value:
+        """What a name stands for."""
         if name not in self.known:
             self.known[name] = valued(self.machine.items[name], self.look, self.tables)
         return self.known[name]
 
-    def after(self):
+    def after(self) -> State:
         """The state that it ends in."""
         return {name: valued(self.machine.items["'" + name], self.look, self.tables) for name in self.machine.entries}
 
 
-def idle(machine, case, state):
+def idle(machine: Machine, case: Case, state: State) -> State:
     """The inputs of a flush cycle."""
     cycle = Cycle(machine, case, state, {})
     return {name: valued(expression, cycle.look, case.tables) for name, expression in machine.inputs.items()}
 
 
-def cycles(machine, case):
+def cycles(machine: Machine, case: Case) -> Dict[str, Cycle]:
     """The cycles of a case's run, by the names that the companion prints."""
     first = Cycle(machine, case, case.state, case.inputs)
     found = {"before to after": first}
@@ -171,20 +225,22 @@ def cycles(machine, case):
     return found
 
 
-def differing(right, twin, case):
+def differing(right: Machine, twin: Machine, case: Case) -> Dict[str, Set[str]]:
     """The items of a twin in which it differs from the right machine, each with the cycles of a case in which its value
     differs from the right item's."""
     changed = {name for name in set(right.items) | set(twin.items) if right.items.get(name) != twin.items.get(name)}
-    found = {name: set() for name in changed}
+    found: Dict[str, Set[str]] = {name: set() for name in changed}
     for cycle_name, cycle in cycles(twin, case).items():
 
-        def look(name, cycle=cycle):
+        def look(name: str, cycle: Cycle = cycle) -> Value:
             if name in right.items and name not in twin.items and name not in cycle.known:
                 return valued(right.items[name], look, case.tables)
             return cycle.look(name)
 
         for name in changed:
             ours, theirs = twin.items.get(name), right.items.get(name)
-            if None in (ours, theirs) or valued(ours, cycle.look, case.tables) != valued(theirs, look, case.tables):
+            same = ours is not None and theirs is not None and (
+                valued(ours, cycle.look, case.tables) == valued(theirs, look, case.tables))
+            if not same:
                 found[name].add(cycle_name)
     return found

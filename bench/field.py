@@ -10,16 +10,16 @@ no seconds are printed, which serves where other work is done beside. `>N` didn'
 seconds. With --write the rows are put into FILE too, between the marks of their table, as
 `<!-- twins: made by bench/field.py -->` and `<!-- twins: to here -->`; rows that stand there under the same head are
 kept where they weren't asked for.
-
-usage: field.py PROGRAM (--twins | --ways) [--all] [--only WORD] [--runs N] [--limit SECONDS] [--budget N] [--counts]
-                [--write FILE]
 """
+from __future__ import annotations
+
 import argparse
 import os
 import re
 import statistics
 import sys
 import tempfile
+from collections.abc import Callable, Iterator, Sequence
 
 from shared import HERE, added_clauses, formula_size, run
 
@@ -30,18 +30,29 @@ from burch_dill.machines import dlx, vliw  # noqa: E402
 MACHINES = ("1xDLX-C", "1xDLX-C-MC-EX-BP", "2xDLX-CA", "2xDLX-CA-MC-EX-BP", "2xDLX-CC", "2xDLX-CC-MC", "2xDLX-CC-EX",
             "2xDLX-CC-BP", "2xDLX-CC-MC-EX-BP", "4VLIW-MC", "4VLIW-MC-BP", "9VLIW-MC", "9VLIW-MC-BP")
 WRITTEN = ("1xDLX-C", "1xDLX-C-MC-EX-BP", "2xDLX-CA")
-WAYS = {"as it is": {}, "decode written without a fetch": {"idle": True}, "fields taken in decode": {"late": True},
-        "a memory for data": {"ordered": True}, "all three": {"idle": True, "late": True, "ordered": True}}
+WAYS: dict[str, dict[str, bool]] = {
+    "as it is": {}, "decode written without a fetch": {"idle": True}, "fields taken in decode": {"late": True},
+    "a memory for data": {"ordered": True}, "all three": {"idle": True, "late": True, "ordered": True}}
 LONG = 30  # seconds, from which on nothing runs twice
 EVERY = [*dlx.machines(), *vliw.machines()]
+
+
+Row = tuple[float, int, str, bool]  # a twin: its seconds, what it learns, its name, whether it is found
+Rows = Callable[[argparse.Namespace, str], Iterator[list[str]]]
+
+
+def texts_of(name: str, **ways: object) -> Sequence[str | None]:
+    """The texts of a machine."""
+    return vliw.design(name, str(ways.get("wrong", ""))) if "VLIW" in name else dlx.design(name, **ways)
 
 
 class Question:
     """A machine's files in a folder, and those that the program saves of it."""
 
-    def __init__(self, folder, name, **ways):
-        texts = (vliw if "VLIW" in name else dlx).design(name, **ways)
-        self.name, self.files = name, []
+    def __init__(self, folder: str, name: str, **ways: object) -> None:
+        texts = texts_of(name, **ways)
+        self.name = name
+        self.files: list[str] = []
         self.cnf, self.proof = (os.path.join(folder, part) for part in ("kept.cnf", "proof.lrat"))
         for part, text in zip(("pipe", "spec", "inv"), texts):
             if text is not None:
@@ -49,39 +60,39 @@ class Question:
                 with open(self.files[-1], "w", encoding="ascii") as file:
                     file.write(text)
 
-    def command(self, words, budget=None):
+    def command(self, words: argparse.Namespace, budget: int | None = None) -> list[str]:
         """The words that ask it, within a budget."""
         most = str(words.budget if budget is None else budget)
         return [words.program, "check", *self.files, "--diverse", "--budget", most]
 
 
-def median(command, limit, runs):
+def median(command: Sequence[str], limit: int, runs: int) -> tuple[str, float] | None:
     """The output and the median of the processor seconds of some runs, or None where one takes too long."""
     times, output = [], ""
     for _ in range(runs):
         done = run(command, limit)
         if done is None:
             return None
-        output = done[0]
-        times.append(done[2])
-        if done[2] > LONG:
+        output = done.output
+        times.append(done.seconds)
+        if done.seconds > LONG:
             break
     return output, statistics.median(times)
 
 
-def sizes(cnf):
+def sizes(cnf: str) -> list[str]:
     """How many variables and clauses a formula has."""
     return [f"{int(count):,}" for count in formula_size(cnf)]
 
 
-def own_cells(question, words):
+def own_cells(question: Question, words: argparse.Namespace) -> tuple[str | None, float | None, list[str]]:
     """What the program says, its seconds, and the cells of its row."""
     kept = run([*question.command(words), "--cnf", question.cnf, "--lrat", question.proof], words.limit)
     if kept is None:
         run([*question.command(words, 0), "--cnf", question.cnf], words.limit)
         seconds = [] if words.counts else [f">{words.limit}"]
         return None, words.limit, ["-", *seconds, "-", *sizes(question.cnf)]
-    answer = kept[0].split("\n", 1)[0]
+    answer = kept.output.split("\n", 1)[0]
     counts = [f"{added_clauses(question.proof):,}", *sizes(question.cnf)]
     if words.counts:
         return answer, None, [answer, *counts]
@@ -90,25 +101,31 @@ def own_cells(question, words):
     return answer, own, [answer, f"{own:.2f}", *counts]
 
 
-def twin_rows(words, folder):
+def by_learned(row: Row) -> int:
+    """What a twin learns."""
+    return row[1]
+
+
+def twin_rows(words: argparse.Namespace, folder: str) -> Iterator[list[str]]:
     """The rows of the table of wrong twins."""
     for name in EVERY if words.all else MACHINES:
         if words.only not in name:
             continue
-        found, twins = [], (vliw if "VLIW" in name else dlx).twins(name)
+        found: list[Row] = []
+        twins = (vliw if "VLIW" in name else dlx).twins(name)
         for twin in twins:
             question = Question(folder, name, wrong=twin)
             answer, own, cells = own_cells(question, words)
             learned = int(cells[-3].replace(",", "")) if answer else words.budget
             found.append((own or 0, learned, twin, bool(answer and answer.startswith("wrong"))))
         missed = [twin for _, _, twin, is_found in found if not is_found]
-        slowest = max(found) if not words.counts else max(found, key=lambda row: row[1])
+        slowest = max(found) if not words.counts else max(found, key=by_learned)
         said = ", ".join(missed) if missed else "all"
         seconds = [] if words.counts else [f"{statistics.median(row[0] for row in found):.2f}", f"{slowest[0]:.2f}"]
         yield [name, str(len(twins)), said, *seconds, slowest[2], f"{slowest[1]:,}"]
 
 
-def way_rows(words, folder):
+def way_rows(words: argparse.Namespace, folder: str) -> Iterator[list[str]]:
     """The rows of the table of ways."""
     for name in WRITTEN:
         for way, options in WAYS.items():
@@ -116,7 +133,7 @@ def way_rows(words, folder):
                 yield [name, way, *own_cells(Question(folder, name, **options), words)[2]]
 
 
-def heads(words):
+def heads(words: argparse.Namespace) -> tuple[str, Rows, list[str]]:
     """The name of the table, its rows, and its head."""
     own = ["answer", *([] if words.counts else ["s"]), "learned", "variables", "clauses"]
     if words.twins:
@@ -126,7 +143,7 @@ def heads(words):
     return "ways", way_rows, ["machine", "written", *own]
 
 
-def merged(old, new):
+def merged(old: list[str], new: list[str]) -> list[str]:
     """A table's lines with what the new one has of it, or the new one where its head is another."""
     if old[:2] != new[:2]:
         return new
@@ -135,7 +152,7 @@ def merged(old, new):
     return [*new[:2], *rows.values()]
 
 
-def put(name, lines, document):
+def put(name: str, lines: list[str], document: str) -> None:
     """Puts a table between its marks in a document."""
     first, last = f"<!-- {name}: made by bench/field.py -->\n", f"<!-- {name}: to here -->"
     with open(document, encoding="ascii") as file:
@@ -149,9 +166,10 @@ def put(name, lines, document):
         file.write(f"{text[:found.start()]}{first}\n{table}\n\n{last}{text[found.end():]}")
 
 
-def main():
-    parser = argparse.ArgumentParser(description="Runs the program on twins and other ways of the field's machines.")
-    parser.add_argument("program", type=os.path.abspath)
+def main() -> None:
+    """Prints a table."""
+    parser = argparse.ArgumentParser(description=__doc__, formatter_class=argparse.RawDescriptionHelpFormatter)
+    parser.add_argument("program", metavar="PROGRAM", help="burch_dill")
     which = parser.add_mutually_exclusive_group(required=True)
     which.add_argument("--twins", action="store_true", help="the table of wrong twins")
     which.add_argument("--ways", action="store_true", help="the table of ways to write a machine")
@@ -163,6 +181,7 @@ def main():
     parser.add_argument("--counts", action="store_true", help="one run each, and no seconds")
     parser.add_argument("--write", metavar="FILE", help="put the table into this document too")
     words = parser.parse_args()
+    words.program = os.path.abspath(words.program)
     name, rows, head = heads(words)
     lines = ["| " + " | ".join(head) + " |", "|" + "---|" * len(head)]
     print("\n".join(lines))

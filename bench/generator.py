@@ -12,7 +12,8 @@ SPECIFICATION = f"""(specification
 """
 
 
-def pipeline(depth, drop):
+def pipeline(depth: int, drop: int) -> str:
+    """The pipeline of so many stages, which doesn't forward from the stage of that number."""
     stages = range(2, depth + 1)
     older = range(3, depth + 1)
     lines = ["(pipeline", *(f" {function}" for function in FUNCTIONS)]
@@ -33,7 +34,8 @@ def pipeline(depth, drop):
     return "\n".join(lines) + "\n"
 
 
-def main():
+def main() -> None:
+    """Writes both texts."""
     parser = argparse.ArgumentParser(description=__doc__)
     parser.add_argument("depth", metavar="DEPTH", type=int, help="the number of stages")
     parser.add_argument("drop", metavar="DROP", type=int, help="the stage that isn't forwarded from; 0: none")

@@ -74,7 +74,8 @@ class Shape:
     make: Callable[[int], Texts]
     least: int = 8
     most: int = 2 ** 30
-    commands: tuple[str, ...] = ("check", "check --diverse", "replay", "run", "recheck", "bounded", "retrace", "complete")
+    commands: tuple[str, ...] = ("check", "check --diverse", "replay", "run", "recheck", "bounded", "retrace",
+                                 "complete")
     longest: str = "1 MiB"
 
 

@@ -8,12 +8,14 @@ length, and its room.
 """
 from __future__ import annotations
 
+import importlib.util
 import json
 import os
 import shutil
 import subprocess
 import tempfile
-from collections.abc import Sequence
+from collections.abc import Callable, Sequence
+from functools import partial
 from typing import Any
 
 WORD = 8
@@ -41,45 +43,47 @@ def inside(command: Sequence[str], limit: float) -> dict[str, Any]:
             return {}
 
 
-def watch(gdb):
+def watch(gdb: Any) -> None:
     """Runs the program under the debugger, and writes down what was seen."""
-    seen = {"terms": []}
-    begun = {}
+    terms: list[int] = []
+    seen: dict[str, Any] = {"terms": terms}
+    begun: dict[str, float] = {}
+    breakpoint_of: Any = gdb.Breakpoint
 
-    def clock():
+    def clock() -> float:
         with open(f"/proc/{gdb.selected_inferior().pid}/schedstat") as file:
             return int(file.read().split()[0]) / 1e9
 
-    def word(place):
+    def word(place: int) -> int:
         return int.from_bytes(gdb.selected_inferior().read_memory(place, WORD).tobytes(), "little")
 
-    def register(name):
+    def register(name: str) -> int:
         return int(gdb.parse_and_eval(f"(unsigned long) ${name}"))
 
-    class Stop(gdb.Breakpoint):
+    class Stop(breakpoint_of):  # type: ignore[misc]
         """Does something each time that the program comes to a place, and goes on."""
 
-        def __init__(self, place, then):
+        def __init__(self, place: str, then: Callable[[], None]) -> None:
             super().__init__(place, internal=True)
             self.then = then
 
-        def stop(self):
+        def stop(self) -> bool:
             self.then()
             return False
 
-    def end(part):
+    def end(part: str) -> None:
         seen[part] = seen.get(part, 0) + clock() - begun[part]
         begun["solve"] = clock()
 
-    def begin(part):
+    def begin(part: str) -> None:
         if part not in begun:
             Stop(f"*{word(register('rsp'))}", lambda: end(part))
         begun[part] = clock()
 
     for part, name in PARTS.items():
-        Stop(name, lambda part=part: begin(part))
+        Stop(name, partial(begin, part))
     Stop("bd_app::verdict::verdict_answer", lambda: end("solve"))
-    Stop("bd_terms::reach::reached", lambda: seen["terms"].append(word(register("rsi") + WORD)))
+    Stop("bd_terms::reach::reached", lambda: terms.append(word(register("rsi") + WORD)))
     Stop("bd_transitive::clauses::triangles", lambda: seen.update(edges=word(register("rsi") + 4 * WORD)))
     Stop("bd_verify::deciding::work", lambda: seen.update(clauses=word(register("rsi") + 44 * WORD)))
     gdb.execute("run")
@@ -87,9 +91,5 @@ def watch(gdb):
         json.dump(seen, file)
 
 
-try:
-    import gdb
-except ImportError:
-    pass
-else:
-    watch(gdb)
+if __name__ == "__main__" and importlib.util.find_spec("gdb"):
+    watch(importlib.import_module("gdb"))

@@ -7,15 +7,15 @@ NAME.edit with a sentence and pairs of lines, `old:` with a text that the machin
 there in the twin.
 
 Each twin is checked, and its case goes to `bd_view why`. A let or next value that isn't the right machine's is told
-decisively where a line `FILE:LINE:COLUMN: CYCLE: ..` tells it of a cycle in which its value differs from the right item's
-(`cycles.py` works both out for the case made small). Twins that differ in no item are counted apart. `bd_view show` has to show
-the same differences, with the same values, in the small case as in the whole one.
+decisively where a line `FILE:LINE:COLUMN: CYCLE: ..` tells it of a cycle in which its value differs from the right
+item's (`cycles.py` works both out for the case made small). Twins that differ in no item are counted apart. `bd_view
+show` has to show the same differences, with the same values, in the small case as in the whole one.
 
-It prints a line for each twin, with the place of the first line that tells the bug, and the counts: nine of ten should be
-told decisively, and eight of ten within the first 24 lines.
-
-usage: why.py PROGRAM VIEW [--diverse] [--only WORD] [--show]
+It prints a line for each twin, with the place of the first line that tells the bug, and the counts: nine of ten
+should be told decisively, and eight of ten within the first 24 lines.
 """
+from __future__ import annotations
+
 import argparse
 import glob
 import os
@@ -24,10 +24,12 @@ import shutil
 import subprocess
 import sys
 import tempfile
+from collections.abc import Iterator, Sequence
 from typing import NamedTuple
 
 from cycles import Machine, differing, read_case
-from gallery import HERE, listed
+from gallery import listed
+from shared import HERE, MODES
 
 MACHINES = os.path.join(HERE, "machines")
 FIRST = 24  # lines
@@ -40,30 +42,33 @@ class Twin(NamedTuple):
     """A wrong pipeline: its name, its files, and the text of the right one."""
 
     name: str
-    files: list
-    inv: list
+    files: list[str]
+    inv: list[str]
     right: str
 
 
-def text_of(name):
+def text_of(name: str) -> str:
+    """The text of a file."""
     with open(name, encoding="ascii") as file:
         return file.read()
 
 
-def printed(*words):
+def printed(*words: str) -> str:
     """What a program prints."""
     return subprocess.run(words, capture_output=True, text=True, check=False).stdout
 
 
-def explained(view, twin, case):
+def explained(view: str, twin: Twin, case: str) -> str:
     """What `why` prints in a folder that has the files by their bare names, as a designer's has."""
     with tempfile.TemporaryDirectory() as folder:
-        names = [shutil.copy(name, folder) for name in (*twin.files, case, *twin.inv)]
-        words = [os.path.abspath(view), "why", *map(os.path.basename, names)]
+        given = [*twin.files, case, *twin.inv]
+        for name in given:
+            shutil.copy(name, folder)
+        words = [os.path.abspath(view), "why", *(os.path.basename(name) for name in given)]
         return subprocess.run(words, capture_output=True, text=True, check=False, cwd=folder).stdout
 
 
-def of_gallery():
+def of_gallery() -> Iterator[Twin]:
     """The wrong pipelines of the gallery that have a right machine beside them."""
     for pipe, files, inv, verdict in listed():
         folder = os.path.dirname(files[1])
@@ -72,7 +77,7 @@ def of_gallery():
             yield Twin(pipe, files, inv, text_of(right))
 
 
-def edited(text, edit):
+def edited(text: str, edit: str) -> str:
     """A text after the edits of a file."""
     for old, new in EDIT.findall(text_of(edit)):
         if text.count(old) != 1:
@@ -81,12 +86,12 @@ def edited(text, edit):
     return text
 
 
-def of_machines(program, scratch):
+def of_machines(program: str, scratch: str) -> Iterator[Twin]:
     """The twins of `bench/machines`, written into a folder."""
     for pipe in sorted(glob.glob(os.path.join(MACHINES, "*", "*.pipe"))):
         folder = os.path.dirname(pipe)
         spec, inv = pipe[:-4] + "spec", glob.glob(os.path.join(folder, "*.inv"))
-        for mode in [], ["--diverse"]:
+        for mode in MODES.values():
             verdict = printed(program, "check", pipe, spec, *inv, *mode).partition("\n")[0]
             if verdict != "correct":
                 sys.exit(f"{pipe}: {verdict}")
@@ -100,7 +105,7 @@ def of_machines(program, scratch):
             yield Twin(shown, [name, spec], inv, right)
 
 
-def told(output, twin, small):
+def told(output: str, twin: Twin, small: str) -> tuple[str, int]:
     """How the bug is told, and by which line, from 1: for a cycle in which it acts, for another one, or not at all."""
     right, ours = Machine(twin.right), Machine(text_of(twin.files[0]))
     acts = differing(right, ours, read_case(small, ours))
@@ -119,9 +124,9 @@ def told(output, twin, small):
     return ("another cycle", other) if other else ("not told", 0)
 
 
-def differences(output):
+def differences(output: str) -> tuple[str, set[tuple[object, ...]]]:
     """The judgement of what `show` prints, and its differences: an entry, a number of steps, and both sides' values."""
-    found = set()
+    found: set[tuple[object, ...]] = set()
     for row in output.partition("\nflushed ")[2].partition("\n\n")[0].splitlines()[1:]:
         ours, _, theirs = row.partition("|")
         for steps, (sign, value) in enumerate(SIDE.findall(theirs)):
@@ -130,14 +135,14 @@ def differences(output):
     return output.partition("\n")[0], found
 
 
-def keeps(view, files, case, inv):
-    """Whether a case that is made small shows the same differences. Where the invariant is broken, only that is kept."""
+def keeps(view: str, files: Sequence[str], case: str, inv: Sequence[str]) -> bool:
+    """Whether a case that is made small shows the same differences. If the invariant is broken, only that is kept."""
     judged, whole = differences(printed(view, "show", *files, case, *inv, "--whole"))
     small = differences(printed(view, "show", *files, case, *inv))
     return small[0] == judged and (judged.startswith("invariant broken") or small[1] == whole != set())
 
 
-def summed(kind, rows):
+def summed(kind: str, rows: Sequence[tuple[str, int, bool]]) -> bool:
     """Prints the counts, and whether they are what they should be."""
     counted = [row for row in rows if row[0] != "no item differs"]
     decisive = [place for how, place, _ in counted if how == "decisive"]
@@ -149,20 +154,21 @@ def summed(kind, rows):
     return enough and kept == len(rows)
 
 
-def main():
+def main() -> None:
+    """Prints a line for each twin, and the counts."""
     parser = argparse.ArgumentParser(description=__doc__, formatter_class=argparse.RawDescriptionHelpFormatter)
-    parser.add_argument("program")
-    parser.add_argument("view")
-    parser.add_argument("--diverse", action="store_true")
-    parser.add_argument("--only", default="")
-    parser.add_argument("--show", action="store_true")
+    parser.add_argument("program", metavar="PROGRAM", help="burch_dill")
+    parser.add_argument("view", metavar="VIEW", help="bd_view")
+    parser.add_argument("--diverse", action="store_true", help="cases of the other mode")
+    parser.add_argument("--only", metavar="WORD", default="", help="twins whose name has this in it")
+    parser.add_argument("--show", action="store_true", help="print what is told, too")
     asked = parser.parse_args()
     mode = ["--diverse"] if asked.diverse else []
     right = True
     with tempfile.TemporaryDirectory() as folder:
         case = os.path.join(folder, "case")
         for kind, twins in ("gallery", of_gallery()), ("machines", of_machines(asked.program, folder)):
-            rows = []
+            rows: list[tuple[str, int, bool]] = []
             for twin in twins:
                 if asked.only not in twin.name:
                     continue

@@ -3,9 +3,9 @@
 
 usage: bench/wrong.py [NAME ..]
 
-`bench/wrong/NAME/` has those of the crate NAME. In a copy of the repository they take the place of the gate's, and are
-tried there: those of the crates that are named, or all. Where the kit's `rt ci` takes names it tries them, since it uses
-what earlier runs proved; else `rt must-fail` does. The status is that of the one that did.
+`bench/wrong/NAME/` has those of the crate NAME. In a copy of the repository they take the place of the gate's, and
+are tried there: those of the crates that are named, or all. Where the kit's `rt ci` takes names it tries them, since
+it uses what earlier runs proved; else `rt must-fail` does. The status is that of the one that did.
 """
 from __future__ import annotations
 

@@ -26,7 +26,7 @@ SILENT = (
 
 def silent(lines: Iterable[str]) -> Dict[str, str]:
     """The wrong bodies that tell nothing, each with the reason, in the order of their last lines."""
-    found = {}
+    found: Dict[str, str] = {}
     for line in lines:
         tried = TRIED.match(line.strip())
         if tried:

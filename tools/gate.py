@@ -1,14 +1,14 @@
 #!/usr/bin/env python3
 """Runs the gate from nothing and says what it cost, crate by crate.
 
-usage: tools/gate.py [--processors N] [--log FILE] [--table FILE] [NAME ..]
-
-At the top of the repository: calls `rt ci`, or `rt ci NAME ..` where crates are named, reads the clock of each process
-that it starts, and prints a table in Markdown, in processor minutes: each crate's proof, its tests (their proofs, and
-building them), its wrong bodies. `--processors N` runs it on N processors alone; `--log` keeps what `rt ci` prints, and
-`--table` writes the table to a file too. It ends with the status of `rt ci`; ended by SIGTERM, it prints what was
-measured up to there. It needs Linux, where /proc tells each process's clock.
+At the top of the repository it calls `rt ci`, or `rt ci NAME ..` where crates are named, reads the clock of each
+process that this starts, and prints a table in Markdown, in processor minutes: each crate's proof, its tests (their
+proofs, and building them), its wrong bodies. `--processors N` runs it on N processors alone; `--log` keeps what `rt
+ci` prints, and `--table` writes the table to a file too. It ends with the status of `rt ci`; ended by SIGTERM, it
+prints what was measured up to there. It needs Linux, where /proc tells each process's clock.
 """
+from __future__ import annotations
+
 import argparse
 import os
 import re
@@ -16,6 +16,7 @@ import signal
 import subprocess
 import sys
 import time
+from typing import IO, Dict, List, Optional, Set, Tuple
 
 TICKS = os.sysconf("SC_CLK_TCK")
 PAUSE = 0.2  # seconds between two readings: a shorter process is counted with its parent's children
@@ -25,11 +26,15 @@ PARTS = ("proof", "tests", "wrong bodies")
 class Child:
     """One process below the gate: what it works on, and the seconds that it has used so far."""
 
-    def __init__(self, part, crate):
+    def __init__(self, part: str, crate: str) -> None:
         self.part, self.crate, self.seconds = part, crate, 0.0
 
 
-def parents():
+# the processes that were seen, by their numbers and when they began: a number can be given again
+Children = Dict[Tuple[int, str], Child]
+
+
+def parents() -> Dict[int, int]:
     """The parent of each process that runs now."""
     found = {}
     for name in os.listdir("/proc"):
@@ -40,7 +45,7 @@ def parents():
     return found
 
 
-def stat_of(pid):
+def stat_of(pid: int) -> Optional[List[str]]:
     """The fields of a process's clock file after its name, or None where it has ended."""
     try:
         with open(f"/proc/{pid}/stat", encoding="utf-8", errors="replace") as file:
@@ -49,7 +54,7 @@ def stat_of(pid):
         return None
 
 
-def below(root):
+def below(root: int) -> Set[int]:
     """The processes that stand below the one, at any depth."""
     above = parents()
     found, grows = {root}, True
@@ -60,7 +65,7 @@ def below(root):
     return found - {root}
 
 
-def described(pid):
+def described(pid: int) -> Optional[Tuple[str, str]]:
     """What a process works on: the part of the gate and the crate, as its words and its folder tell."""
     try:
         with open(f"/proc/{pid}/cmdline", "rb") as file:
@@ -76,23 +81,22 @@ def described(pid):
     return ("tests" if "--test" in words else "proof"), crate
 
 
-def watched(root, children):
+def watched(root: int, children: Children) -> None:
     """Reads the clocks of all processes below the gate once."""
     for pid in below(root):
         stat = stat_of(pid)
         told = described(pid)
         if not stat or not told:
             continue
-        key = pid, stat[19]  # a number can be given again: its start tells two processes apart
-        child = children.setdefault(key, Child(*told))
+        child = children.setdefault((pid, stat[19]), Child(*told))
         if told[1]:
             child.part, child.crate = told
         child.seconds = (int(stat[11]) + int(stat[12])) / TICKS
 
 
-def table(children, minutes, total, processors):
+def table(children: Children, minutes: float, total: float, processors: int) -> str:
     """The table in Markdown."""
-    rows = {}
+    rows: Dict[str, Dict[str, float]] = {}
     for child in children.values():
         row = rows.setdefault(child.crate or "(`rt` itself, linking, runs)", dict.fromkeys(PARTS, 0.0))
         row[child.part] += child.seconds / 60
@@ -111,7 +115,7 @@ def table(children, minutes, total, processors):
     return "\n".join(lines) + "\n"
 
 
-def main():
+def main() -> int:
     """Runs `rt ci` and prints the table."""
     asked = argparse.ArgumentParser(description=__doc__, formatter_class=argparse.RawDescriptionHelpFormatter)
     asked.add_argument("names", nargs="*", help="crates, proved with those below them")
@@ -121,9 +125,10 @@ def main():
     given = asked.parse_args()
     if given.processors:
         os.sched_setaffinity(0, sorted(os.sched_getaffinity(0))[: given.processors])
-    started, children = time.time(), {}
+    children: Children = {}
+    started = time.time()
     before = sum(os.times()[2:4])
-    log = open(given.log, "wb") if given.log else None
+    log: Optional[IO[bytes]] = open(given.log, "wb") if given.log else None
     gate = subprocess.Popen(["rt", "ci", *given.names], stdout=log, stderr=subprocess.STDOUT if log else None)
     signal.signal(signal.SIGTERM, lambda *_: gate.terminate())
     while gate.poll() is None:

@@ -66,6 +66,9 @@ def body(lines: List[str]) -> Iterator[str]:
     at = 0
     while at < len(lines):
         line, start = lines[at], at
+        if line.startswith("<!--"):
+            at += 1
+            continue
         if line.startswith("## "):
             yield f".SH {escaped(line[3:].upper())}"
         elif line.startswith("### "):

@@ -46,7 +46,8 @@ def known_solver() -> str:
 def built_elaborator(folder: Path) -> Path:
     """The program that makes LRAT of DRAT, built into a folder."""
     program = folder / "elaborate"
-    built = subprocess.run(["cc", "-O2", "-o", program, HERE / "elaborate.c"], capture_output=True, text=True, check=False)
+    words = ["cc", "-O2", "-o", str(program), str(HERE / "elaborate.c")]
+    built = subprocess.run(words, capture_output=True, text=True, check=False)
     if built.returncode:
         raise NoProof(f"elaborate.c isn't built: {built.stderr.strip()}")
     return program

@@ -3,6 +3,7 @@
 #
 #     tools/quick.sh               makes the programs, and runs all
 #     tools/quick.sh --programs    only makes burch_dill and bd_view
+#     tools/quick.sh --write       writes what is made: counts of rows, command pages, outputs in the documents, lists
 #     tools/quick.sh --help        prints this
 #
 # The programs stand in build/quick/, and run as they are, by the loader of the kit of `rt`. A program is made again
@@ -125,10 +126,22 @@ rows() {
     echo "${#words[@]} files of rows, 0 faults"
 }
 
-documents() { python3 tools/documents.py --check; }
-examples() { python3 tools/doc_examples.py "$build/burch_dill" "$build/bd_view" "$@"; }
+programs=("$build/burch_dill" "$build/bd_view")
+documents() { python3 tools/command_pages.py "${programs[@]}" && python3 tools/documents.py --check; }
+examples() { python3 tools/doc_examples.py "${programs[@]}" "$@"; }
 gallery_pages() { examples gallery/README.md gallery/*/README.md; }
 gallery() { python3 bench/gallery.py "$build/burch_dill" --check; }
+
+# Writes what follows from the code and from what the programs print; of the rows only counts.
+write() {
+    local words='s/[0-9]+/N/g' stored=crates/bd_rows/stdout
+    rows > "$build/rows.log" || diff <(sed -E "$words" $stored) <(sed -E "$words" "$build/rows.printed")
+    cp "$build/rows.printed" $stored
+    "$build/burch_dill" 2> crates/bd_rows/data/usage.txt || true
+    python3 tools/command_pages.py "${programs[@]}" --write
+    examples --write && gallery_pages --write
+    python3 tools/documents.py
+}
 
 # Runs functions side by side, and prints what each printed, in their order.
 side_by_side() {
@@ -158,7 +171,7 @@ make_programs() {
 
 [ $# -le 1 ] || fail "one word at most" 2
 case ${1-} in
-    "") wanted=(burch_dill bd_view bd_rows) ;;
+    "" | --write) wanted=(burch_dill bd_view bd_rows) ;;
     --programs) wanted=(burch_dill bd_view) ;;
     --help | -h) usage && exit 0 ;;
     *) usage >&2 && exit 2 ;;
@@ -171,5 +184,6 @@ make_programs "${wanted[@]}" || exit 1
 echo "they stand at $build/burch_dill and $build/bd_view"
 [ "${1-}" != --programs ] || exit 0
 cd "$top"
+[ "${1-}" != --write ] || write || fail "not all is written"
 side_by_side rows documents examples gallery_pages gallery || fail "something differs, after $SECONDS s"
 echo "all as it should be, after $SECONDS s; nothing is proved: that is for rt ci"

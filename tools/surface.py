@@ -3,21 +3,23 @@
 
     tools/surface.py bash|zsh|fish      prints the completion
 
-The table has a row for each command: what stands in each place, and its options with what their values are. A test
-compares it with the programs' own usage texts and with the pages of docs/commands/.
+The table is that of the programs' pages, docs/commands/burch_dill.md and bd_view.md, which `command_pages.py` makes
+from what the programs print: what stands in each place, and the options with what their values are.
 """
 from __future__ import annotations
 
 import argparse
+import re
 import sys
-from typing import Dict, List, NamedTuple, Optional, Sequence, Tuple
+from pathlib import Path
+from typing import Dict, List, NamedTuple, Sequence, Tuple
 
-# what a place or an option's value is, with the endings of its files; None: no file
-ENDINGS: Dict[str, Optional[Tuple[str, ...]]] = {
-    "PIPE": ("pipe",), "SPEC": ("spec",), "INV": ("inv",), "START": ("start",), "COMP": ("comp",), "CASE": ("case",),
-    "TRAIL": ("trail",), "PROOF": ("lrat",), "FILE": (), "N": None, "C": None, "CYCLES": None, "DEPTH": None,
-    "DROP": None, "VALUE": None,
-}
+PAGES = Path(__file__).resolve().parent.parent / "docs" / "commands"
+# the files that stand in a place or are an option's value, as patterns; what isn't named here is no file
+PATTERNS = {"PIPE": "*.pipe", "SPEC": "*.spec", "INV": "*.inv", "START": "*.start", "COMP": "*.comp", "CASE": "*.case",
+            "TRAIL": "*.trail", "PROOF": "*.lrat", "FILE": "*"}
+ROW = re.compile(r"^\| `([a-z]+ [A-Z]+ [^`]*)` \| (.*): \[\w+\]\([\w-]+\.md\) \|$", re.M)
+WORD = re.compile(r"\[(--[\w-]+)(?: ([A-Z]+))?\]|\[([A-Z]+)\]|([A-Z]+)")
 
 
 class Command(NamedTuple):
@@ -35,43 +37,28 @@ class Command(NamedTuple):
         return " ".join(words + [f"[{' '.join(filter(None, option))}]" for option in self.options])
 
 
-BUDGET = ("--budget", "N")
-PROGRAMS: Dict[str, Tuple[Command, ...]] = {
-    "burch_dill": (
-        Command("check", "whether a pipeline is right in every state", ("PIPE", "SPEC"), ("INV",),
-                (BUDGET, ("--cnf", "FILE"), ("--lrat", "FILE"), ("--diverse", ""))),
-        Command("replay", "what a case shows", ("PIPE", "SPEC", "CASE"), ("INV",)),
-        Command("run", "the states of some cycles", ("PIPE", "SPEC", "CASE", "CYCLES")),
-        Command("gen", "a generated pipeline, by two numbers", ("DEPTH", "DROP")),
-        Command("recheck", "whether a proof from elsewhere shows that a pipeline is right", ("PIPE", "SPEC", "PROOF"),
-                ("INV",)),
-        Command("bounded", "whether a pipeline is right for some cycles from a start", ("PIPE", "SPEC", "START", "C"),
-                (), (BUDGET,)),
-        Command("retrace", "what a trail shows", ("PIPE", "SPEC", "TRAIL", "START")),
-        Command("complete", "whether a pipeline is right by a completion function", ("PIPE", "SPEC", "COMP"), ("INV",),
-                (("--agree", ""), BUDGET)),
-    ),
-    "bd_view": (
-        Command("check", "whether a pipeline is right, and where it isn't, what a case shows", ("PIPE", "SPEC"),
-                ("INV",), (("--diverse", ""), BUDGET, ("--start", "START"), ("--cycles", "C"), ("--case", "FILE"))),
-        Command("show", "both ways round a case's diagram", ("PIPE", "SPEC", "CASE"), ("INV",),
-                (("--whole", ""), ("--comp", "COMP"), ("--html", "FILE"))),
-        Command("shrink", "a small case that breaks the same condition", ("PIPE", "SPEC", "CASE"), ("INV",)),
-        Command("why", "why a value of a case is what it is", ("PIPE", "SPEC", "CASE"), ("INV",),
-                (("--of", "VALUE"), ("--whole", ""))),
-        Command("about", "what can be said of a design without a case", ("PIPE", "SPEC"), ("INV",)),
-        Command("recheck", "whether a proof from elsewhere shows that a pipeline is right, by positive equality too",
-                ("PIPE", "SPEC", "PROOF"), ("INV",), (("--diverse", ""),)),
-    ),
-}
+def command_of(synopsis: str, does: str) -> Command:
+    """The command of these words."""
+    name, _, rest = synopsis.partition(" ")
+    found = WORD.findall(rest)
+    return Command(name, does, tuple(place for *_, place in found if place),
+                   tuple(place for _, _, place, _ in found if place),
+                   tuple((option, value) for option, value, _, _ in found if option))
+
+
+def listed_in(page: Path) -> Tuple[Command, ...]:
+    """The commands of a program's page."""
+    return tuple(command_of(synopsis, does) for synopsis, does in ROW.findall(page.read_text(encoding="utf-8")))
+
+
+PROGRAMS: Dict[str, Tuple[Command, ...]] = {name: listed_in(PAGES / f"{name}.md") for name in ("burch_dill", "bd_view")}
 # words that the companion takes beside its commands
 COMPANION_WORDS = (("--help", "the words of all commands"), ("--version", "the version"))
 
 
 def pattern(place: str) -> str:
     """The files that may stand in a place, as a pattern of endings; empty where none may, `*` where any may."""
-    endings = ENDINGS[place]
-    return "" if endings is None else "*" if not endings else f"*.{endings[0]}"
+    return PATTERNS.get(place, "")
 
 
 # ---- bash
@@ -188,7 +175,8 @@ def zsh() -> str:
         lines += [f"            '{word}:{does}'" for word, does in COMPANION_WORDS] if program == "bd_view" else []
         lines += ["        ) ;;"]
     lines += ["esac", "if (( CURRENT == 2 )); then", "    _describe command commands", "else",
-              "    local command=$words[2]", "    shift words", "    (( CURRENT-- ))", "    case ${service##*/}:$command in"]
+              "    local command=$words[2]", "    shift words", "    (( CURRENT-- ))",
+              "    case ${service##*/}:$command in"]
     for program, listed in PROGRAMS.items():
         for command in listed:
             lines += zsh_command(program, command)

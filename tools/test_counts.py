@@ -26,7 +26,8 @@ class Words(unittest.TestCase):
     def test_only_the_documents_are_counted(self) -> None:
         with tempfile.TemporaryDirectory() as name:
             root = Path(name)
-            for path in ("README.md", "docs/develop/MAP.md", "docs/develop/GATE.md", "gallery/dlx/README.md", "docs/a.pipe"):
+            for path in ("README.md", "docs/develop/MAP.md", "docs/develop/GATE.md", "gallery/dlx/README.md",
+                         "docs/a.pipe"):
                 (root / path).parent.mkdir(parents=True, exist_ok=True)
                 (root / path).write_text("one two\n", encoding="utf-8")
             counts = {page.as_posix(): count for page, count in word_counts.counts_of(root).items()}
@@ -60,7 +61,7 @@ class Files(unittest.TestCase):
     def commit(self, *names: str) -> None:
         for name in names:
             path = self.folder / name
-            path.parent.mkdir(exist_ok=True)
+            path.parent.mkdir(parents=True, exist_ok=True)
             with path.open("a", encoding="ascii") as file:
                 file.write("a line\n")
         self.git("add", "-A")
@@ -84,6 +85,18 @@ class Files(unittest.TestCase):
         (self.folder / "one").write_text("other\n", encoding="ascii")
         (self.folder / "four").write_text("new\n", encoding="ascii")
         self.assertEqual(self.said(), (0, ["four", "one", "2 files"]))
+
+    def test_what_scripts_write(self) -> None:
+        page = "# x\n\n`bd_view x {0}`\n\n<!-- list: made by x -->\n{0}\n<!-- list: to here -->\n\n    $ {1}\n    {0}\n"
+        for name in ("docs/a.md", "docs/b.md"):
+            (self.folder / name).write_text(page.format("old", "old"), encoding="ascii")
+        self.commit("four")
+        (self.folder / "docs/a.md").write_text(page.format("new", "old"), encoding="ascii")
+        (self.folder / "docs/b.md").write_text(page.format("new", "new"), encoding="ascii")
+        self.commit("crates/bd_rows/stdout", "crates/bd_rows/args")
+        self.assertEqual(self.said("HEAD~1..HEAD", "--by-hand"), (0, ["crates/bd_rows/args", "docs/b.md", "2 files"]))
+        (self.folder / "docs/b.md").write_text(page.format("newer", "new"), encoding="ascii")
+        self.assertEqual(self.said("--by-hand"), (0, ["0 files"]))
 
 
 if __name__ == "__main__":

@@ -107,7 +107,8 @@ class Running(unittest.TestCase):
             self.assertEqual(self.run_on(text)[:2], (0, "3 examples, 2 not run, 0 faults\n"))
 
     def test_usage(self) -> None:
-        for words, status in (([], 2), (["no-such-program"], 2), (["--help"], 0)):
+        listed: List[Tuple[List[str], int]] = [([], 2), (["no-such-program"], 2), (["--help"], 0)]
+        for words, status in listed:
             with self.subTest(words), contextlib.redirect_stdout(io.StringIO()), \
                     contextlib.redirect_stderr(io.StringIO()), self.assertRaises(SystemExit) as ended:
                 main(words)

@@ -2,8 +2,9 @@
 import contextlib
 import io
 import unittest
-from typing import List, Tuple
+from typing import Tuple
 
+import antt
 import documents
 
 
@@ -40,25 +41,16 @@ class Documents(unittest.TestCase):
     def test_a_name_of_nothing(self) -> None:
         self.assertEqual(run("--print", "no_such_name"), (1, "nothing public has this name\n"))
 
-    def test_a_constructor_stands_by_its_type(self) -> None:
-        lines = ["pub data Denoted : Type 0 where", "  Truth : Bool → Denoted", "pub other : Bool"]
-        self.assertEqual(documents.owner_of(lines, "Truth"), "Denoted")
-        self.assertEqual(documents.owner_of(lines, "other"), "other")
-
     def test_each_cited_definition_has_a_line(self) -> None:
         text = documents.definitions_text()
-        files = {(crate, name): file for crate in documents.crates()[0] for name, file in documents.modules(crate)}
+        files = {(crate, name): file for crate in documents.crates()[0] for name, file in antt.modules(crate)}
         for crate, module, name in documents.cited_by_contracts():
-            owner = documents.owner_of(files[crate, module].read_text().splitlines(), name)
+            owner = antt.owner_of(files[crate, module].read_text().splitlines(), name)
             self.assertIn(f"- `{owner}`, in `{module}`", text)
 
     def test_headings_as_links_name_them(self) -> None:
         self.assertEqual(documents.slug("13. A completion function"), "13-a-completion-function")
         self.assertEqual(documents.slug("What `correct` says, from inside"), "what-correct-says-from-inside")
-
-    def test_a_source_is_found(self) -> None:
-        self.assertEqual(documents.source_of("Flat graphs (unrolling: Biere and others 1999)."), "Biere and others 1999")
-        self.assertEqual(documents.source_of("A list (of words)."), "")
 
 
 if __name__ == "__main__":

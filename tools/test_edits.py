@@ -21,11 +21,11 @@ PROVED = "must-fail bd_host/writes_twice.edit: NOT REFUSED: the crate is still p
 class Edits(unittest.TestCase):
     """What is listed of a log, and what isn't."""
 
-    def test_what_tells_is_not_listed(self):
+    def test_what_tells_is_not_listed(self) -> None:
         """A refusal at a clause tells something."""
         self.assertEqual(edits.silent([TELLS, "checked bd_gen::generated::design_text, 9 of 9"]), {})
 
-    def test_what_is_silent_is_listed(self):
+    def test_what_is_silent_is_listed(self) -> None:
         """A refusal by a proof file alone, and none at all, tell nothing."""
         listed = {
             "bd_app/always_usage.edit": "refused by a proof file alone",
@@ -36,11 +36,11 @@ class Edits(unittest.TestCase):
                 lines = [before + line for line in (TELLS, CITED, PROVED)]
                 self.assertEqual(edits.silent(lines), listed)
 
-    def test_the_last_line_counts(self):
+    def test_the_last_line_counts(self) -> None:
         """A wrong body that was mended and tried again is gone."""
         self.assertEqual(edits.silent([CITED, CITED.split(" (only")[0]]), {})
 
-    def test_a_log_gives_a_status(self):
+    def test_a_log_gives_a_status(self) -> None:
         """The status says whether some wrong body is listed."""
         with tempfile.TemporaryDirectory() as folder:
             log = Path(folder) / "log"
@@ -53,7 +53,7 @@ class Edits(unittest.TestCase):
 class Applies(unittest.TestCase):
     """What wrong bodies edit is there: those that the gate tries, and those that it leaves out."""
 
-    def test_each_line_stands_once(self):
+    def test_each_line_stands_once(self) -> None:
         """Each text that is replaced stands once in its file."""
         top = Path(__file__).resolve().parent.parent
         every = [*top.glob("crates/*/must-fail/*.edit"), *top.glob("bench/wrong/*/*.edit")]

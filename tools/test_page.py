@@ -103,7 +103,7 @@ class Visit(Clicks):
         self.wait("#verdict", "wrong commute$")
         room = "const page = document.getElementById('diagram').contentDocument.documentElement;" \
                "return page.clientHeight - page.scrollHeight"
-        self.until(lambda: self.browser.script(room) == 0)
+        self.until(lambda: bool(self.browser.script(room) == 0))
 
     def test_case_of_a_correct_design(self) -> None:
         self.browser.choose("multiplier/multiplier.pipe")
@@ -587,7 +587,7 @@ class Access(Clicks):
         self.assertEqual(sides[0][2], sides[1][2])
 
     def test_contrast(self) -> None:
-        """Each colour has the contrast with what it stands on that WCAG 2.1 asks of text, 4.5 to 1, by day and night."""
+        """Each colour has the contrast with its ground that WCAG 2.1 asks of text, 4.5 to 1, by day and night."""
         self.browser.choose("riddles/riddle_01.pipe")
         self.browser.click("#check")
         self.wait("#verdict", "wrong commute$")

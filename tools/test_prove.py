@@ -16,7 +16,7 @@ import sys
 import tempfile
 import unittest
 from pathlib import Path
-from typing import List, Tuple
+from typing import ClassVar, List, Tuple
 
 import conquer
 import prove
@@ -110,6 +110,9 @@ def binary(proof: str) -> bytes:
 @unittest.skipUnless(HAS_CC, "cc isn't there")
 class InFolder(unittest.TestCase):
     """What is built once, and a folder for each test."""
+
+    built: ClassVar[tempfile.TemporaryDirectory[str]]
+    elaborator: ClassVar[Path]
 
     @classmethod
     def setUpClass(cls) -> None:
@@ -235,7 +238,8 @@ class Proving(InFolder):
         cnf = written(self.folder, "pipe.cnf", unsatisfiable(6, 1))
         status, out, err = self.answer(self.pipe, "spec", "--proof", f"{self.folder}/kept.lrat")
         self.assertEqual((status, out), (0, "correct by proof\n"))
-        self.assertEqual([line.split(":")[0] for line in err.splitlines()], ["formula", sys.executable, "LRAT", "recheck"])
+        self.assertEqual([line.split(":")[0] for line in err.splitlines()],
+                         ["formula", sys.executable, "LRAT", "recheck"])
         self.assertEqual(check(str(cnf), f"{self.folder}/kept.lrat"), REFUTED)
 
     def test_diverse_with_an_invariant(self) -> None:
@@ -253,7 +257,7 @@ class Proving(InFolder):
         self.assertEqual(self.answer(str(self.folder / "none"), "spec")[0], 3)
         self.solver = "false {cnf} {drat}"
         self.assertEqual(self.answer(self.pipe, "spec")[::2][0], 3)
-        self.solver = f"sh -c 'echo \"2 1 0\" > {{drat}}; exit 20'"
+        self.solver = "sh -c 'echo \"2 1 0\" > {drat}; exit 20'"
         status, _, err = self.answer(self.pipe, "spec")
         self.assertEqual((status, err.splitlines()[-1].split(": ")[-1]), (3, "it ends without the empty clause"))
 
@@ -261,7 +265,8 @@ class Proving(InFolder):
     def test_the_program_itself(self) -> None:
         view, self.program = os.environ.get("BD_VIEW", "bd_view"), os.environ.get("BURCH_DILL", "burch_dill")
         files = [str(DATA / "two_stage.pipe"), str(DATA / "two_stage.spec")]
-        for mode in ([], ["--diverse"]):
+        modes: List[List[str]] = [[], ["--diverse"]]
+        for mode in modes:
             with self.subTest(mode=mode), contextlib.redirect_stderr(io.StringIO()):
                 kept = [*files, *mode, "--program", self.program, "--view", view]
                 self.assertEqual(prove.main(kept if HAS_CADICAL else [*kept, "--solver", self.solver]), 0)
@@ -275,8 +280,8 @@ class Conquering(InFolder):
         self.cnf = written(self.folder, "pipe.cnf", clauses)
         err = io.StringIO()
         with contextlib.redirect_stderr(err):
-            status = conquer.main([str(self.folder / "pipe"), "spec", str(self.folder / "joined.lrat"), "--program", program,
-                                   "--solver", self.solver, *words])
+            status = conquer.main([str(self.folder / "pipe"), "spec", str(self.folder / "joined.lrat"),
+                                   "--program", program, "--solver", self.solver, *words])
         return status, err.getvalue()
 
     def test_cubes_are_solved_and_joined(self) -> None:
@@ -308,12 +313,14 @@ class Conquering(InFolder):
     def test_the_program_itself_takes_the_joined_proof(self) -> None:
         program, view = (os.environ.get(name.upper(), name) for name in ("burch_dill", "bd_view"))
         files = [str(DATA / "two_stage.pipe"), str(DATA / "two_stage.spec")]
-        for mode, checker in (([], program), (["--diverse"], view)):
+        modes: List[Tuple[List[str], str]] = [([], program), (["--diverse"], view)]
+        for mode, checker in modes:
             with self.subTest(mode=mode), contextlib.redirect_stderr(io.StringIO()):
                 joined = str(self.folder / "joined.lrat")
                 kept = [*files, joined, *mode, "--cubes", "4", "--program", program]
                 self.assertEqual(conquer.main(kept), 0)
-                done = subprocess.run([checker, "recheck", *files, joined, *mode], capture_output=True, text=True, check=False)
+                done = subprocess.run([checker, "recheck", *files, joined, *mode], capture_output=True, text=True,
+                                      check=False)
                 self.assertEqual((done.returncode, done.stdout), (0, "correct by proof\n"))
 
 

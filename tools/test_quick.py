@@ -87,7 +87,8 @@ class Quick(unittest.TestCase):
         compiled, linked = self.words.read_text(encoding="ascii").splitlines()
         self.assertEqual(compiled, "-c -O3 code")
         library = self.kit / "toolchain" / "lib"
-        self.assertEqual(linked, f"--dynamic-linker {library}/ld-linux-x86-64.so.2 -rpath {library} -o program code end")
+        loader = f"{library}/ld-linux-x86-64.so.2"
+        self.assertEqual(linked, f"--dynamic-linker {loader} -rpath {library} -o program code end")
 
     def test_only_a_changed_source_makes_a_program_anew(self) -> None:
         self.assertEqual(self.made(), {"burch_dill", "bd_view"})

@@ -1,4 +1,4 @@
-"""Tests of `surface.py` and `manual.py`: the table of words against usage texts and pages, completions by their shells.
+"""Tests of `command_pages.py`, `surface.py` and `manual.py`: pages against the programs, completions by their shells.
 
     cd tools && BURCH_DILL=PROGRAM BD_VIEW=VIEW python3 -m unittest test_surface
 """
@@ -9,8 +9,9 @@ import subprocess
 import tempfile
 import unittest
 from pathlib import Path
-from typing import List
+from typing import Dict, List, Tuple
 
+import command_pages
 import manual
 import surface
 
@@ -19,30 +20,10 @@ PROGRAM, VIEW = (shutil.which(os.environ.get(variable, name)) for variable, name
                  (("BURCH_DILL", "burch_dill"), ("BD_VIEW", "bd_view")))
 
 
-def printed(*words: str) -> str:
-    done = subprocess.run(words, capture_output=True, text=True, check=False, stdin=subprocess.DEVNULL)
-    return done.stdout + done.stderr
-
-
 class Words(unittest.TestCase):
-    @unittest.skipUnless(PROGRAM, "no program is named by BURCH_DILL")
-    def test_usage(self) -> None:
-        listed = " | ".join(command.synopsis() for command in surface.PROGRAMS["burch_dill"])
-        self.assertEqual(printed(str(PROGRAM)), f"usage: burch_dill {listed}\n")
-
-    @unittest.skipUnless(VIEW, "no program is named by BD_VIEW")
-    def test_usage_of_the_companion(self) -> None:
-        listed = re.findall(r"^  (\w+)  ", printed(str(VIEW), "--help"), re.M)
-        commands = surface.PROGRAMS["bd_view"]
-        self.assertEqual(listed, [command.name for command in commands] + ["help"])
-        for command in commands:
-            text = printed(str(VIEW), command.name, "--help")
-            words = [*(f"<{place}>" for place in command.places), *(f"[{place}]" for place in command.optional)]
-            options = "[OPTIONS] " if command.options else ""
-            self.assertIn(f"Usage: bd_view {command.name} {options}{' '.join(words)}\n", text)
-            found = re.findall(r"^ +(?:-\w, )?(--[\w-]+)( <\w+>)?", text, re.M)
-            wanted = [(name, bool(value)) for name, value in command.options]
-            self.assertEqual([(name, bool(value)) for name, value in found if name != "--help"], wanted)
+    @unittest.skipUnless(PROGRAM and VIEW, "no programs are named by BURCH_DILL and BD_VIEW")
+    def test_pages_follow_the_programs(self) -> None:
+        self.assertEqual(command_pages.main([str(PROGRAM), str(VIEW)]), 0)
 
     def test_each_page_names_its_files(self) -> None:
         for program, commands in surface.PROGRAMS.items():
@@ -52,33 +33,68 @@ class Words(unittest.TestCase):
                 places = [place for place in command.places + command.optional if surface.pattern(place)]
                 self.assertEqual(re.findall(r"`([A-Z]+)`", section), places, command.name)
 
-    def test_tables_of_words(self) -> None:
-        for program, commands in surface.PROGRAMS.items():
-            found = re.findall(r"^\| `([a-z]+ [A-Z]+ [^`]*)` \|", (PAGES / f"{program}.md").read_text(), re.M)
-            self.assertEqual(found, [command.synopsis() for command in commands])
-
     def test_each_command_has_its_page(self) -> None:
-        wanted = {}
+        wanted: Dict[str, Tuple[str, ...]] = {}
         for program, commands in surface.PROGRAMS.items():
-            wanted.update({f"{program}-{command.name}": (command.does, f"`{program} {command.synopsis()}`")
-                           for command in commands})
+            for command in commands:
+                wanted[f"{program}-{command.name}"] = (command.does, f"`{program} {command.synopsis()}`")
         found = {path.stem: tuple(path.read_text().split("\n\n")[1:3]) for path in PAGES.glob("*-*.md")}
         self.assertEqual(found, wanted)
-        for program in surface.PROGRAMS:
-            text = (PAGES / f"{program}.md").read_text()
-            self.assertEqual(re.findall(rf"\]\(({program}-\w+)\.md\) \|", text),
-                             [name for name in wanted if name.startswith(f"{program}-")])
+
+    def test_words_of_a_row(self) -> None:
+        words = "check PIPE SPEC [INV] [--budget N] [--diverse]"
+        command = surface.command_of(words, "whether")
+        self.assertEqual(command, surface.Command("check", "whether", ("PIPE", "SPEC"), ("INV",),
+                                                  (("--budget", "N"), ("--diverse", ""))))
+        self.assertEqual(command.synopsis(), words)
+
+
+HELP = """Says more
+
+Usage: bd_view more [OPTIONS] <PIPE> [INV]
+
+Arguments:
+  <PIPE>
+
+Options:
+      --vcd <vcd>        Saves `a` wave
+      --budget <budget>  At most so many [default: 7]
+  -h, --help             Print help
+"""
+
+
+class Printed(unittest.TestCase):
+    """What is made of what the programs print."""
+
+    def test_usage(self) -> None:
+        listed = command_pages.of_usage("usage: burch_dill gen DEPTH DROP | check A [--b]\n")
+        self.assertEqual(listed, [command_pages.Listed("gen DEPTH DROP"), command_pages.Listed("check A [--b]")])
+
+    def test_help(self) -> None:
+        listed = command_pages.of_help(HELP)
+        self.assertEqual(listed.words, "more PIPE [INV] [--vcd VCD] [--budget N]")
+        self.assertEqual(listed.options, (("--vcd VCD", "saves `a` wave."),
+                                          ("--budget N", "at most so many (default: 7).")))
+
+    def test_a_page_gets_its_options(self) -> None:
+        page = "# bd_view-more\n\nmore\n\n`old`\n\n## Files\n\nNone.\n\n## Answers\n"
+        command = command_pages.Listed("more A [--b]", (("--b", "as it is."),))
+        made = command_pages.command_page(page, "bd_view", command)
+        self.assertIn("\n`bd_view more A [--b]`\n\n## Files\n\nNone.\n\n## Options\n\n<!-- options: made", made)
+        self.assertIn("-->\n\n- `--b`: as it is.\n\n<!-- options: to here -->\n\n## Answers\n", made)
+        again = command_pages.command_page(made, "bd_view", command_pages.Listed("more A [--c]", (("--c", "else."),)))
+        self.assertEqual(again, made.replace("--b", "--c").replace("as it is", "else"))
 
 
 FILES = ("a.pipe", "a.spec", "a.inv", "a.case", "a.txt")
 # what is offered after some words, in a folder with FILES
-OFFERED = {
+OFFERED: Dict[str, List[str]] = {
     "burch_dill re": ["recheck", "replay", "retrace"], "bd_view s": ["show", "shrink"], "burch_dill gen ": [],
     "burch_dill check ": ["a.pipe"], "burch_dill check --budget 7 x.pipe ": ["a.spec"],
     "burch_dill replay x y ": ["a.case"], "burch_dill check x y --d": ["--diverse"],
     "bd_view why x y z --": ["--of", "--whole"], "bd_view why x y ": ["a.case"],
 }
-OPTIONS = {f"{program} {command.name} --": sorted(name for name, _ in command.options)
+OPTIONS: Dict[str, List[str]] = {f"{program} {command.name} --": sorted(name for name, _ in command.options)
            for program, commands in surface.PROGRAMS.items() for command in commands}
 # asks zsh in a terminal of its own, and writes down what is handed to it as matches
 ZSH = r"""zmodload zsh/zpty
@@ -133,22 +149,23 @@ class Completions(unittest.TestCase):
     @unittest.skipUnless(shutil.which("bash"), "no bash")
     def test_bash(self) -> None:
         (self.folder / "completion").write_text(surface.bash())
-        wanted = {**OFFERED, **OPTIONS, "burch_dill check x y --budget ": []}
+        wanted: Dict[str, List[str]] = {**OFFERED, **OPTIONS, "burch_dill check x y --budget ": []}
         self.assertEqual({words: self.bash(words) for words in wanted}, wanted)
         self.assertIn("a.txt", self.bash("burch_dill check x y --cnf a"))
 
     @unittest.skipUnless(shutil.which("fish"), "no fish")
     def test_fish(self) -> None:
         (self.folder / "completion").write_text(surface.fish())
-        wanted = {**OFFERED, **OPTIONS}
+        wanted: Dict[str, List[str]] = {**OFFERED, **OPTIONS}
         self.assertEqual({words: self.fish(words) for words in wanted}, wanted)
 
     @unittest.skipUnless(shutil.which("zsh"), "no zsh")
     def test_zsh(self) -> None:
         (self.folder / "functions").mkdir()
         (self.folder / "functions" / "_burch_dill").write_text(surface.zsh())
-        wanted = {**OFFERED, **{words: OPTIONS[words] for words in ("bd_view check --", "burch_dill recheck --")}}
-        found = {}
+        wanted: Dict[str, List[str]] = {**OFFERED}
+        wanted.update({words: OPTIONS[words] for words in ("bd_view check --", "burch_dill recheck --")})
+        found: Dict[str, List[str]] = {}
         for line in self.asked("zsh", "-f", "-c", ZSH, "zsh", *wanted).splitlines():
             words, _, offers = line.rpartition(":")
             found[words] = sorted(set(offers.split()) - {"functions"})

@@ -19,7 +19,7 @@ SAID = re.compile(r"\*\*Riddle (\d+)\.\*\* (.*?)\n\n(.*?)(?=\*\*Riddle|\Z)", re.
 COMPARED = re.compile(r"diff gallery/(\S+) gallery/riddles/(\S+)")
 START = re.compile(r"echo '(\(start .*?)' >")
 
-# The scripts with which the page and its thread begin. They are modules, and import others of web/ by lines of this form.
+# The scripts with which the page and its thread begin: modules, which import others of web/ by lines of this form.
 ENTRY, WORKER = "page.js", "worker.js"
 IMPORT = re.compile(r'^import \{ ([\w, ]+) \} from "\./(\w+)\.js";$', re.M)
 EXPORT = re.compile(r"^export (?=(?:async )?(?:function|class|const) (\w+))", re.M)

@@ -3,8 +3,8 @@
 
 README.md, CONTRIBUTING.md, CHANGELOG.md and all pages of docs/ count; those of the gallery don't. Of a page, what a
 script writes doesn't count (between `<!-- NAME: made by SCRIPT -->` and `<!-- NAME: to here -->`), and neither do
-solutions: a section `## Solutions`, or a page with SOLUTIONS in its name. Words are what spaces separate, as for `wc -w`.
-The status is 1 if a budget is exceeded.
+solutions: a section `## Solutions`, or a page with SOLUTIONS in its name. Words are what spaces separate, as for `wc
+-w`. The status is 1 if a budget is exceeded.
 """
 from __future__ import annotations
 

@@ -2,6 +2,7 @@
 #![tactic(auto)]
 
 ghost use Rattle.std.specs.Prelude.{◌≡◌, ◌++◌, decimal, OnOk};
+ghost use Rattle.bd_label.specs.Labels.{cycle_label, flush_label, from_label, scalar_label};
 
 use bd_model::Scalar;
 use bd_slice::Cycle;
@@ -17,7 +18,9 @@ pub fn push_number(out: &mut Vec<u8>, number: u64) -> Result<(), AllocError>
 }
 
 /// Puts a truth value or a word after a text.
-pub fn push_scalar(out: &mut Vec<u8>, scalar: Scalar) -> Result<(), AllocError> {
+pub fn push_scalar(out: &mut Vec<u8>, scalar: Scalar) -> Result<(), AllocError>
+    ensures { OnOk result (out.new.items ≡ out.old.items ++ scalar_label scalar) }
+{
     match scalar {
         Scalar::Bool(true) => out.extend_from_slice(b"true"),
         Scalar::Bool(false) => out.extend_from_slice(b"false"),
@@ -55,27 +58,39 @@ pub fn push_word_name(out: &mut Vec<u8>, memory: &[u8], address: u64) -> Result<
 
 /// Puts a cycle by the columns of the tables that it leads from and to: `before to after`, `after f1 to f2`, `step 1`.
 /// The invariant's is `after`, where it is valued.
-pub fn push_cycle(out: &mut Vec<u8>, cycle: Cycle) -> Result<(), AllocError> {
+pub fn push_cycle(out: &mut Vec<u8>, cycle: Cycle) -> Result<(), AllocError>
+    ensures { OnOk result (out.new.items ≡ out.old.items ++ cycle_label cycle) }
+{
     match cycle {
         Cycle::Case => out.extend_from_slice(b"before to after"),
         Cycle::FlushBefore(number) => push_flush(out, b"before", number),
         Cycle::FlushAfter(number) => push_flush(out, b"after", number),
         Cycle::Step(number) => {
             out.extend_from_slice(b"step ")?;
-            push_number(out, u64::from(number).saturating_add(1))
+            push_number(out, u64::from(number) + 1)
         }
         Cycle::Invariant => out.extend_from_slice(b"after"),
     }
 }
 
-/// Puts a flush cycle, as `before to f1` or `after f1 to f2`.
-fn push_flush(out: &mut Vec<u8>, start: &[u8], number: u32) -> Result<(), AllocError> {
-    let number = u64::from(number);
-    out.extend_from_slice(start)?;
-    if number != 0 {
-        out.extend_from_slice(b" f")?;
-        push_number(out, number)?;
+/// Puts a column by its first word and the flush cycles after it, as `after f1`; `after` stands for none.
+fn push_from(out: &mut Vec<u8>, start: &[u8], number: u64) -> Result<(), AllocError>
+    ensures { OnOk result (out.new.items ≡ out.old.items ++ from_label start.now number) }
+{
+    if number == 0 {
+        return out.extend_from_slice(start);
     }
+    out.extend_from_slice(start)?;
+    out.extend_from_slice(b" f")?;
+    push_number(out, number)
+}
+
+/// Puts a flush cycle, as `before to f1` or `after f1 to f2`.
+fn push_flush(out: &mut Vec<u8>, start: &[u8], number: u32) -> Result<(), AllocError>
+    ensures { OnOk result (out.new.items ≡ out.old.items ++ flush_label start.now number) }
+{
+    let number = u64::from(number);
+    push_from(out, start, number)?;
     out.extend_from_slice(b" to f")?;
-    push_number(out, number.saturating_add(1))
+    push_number(out, number + 1)
 }

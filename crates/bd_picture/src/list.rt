@@ -96,7 +96,7 @@ pub fn lets(
         title: "lets",
         parts: match marks {
             ShownValues::All => one_part(alloc, all_lets(alloc, view)?)?,
-            ShownValues::Of(slice) => let_parts(alloc, view, slice)?,
+            ShownValues::Of(slices) => let_parts(alloc, view, slices)?,
         },
     })
 }
@@ -166,7 +166,7 @@ pub fn rows(
         title: "functions",
         parts: match marks {
             ShownValues::All => one_part(alloc, all_rows(alloc, view)?)?,
-            ShownValues::Of(slice) => row_parts(alloc, view, slice)?,
+            ShownValues::Of(slices) => row_parts(alloc, view, slices)?,
         },
     })
 }

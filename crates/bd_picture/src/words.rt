@@ -16,6 +16,14 @@ pub fn is_zero(scalar: Scalar) -> bool {
     matches!(scalar, Scalar::Bool(false) | Scalar::Word(0))
 }
 
+/// Puts what the state after so many cycles of a run is called: `start`, or the number of the last cycle.
+pub fn push_state_name(out: &mut Vec<u8>, cycles: u32) -> Result<(), AllocError> {
+    if cycles == 0 {
+        return out.extend_from_slice(b"start");
+    }
+    push_number(out, u64::from(cycles))
+}
+
 /// A word and a number after it.
 pub fn numbered(alloc: Global, word: &[u8], number: u64) -> Result<Vec<u8>, AllocError>
     ensures { IfOk result (λ text. text.items ≡ word.now ++ decimal number) }
