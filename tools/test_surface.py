@@ -37,7 +37,8 @@ class Words(unittest.TestCase):
         self.assertEqual(listed, [command.name for command in commands] + ["help"])
         for command in commands:
             text = printed(str(VIEW), command.name, "--help")
-            words = [*(f"<{place}>" for place in command.places), *(f"[{place}]" for place in command.optional)]
+            more = "..." if command.repeated else ""
+            words = [*(f"<{place}>{more}" for place in command.places), *(f"[{place}]" for place in command.optional)]
             options = "[OPTIONS] " if command.options else ""
             self.assertIn(f"Usage: bd_view {command.name} {options}{' '.join(words)}\n", text)
             found = re.findall(r"^ +(?:-\w, )?(--[\w-]+)( <\w+>)?", text, re.M)

@@ -1,16 +1,17 @@
 -- The command line: which words are taken, and what they ask for.
 -- Source: what `clap` makes of the words of a simple command, as the crate states it.
-use Rattle.std.specs.Prelude.{◌≡◌, ◌≢◌, ◌⊎◌, ℕ, true, false, List, [], ◌∷◌, codes, min, Option, Some, None, if◌then◌else◌}
+use Rattle.std.specs.Prelude.{◌≡◌, ◌≢◌, ◌⊎◌, ℕ, true, false, List, [], ◌∷◌, codes, min, Option, Some, None, if◌then◌else◌, option_map, unwrap_or}
 use Rattle.std.specs.Str.{bytes_eq}
 use Rattle.clap.specs.Faults.{fault_of}
 use Rattle.clap.specs.Kinds.{IsAmong}
 use Rattle.clap.specs.Simple.{App, Shape, new_rule, new_shape, subcommand_of}
-use Rattle.clap.specs.Walk.{Row, Rule, first_of}
+use Rattle.clap.specs.Walk.{Row, Rule, all_of, first_of}
+use Rattle.clap.specs.declared.builder.action.ArgAction.TheVariants.{Append}
 use Rattle.clap.specs.declared.error.kind.ErrorKind.{ErrorKind}
 use Rattle.clap.specs.declared.error.kind.ErrorKind.TheVariants.{DisplayHelp, DisplayVersion}
 use Rattle.bd_app.specs.Commands.{if_faultless}
 use Rattle.bd_model.specs.Limits.{most_cycles}
-use Rattle.bd_app.specs.Words.{Name, budget_option, flag, flag_at, in_range, machines_command, mode_at, number_at, number_of, option, text_command, text_of_required, ◌>>=◌}
+use Rattle.bd_app.specs.Words.{Name, budget_option, command, flag, flag_at, in_range, machines_command, mode_at, number_at, number_of, option, required, text_command, text_of_required, ◌>>=◌}
 use Rattle.bd_show.specs.Files.{Names}
 use Rattle.bd_show.specs.Meaning.{BoundedCheck, Check, Explain, Question, Recheck, Show, bounded, check, show, shrink, explain, about, recheck}
 
@@ -44,6 +45,14 @@ about_command = machines_command (codes "about") (new_rule (codes "INV") ∷ [])
 abbrev pub recheck_command : Shape
 recheck_command =
     text_command (codes "recheck") (codes "PROOF") (flag (codes "diverse") ∷ [])
+
+-- one file or more
+abbrev pub files_rule : Rule
+files_rule = record (required (codes "FILE")) { action = Some Append }
+
+-- lint FILE ..
+abbrev pub lint_command : Shape
+lint_command = command (codes "lint") (files_rule ∷ [])
 
 -- the files of a design
 abbrev pub design_names : List Row → Names
@@ -116,7 +125,7 @@ recheck_question rows =
 unfoldable pub command_line : App
 command_line = record {
   top = record (new_shape (codes "bd_view")) { is_leaf = false; has_version = true };
-  subs = check_command ∷ show_command ∷ shrink_command ∷ why_command ∷ about_command ∷ recheck_command ∷ [];
+  subs = check_command ∷ show_command ∷ shrink_command ∷ why_command ∷ about_command ∷ recheck_command ∷ lint_command ∷ [];
 }
 
 -- what the command of this name asks
@@ -130,11 +139,25 @@ question_of name rows =
     else (if bytes_eq name (codes "recheck") then Some (recheck (recheck_question rows))
     else None)))))
 
+-- what is asked: of the files of a design, or of files of which each is read alone
+pub data Task : Type 0 where
+  of_design : Question → Task
+  lint : List Name → Task
+
+-- the files that are named, one or more
+abbrev pub file_names : List Row → List Name
+file_names rows = unwrap_or (all_of (codes "FILE") rows) []
+
+unfoldable pub task_of : List ℕ → List Row → Option Task
+task_of name rows =
+    if bytes_eq name (codes "lint") then Some (lint (file_names rows))
+    else option_map of_design (question_of name rows)
+
 -- what the words ask for, where they are taken: clap finds no fault in them, and they name a command
-unfoldable pub taken : List (List ℕ) → Option Question
+unfoldable pub taken : List (List ℕ) → Option Task
 taken words = if_faultless (fault_of command_line words) (do
   named ← subcommand_of command_line words
-  question_of named.0 named.1)
+  task_of named.0 named.1)
 
 -- they ask for help, or for the version
 abbrev pub AskHelp : List (List ℕ) → Type 0

@@ -1,5 +1,3 @@
-pub mod Open
-pub mod Place
 pub mod Files
 pub mod LetNames
 pub mod Trails
@@ -8,5 +6,6 @@ pub mod Next
 pub mod Answer
 pub mod Commands
 pub mod Meaning
+pub mod Lint
 pub mod Program
 pub mod inner

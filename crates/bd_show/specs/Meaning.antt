@@ -53,7 +53,7 @@ use Rattle.bd_app.specs.Texts.{IsTextOf, case_kind, trail_kind}
 use Rattle.bd_app.specs.Verdicts.{IsVerdict, verdict_words}
 use Rattle.bd_app.specs.Words.{Name}
 use Rattle.bd_app.specs.declared.verdict.Asked.{Asked}
-use Rattle.bd_show.specs.Place.{fault_text, placed}
+use Rattle.bd_lint.specs.Place.{fault_text, placed}
 use Rattle.bd_text.specs.declared.code.Code.{Code}
 use Rattle.bd_typer.specs.Joined.{JoinedView}
 use Rattle.bd_typer.specs.declared.fault.Text.{Text}
