@@ -183,6 +183,7 @@ def companion_commands() -> Iterator[Command]:
     yield command("shrink, holds", "shrink", *right, "pending_write.case")
     yield command("about", "about", *right)
     yield command("about, with an invariant", "about", "twin_valid_bits.pipe", "two_stage.spec", "twin_valid_bits.inv")
+    yield command("invariant", "invariant", "twin_valid_bits.pipe", "two_stage.spec", "twin_valid_bits.inv")
     yield command("a faulty text", "about", "two_stage.spec", "two_stage.spec")
     yield command("a faulty case", "show", *right, "two_stage.spec", *page, saves=SAVED[2:])
     yield command("no file", "about", "two_stage.pipe", "nowhere")

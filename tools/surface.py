@@ -60,6 +60,8 @@ PROGRAMS: Dict[str, Tuple[Command, ...]] = {
         Command("why", "why a value of a case is what it is", ("PIPE", "SPEC", "CASE"), ("INV",),
                 (("--of", "VALUE"), ("--whole", ""))),
         Command("about", "what can be said of a design without a case", ("PIPE", "SPEC"), ("INV",)),
+        Command("invariant", "what a cycle keeps of each conjunct of an invariant", ("PIPE", "SPEC", "INV"), (),
+                (("--diverse", ""), BUDGET)),
         Command("recheck", "whether a proof from elsewhere shows that a pipeline is right, by positive equality too",
                 ("PIPE", "SPEC", "PROOF"), ("INV",), (("--diverse", ""),)),
     ),

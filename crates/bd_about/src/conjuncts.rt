@@ -16,7 +16,7 @@ use std::alloc::{AllocError, Global};
 use std::mem;
 
 /// How many conjuncts an expression has: the parts of an `and`.
-fn conjunct_count(inv: &Expr) -> usize
+pub fn conjunct_count(inv: &Expr) -> usize
     ensures { result ≡ conjunct_count (expr_view inv.now) }
 {
     match inv {
@@ -53,7 +53,7 @@ fn exchanged(inv: Expr, place: usize, part: Expr) -> (Expr, Expr)
 }
 
 /// The design with another conjunct at a place of its invariant, and the one that stood there.
-fn with_conjunct(design: Design, place: usize, part: Expr) -> (Design, Expr)
+pub fn with_conjunct(design: Design, place: usize, part: Expr) -> (Design, Expr)
     ensures with { design_view result.0 ≡ record (design_view design)
         { inv = with_conjunct (design_view design).inv place (expr_view part) } }
     ensures before { expr_view result.1

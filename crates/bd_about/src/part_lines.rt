@@ -9,7 +9,7 @@ use itoa::Buffer;
 use std::alloc::{AllocError, Global};
 
 /// Puts what a count is of, and the count.
-pub(crate) fn push_count(out: &mut Vec<u8>, what: &str, count: usize) -> Result<(), AllocError>
+pub fn push_count(out: &mut Vec<u8>, what: &str, count: usize) -> Result<(), AllocError>
     ensures { OnOk result (out.new.items ≡ out.old.items ++ counted what.now count) }
 {
     let mut buffer = Buffer::new();

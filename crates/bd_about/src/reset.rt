@@ -40,7 +40,7 @@ fn zero_table(alloc: Global, symbol: &Symbol) -> Table
 }
 
 /// The state in which every entry is false, 0 or the memory of zeros.
-fn reset_state(alloc: Global, entries: &[Entry]) -> Result<State, AllocError>
+pub fn reset_state(alloc: Global, entries: &[Entry]) -> Result<State, AllocError>
     ensures { IfOk result (λ state.
         state ≡ map (λ (e : entry.Entry). zero_value e.sort) entries.now) }
 {
@@ -52,7 +52,7 @@ fn reset_state(alloc: Global, entries: &[Entry]) -> Result<State, AllocError>
 }
 
 /// The interpretation whose predicates are false and whose functions are 0 everywhere.
-fn zero_tables(alloc: Global, symbols: &[Symbol]) -> Result<Interp, AllocError>
+pub fn zero_tables(alloc: Global, symbols: &[Symbol]) -> Result<Interp, AllocError>
     ensures { IfOk result (λ tables. tables ≡ map zero_table symbols.now) }
 {
     let mut tables = Vec::with_capacity(alloc, symbols.len())?;

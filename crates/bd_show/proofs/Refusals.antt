@@ -20,7 +20,7 @@ use Rattle.bd_typer.specs.declared.fault.TypeFault.TheVariants.{Bad, Memory}
 use Rattle.bd_app.proofs.Completions.{completed_same}
 use Rattle.bd_app.proofs.Sources.{denotes_same}
 use Rattle.bd_show.specs.Files.{AreCase, AreDesign, AreJoined, AreJoinedBy, AreJoinedCase, IsCaseOf, AreStarted, IsJoinedFault, IsStartedFault, IsTextFault, IsTrailOf, Names, Texts, commented, has_trail}
-use Rattle.bd_show.specs.Meaning.{BoundedCheck, IsAskedFault, IsRefusedText, IsShownFault, Question, Says, Show, about, asked_names, bounded, check, explain, recheck, show, shrink}
+use Rattle.bd_show.specs.Meaning.{BoundedCheck, IsAskedFault, IsRefusedText, IsShownFault, Question, Says, Show, about, asked_names, bounded, check, explain, judge, recheck, show, shrink}
 use Rattle.bd_show.specs.declared.answer.Answer.{Answer}
 use Rattle.bd_show.specs.declared.answer.Ended.{Ended}
 use Rattle.bd_show.specs.declared.answer.Ended.TheVariants.{Refused}
@@ -103,6 +103,7 @@ asked_fault (show q) t file offset code (none, case) fault =
 asked_fault (shrink names) t file offset code takes fault = fault
 asked_fault (explain q) t file offset code takes fault = fault
 asked_fault (about names) t file offset code takes fault = fault
+asked_fault (judge q) t file offset code takes fault = fault
 asked_fault (recheck q) t file offset code takes fault = fault
 
 -- and so of what is told of it

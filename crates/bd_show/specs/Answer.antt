@@ -4,7 +4,7 @@ use Rattle.bd_model.specs.declared.case.Judged.TheVariants as judged
 use Rattle.bd_model.specs.declared.case.TrailJudged.TheVariants as trail
 use Rattle.bd_about.specs.declared.asking.Finding.TheVariants as finding
 use Rattle.bd_show.specs.declared.answer.Ended.{Ended}
-use Rattle.bd_show.specs.declared.answer.Ended.TheVariants.{Checked, Shown, Completed, Compared, Traced, Explained, Unknown, Shrunk, Unbroken, Described, Proved, BadProof, Told, Usage, Refused, TooLong, Unread, Unsaved, Unwritten, Memory}
+use Rattle.bd_show.specs.declared.answer.Ended.TheVariants.{Checked, Shown, Completed, Compared, Traced, Explained, Unknown, Shrunk, Unbroken, Described, Parted, Proved, BadProof, Told, Usage, Refused, TooLong, Unread, Unsaved, Unwritten, Memory}
 
 abbrev pub status_of : Ended → ℕ
 status_of (Checked finding.Right) = 0
@@ -29,6 +29,7 @@ status_of Unknown = 2
 status_of (Shrunk k) = 0
 status_of (Unbroken j) = 9
 status_of (Described found) = 0
+status_of (Parted found) = 0
 status_of Proved = 0
 status_of (BadProof line column why) = 3
 status_of Told = 0
@@ -50,6 +51,7 @@ HasReport (Traced j) = Unit {0}
 HasReport (Explained j) = Unit {0}
 HasReport (Shrunk k) = Unit {0}
 HasReport (Described found) = Unit {0}
+HasReport (Parted found) = Unit {0}
 HasReport Proved = Unit {0}
 HasReport Told = Unit {0}
 HasReport _ = ⊥

@@ -10,9 +10,10 @@ use Rattle.clap.specs.declared.error.kind.ErrorKind.{ErrorKind}
 use Rattle.clap.specs.declared.error.kind.ErrorKind.TheVariants.{DisplayHelp, DisplayVersion}
 use Rattle.bd_app.specs.Commands.{if_faultless}
 use Rattle.bd_model.specs.Limits.{most_cycles}
-use Rattle.bd_app.specs.Words.{Name, budget_option, flag, flag_at, in_range, machines_command, mode_at, number_at, number_of, option, text_command, text_of_required, ◌>>=◌}
+use Rattle.bd_app.specs.Words.{Name, budget_option, flag, flag_at, in_range, machines_command, mode_at, number_at, number_of, option, required, text_command, text_of_required, ◌>>=◌}
 use Rattle.bd_show.specs.Files.{Names}
-use Rattle.bd_show.specs.Meaning.{BoundedCheck, Check, Explain, Question, Recheck, Show, bounded, check, show, shrink, explain, about, recheck}
+use Rattle.bd_show.specs.Parts.{Judge}
+use Rattle.bd_show.specs.Meaning.{BoundedCheck, Check, Explain, Question, Recheck, Show, bounded, check, show, shrink, explain, about, judge, recheck}
 
 -- check PIPE SPEC [INV] [--diverse] [--budget N] [--start START] [--cycles C] [--case FILE]
 abbrev pub check_command : Shape
@@ -39,6 +40,12 @@ why_command =
 -- about PIPE SPEC [INV]
 abbrev pub about_command : Shape
 about_command = machines_command (codes "about") (new_rule (codes "INV") ∷ [])
+
+-- invariant PIPE SPEC INV [--diverse] [--budget N]
+abbrev pub invariant_command : Shape
+invariant_command =
+    machines_command (codes "invariant") (required (codes "INV") ∷ flag (codes "diverse")
+    ∷ budget_option ∷ [])
 
 -- recheck PIPE SPEC PROOF [INV] [--diverse]
 abbrev pub recheck_command : Shape
@@ -109,6 +116,13 @@ why_question rows = record {
   value = first_of (codes "of") rows;
 }
 
+abbrev pub invariant_question : List Row → Judge
+invariant_question rows = record {
+  names = record (design_names rows) { inv = Some (text_of_required (codes "INV") rows) };
+  mode = mode_at (codes "diverse") rows;
+  budget = number_of (codes "budget") rows;
+}
+
 abbrev pub recheck_question : List Row → Recheck
 recheck_question rows =
     record { names = proof_names rows; mode = mode_at (codes "diverse") rows }
@@ -116,7 +130,8 @@ recheck_question rows =
 unfoldable pub command_line : App
 command_line = record {
   top = record (new_shape (codes "bd_view")) { is_leaf = false; has_version = true };
-  subs = check_command ∷ show_command ∷ shrink_command ∷ why_command ∷ about_command ∷ recheck_command ∷ [];
+  subs = check_command ∷ show_command ∷ shrink_command ∷ why_command ∷ about_command ∷ invariant_command
+      ∷ recheck_command ∷ [];
 }
 
 -- what the command of this name asks
@@ -127,8 +142,9 @@ question_of name rows =
     else (if bytes_eq name (codes "shrink") then Some (shrink (case_names rows))
     else (if bytes_eq name (codes "why") then Some (explain (why_question rows))
     else (if bytes_eq name (codes "about") then Some (about (design_names rows))
+    else (if bytes_eq name (codes "invariant") then Some (judge (invariant_question rows))
     else (if bytes_eq name (codes "recheck") then Some (recheck (recheck_question rows))
-    else None)))))
+    else None))))))
 
 -- what the words ask for, where they are taken: clap finds no fault in them, and they name a command
 unfoldable pub taken : List (List ℕ) → Option Question

@@ -5,6 +5,7 @@ pub mod LetNames
 pub mod Trails
 pub mod Claims
 pub mod Next
+pub mod Parts
 pub mod Answer
 pub mod Commands
 pub mod Meaning

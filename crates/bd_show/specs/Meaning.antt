@@ -64,13 +64,14 @@ use Rattle.bd_show.specs.Next.{goes_on}
 use Rattle.bd_show.specs.Claims.{claim_in, claim_note, compared_note, completed_note}
 use Rattle.bd_show.specs.declared.claim.Claim.TheVariants.{Differ}
 use Rattle.bd_show.specs.LetNames.{AreLetNames}
+use Rattle.bd_show.specs.Parts.{IsJudgedByParts, Judge}
 use Rattle.bd_show.specs.declared.answer.Ended.{Ended}
-use Rattle.bd_show.specs.declared.answer.Ended.TheVariants.{Checked, Shown, Completed, Compared, Traced, Shrunk, Explained, Unknown, Unbroken, Described, Proved, BadProof, Refused, TooLong, Unread, Unsaved, Memory}
+use Rattle.bd_show.specs.declared.answer.Ended.TheVariants.{Checked, Shown, Completed, Compared, Traced, Shrunk, Explained, Unknown, Unbroken, Described, Parted, Proved, BadProof, Refused, TooLong, Unread, Unsaved, Memory}
 
 -- what is asked: whether a design is right, in a mode and with a budget, or so for a number of cycles from a start, which
 -- stands in the place of an invariant; what a case shows, all of it or what is left
 -- of it, maybe with a page; what is left of a case; why a value of a case, all of it or what is left of it, is what it
--- is; what can be said of a design without a case; or whether a text over the formula that is kept in a mode proves a
+-- is; what can be said of a design without a case; what is found of the parts of an invariant; or whether a text over the formula that is kept in a mode proves a
 -- design right
 pub record Check : Type 0 where
   pub names : Names
@@ -106,6 +107,7 @@ pub data Question : Type 0 where
   shrink : Names → Question
   explain : Explain → Question
   about : Names → Question
+  judge : Judge → Question
   recheck : Recheck → Question
 
 abbrev pub asked_names : Question → Names
@@ -115,6 +117,7 @@ asked_names (show q) = q.names
 asked_names (shrink names) = names
 asked_names (explain q) = q.names
 asked_names (about names) = names
+asked_names (judge q) = q.names
 asked_names (recheck q) = q.names
 
 -- the file that is saved to, where one is asked for: a page, or the case or the trail that breaks
@@ -125,6 +128,7 @@ asked_save (show q) = q.page
 asked_save (shrink names) = None
 asked_save (explain q) = None
 asked_save (about names) = None
+asked_save (judge q) = None
 asked_save (recheck q) = None
 
 -- ---- what an answer says of texts
@@ -348,6 +352,7 @@ IsAskedFault (bounded q) texts file offset code = IsStartedFault texts file offs
 IsAskedFault (shrink names) texts file offset code = IsTextFault texts file offset code
 IsAskedFault (explain q) texts file offset code = IsTextFault texts file offset code
 IsAskedFault (about names) texts file offset code = IsTextFault texts file offset code
+IsAskedFault (judge q) texts file offset code = IsTextFault texts file offset code
 IsAskedFault (recheck q) texts file offset code = IsTextFault texts file offset code
 
 -- the text begins with the place and the name of a fault
@@ -382,6 +387,8 @@ Says (explain q) texts (Unbroken j) text =
 Says (explain q) texts Unknown text = (is_some q.value ≡ true) × OfCase texts (λ d c. Unit {0})
 Says (about names) texts (Described found) text =
     OfDesign texts (λ d. IsDescribed texts d found text)
+Says (judge q) texts (Parted found) text =
+    OfDesign texts (λ d. IsJudgedByParts q d found text)
 Says (recheck q) texts Proved text =
     OfDesign texts (λ d. IsProved q.mode d (or_none texts.proof) text)
 Says (recheck q) texts (BadProof line column why) text =

@@ -32,6 +32,8 @@ pub enum Ended {
     Unbroken(Judged),
     /// What can be said of a design without a case was printed, and this was found.
     Described(Findings),
+    /// What is found of the parts of an invariant was printed, and this of the whole.
+    Parted(Finding),
     /// The text proves that the design is right.
     Proved,
     /// The text is no proof that the design is right: it has this fault, at a line and a column from 1.
@@ -83,6 +85,7 @@ impl Ended {
             | Ended::Explained(Judged::Holds)
             | Ended::Shrunk(_)
             | Ended::Described(_)
+            | Ended::Parted(_)
             | Ended::Proved
             | Ended::Told => 0,
             Ended::Checked(Finding::Wrong(_))
@@ -119,6 +122,7 @@ impl Ended {
                 | Ended::Explained(_)
                 | Ended::Shrunk(_)
                 | Ended::Described(_)
+                | Ended::Parted(_)
                 | Ended::Proved
                 | Ended::Told
         )

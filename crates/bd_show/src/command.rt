@@ -4,21 +4,22 @@ ghost use Rattle.std.specs.Option.{option_map};
 ghost use Rattle.clap.specs.Values.{kind_of};
 ghost use Rattle.clap.specs.Words.{app_of, found_of, rows_of, rule_of, shape_of, with_subcommand};
 ghost use Rattle.clap.specs.declared.builder.command.Command.TheViews.{out-Command as fields_of};
-ghost use Rattle.bd_app.specs.Words.{in_range, option, texts_of};
+ghost use Rattle.bd_app.specs.Words.{in_range, option, text_of_required, texts_of};
 ghost use Rattle.bd_model.specs.Limits.{most_cycles};
 ghost use Rattle.bd_show.specs.Files.{names_of};
-ghost use Rattle.bd_show.specs.Commands.{about_command, bounded_question, case_names, check_asked, check_command, check_question, command_line, design_names, proof_names, question_of, recheck_command, show_command, shrink_command, taken, why_command};
+ghost use Rattle.bd_show.specs.Commands.{about_command, bounded_question, case_names, check_asked, check_command, check_question, command_line, design_names, invariant_command, proof_names, question_of, recheck_command, show_command, shrink_command, taken, why_command};
 ghost use Rattle.bd_show.specs.Meaning.{bounded, check};
 ghost use Rattle.bd_show.specs.inner.Asked.{IsParsed, IsToldBy, IsWellAsked, IsWordsFault, asked, first_commands};
 
 use crate::bounding::BoundedOptions;
 use crate::checking::CheckOptions;
+use crate::invariant::JudgeOptions;
 use crate::load::FileNames;
 use crate::rechecking::RecheckOptions;
 use crate::show::ShowOptions;
 use crate::why::WhyOptions;
 use bd_app::words::{
-    budget, flag, flag_at, machines_command, mode_at, number_at, option, required_number,
+    budget, flag, flag_at, machines_command, mode_at, number_at, option, required, required_number,
     required_word, text_command, with, word_at,
 };
 use clap::error::ErrorKind;
@@ -40,6 +41,8 @@ pub enum Command<'a> {
     Why(WhyOptions<'a>),
     /// What can be said of a design without a case.
     About(FileNames<'a>),
+    /// What is found of the parts of an invariant.
+    Invariant(JudgeOptions<'a>),
     /// Whether a text proves that a design is right.
     Recheck(RecheckOptions<'a>),
 }
@@ -144,6 +147,17 @@ fn about_command<'a>(alloc: Global) -> Result<clap::Command<'a>, AllocError>
     with(command, Arg::new(alloc, "INV"))
 }
 
+/// The words of `invariant`.
+fn invariant_command<'a>(alloc: Global) -> Result<clap::Command<'a>, AllocError>
+    ensures shape { IfOk result (λ c. shape_of c ≡ invariant_command) }
+    ensures local { IfOk result (λ c. (fields_of c).has_globals ≡ false) }
+{
+    let command = machines_command(alloc, "invariant")?;
+    let command = with(command, required(alloc, "INV"))?;
+    let command = with(command, described(flag(alloc, "diverse"), DIVERSE))?;
+    with(command, described(budget(alloc), BUDGET))
+}
+
 /// The words of `recheck`.
 fn recheck_command<'a>(alloc: Global) -> Result<clap::Command<'a>, AllocError>
     ensures shape { IfOk result (λ c. shape_of c ≡ recheck_command) }
@@ -183,7 +197,8 @@ fn command_line<'a>(alloc: Global) -> Result<clap::Command<'a>, AllocError>
     let first = first_commands(alloc)?;
     let with_why = with_command(first, why_command(alloc)?, WHY)?;
     let with_about = with_command(with_why, about_command(alloc)?, ABOUT)?;
-    with_command(with_about, recheck_command(alloc)?, RECHECK)
+    let with_invariant = with_command(with_about, invariant_command(alloc)?, INVARIANT)?;
+    with_command(with_invariant, recheck_command(alloc)?, RECHECK)
 }
 
 const CHECK: &str = "Says whether a pipeline is right, and where it isn't, what a case shows";
@@ -195,6 +210,8 @@ const SHRINK: &str = "Prints a small case that breaks the same condition";
 const WHY: &str = "Explains why a value of a case is what it is";
 
 const ABOUT: &str = "Says what nothing reads and what the verdict rests on";
+
+const INVARIANT: &str = "Says what a cycle keeps of each conjunct of an invariant";
 
 const RECHECK: &str =
     "Checks a proof in LRAT that a pipeline is right, with --diverse by positive equality";
@@ -255,6 +272,17 @@ fn case_names<'a>(matches: &ArgMatches<'a>) -> FileNames<'a>
 {
     FileNames {
         case: Some(required_word(matches, "CASE")),
+        ..design_names(matches)
+    }
+}
+
+/// The names of the files of a design with its invariant.
+fn invariant_names<'a>(matches: &ArgMatches<'a>) -> FileNames<'a>
+    ensures { names_of result ≡ record (design_names (rows_of (found_of matches.now)))
+        { inv = Some (text_of_required (codes "INV") (rows_of (found_of matches.now))) } }
+{
+    FileNames {
+        inv: Some(required_word(matches, "INV")),
         ..design_names(matches)
     }
 }
@@ -351,6 +379,12 @@ fn question<'a>(name: &str, matches: &ArgMatches<'a>) -> Option<Command<'a>>
         }))
     } else if name == "about" {
         Some(Command::About(design_names(matches)))
+    } else if name == "invariant" {
+        Some(Command::Invariant(JudgeOptions {
+            names: invariant_names(matches),
+            mode: mode_at(matches, "diverse"),
+            budget: required_number(matches, "budget"),
+        }))
     } else if name == "recheck" {
         Some(Command::Recheck(RecheckOptions {
             names: proof_names(matches),
@@ -401,4 +435,4 @@ pub fn command_of<'a>(alloc: Global, words: &'a [String]) -> Result<Command<'a>,
 }
 
 const NONE: &[u8] = b"usage: bd_view check PIPE SPEC [INV | --start START --cycles C] [--diverse], \
-show|shrink|why PIPE SPEC CASE [INV], about PIPE SPEC [INV], or recheck PIPE SPEC PROOF [INV] [--diverse]; --help says more\n";
+show|shrink|why PIPE SPEC CASE [INV], about PIPE SPEC [INV], invariant PIPE SPEC INV, or recheck PIPE SPEC PROOF [INV] [--diverse]; --help says more\n";

@@ -10,6 +10,7 @@ mod claim_names;
 mod command;
 mod completed;
 mod fault;
+mod invariant;
 mod load;
 mod names;
 mod next;

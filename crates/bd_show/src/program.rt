@@ -8,7 +8,7 @@ ghost use Rattle.bd_show.specs.inner.Answered.{ended_of, text_of};
 
 use crate::answer::{Answer, Ended};
 use crate::command::{Command, WordsFault, command_of};
-use crate::{about, bounding, checking, rechecking, show, shrinking, why};
+use crate::{about, bounding, checking, invariant, rechecking, show, shrinking, why};
 use bd_files::{Files, Sink};
 use std::alloc::{AllocError, Global};
 
@@ -24,6 +24,7 @@ fn answer_of<F: Files>(alloc: Global, words: &[String], files: &mut F) -> Result
         Ok(Command::Shrink(names)) => shrinking::answer(alloc, files, names),
         Ok(Command::Why(options)) => why::answer(alloc, files, options),
         Ok(Command::About(names)) => about::answer(alloc, files, names),
+        Ok(Command::Invariant(options)) => invariant::answer(alloc, files, options),
         Ok(Command::Recheck(options)) => rechecking::answer(alloc, files, options),
         Err(WordsFault::Told(text)) => Ok(Answer {
             ended: Ended::Told,

@@ -28,12 +28,14 @@ use Rattle.bd_show.specs.Files.{AreStarted, BlamesSave, Names, Texts, has_trail,
 use Rattle.bd_show.specs.Meaning.{AreJoinedDesign, BoundedCheck, Check, Explain, IsAnswered, IsBoundedChecked, IsCaseText, IsChecked, IsRunShown, IsTrailText, IsCompared, IsCompleted, IsBadProof, IsDescribed, IsProved, IsShown, IsSmaller, IsTrailShown, IsUnbroken, OfDesign, OfStarted, Question, Recheck, Says, Show, bounded, check, nothing_to_explain, nothing_to_shrink, run_finding, show}
 use Rattle.bd_about.specs.declared.asking.Finding.TheVariants as finding
 use Rattle.bd_show.specs.Next.{goes_on}
+use Rattle.bd_show.specs.Parts.{IsJudgedByParts, Judge}
 use Rattle.bd_show.specs.Trails.{cycle_case}
 use Rattle.bd_show.specs.declared.answer.Answer.{Answer}
 use Rattle.bd_show.specs.declared.answer.Ended.{Ended}
 use Rattle.bd_show.specs.declared.answer.Ended.TheVariants as ended
 use Rattle.bd_show.specs.declared.bounding.BoundedOptions.{BoundedOptions}
 use Rattle.bd_show.specs.declared.checking.CheckOptions.{CheckOptions}
+use Rattle.bd_show.specs.declared.invariant.JudgeOptions.{JudgeOptions}
 use Rattle.bd_show.specs.declared.rechecking.RecheckOptions.{RecheckOptions}
 use Rattle.bd_show.specs.declared.show.ShowOptions.{ShowOptions}
 use Rattle.bd_show.specs.declared.show.Showing.{Showing}
@@ -73,6 +75,13 @@ why_of options = record {
   names = names_of options.names;
   whole = options.whole;
   value = given options.value;
+}
+
+abbrev pub judge_of : JudgeOptions → Judge
+judge_of options = record {
+  names = names_of options.names;
+  mode = options.mode;
+  budget = options.budget;
 }
 
 abbrev pub recheck_of : RecheckOptions → Recheck
@@ -143,6 +152,11 @@ IsOfValue q d c e text = ⊥
 abbrev pub IsOfDesign : Texts → DesignView → Ended → List ℕ → Type 0
 IsOfDesign texts d (ended.Described found) text = IsDescribed texts d found text
 IsOfDesign texts d e text = ⊥
+
+-- what `invariant` says of a design
+abbrev pub IsOfParts : Judge → DesignView → Ended → List ℕ → Type 0
+IsOfParts q d (ended.Parted found) text = IsJudgedByParts q d found text
+IsOfParts q d e text = ⊥
 
 -- what `recheck` says of a design and of the bytes of the proof
 abbrev pub IsOfProof : Recheck → DesignView → List ℕ → Ended → List ℕ → Type 0

@@ -7,10 +7,10 @@ use Rattle.clap.specs.declared.error.kind.ErrorKind.TheVariants as kind
 use Rattle.clap.specs.declared.parser.matches.ArgMatches.{ArgMatches}
 use Rattle.bd_show.specs.Commands.{AreMisused, AskHelp, check_command, command_line, show_command, shrink_command, taken}
 use Rattle.bd_show.specs.Files.{names_of}
-use Rattle.bd_show.specs.Meaning.{Question, bounded, check, show, shrink, explain, about, recheck}
-use Rattle.bd_show.specs.inner.Answered.{HasFewCycles, bounded_of, check_of, recheck_of, show_of, why_of}
+use Rattle.bd_show.specs.Meaning.{Question, bounded, check, show, shrink, explain, about, judge, recheck}
+use Rattle.bd_show.specs.inner.Answered.{HasFewCycles, bounded_of, check_of, judge_of, recheck_of, show_of, why_of}
 use Rattle.bd_show.specs.declared.command.Command.{Command}
-use Rattle.bd_show.specs.declared.command.Command.TheVariants.{Bounded, Check, Show, Shrink, Why, About, Recheck}
+use Rattle.bd_show.specs.declared.command.Command.TheVariants.{Bounded, Check, Show, Shrink, Why, About, Invariant, Recheck}
 use Rattle.bd_show.specs.declared.command.WordsFault.{WordsFault}
 use Rattle.bd_show.specs.declared.command.WordsFault.TheVariants.{Told, Usage, Memory}
 
@@ -22,6 +22,7 @@ asked (Show options) = show (show_of options)
 asked (Shrink names) = shrink (names_of names)
 asked (Why options) = explain (why_of options)
 asked (About names) = about (names_of names)
+asked (Invariant options) = judge (judge_of options)
 asked (Recheck options) = recheck (recheck_of options)
 
 -- a command on a case names its file, and one on cycles from a start asks of few

@@ -1,0 +1,4 @@
+pub mod Deciding
+pub mod Lawful
+pub mod LeftOut
+pub mod Rooted
