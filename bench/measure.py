@@ -4,9 +4,10 @@
 Each row is a design and a mode of `check`: the machines that the field measures by and scoreboards (the Python
 package's `machines`), superscalars (`superscalar.py`), the five stages of DLX, and formulas written as designs
 (`formula.py`). The program is asked within its default budget, and saves its formula and log; the other solvers get
-that formula. A second table (`rules`) has solvers on one formula with one technique more or less, which says what the
-rules of a log cost; with --view a third one (`prove`) has the steps of `tools/prove.py` on one machine, in seconds of
-the clock; with --smt a fourth one (`smt`) has `z3` and `cvc5` on the question as SMT-LIB (`smtlib.py`).
+that formula. `wide` has superscalars about which the program alone is asked, and `kinds` the clauses of one formula by
+kind (`kinds.py`). `rules` has solvers on one formula with one technique more or less, which says what the rules of a
+log cost; with --view `prove` has the steps of `tools/prove.py` on one machine, in seconds of the clock; with --smt
+`smt` has `z3` and `cvc5` on the question as SMT-LIB (`smtlib.py`).
 
 FOLDER keeps the formulas and what was measured: called again with the same program, it goes on where it ended. First
 each thing runs once, then up to --runs times, the quick ones first, while the --minutes last; what takes more than
@@ -34,6 +35,7 @@ from functools import partial
 from pathlib import Path
 from typing import Any, Callable, Dict, Iterator, List, NamedTuple, Optional, Sequence, Union
 
+from kinds import table as kinds_table
 from shared import HERE, MODES, added_clauses, answer_of, formula_size, run
 
 ROOT = Path(HERE).parent
@@ -59,9 +61,11 @@ RULES = {
 }
 
 PROVE_ROW = "2xDLX-CC-MC-EX-BP, diverse"
+KINDS_ROW = PROVE_ROW
 BOTH = tuple(MODES)
 SUPERSCALARS = (("4 x 4", BOTH), ("4 x 8", BOTH), ("6 x 5", BOTH), ("6 x 8", ["diverse"]), ("8 x 3", BOTH),
                 ("8 x 4", ["diverse"]), ("8 x 5", ["diverse"]))
+WIDE = ("8 x 8", "8 x 16", "8 x 32", "8 x 64", "4 x 16", "4 x 48", "4 x 128")  # by the program alone
 MISSING = ("4 x 4", "8 x 5")  # with one path missing, in plain mode
 FORMULAS = ("pigeons 8", "parity 32 1", "random 200 1")
 MACHINES = ("1xDLX-C", "1xDLX-C-MC-EX-BP", "2xDLX-CA", "2xDLX-CA-MC-EX-BP", "2xDLX-CC", "2xDLX-CC-MC", "2xDLX-CC-EX",
@@ -121,6 +125,7 @@ def rows(only: str) -> List[Row]:
     found += [Row(f"{design}, one path missing", "plain", ["superscalar.py", "--miss", *design.split(" x ")])
               for design in MISSING]
     found += [Row(name, "plain", ["formula.py", *name.split()]) for name in FORMULAS]
+    found += [Row(design, "diverse", ["superscalar.py", *design.split(" x ")]) for design in WIDE]
     return [row for row in found if only in row.name]
 
 
@@ -217,6 +222,8 @@ def tasks(words: argparse.Namespace, row: Row) -> Iterator[Task]:
     cnf, texts = str(file_of(row, words.folder, ".cnf")), row.texts(words.folder)
     saved = ["--cnf", cnf, "--lrat", str(words.folder / "proof.lrat")]
     yield Task(row, OWN, [words.program, "check", *texts, *MODES[row.mode], *saved], words.limit)
+    if row.design in WIDE:
+        return
     for name, command in SOLVERS.items():
         yield Task(row, name, [*command, cnf], words.limit)
     if row.name == RULES_ROW:
@@ -328,8 +335,15 @@ def measured_table(kept: Kept, counts: bool) -> List[List[str]]:
     others = [f"conflicts of `{name}`" for name in SOLVERS] if counts else [
         cell for name in SOLVERS for cell in (f"`{name}`", "its conflicts")]
     head = ["design", "mode", "learned", "variables", "clauses", *([] if counts else ["s", "MB"]), *others]
-    body = [measured_row(row, kept, counts) for row in rows("") if kept.of(row, OWN)]
+    body = [measured_row(row, kept, counts) for row in rows("") if row.design not in WIDE and kept.of(row, OWN)]
     return [head, *body, *([] if counts else [means(kept, mode) for mode in MODES])]
+
+
+def wide_table(kept: Kept, counts: bool) -> List[List[str]]:
+    """The table of how formulas, time and memory grow."""
+    found = [row for row in rows("") if row.design in WIDE and kept.of(row, OWN)]
+    head = ["design", "mode", "learned", "variables", "clauses", *([] if counts else ["s", "MB"])]
+    return [head, *(measured_row(row, kept, counts)[:len(head)] for row in found)]
 
 
 def summary(kept: Kept) -> str:
@@ -433,6 +447,11 @@ def main() -> None:
     measure(words, kept)
     first = f"{said(words)}\n\n{lines(measured_table(kept, words.counts))}{summary(kept)}"
     texts = {"measured": first, "rules": lines(rules_table(kept, words.counts))}
+    if any(kept.of(row, OWN) for row in rows("") if row.design in WIDE):
+        texts["wide"] = lines(wide_table(kept, words.counts))
+    for row in rows(KINDS_ROW):
+        if kept.of(row, OWN):
+            texts["kinds"] = lines(kinds_table(file_of(row, words.folder, ".cnf")))
     if any(kept.of(row, PROVE) for row in rows("")):
         texts["prove"] = lines(prove_table(kept))
     if any(kept.of(row, name) for row in rows("") for name in SMT):

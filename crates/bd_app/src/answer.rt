@@ -77,7 +77,7 @@ pub enum Ended {
     },
     /// A device failed.
     Device(Which),
-    /// Out of memory.
+    /// Want of memory.
     Memory,
 }
 

@@ -57,7 +57,7 @@ pub enum Command<'a> {
 pub enum WordsFault {
     /// The words aren't taken.
     Usage,
-    /// Out of memory.
+    /// Want of memory.
     Memory,
 }
 
@@ -66,7 +66,7 @@ impl From<AllocError> for WordsFault {
 
     ghost from_gives = { λ _ fault. fault ≡ Memory };
 
-    /// Out of memory.
+    /// Want of memory.
     fn from(_: AllocError) -> Self {
         WordsFault::Memory
     }

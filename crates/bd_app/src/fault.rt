@@ -39,14 +39,14 @@ pub enum Fault {
     Load,
     /// A save failed.
     Save,
-    /// Out of memory.
+    /// Want of memory.
     Memory,
 }
 
 impl From<AllocError> for Fault {
     ghost from_gives = { λ _ fault. fault ≡ Memory };
 
-    /// Out of memory.
+    /// Want of memory.
     fn from(_: AllocError) -> Fault {
         Fault::Memory
     }

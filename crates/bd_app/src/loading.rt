@@ -17,7 +17,7 @@ pub enum LoadFault {
     Failed(Text),
     /// The file has too many bytes.
     TooLong(Text),
-    /// Out of memory.
+    /// Want of memory.
     Memory,
 }
 

@@ -18,7 +18,7 @@ pub enum LoadError {
     /// this call.
     #[error("cannot load the file")]
     Failed,
-    /// Out of memory.
+    /// Want of memory.
     #[error("out of memory")]
     Memory,
 }
@@ -29,7 +29,7 @@ pub enum SaveError {
     /// The device failed. The fault was counted, and blamed on this call.
     #[error("cannot save the file")]
     Failed,
-    /// Out of memory.
+    /// Want of memory.
     #[error("out of memory")]
     Memory,
 }

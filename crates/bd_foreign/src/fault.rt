@@ -23,7 +23,7 @@ pub enum ProofFault {
 impl From<AllocError> for ProofFault {
     ghost from_gives = { λ _ fault. fault ≡ Memory };
 
-    /// Out of memory as a fault of a proof.
+    /// Want of memory as a fault of a proof.
     fn from(_error: AllocError) -> ProofFault {
         ProofFault::Memory
     }

@@ -17,7 +17,7 @@ use std::{env, io};
 pub enum WordsError {
     /// A word isn't text.
     NotText,
-    /// Out of memory.
+    /// Want of memory.
     Memory,
 }
 

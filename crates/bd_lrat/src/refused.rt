@@ -42,7 +42,7 @@ impl From<Refused> for AddError {
 impl From<AllocError> for AddError {
     ghost from_gives = { λ _ e. e ≡ add.Memory };
 
-    /// Out of memory as the reason why a line isn't added.
+    /// Want of memory as the reason why a line isn't added.
     fn from(_error: AllocError) -> AddError {
         AddError::Memory
     }

@@ -48,7 +48,7 @@ pub(crate) fn bad(place: Place, why: Why) -> ReadFault
 impl From<AllocError> for ReadFault {
     ghost from_gives = { λ _ fault. fault ≡ read.Memory };
 
-    /// Out of memory as a fault of reading.
+    /// Want of memory as a fault of reading.
     fn from(_error: AllocError) -> ReadFault {
         ReadFault::Memory
     }
@@ -57,7 +57,7 @@ impl From<AllocError> for ReadFault {
 impl<T: Drop> From<AllocFailed<T>> for ReadFault {
     ghost from_gives = { λ _ fault. fault ≡ read.Memory };
 
-    /// Out of memory, told with what didn't fit, as a fault of reading.
+    /// Want of memory, told with what didn't fit, as a fault of reading.
     fn from(_error: AllocFailed<T>) -> ReadFault {
         ReadFault::Memory
     }

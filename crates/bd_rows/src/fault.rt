@@ -24,20 +24,20 @@ pub enum RowFault {
     /// No words are given to the row.
     #[error("no words to run")]
     NoWords,
-    /// Out of memory.
+    /// Want of memory.
     #[error("out of memory")]
     Memory,
 }
 
 impl From<AllocError> for RowFault {
-    /// Out of memory.
+    /// Want of memory.
     fn from(_: AllocError) -> RowFault {
         RowFault::Memory
     }
 }
 
 impl<T: Drop> From<AllocFailed<T>> for RowFault {
-    /// Out of memory; what could not be put anywhere is dropped.
+    /// Want of memory; what could not be put anywhere is dropped.
     fn from(_: AllocFailed<T>) -> RowFault {
         RowFault::Memory
     }

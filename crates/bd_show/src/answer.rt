@@ -58,7 +58,7 @@ pub enum Ended {
     Unsaved,
     /// The output failed.
     Unwritten,
-    /// Out of memory.
+    /// Want of memory.
     Memory,
 }
 

@@ -51,7 +51,7 @@ pub enum WordsFault {
     Told(Vec<u8>),
     /// They aren't taken, and this text says why.
     Usage(Vec<u8>),
-    /// Out of memory.
+    /// Want of memory.
     Memory,
 }
 
@@ -60,7 +60,7 @@ impl From<AllocError> for WordsFault {
 
     ghost from_gives = { λ _ fault. fault ≡ Memory };
 
-    /// Out of memory.
+    /// Want of memory.
     fn from(_: AllocError) -> Self {
         WordsFault::Memory
     }

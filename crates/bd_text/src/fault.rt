@@ -26,7 +26,7 @@ pub enum TextFault {
 impl From<AllocError> for TextFault {
     ghost from_gives = { λ _ fault. fault ≡ Memory };
 
-    /// Out of memory as a fault of a text.
+    /// Want of memory as a fault of a text.
     fn from(_error: AllocError) -> TextFault {
         TextFault::Memory
     }
@@ -35,7 +35,7 @@ impl From<AllocError> for TextFault {
 impl<T: Drop> From<AllocFailed<T>> for TextFault {
     ghost from_gives = { λ _ fault. fault ≡ Memory };
 
-    /// Out of memory, told with what didn't fit, as a fault of a text.
+    /// Want of memory, told with what didn't fit, as a fault of a text.
     fn from(_error: AllocFailed<T>) -> TextFault {
         TextFault::Memory
     }

@@ -53,7 +53,7 @@ pub type DesignFault = TypeFault;
 impl From<AllocError> for TypeFault {
     ghost from_gives = { λ _ fault. fault ≡ Memory };
 
-    /// Out of memory as a fault of typing.
+    /// Want of memory as a fault of typing.
     fn from(_error: AllocError) -> TypeFault {
         TypeFault::Memory
     }
@@ -62,7 +62,7 @@ impl From<AllocError> for TypeFault {
 impl<T: Drop> From<AllocFailed<T>> for TypeFault {
     ghost from_gives = { λ _ fault. fault ≡ Memory };
 
-    /// Out of memory, told with what didn't fit, as a fault of typing.
+    /// Want of memory, told with what didn't fit, as a fault of typing.
     fn from(_error: AllocFailed<T>) -> TypeFault {
         TypeFault::Memory
     }

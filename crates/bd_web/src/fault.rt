@@ -11,7 +11,7 @@ pub enum Fault {
     NotText,
     /// What comes back has no room.
     CutOff,
-    /// Out of memory outside the run.
+    /// Want of memory outside the run.
     Memory,
 }
 
