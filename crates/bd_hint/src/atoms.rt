@@ -3,7 +3,6 @@
 use crate::forms::operator_form;
 use crate::lines::Lines;
 use crate::view::FaultView;
-use std::alloc::AllocError;
 
 /// What is written in place of a sign that other languages have as an operator.
 fn operator_for(atom: &[u8]) -> Option<&'static [u8]> {
@@ -38,18 +37,18 @@ fn strange(atom: &[u8]) -> Option<u8> {
 }
 
 /// What is written in place of a sign at the head of an expression.
-fn at_operator(out: &mut Lines, atom: &[u8], parts: u64) -> Result<(), AllocError> {
+fn at_operator(out: &mut Lines, atom: &[u8], parts: u64) {
     if let Some(form) = operator_for(atom) {
         return out.say(&[b"wanted: ", form]);
     }
-    out.say(&[b"words have no arithmetic and no order"])?;
-    out.put(&[b"wanted: a function or a predicate that is declared, as by (function NAME "])?;
-    out.put_number(parts)?;
+    out.say(&[b"words have no arithmetic and no order"]);
+    out.put(&[b"wanted: a function or a predicate that is declared, as by (function NAME "]);
+    out.put_number(parts);
     out.say(&[b")"])
 }
 
 /// What is written in place of an atom with a byte that no name has.
-fn at_strange(out: &mut Lines, atom: &[u8], byte: u8) -> Result<(), AllocError> {
+fn at_strange(out: &mut Lines, atom: &[u8], byte: u8) {
     match (atom, byte) {
         ([b'!' | b'~', rest @ ..], _) if !rest.is_empty() => {
             out.say(&[b"wanted: (not ", rest, b")"])
@@ -64,9 +63,9 @@ fn at_strange(out: &mut Lines, atom: &[u8], byte: u8) -> Result<(), AllocError> 
 }
 
 /// What helps at an atom that is no name.
-pub fn not_name(view: &FaultView<'_>, out: &mut Lines) -> Result<(), AllocError> {
+pub fn not_name(view: &FaultView<'_>, out: &mut Lines) {
     let Some(atom) = view.way.atom() else {
-        return Ok(());
+        return;
     };
     let is_declared = match view.way.item() {
         Some((_, place)) => view.way.depth() == 2 && place == 1,

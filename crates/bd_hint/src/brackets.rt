@@ -2,7 +2,6 @@
 
 use crate::lines::Lines;
 use crate::source::{FaultPlace, NamedFile};
-use std::alloc::AllocError;
 
 /// The brackets of a text as far as it is read.
 #[derive(Clone, Copy)]
@@ -46,11 +45,7 @@ pub fn ended_before(text: &[u8], offset: usize) -> Option<usize> {
 }
 
 /// What helps where brackets don't match: how many are missing, or where the file's list ends early.
-pub fn unbalanced(
-    out: &mut Lines,
-    source: NamedFile<'_>,
-    fault: FaultPlace,
-) -> Result<(), AllocError> {
+pub fn unbalanced(out: &mut Lines, source: NamedFile<'_>, fault: FaultPlace) {
     let found = brackets_before(source.text, fault.offset);
     match (found.open, found.ended) {
         (0, Some(at)) => out.note(
@@ -61,7 +56,7 @@ pub fn unbalanced(
         (0, None) => out.say(&[b"no ( stands before this )"]),
         (1, _) => out.say(&[b"a ) is missing"]),
         (count, _) => {
-            out.put_number(count)?;
+            out.put_number(count);
             out.say(&[b" ) are missing"])
         }
     }

@@ -2,7 +2,6 @@
 
 use crate::lines::Lines;
 use crate::source::{FaultPlace, NamedFile};
-use std::alloc::AllocError;
 
 /// What to write in place of a character.
 fn replacement(character: u32) -> Option<&'static [u8]> {
@@ -47,7 +46,7 @@ fn character(bytes: &[u8]) -> Option<u32> {
 }
 
 /// Adds what to do about a byte above 126, or below a space.
-fn say_remedy(out: &mut Lines, bytes: &[u8]) -> Result<(), AllocError> {
+fn say_remedy(out: &mut Lines, bytes: &[u8]) {
     match character(bytes) {
         Some(0xFEFF) => out.say(&[
             b"this is a byte order mark, which editors don't show: save the file without it",
@@ -65,23 +64,19 @@ fn say_remedy(out: &mut Lines, bytes: &[u8]) -> Result<(), AllocError> {
 }
 
 /// What helps at a byte that isn't allowed.
-pub fn at_byte(
-    out: &mut Lines,
-    source: NamedFile<'_>,
-    fault: FaultPlace,
-) -> Result<(), AllocError> {
+pub fn at_byte(out: &mut Lines, source: NamedFile<'_>, fault: FaultPlace) {
     let bytes = source.text.get(fault.offset..).unwrap_or(&[]);
     match bytes.first() {
         Some(0xFF | 0xFE) if fault.offset == 0 => {
             out.say(&[b"the file is in UTF-16: save it as UTF-8"])
         }
         Some(_) => say_remedy(out, bytes),
-        None => Ok(()),
+        None => {}
     }
 }
 
 /// What helps where lists nest too deep.
-pub fn at_depth(out: &mut Lines) -> Result<(), AllocError> {
+pub fn at_depth(out: &mut Lines) {
     out.say(&[
         b"200 lists are open here: name a part by (let NAME SORT EXPRESSION), or look for a missing )",
     ])

@@ -95,18 +95,39 @@ impl Declaration {
     }
 }
 
-/// What an item declares its name as.
-fn kind_of(item: Headed<'_>) -> Option<Declaration> {
-    let second = atom_at(item.parts, 2);
-    match item.head {
-        b"latch" => Some(Declaration::Latch(sort_named(second?)?)),
-        b"memory" => Some(Declaration::Memory),
-        b"input" => Some(Declaration::Input(sort_named(second?)?)),
-        b"let" => Some(Declaration::Let(sort_named(second?)?)),
-        b"function" => Some(Declaration::Function(arity_of(second?)?)),
-        b"predicate" => Some(Declaration::Predicate(arity_of(second?)?)),
+/// What an item with this head declares with a sort.
+fn valued(head: &[u8], sort: Sort) -> Option<Declaration> {
+    match head {
+        b"latch" => Some(Declaration::Latch(sort)),
+        b"input" => Some(Declaration::Input(sort)),
+        b"let" => Some(Declaration::Let(sort)),
         _ => None,
     }
+}
+
+/// What an item with this head declares with a number of words.
+fn applied(head: &[u8], arity: u64) -> Option<Declaration> {
+    match head {
+        b"function" => Some(Declaration::Function(arity)),
+        b"predicate" => Some(Declaration::Predicate(arity)),
+        _ => None,
+    }
+}
+
+/// What an item with this head declares, where this follows the name.
+fn declared_with(head: &[u8], second: &[u8]) -> Option<Declaration> {
+    match sort_named(second) {
+        Some(sort) => valued(head, sort),
+        None => applied(head, arity_of(second)?),
+    }
+}
+
+/// What an item declares its name as.
+fn kind_of(item: Headed<'_>) -> Option<Declaration> {
+    if item.head == b"memory".as_slice() {
+        return Some(Declaration::Memory);
+    }
+    declared_with(item.head, atom_at(item.parts, 2)?)
 }
 
 /// The declaration that an item is.
@@ -122,6 +143,19 @@ fn declaration_of(file: Text, tree: &Tree) -> Option<Declared<'_>> {
     })
 }
 
+/// Adds the declarations of a file.
+fn add_declarations<'f>(
+    found: &mut Vec<Declared<'f>>,
+    file: &'f File<'f>,
+) -> Result<(), AllocError> {
+    for tree in file.items() {
+        if let Some(declared) = declaration_of(file.source.file, tree) {
+            found.push(declared)?;
+        }
+    }
+    Ok(())
+}
+
 /// The declarations of files, in their order. The entries of a case declare nothing.
 pub fn declarations<'f>(
     alloc: Global,
@@ -129,13 +163,8 @@ pub fn declarations<'f>(
 ) -> Result<Vec<Declared<'f>>, AllocError> {
     let mut found = Vec::new(alloc);
     for file in files {
-        if matches!(file.source.file, Text::Case | Text::Trail) {
-            continue;
-        }
-        for tree in file.items() {
-            if let Some(declared) = declaration_of(file.source.file, tree) {
-                found.push(declared)?;
-            }
+        if !matches!(file.source.file, Text::Case | Text::Trail) {
+            add_declarations(&mut found, file)?;
         }
     }
     Ok(found)

@@ -3,20 +3,40 @@
 use crate::declared::{Declaration, Declared};
 use crate::lines::Lines;
 use crate::view::put_described;
+use crate::words::{Worded, text_of};
 use bd_model::Sort;
-use std::alloc::AllocError;
+
+/// How entries are written.
+static ENTRIES: [Worded; 6] = [
+    Worded {
+        word: b"latch",
+        text: b"(latch NAME VALUE)",
+    },
+    Worded {
+        word: b"memory",
+        text: b"(memory NAME DEFAULT (ADDRESS WORD) ..)",
+    },
+    Worded {
+        word: b"input",
+        text: b"(input NAME VALUE), in a trail with a value for each cycle",
+    },
+    Worded {
+        word: b"function",
+        text: b"(function NAME DEFAULT (WORD .. WORD) ..)",
+    },
+    Worded {
+        word: b"predicate",
+        text: b"(predicate NAME DEFAULT (WORD .. VALUE) ..)",
+    },
+    Worded {
+        word: b"constant",
+        text: b"(constant NAME WORD), in (case 2 ..)",
+    },
+];
 
 /// How an entry is written.
 pub fn entry_form(head: &[u8]) -> Option<&'static [u8]> {
-    match head {
-        b"latch" => Some(b"(latch NAME VALUE)"),
-        b"memory" => Some(b"(memory NAME DEFAULT (ADDRESS WORD) ..)"),
-        b"input" => Some(b"(input NAME VALUE), in a trail with a value for each cycle"),
-        b"function" => Some(b"(function NAME DEFAULT (WORD .. WORD) ..)"),
-        b"predicate" => Some(b"(predicate NAME DEFAULT (WORD .. VALUE) ..)"),
-        b"constant" => Some(b"(constant NAME WORD), in (case 2 ..)"),
-        _ => None,
-    }
+    text_of(&ENTRIES, head)
 }
 
 /// The word that the entry of a declared name begins with.
@@ -42,8 +62,8 @@ fn value_sort(kind: Declaration) -> Sort {
 }
 
 /// Adds which values an entry has.
-pub fn say_values(out: &mut Lines, declared: &Declared<'_>) -> Result<(), AllocError> {
-    put_described(out, declared)?;
+pub fn say_values(out: &mut Lines, declared: &Declared<'_>) {
+    put_described(out, declared);
     match value_sort(declared.kind) {
         Sort::Bool => out.say(&[b": its values are true and false"]),
         _ => out.say(&[

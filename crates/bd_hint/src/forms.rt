@@ -5,13 +5,13 @@ use crate::file::{Headed, list_of};
 use crate::lines::Lines;
 use crate::source::{kind_form, kind_text};
 use crate::view::FaultView;
+use crate::words::{Worded, text_of};
 use bd_near::nearest_word;
 use bd_syntax::Operator;
 use bd_syntax::lists::offset_of;
 use bd_text::Tree;
 use bd_text::outline::{atom_at, parts_of};
 use bd_typer::Text;
-use std::alloc::AllocError;
 
 /// What items begin with.
 const HEADS: [&[u8]; 12] = [
@@ -32,53 +32,89 @@ const HEADS: [&[u8]; 12] = [
 /// What is said of an item inside another list.
 pub const STRAY: &[u8] = b"this item stands inside another: a ) may be missing before it";
 
+/// How items are written.
+static ITEMS: [Worded; 12] = [
+    Worded {
+        word: b"latch",
+        text: b"(latch NAME word) or (latch NAME bool)",
+    },
+    Worded {
+        word: b"memory",
+        text: b"(memory NAME)",
+    },
+    Worded {
+        word: b"input",
+        text: b"(input NAME word EXPRESSION) or (input NAME bool EXPRESSION), with its value in flush cycles",
+    },
+    Worded {
+        word: b"function",
+        text: b"(function NAME N), of 0 to 8 words",
+    },
+    Worded {
+        word: b"predicate",
+        text: b"(predicate NAME N), of 0 to 8 words",
+    },
+    Worded {
+        word: b"let",
+        text: b"(let NAME SORT EXPRESSION), of sort word, bool or memory",
+    },
+    Worded {
+        word: b"next",
+        text: b"(next NAME EXPRESSION)",
+    },
+    Worded {
+        word: b"flush",
+        text: b"(flush N), with 0 to 64 cycles",
+    },
+    Worded {
+        word: b"steps",
+        text: b"(steps N), with 0 to 8 steps",
+    },
+    Worded {
+        word: b"exact",
+        text: b"(exact N CONDITION), with 0 to 8 steps",
+    },
+    Worded {
+        word: b"distinct",
+        text: b"(distinct NAME NAME ..), with two names or more",
+    },
+    Worded {
+        word: b"abstract",
+        text: b"(abstract NAME EXPRESSION)",
+    },
+];
+
 /// How an item is written.
 pub fn item_form(head: &[u8]) -> Option<&'static [u8]> {
-    match head {
-        b"latch" => Some(b"(latch NAME word) or (latch NAME bool)"),
-        b"memory" => Some(b"(memory NAME)"),
-        b"input" => Some(
-            b"(input NAME word EXPRESSION) or (input NAME bool EXPRESSION), with its value in flush cycles",
-        ),
-        b"function" => Some(b"(function NAME N), of 0 to 8 words"),
-        b"predicate" => Some(b"(predicate NAME N), of 0 to 8 words"),
-        b"let" => Some(b"(let NAME SORT EXPRESSION), of sort word, bool or memory"),
-        b"next" => Some(b"(next NAME EXPRESSION)"),
-        b"flush" => Some(b"(flush N), with 0 to 64 cycles"),
-        b"steps" => Some(b"(steps N), with 0 to 8 steps"),
-        b"exact" => Some(b"(exact N CONDITION), with 0 to 8 steps"),
-        b"distinct" => Some(b"(distinct NAME NAME ..), with two names or more"),
-        b"abstract" => Some(b"(abstract NAME EXPRESSION)"),
-        _ => None,
-    }
+    text_of(&ITEMS, head)
 }
 
 /// How an expression of an operator is written.
 pub fn operator_form(head: &[u8]) -> Option<&'static [u8]> {
-    match head {
-        b"not" => Some(b"(not P)"),
-        b"and" => Some(b"(and P Q ..), with two parts or more"),
-        b"or" => Some(b"(or P Q ..), with two parts or more"),
-        b"implies" => Some(b"(implies P Q)"),
-        b"iff" => Some(b"(iff P Q)"),
-        b"=" => Some(b"(= X Y)"),
-        b"ite" => Some(b"(ite P X Y)"),
-        b"read" => Some(b"(read MEMORY X)"),
-        b"write" => Some(b"(write MEMORY X Y)"),
-        _ => None,
-    }
+    let form: &'static [u8] = match Operator::from_text(head)? {
+        Operator::Not => b"(not P)",
+        Operator::And => b"(and P Q ..), with two parts or more",
+        Operator::Or => b"(or P Q ..), with two parts or more",
+        Operator::Implies => b"(implies P Q)",
+        Operator::Iff => b"(iff P Q)",
+        Operator::Equal => b"(= X Y)",
+        Operator::Ite => b"(ite P X Y)",
+        Operator::Read => b"(read MEMORY X)",
+        Operator::Write => b"(write MEMORY X Y)",
+    };
+    Some(form)
 }
 
 /// Adds that a form is wanted, and how many parts are given after the head.
-pub fn say_wanted(out: &mut Lines, form: &[u8], list: Headed<'_>) -> Result<(), AllocError> {
-    out.say(&[b"wanted: ", form])?;
-    out.put(&[b"given: (", list.head, b" ..) with "])?;
+pub fn say_wanted(out: &mut Lines, form: &[u8], list: Headed<'_>) {
+    out.say(&[b"wanted: ", form]);
+    out.put(&[b"given: (", list.head, b" ..) with "]);
     match list.count() {
-        0 => out.put(&[b"no parts"])?,
-        1 => out.put(&[b"1 part"])?,
+        0 => out.put(&[b"no parts"]),
+        1 => out.put(&[b"1 part"]),
         count => {
-            out.put_number(count as u64)?;
-            out.put(&[b" parts"])?;
+            out.put_number(count as u64);
+            out.put(&[b" parts"]);
         }
     }
     out.end()
@@ -108,21 +144,16 @@ pub fn stray(view: &FaultView<'_>) -> Option<usize> {
 }
 
 /// What helps at a list with a wrong number of parts.
-fn at_form(
-    view: &FaultView<'_>,
-    out: &mut Lines,
-    form: &[u8],
-    list: Headed<'_>,
-) -> Result<(), AllocError> {
-    say_wanted(out, form, list)?;
+fn at_form(view: &FaultView<'_>, out: &mut Lines, form: &[u8], list: Headed<'_>) {
+    say_wanted(out, form, list);
     match swallowed(list) {
         Some(part) => out.note(view.file.source, offset_of(part), &[STRAY]),
-        None => Ok(()),
+        None => {}
     }
 }
 
 /// What helps where an item begins with a word that no item has.
-fn unknown_item(view: &FaultView<'_>, out: &mut Lines, head: &[u8]) -> Result<(), AllocError> {
+fn unknown_item(view: &FaultView<'_>, out: &mut Lines, head: &[u8]) {
     let file = view.fault.file;
     if matches!(file, Text::Inv | Text::Start) {
         return out.say(&[
@@ -130,17 +161,17 @@ fn unknown_item(view: &FaultView<'_>, out: &mut Lines, head: &[u8]) -> Result<()
             b" has lets and then one expression: join several by (and P Q ..)",
         ]);
     }
-    if let Some(word) = nearest_word(view.alloc, head, &HEADS)? {
+    if let Some(word) = out.given(nearest_word(view.alloc, head, &HEADS)) {
         return out.say(&[b"near: ", item_form(word).unwrap_or(word)]);
     }
-    out.say(&[b"no item begins with ", head])?;
+    out.say(&[b"no item begins with ", head]);
     out.say(&[
         b"items: latch, memory, input, function, predicate, let, next, flush, steps, exact, distinct",
     ])
 }
 
 /// What helps at a list with the wrong parts.
-fn at_list(view: &FaultView<'_>, out: &mut Lines, tree: &Tree) -> Result<(), AllocError> {
+fn at_list(view: &FaultView<'_>, out: &mut Lines, tree: &Tree) {
     let is_item = view.way.depth() == 1;
     let Some(list) = list_of(tree) else {
         return match (is_item, parts_of(tree)) {
@@ -170,9 +201,9 @@ fn is_value(view: &FaultView<'_>) -> bool {
 }
 
 /// What helps at a part of an item that is no sort, name or number.
-fn at_part(view: &FaultView<'_>, out: &mut Lines) -> Result<(), AllocError> {
+fn at_part(view: &FaultView<'_>, out: &mut Lines) {
     let Some((item, place)) = view.way.item() else {
-        return Ok(());
+        return;
     };
     let is_memory = matches!(view.way.atom(), Some(b"memory")) && item.head == b"latch".as_slice();
     if is_memory {
@@ -180,17 +211,17 @@ fn at_part(view: &FaultView<'_>, out: &mut Lines) -> Result<(), AllocError> {
     }
     if let (Some(atom), 2) = (view.way.atom(), place) {
         if sort_named(atom).is_none() {
-            out.say(&[b"no sort is called ", atom])?;
+            out.say(&[b"no sort is called ", atom]);
         }
     }
     match item_form(item.head) {
         Some(form) => out.say(&[b"wanted: ", form]),
-        None => Ok(()),
+        None => {}
     }
 }
 
 /// What helps at a malformed form.
-pub fn malformed(view: &FaultView<'_>, out: &mut Lines) -> Result<(), AllocError> {
+pub fn malformed(view: &FaultView<'_>, out: &mut Lines) {
     let file = view.fault.file;
     match (view.way.end, view.way.depth()) {
         (Some(_), 0) => out.say(&[kind_text(file), b" is written ", kind_form(file)]),
@@ -205,7 +236,7 @@ pub fn malformed(view: &FaultView<'_>, out: &mut Lines) -> Result<(), AllocError
             }
             at_list(view, out, tree)
         }
-        (None, _) => Ok(()),
+        (None, _) => {}
     }
 }
 
@@ -222,22 +253,22 @@ fn names_part(view: &FaultView<'_>) -> bool {
 }
 
 /// What helps at a number that is none or out of range.
-pub fn at_number(view: &FaultView<'_>, out: &mut Lines) -> Result<(), AllocError> {
+pub fn at_number(view: &FaultView<'_>, out: &mut Lines) {
     let form = match view.way.item() {
         Some((item, _)) => item_form(item.head),
         None => None,
     };
     if let Some(form) = form {
-        out.say(&[b"wanted: ", form])?;
+        out.say(&[b"wanted: ", form]);
     }
     match view.way.atom() {
         Some([b'0', _, ..]) => out.say(&[b"a number has no zeros before it"]),
-        _ => Ok(()),
+        _ => {}
     }
 }
 
 /// What helps at an item that stands in a file of another kind.
-pub fn elsewhere(view: &FaultView<'_>, out: &mut Lines) -> Result<(), AllocError> {
+pub fn elsewhere(view: &FaultView<'_>, out: &mut Lines) {
     let file = view.fault.file;
     let head = match view.way.end {
         Some(tree) => list_of(tree),

@@ -7,7 +7,6 @@ use crate::view::FaultView;
 use bd_near::nearest_word;
 use bd_text::outline::{atom_of, parts_of};
 use bd_typer::Text;
-use std::alloc::AllocError;
 
 /// What a file may begin with.
 const HEADS: [&[u8]; 7] = [
@@ -48,12 +47,12 @@ fn answer_text(word: &[u8]) -> Option<&'static [u8]> {
 }
 
 /// Adds what the files of a kind look like.
-fn say_form(out: &mut Lines, file: Text) -> Result<(), AllocError> {
+fn say_form(out: &mut Lines, file: Text) {
     out.say(&[kind_text(file), b" is written ", kind_form(file)])
 }
 
 /// What helps where a list begins with a word that isn't wanted.
-fn other_head(view: &FaultView<'_>, out: &mut Lines, head: &[u8]) -> Result<(), AllocError> {
+fn other_head(view: &FaultView<'_>, out: &mut Lines, head: &[u8]) {
     let file = view.fault.file;
     if let Some(kind) = kind_of(head) {
         out.say(&[
@@ -62,22 +61,22 @@ fn other_head(view: &FaultView<'_>, out: &mut Lines, head: &[u8]) -> Result<(), 
             b", where ",
             kind_text(file),
             b" is wanted",
-        ])?;
+        ]);
         return match (file, kind) {
             (Text::Pipe, Text::Spec) | (Text::Spec, Text::Pipe) => {
                 out.say(&[b"the pipeline is named before the specification"])
             }
-            _ => Ok(()),
+            _ => {}
         };
     }
-    if let Some(word) = nearest_word(view.alloc, head, &HEADS)? {
-        out.say(&[b"near: ", word])?;
+    if let Some(word) = out.given(nearest_word(view.alloc, head, &HEADS)) {
+        out.say(&[b"near: ", word]);
     }
     say_form(out, file)
 }
 
 /// What helps where a case or a trail begins with another number than is wanted.
-fn at_number(view: &FaultView<'_>, out: &mut Lines) -> Result<(), AllocError> {
+fn at_number(view: &FaultView<'_>, out: &mut Lines) {
     match view.fault.file {
         Text::Trail => out.say(&[
             b"a trail is written (trail CYCLES ENTRY ..), over 0 to 16 cycles",
@@ -87,7 +86,7 @@ fn at_number(view: &FaultView<'_>, out: &mut Lines) -> Result<(), AllocError> {
 }
 
 /// What helps where a file has no list, or begins with something else.
-fn without_list(view: &FaultView<'_>, out: &mut Lines, word: &[u8]) -> Result<(), AllocError> {
+fn without_list(view: &FaultView<'_>, out: &mut Lines, word: &[u8]) {
     if matches!(view.fault.file, Text::Case | Text::Trail) {
         if let Some(text) = answer_text(word) {
             return out.say(&[text]);
@@ -104,7 +103,7 @@ fn without_list(view: &FaultView<'_>, out: &mut Lines, word: &[u8]) -> Result<()
         return out.say(&[b"a comment begins with ; and ends with its line"]);
     }
     if word.is_empty() {
-        out.say(&[b"the file has no list"])?;
+        out.say(&[b"the file has no list"]);
     }
     say_form(out, view.fault.file)
 }
@@ -118,13 +117,13 @@ fn is_other_comment(view: &FaultView<'_>) -> bool {
 }
 
 /// What helps where a file isn't one list with the head of its kind.
-pub fn at_head(view: &FaultView<'_>, out: &mut Lines) -> Result<(), AllocError> {
+pub fn at_head(view: &FaultView<'_>, out: &mut Lines) {
     let source = view.file.source;
     let Some(tree) = view.way.end else {
         return without_list(view, out, first_word(source.text));
     };
     let Some(level) = view.way.last() else {
-        return Ok(());
+        return;
     };
     if view.way.depth() == 0 && level.place > 0 {
         return match ended_before(source.text, view.fault.offset) {

@@ -61,7 +61,8 @@ fn by_declared<'f>(
         declared,
         way: way_to(alloc, file.trees(), fault.offset)?,
     };
-    by_code(&view, out)
+    by_code(&view, out);
+    Ok(())
 }
 
 /// What helps by the trees of files.
@@ -75,8 +76,19 @@ fn by_trees<'f>(
     by_declared(alloc, out, files, declared.as_slice(), fault)
 }
 
+/// What helps by the files.
+fn by_files(
+    alloc: Global,
+    out: &mut Lines,
+    sources: &[NamedFile<'_>],
+    fault: FaultPlace,
+) -> Result<(), AllocError> {
+    let files = files_of(alloc, sources)?;
+    by_trees(alloc, out, files.as_slice(), fault)
+}
+
 /// What helps by the code of the fault.
-fn by_code(view: &FaultView<'_>, out: &mut Lines) -> Result<(), AllocError> {
+fn by_code(view: &FaultView<'_>, out: &mut Lines) {
     let is_case = matches!(view.fault.file, Text::Case | Text::Trail);
     if let (Some(at), false) = (stray(view), is_case) {
         return out.note(view.file.source, at, &[STRAY]);
@@ -101,7 +113,7 @@ fn by_code(view: &FaultView<'_>, out: &mut Lines) -> Result<(), AllocError> {
         Code::InputNotAllowed => not_allowed(view, out),
         Code::NotConstant => not_constant(view, out),
         Code::NotDistinct => not_distinct(view, out),
-        _ => Ok(()),
+        _ => {}
     }
 }
 
@@ -116,14 +128,14 @@ pub fn hint_of(
     let mut out = Lines::new(alloc);
     if let Some(source) = source_of(sources, fault.file) {
         match fault.code {
-            Code::ByteNotAllowed => at_byte(&mut out, source, fault)?,
-            Code::Unbalanced => unbalanced(&mut out, source, fault)?,
-            Code::TooDeep => at_depth(&mut out)?,
+            Code::ByteNotAllowed => at_byte(&mut out, source, fault),
+            Code::Unbalanced => unbalanced(&mut out, source, fault),
+            Code::TooDeep => at_depth(&mut out),
             _ => {
-                let files = files_of(alloc, sources)?;
-                by_trees(alloc, &mut out, files.as_slice(), fault)?;
+                let done = by_files(alloc, &mut out, sources, fault);
+                out.end_with(done);
             }
         }
     }
-    Ok(out.into_bytes())
+    out.into_bytes()
 }

@@ -26,6 +26,7 @@ mod twice;
 mod unknown;
 mod view;
 mod way;
+mod words;
 
 pub use hint::hint_of;
 pub use source::{FaultPlace, NamedFile};

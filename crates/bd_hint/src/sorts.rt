@@ -11,7 +11,6 @@ use bd_model::Sort;
 use bd_syntax::Operator;
 use bd_text::outline::atom_at;
 use bd_typer::Text;
-use std::alloc::AllocError;
 
 /// A sort that is wanted, and by what: the head of a list, and the place of the part, or the name of the item.
 #[derive(Clone, Copy)]
@@ -105,19 +104,19 @@ pub fn wanted_sort(view: &FaultView<'_>) -> Option<Sort> {
 }
 
 /// Adds what is wanted.
-fn put_wanted(out: &mut Lines, want: &WantedSort<'_>) -> Result<(), AllocError> {
-    out.put(&[b"wanted: ", sort_text(want.sort)])?;
+fn put_wanted(out: &mut Lines, want: &WantedSort<'_>) {
+    out.put(&[b"wanted: ", sort_text(want.sort)]);
     match want.part {
         Some(place) => {
-            out.put(&[b", as part "])?;
-            out.put_number(place as u64)?;
-            out.put(&[b" of ("])?;
+            out.put(&[b", as part "]);
+            out.put_number(place as u64);
+            out.put(&[b" of ("]);
         }
-        None => out.put(&[b", by ("])?,
+        None => out.put(&[b", by ("]),
     }
-    out.put(&[want.head])?;
+    out.put(&[want.head]);
     if let Some(name) = want.name {
-        out.put(&[b" ", name])?;
+        out.put(&[b" ", name]);
     }
     out.put(&[b" ..)"])
 }
@@ -147,58 +146,53 @@ fn remedy(want: &WantedSort<'_>, found: Sort) -> Option<&'static [u8]> {
 }
 
 /// Adds what is wanted, what is found, and what makes up for the difference.
-fn say_sorts(out: &mut Lines, want: &WantedSort<'_>, found: Sort) -> Result<(), AllocError> {
-    put_wanted(out, want)?;
-    out.say(&[b"; found: ", sort_text(found)])?;
+fn say_sorts(out: &mut Lines, want: &WantedSort<'_>, found: Sort) {
+    put_wanted(out, want);
+    out.say(&[b"; found: ", sort_text(found)]);
     match remedy(want, found) {
         Some(text) => out.say(&[text]),
-        None => Ok(()),
+        None => {}
     }
 }
 
 /// Adds how a function or predicate is applied.
-fn say_application(out: &mut Lines, declared: &Declared<'_>) -> Result<(), AllocError> {
-    out.put(&[b"its value is written (", declared.name])?;
+fn say_application(out: &mut Lines, declared: &Declared<'_>) {
+    out.put(&[b"its value is written (", declared.name]);
     for _ in 0..declared.kind.arity().unwrap_or(0) {
-        out.put(&[b" X"])?;
+        out.put(&[b" X"]);
     }
     out.say(&[b")"])
 }
 
 /// What helps at a name with another sort, or that is no value.
-fn at_name(view: &FaultView<'_>, out: &mut Lines, name: &[u8]) -> Result<(), AllocError> {
+fn at_name(view: &FaultView<'_>, out: &mut Lines, name: &[u8]) {
     let Some(want) = wanted_of(view) else {
-        return Ok(());
+        return;
     };
     if matches!(name, b"true" | b"false") {
         return say_sorts(out, &want, Sort::Bool);
     }
     let Some(declared) = view.usable(name) else {
-        return Ok(());
+        return;
     };
     match declared.kind.sort() {
         Some(sort) => {
-            say_sorts(out, &want, sort)?;
+            say_sorts(out, &want, sort);
             view.note(out, b"", &declared)
         }
         None => {
-            view.note(out, b"", &declared)?;
+            view.note(out, b"", &declared);
             say_application(out, &declared)
         }
     }
 }
 
 /// What helps at the head of an application that is no function.
-fn at_head(
-    view: &FaultView<'_>,
-    out: &mut Lines,
-    name: &[u8],
-    parts: u64,
-) -> Result<(), AllocError> {
+fn at_head(view: &FaultView<'_>, out: &mut Lines, name: &[u8], parts: u64) {
     let Some(declared) = view.usable(name) else {
-        return Ok(());
+        return;
     };
-    view.note(out, b"", &declared)?;
+    view.note(out, b"", &declared);
     match (declared.kind.sort(), parts) {
         (Some(Sort::Memory), 1) => out.say(&[b"a word of it is (read ", name, b" X)"]),
         (_, 0) => out.say(&[b"its value is written without brackets: ", name]),
@@ -207,12 +201,12 @@ fn at_head(
 }
 
 /// What helps at an expression of another sort.
-fn at_list(view: &FaultView<'_>, out: &mut Lines) -> Result<(), AllocError> {
+fn at_list(view: &FaultView<'_>, out: &mut Lines) {
     let (Some(want), Some(tree)) = (wanted_of(view), view.way.end) else {
-        return Ok(());
+        return;
     };
     let Some(list) = list_of(tree) else {
-        return Ok(());
+        return;
     };
     let found = match Operator::from_text(list.head) {
         Some(Operator::Read) => Some(Sort::Word),
@@ -225,14 +219,14 @@ fn at_list(view: &FaultView<'_>, out: &mut Lines) -> Result<(), AllocError> {
         return say_sorts(out, &want, found);
     }
     let Some(declared) = view.usable(list.head) else {
-        return Ok(());
+        return;
     };
-    say_sorts(out, &want, declared.kind.result().unwrap_or(Sort::Word))?;
+    say_sorts(out, &want, declared.kind.result().unwrap_or(Sort::Word));
     view.note(out, b"", &declared)
 }
 
 /// What helps at a wrong sort.
-pub fn wrong_sort(view: &FaultView<'_>, out: &mut Lines) -> Result<(), AllocError> {
+pub fn wrong_sort(view: &FaultView<'_>, out: &mut Lines) {
     if matches!(view.fault.file, Text::Case | Text::Trail) {
         return wrong_value(view, out);
     }

@@ -5,15 +5,9 @@ use crate::lines::Lines;
 use crate::view::FaultView;
 use bd_syntax::lists::offset_of;
 use bd_text::outline::atom_of;
-use std::alloc::AllocError;
 
 /// Adds where an item of this head and name stands first in the file, if it does before an offset.
-pub fn note_first(
-    view: &FaultView<'_>,
-    out: &mut Lines,
-    head: &[u8],
-    name: Option<&[u8]>,
-) -> Result<bool, AllocError> {
+pub fn note_first(view: &FaultView<'_>, out: &mut Lines, head: &[u8], name: Option<&[u8]>) -> bool {
     for tree in view.file.items() {
         let Some(item) = list_of(tree) else { continue };
         if item.head != head || !has_name(item, name) || item.offset >= view.fault.offset {
@@ -26,10 +20,10 @@ pub fn note_first(
             (Some(_), Some((at, _))) => at,
             _ => item.offset,
         };
-        out.note(view.file.source, at, &[b"first given here"])?;
-        return Ok(true);
+        out.note(view.file.source, at, &[b"first given here"]);
+        return true;
     }
-    Ok(false)
+    false
 }
 
 /// Whether an item has this name, where one is asked for.
@@ -50,25 +44,24 @@ fn is_around(item: Headed<'_>, view: &FaultView<'_>) -> bool {
 }
 
 /// Adds where a name stands in a list before.
-fn note_in_list(view: &FaultView<'_>, out: &mut Lines, name: &[u8]) -> Result<(), AllocError> {
+fn note_in_list(view: &FaultView<'_>, out: &mut Lines, name: &[u8]) {
     let Some(level) = view.way.last() else {
-        return Ok(());
+        return;
     };
     for part in level.parts.iter().take(level.place).skip(1) {
         if atom_of(part) == Some(name) {
             return out.note(view.file.source, offset_of(part), &[b"first given here"]);
         }
     }
-    Ok(())
 }
 
 /// What helps at a name that is declared twice, or stands twice in a group.
-pub fn declared_twice(view: &FaultView<'_>, out: &mut Lines) -> Result<(), AllocError> {
+pub fn declared_twice(view: &FaultView<'_>, out: &mut Lines) {
     let Some(name) = view.way.atom() else {
-        return Ok(());
+        return;
     };
     let Some((item, _)) = view.way.item() else {
-        return Ok(());
+        return;
     };
     if item.head == b"distinct".as_slice() {
         return note_in_list(view, out, name);
@@ -78,12 +71,11 @@ pub fn declared_twice(view: &FaultView<'_>, out: &mut Lines) -> Result<(), Alloc
             continue;
         }
         if other.file != view.fault.file {
-            view.note(out, b"", other)?;
+            view.note(out, b"", other);
             return out.say(&[b"the let needs another name"]);
         }
         if other.at < view.fault.offset {
             return view.mark(out, other, b"first declared here");
         }
     }
-    Ok(())
 }

@@ -10,7 +10,6 @@ use crate::view::FaultView;
 use bd_model::Sort;
 use bd_near::nearest_word;
 use bd_typer::Text;
-use std::alloc::AllocError;
 
 /// The words that expressions have beside names.
 const OPERATORS: [&[u8]; 8] = [
@@ -33,24 +32,19 @@ fn word_for(name: &[u8]) -> Option<&'static [u8]> {
 }
 
 /// What helps at the name of a `next` or an `abstract` that is no latch or memory.
-fn at_entry(
-    view: &FaultView<'_>,
-    out: &mut Lines,
-    item: Headed<'_>,
-    name: &[u8],
-) -> Result<(), AllocError> {
+fn at_entry(view: &FaultView<'_>, out: &mut Lines, item: Headed<'_>, name: &[u8]) {
     let file = match view.fault.file {
         Text::Comp => Text::Spec,
         other => other,
     };
     if let Some(found) = view.declared_in(file, name) {
-        view.note(out, b"", &found)?;
+        view.note(out, b"", &found);
         return out.say(&[b"only a latch or a memory has (", item.head, b" NAME ..)"]);
     }
-    if let Some(found) = view.near_entry(file, name)? {
+    if let Some(found) = out.given(view.near_entry(file, name)) {
         return view.note(out, b"near: ", &found);
     }
-    out.put(&[kind_text(file)])?;
+    out.put(&[kind_text(file)]);
     out.say(&[
         b" declares it by (latch ",
         name,
@@ -61,15 +55,11 @@ fn at_entry(
 }
 
 /// What helps at a name that is declared, but may not be used there.
-fn at_declared(
-    view: &FaultView<'_>,
-    out: &mut Lines,
-    found: &Declared<'_>,
-) -> Result<(), AllocError> {
-    view.note(out, b"", found)?;
+fn at_declared(view: &FaultView<'_>, out: &mut Lines, found: &Declared<'_>) {
+    view.note(out, b"", found);
     let file = view.fault.file;
     if found.file != file && matches!(file, Text::Pipe | Text::Spec) {
-        out.put(&[kind_text(file)])?;
+        out.put(&[kind_text(file)]);
         return out.say(&[
             b" uses what it declares itself: declare ",
             found.name,
@@ -99,29 +89,24 @@ fn at_declared(
 }
 
 /// What helps at the word that an application begins with.
-fn at_application(
-    view: &FaultView<'_>,
-    out: &mut Lines,
-    name: &[u8],
-    parts: u64,
-) -> Result<(), AllocError> {
+fn at_application(view: &FaultView<'_>, out: &mut Lines, name: &[u8], parts: u64) {
     if let Some(form) = word_for(name) {
         return out.say(&[b"wanted: ", form]);
     }
-    if let Some(found) = view.near_symbol(name)? {
+    if let Some(found) = out.given(view.near_symbol(name)) {
         return view.note(out, b"near: ", &found);
     }
-    if let Some(word) = nearest_word(view.alloc, name, &OPERATORS)? {
+    if let Some(word) = out.given(nearest_word(view.alloc, name, &OPERATORS)) {
         return out.say(&[b"near: ", operator_form(word).unwrap_or(word)]);
     }
-    out.put(&[b"a function is declared by (function ", name, b" "])?;
-    out.put_number(parts)?;
+    out.put(&[b"a function is declared by (function ", name, b" "]);
+    out.put_number(parts);
     out.say(&[b"), and one to truth values by predicate"])
 }
 
 /// Adds how a latch or a memory would be declared, of the sort that is wanted.
-fn say_declaration(view: &FaultView<'_>, out: &mut Lines, name: &[u8]) -> Result<(), AllocError> {
-    out.put(&[b"no declared name is near: "])?;
+fn say_declaration(view: &FaultView<'_>, out: &mut Lines, name: &[u8]) {
+    out.put(&[b"no declared name is near: "]);
     match wanted_sort(view) {
         Some(Sort::Memory) => out.say(&[b"a memory is declared by (memory ", name, b")"]),
         Some(Sort::Bool) => out.say(&[b"a latch is declared by (latch ", name, b" bool)"]),
@@ -130,21 +115,21 @@ fn say_declaration(view: &FaultView<'_>, out: &mut Lines, name: &[u8]) -> Result
 }
 
 /// A near name that may be used as a value: one of the sort that is wanted there, if there is one.
-fn near_value<'v>(view: &FaultView<'v>, name: &[u8]) -> Result<Option<Declared<'v>>, AllocError> {
+fn near_value<'v>(view: &FaultView<'v>, out: &mut Lines, name: &[u8]) -> Option<Declared<'v>> {
     if let Some(sort) = wanted_sort(view) {
-        if let Some(found) = view.near_of_sort(name, sort)? {
-            return Ok(Some(found));
+        if let Some(found) = out.given(view.near_of_sort(name, sort)) {
+            return Some(found);
         }
     }
-    view.near_usable(name)
+    out.given(view.near_usable(name))
 }
 
 /// What helps at a name that is used as a value.
-fn at_value(view: &FaultView<'_>, out: &mut Lines, name: &[u8]) -> Result<(), AllocError> {
-    if let Some(found) = near_value(view, name)? {
+fn at_value(view: &FaultView<'_>, out: &mut Lines, name: &[u8]) {
+    if let Some(found) = near_value(view, out, name) {
         return view.note(out, b"near: ", &found);
     }
-    if let Some(word) = nearest_word(view.alloc, name, &TRUTHS)? {
+    if let Some(word) = out.given(nearest_word(view.alloc, name, &TRUTHS)) {
         return out.say(&[b"near: ", word]);
     }
     match (view.fault.file, view.way.item()) {
@@ -160,9 +145,9 @@ fn at_value(view: &FaultView<'_>, out: &mut Lines, name: &[u8]) -> Result<(), Al
 }
 
 /// What helps at a name that isn't known.
-pub fn unknown(view: &FaultView<'_>, out: &mut Lines) -> Result<(), AllocError> {
+pub fn unknown(view: &FaultView<'_>, out: &mut Lines) {
     let Some(name) = view.way.atom() else {
-        return Ok(());
+        return;
     };
     if let Some((item, _)) = view.way.item() {
         if view.way.is_name_of(b"next") || view.way.is_name_of(b"abstract") {

@@ -35,6 +35,20 @@ fn may_use(file: Text, declared: &Declared<'_>) -> bool {
     }
 }
 
+/// The first of some declarations with a near name.
+fn nearest_of<'v>(
+    alloc: Global,
+    name: &[u8],
+    candidates: &[Declared<'v>],
+) -> Result<Option<Declared<'v>>, AllocError> {
+    let mut names = Vec::new(alloc);
+    for candidate in candidates {
+        names.push(candidate.name)?;
+    }
+    let place = nearest(alloc, name, names.as_slice())?;
+    Ok(place.and_then(|place| candidates.get(place).copied()))
+}
+
 impl<'v> FaultView<'v> {
     /// The source of a kind.
     pub fn source(&self, file: Text) -> Option<NamedFile<'v>> {
@@ -91,17 +105,12 @@ impl<'v> FaultView<'v> {
         requires { F.IsAlwaysCallable passes }
     {
         let mut candidates = Vec::new(self.alloc);
-        let mut names = Vec::new(self.alloc);
         for other in self.declared {
             if passes(other) {
                 candidates.push(*other)?;
-                names.push(other.name)?;
             }
         }
-        match nearest(self.alloc, name, names.as_slice())? {
-            Some(place) => Ok(candidates.as_slice().get(place).copied()),
-            None => Ok(None),
-        }
+        nearest_of(self.alloc, name, candidates.as_slice())
     }
 
     /// The first latch or memory of a file with a near name.
@@ -138,35 +147,26 @@ impl<'v> FaultView<'v> {
     }
 
     /// Adds where a name is declared, and these words.
-    pub fn mark(
-        &self,
-        out: &mut Lines,
-        declared: &Declared<'_>,
-        words: &[u8],
-    ) -> Result<(), AllocError> {
-        match self.source(declared.file) {
-            Some(source) => out.note(source, declared.at, &[words]),
-            None => Ok(()),
+    pub fn mark(&self, out: &mut Lines, declared: &Declared<'_>, words: &[u8]) {
+        if let Some(source) = self.source(declared.file) {
+            out.note(source, declared.at, &[words]);
         }
     }
 
     /// Adds where a name is declared, and as what, after these words.
-    pub fn note(
-        &self,
-        out: &mut Lines,
-        lead: &[u8],
-        declared: &Declared<'_>,
-    ) -> Result<(), AllocError> {
-        let mut words = Lines::new(self.alloc);
-        words.put(&[lead])?;
-        put_described(&mut words, declared)?;
-        self.mark(out, declared, words.into_bytes().as_slice())
+    pub fn note(&self, out: &mut Lines, lead: &[u8], declared: &Declared<'_>) {
+        if let Some(source) = self.source(declared.file) {
+            out.begin_note(source, declared.at);
+            out.put(&[lead]);
+            put_described(out, declared);
+            out.end_note(source, declared.at);
+        }
     }
 }
 
 /// Adds what a name is declared as.
-pub fn put_described(out: &mut Lines, declared: &Declared<'_>) -> Result<(), AllocError> {
-    out.put(&[declared.name, b" is "])?;
+pub fn put_described(out: &mut Lines, declared: &Declared<'_>) {
+    out.put(&[declared.name, b" is "]);
     match declared.kind {
         Declaration::Latch(sort) => out.put(&[b"a latch of sort ", sort_text(sort)]),
         Declaration::Memory => out.put(&[b"a memory"]),
@@ -178,14 +178,14 @@ pub fn put_described(out: &mut Lines, declared: &Declared<'_>) -> Result<(), All
 }
 
 /// Adds how many words something is of.
-pub fn put_arity(out: &mut Lines, words: &[u8], arity: u64) -> Result<(), AllocError> {
-    out.put(&[words])?;
+pub fn put_arity(out: &mut Lines, words: &[u8], arity: u64) {
+    out.put(&[words]);
     match arity {
         0 => out.put(&[b"no word"]),
         1 => out.put(&[b"1 word"]),
         _ => {
-            out.put_number(arity)?;
-            out.put(&[b" words"])
+            out.put_number(arity);
+            out.put(&[b" words"]);
         }
     }
 }
