@@ -92,8 +92,8 @@ def made(kit: Any, name: str, toolchain: Path) -> int:
         print("not kept by rt ci:", *lacking, file=sys.stderr)
         return NOT_KEPT
     os.makedirs(f"{target.folder}/out", exist_ok=True)
-    words = target.words(["--jobs", "2"], keeps=False)
-    return int(target.prove(["build", *words, "--toolchain", str(toolchain), "--backend", "llvm", "-o", f"out/{name}.a"]))
+    words = [*target.words(["--jobs", "2"], keeps=False), "--toolchain", str(toolchain), "--backend", "llvm"]
+    return int(target.prove(["build", *words, "-o", f"out/{name}.a"]))
 
 
 def main() -> int:
