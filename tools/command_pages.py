@@ -20,7 +20,7 @@ PAGES = Path(__file__).resolve().parent.parent / "docs" / "commands"
 SCRIPT = "tools/command_pages.py"
 HEADS = {"burch_dill": "What they ask", "bd_view": "What they print"}
 # what a value is called where help has the option's name in its place; others are their options' names in capitals
-VALUES = {"budget": "N", "case": "FILE", "cycles": "C", "html": "FILE", "of": "VALUE"}
+VALUES = {"budget": "N", "case": "FILE", "cycles": "C", "html": "FILE", "json": "FILE", "of": "VALUE", "vcd": "FILE"}
 OPTION = re.compile(r"^ +(?:-\w, )?--([\w-]+)(?: <[\w-]+>)?(?: {2,}(.*))?$", re.M)
 
 

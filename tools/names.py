@@ -3,8 +3,8 @@
 
 usage: tools/names.py
 
-In the sight of a crate are the types that it declares, and those that the crates on which it stands export. A line is
-the crate, the name, and where its types are declared. The status is 1 where a line is printed, and 0 where none is.
+A crate sees the types that it declares, and those that the crates below it export. A line is the crate, the name, and
+where its types are declared. The status is 1 where a line is printed, and 0 where none is.
 """
 from __future__ import annotations
 

@@ -11,7 +11,7 @@ usage: prove.py PIPE SPEC [INV] [--diverse] [--proof FILE] [--solver COMMAND] [-
 COMMAND gets the formula's name for {cnf} and the proof's for {drat}, and ends with status 20 where there is no model;
 where none is given it is that of a known solver on the path. The programs are `burch_dill` and, for --diverse,
 `bd_view`: as given, else the environment's BURCH_DILL and BD_VIEW, else those on the path. The status is 0 where the
-pipeline is proved right, 1 where it is wrong, 2 where the words aren't taken, and 3 where there is no answer.
+pipeline is proved right, 1 where it is wrong, 2 for unrecognized arguments, and 3 where there is no answer.
 """
 import argparse
 import os

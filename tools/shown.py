@@ -21,7 +21,6 @@ from surface import COMPANION_WORDS, PROGRAMS
 
 ROOT = Path(__file__).resolve().parent.parent
 PAGES = ROOT / "docs" / "commands"
-CODES = range(25)
 # the crates whose texts are answers, and words of the programs
 SPEAKING = ("bd_app", "bd_show", "bd_about", "bd_why")
 LITERAL = re.compile(r'b?"((?:[^"\\]|\\.)*)"', re.S)
@@ -156,12 +155,17 @@ def missing_answers(found: List[Call]) -> Iterator[str]:
             yield f"no example of {name} prints {answer.printed} and its status {answer.status}"
 
 
+def codes() -> List[str]:
+    """The codes, by the names that the sources give them."""
+    return re.findall(r'=> "(E\d\d)"', (ROOT / "crates/bd_text/src/code.rt").read_text(encoding="utf-8"))
+
+
 def missing_codes(found: List[Call]) -> Iterator[str]:
     """The codes that no example prints."""
     printed = {code for call in found for line in call.lines for code in re.findall(r": (E\d\d) ", line)}
-    for number in CODES:
-        if f"E{number:02}" not in printed:
-            yield f"no example prints the code E{number:02}"
+    for code in codes():
+        if code not in printed:
+            yield f"no example prints the code {code}"
 
 
 def missing_texts(found: List[doc_examples.Example]) -> Iterator[str]:

@@ -1,4 +1,4 @@
-"""Tests of `word_counts.py` and `changed_files.py`, on small folders of their own."""
+"""Tests of `word_counts.py`, `file_counts.py` and `changed_files.py`, on small folders of their own."""
 from __future__ import annotations
 
 import contextlib
@@ -9,7 +9,9 @@ import unittest
 from pathlib import Path
 
 import changed_files
+import file_counts
 import word_counts
+from file_counts import Kind, Mark
 from word_counts import Budget
 
 
@@ -43,6 +45,46 @@ class Words(unittest.TestCase):
         budget = Budget("page", 1_000, ("PAGE.md",))
         self.assertNotIn("too many", word_counts.line_of(budget, 1_000))
         self.assertIn("1 too many", word_counts.line_of(budget, 1_001))
+
+
+class Places(unittest.TestCase):
+    KIND = Kind("an option", "why --of", 2, 3, "A new option", (
+        Mark("crates/*", r'"of"'), Mark("docs/*", "--of"), Mark("rows/*", "--of", once=True)))
+    FILES = {"crates/specs/Words.antt": '"of"', "crates/why.rt": '"of"', "crates/other.rt": "of", "docs/a.md": "--of",
+             "docs/b.md": "    $ bd_view why\n    --of\n", "rows/a": "--of", "rows/b": "--of"}
+    PAGE = "# x\n\n## A new option\n\n`Words`, `NAME.rt` and a.md\n\n## A new code\n\nb.md\n"
+
+    def count(self, kind: Kind) -> file_counts.Count:
+        with tempfile.TemporaryDirectory() as folder:
+            for name, text in self.FILES.items():
+                path = Path(folder) / name
+                path.parent.mkdir(parents=True, exist_ok=True)
+                path.write_text(text, encoding="utf-8")
+            return file_counts.count_of(Path(folder), sorted(self.FILES), kind)
+
+    def test_files_that_people_wrote_count_once(self) -> None:
+        count = self.count(self.KIND)
+        self.assertEqual(count.files, (("crates/specs/Words.antt", "crates/why.rt"), ("docs/a.md",),
+                                       ("rows/a", "rows/b")))
+        self.assertEqual(count.number, 4)
+        twice = self.KIND._replace(marks=(*self.KIND.marks, Mark("crates/*", "of")))
+        self.assertEqual(self.count(twice).files[-1], ("crates/other.rt",))
+
+    def test_too_many(self) -> None:
+        self.assertEqual(len(list(self.count(self.KIND).faults(self.PAGE))), 1)
+        self.assertEqual(list(self.count(self.KIND._replace(most=4)).faults(self.PAGE)), [])
+
+    def test_a_mark_that_is_nowhere(self) -> None:
+        marks = (*self.KIND.marks, Mark("docs/*", "--gone"))
+        self.assertIn("--gone", " ".join(self.count(self.KIND._replace(most=4, marks=marks)).faults(self.PAGE)))
+
+    def test_the_section_names_the_files(self) -> None:
+        kind = self.KIND._replace(most=4)
+        faults = list(self.count(kind).faults(self.PAGE.replace("NAME.rt", "check.rt").replace("Words", "Wordsy")))
+        self.assertEqual([fault.split("name ")[1].split()[0] for fault in faults],
+                         ["crates/specs/Words.antt", "crates/why.rt"])
+        self.assertEqual(list(self.count(kind._replace(section="")).faults("")), [])
+        self.assertTrue(file_counts.is_named("docs/commands/bd_view-why.md", "its command's page", "why --of"))
 
 
 class Files(unittest.TestCase):

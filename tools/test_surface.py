@@ -57,7 +57,7 @@ Arguments:
   <PIPE>
 
 Options:
-      --vcd <vcd>        Saves `a` wave
+      --wave <wave>      Saves `a` wave
       --budget <budget>  At most so many [default: 7]
   -h, --help             Print help
 """
@@ -72,8 +72,8 @@ class Printed(unittest.TestCase):
 
     def test_help(self) -> None:
         listed = command_pages.of_help(HELP)
-        self.assertEqual(listed.words, "more PIPE [INV] [--vcd VCD] [--budget N]")
-        self.assertEqual(listed.options, (("--vcd VCD", "saves `a` wave."),
+        self.assertEqual(listed.words, "more PIPE [INV] [--wave WAVE] [--budget N]")
+        self.assertEqual(listed.options, (("--wave WAVE", "saves `a` wave."),
                                           ("--budget N", "at most so many (default: 7).")))
 
     def test_a_page_gets_its_options(self) -> None:
@@ -92,7 +92,7 @@ OFFERED: Dict[str, List[str]] = {
     "burch_dill re": ["recheck", "replay", "retrace"], "bd_view s": ["show", "shrink"], "burch_dill gen ": [],
     "burch_dill check ": ["a.pipe"], "burch_dill check --budget 7 x.pipe ": ["a.spec"],
     "burch_dill replay x y ": ["a.case"], "burch_dill check x y --d": ["--diverse"],
-    "bd_view why x y z --": ["--of", "--whole"], "bd_view why x y ": ["a.case"],
+    "bd_view why x y z --": ["--json", "--of", "--whole"], "bd_view why x y ": ["a.case"],
 }
 OPTIONS: Dict[str, List[str]] = {f"{program} {command.name} --": sorted(name for name, _ in command.options)
            for program, commands in surface.PROGRAMS.items() for command in commands}

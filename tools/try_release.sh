@@ -6,7 +6,7 @@
 # FOLDER is that of the release, `release` if it isn't given. It has to run as root, and wants debootstrap and a mirror
 # of Debian. ROOT is a folder that debootstrap filled before, with python3; if it isn't given, or empty, one is filled.
 # The checksums have to hold; then the package is installed and the tarball unpacked, and of each the examples of the
-# README, of the commands' pages and of the tutorial have to print what stands there.
+# README and of the pages for users have to print what stands there.
 set -eu
 folder=$(realpath "${1:-release}")
 version=$(cat "$(dirname "$0")/../VERSION")
@@ -37,8 +37,8 @@ tried() {
     wanted "$(inside "$2/bd_view" --version)" "bd_view $version"
     inside bash -c ". $3/bash-completion/completions/burch_dill && complete -p bd_view" > /dev/null
     inside sh -c "[ -s $3/fish/vendor_completions.d/bd_view.fish ] && ls $3/zsh/*/_burch_dill" > /dev/null
-    inside sh -c "cd $1 && python3 tools/doc_examples.py $2/burch_dill $2/bd_view README.md docs/commands/*.md \
-        docs/TUTORIAL.md docs/TUTORIAL_2.md docs/PYTHON.md gallery/README.md"
+    inside sh -c "cd $1 && python3 tools/doc_examples.py $2/burch_dill $2/bd_view README.md docs/*.md \
+        docs/commands/*.md gallery/README.md"
 }
 
 inside env DEBIAN_FRONTEND=noninteractive apt-get install -y -qq -o Dpkg::Use-Pty=0 /try/burch-dill.deb

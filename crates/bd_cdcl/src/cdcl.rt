@@ -7,6 +7,7 @@
 //! | `learn` | the learned clause, its LBD, and where the backjump goes |
 //! | `minimize` | which literals a learned clause may do without |
 //! | `reduce` | which clauses are deleted, and why the law holds |
+//! | `reasons` | which further variables a conflict is about |
 //! | `restart` | when a restart is due |
 //! | `vmtf` | which variable is decided next |
 //! | `phase` | with which sign |
@@ -21,6 +22,7 @@ mod guide;
 mod learn;
 mod minimize;
 mod phase;
+mod reasons;
 mod reduce;
 mod restart;
 mod search;

@@ -7,6 +7,7 @@ ghost use Rattle.bd_model.specs.DesignView.{design_view};
 ghost use Rattle.bd_model.specs.Lawful.{IsLawful};
 
 use crate::cycles::{check_calls, check_forms};
+use crate::reasons::{check_lists, check_run};
 use crate::slices::{check_register, check_slice};
 use crate::values::{check_copied, check_memories, check_other, check_table};
 use bd_case::{read_case, state_text};
@@ -53,6 +54,10 @@ pub(crate) enum Check<'a> {
     Slice(Column, Location, &'a str),
     /// Whether register 8 has 60 after the cycle and a flush.
     Register(bool),
+    /// That the reasons of the run are well-founded.
+    Founded,
+    /// Which lists of reasons are.
+    Lists,
     /// The first of two memories, and whether both read alike.
     Memories(bool),
     /// A table of two arguments.
@@ -92,6 +97,8 @@ fn check_case(rt: &(impl Abort + AllocGlobal), design: &Design, case: &Case, wha
         Check::Calls => check_calls(rt, design, case),
         Check::Slice(column, spot, want) => check_slice(rt, design, case, column, spot, want),
         Check::Register(has) => check_register(rt, design, case, has),
+        Check::Founded => check_run(rt, design, case),
+        Check::Lists => check_lists(rt, design),
         Check::Memories(alike) => check_memories(rt, &case.state, alike),
         Check::Table => check_table(rt, case),
         Check::Other(pipe, spec, fits, alike) => {

@@ -10,7 +10,7 @@ use Rattle.bd_syntax.specs.declared.ast.Kind.TheVariants.{Pipeline, Specificatio
 use Rattle.bd_text.specs.Faults.{HasNoFault}
 use Rattle.bd_text.specs.Grammar.{Spells}
 use Rattle.bd_text.specs.Nodes.{Nodes}
-use Rattle.bd_typer.specs.Denotes.{CompletesTrees, DenotesCompleted, DenotesWith, OnDesign, OnJoined, Reads, completed_of_trees, design_of_machines, design_of_trees, premise_file, premise_form, premise_head}
+use Rattle.bd_typer.specs.Denotes.{DenotesCompleted, DenotesWith, OnDesign, OnJoined, Reads, ReadsIf, design_of_trees, joined_of_trees, premise_file, premise_form}
 use Rattle.bd_typer.specs.Faults.{◌>>=◌, FileFault, in_file}
 use Rattle.bd_typer.specs.declared.fault.Text.{Text}
 use Rattle.bd_typer.specs.Joined.{JoinedView, joined_view}
@@ -32,16 +32,16 @@ reads_ok file source x R then (inl (o, code, first, is)) = absurd (cc is)
 reads_ok file source x R then (inr (none, (trees, spells, h))) = then trees none spells h
 
 -- where the whole has no fault, no part has one
-parts_of : (file : Text) (a b : Result AstView Fault) (c : Result (Option InvView) Fault) (F : AstView → AstView → Option InvView → Result DesignView FileFault) (d : DesignView)
-    → Ok d ≡ (in_file Pipe a >>= (λ p. in_file Spec b >>= (λ s. in_file file c >>= (λ t. F p s t)))) → IsOk a × IsOk b × IsOk c
+parts_of : (file : Text) (a b : Result AstView Fault) (c : Result (Option InvView) Fault) (F : AstView → AstView → Option InvView → Result JoinedView FileFault) (d : DesignView)
+    → Ok d ≡ ((in_file Pipe a >>= (λ p. in_file Spec b >>= (λ s. in_file file c >>= (λ t. F p s t)))) >>= (λ j. Ok j.design)) → IsOk a × IsOk b × IsOk c
 parts_of file (Ok p) (Ok s) (Ok t) F d is = ((p, refl), (s, refl), (t, refl))
 parts_of file (Ok p) (Ok s) (Err e) F d is = absurd (cc is)
 parts_of file (Ok p) (Err e) c F d is = absurd (cc is)
 parts_of file (Err e) b c F d is = absurd (cc is)
 
-parts : (premise : Premise) (p s : Nodes) (t : Option Nodes) (d : DesignView) → Ok d ≡ design_of_trees premise p s t
+parts : (premise : Premise) (p s : Nodes) (t : Option Nodes) (d : DesignView) → Ok d ≡ design_of_trees premise p s None t
     → IsOk (machine_form Pipeline p) × IsOk (machine_form Specification s) × IsOk (premise_form premise t)
-unfolding design_of_trees design_of_machines
+unfolding design_of_trees joined_of_trees
 parts premise p s t d is = parts_of (premise_file premise) (machine_form Pipeline p) (machine_form Specification s) (premise_form premise t) _ d is
 
 machine : (kind : Kind) (bytes : List ℕ) (trees : Nodes) → HasNoFault bytes → Spells bytes trees → IsOk (machine_form kind trees) → IsMachineText kind bytes
@@ -105,18 +105,18 @@ first_part : {A : Type 0} (a : Result AstView Fault) (F : AstView → Result A F
 first_part (Ok p) F x is = (p, refl)
 first_part (Err e) F x is = absurd (cc is)
 
-completed_pipe : (p s c : Nodes) (i : Option Nodes) (j : JoinedView) → Ok j ≡ completed_of_trees p s c i → IsOk (machine_form Pipeline p)
-unfolding completed_of_trees
+completed_pipe : (p s : Nodes) (c i : Option Nodes) (j : JoinedView) → Ok j ≡ joined_of_trees Invariant p s c i → IsOk (machine_form Pipeline p)
+unfolding joined_of_trees
 completed_pipe p s c i j is = first_part (machine_form Pipeline p) _ j is
 
-inv_pipe : (p s c : Nodes) (i : Option (List ℕ)) (j : JoinedView) → CompletesTrees p s c i (Ok j) → IsOk (machine_form Pipeline p)
+inv_pipe : (p s : Nodes) (c : Option Nodes) (i : Option (List ℕ)) (j : JoinedView) → ReadsIf Inv i (Ok j) (λ t. Ok j ≡ joined_of_trees Invariant p s c t) → IsOk (machine_form Pipeline p)
 inv_pipe p s c None j h = completed_pipe p s c None j h
 inv_pipe p s c (Some i) j h = reads_ok Inv i j _ (λ is clean spells e. completed_pipe p s c (Some is) j e) h
 
 joined_readable : (p s c : List ℕ) (i : Option (List ℕ)) (j : JoinedView) → DenotesCompleted p s c i (Ok j) → IsMachineText Pipeline p
 joined_readable p s c i j h =
     reads_ok Pipe p j _ (λ ps none spells g. reads_ok Spec s j _ (λ ss fine spells' f. reads_ok Comp c j _
-    (λ cs clean spells'' e. machine Pipeline p ps none spells (inv_pipe ps ss cs i j e)) f) g) h
+    (λ cs clean spells'' e. machine Pipeline p ps none spells (inv_pipe ps ss (Some cs) i j e)) f) g) h
 
 pub joined_result : (t : Texts) (p s c : List ℕ) (i : Option (List ℕ)) (r : Result Joined TypeFault) → OnJoined r (DenotesCompleted p s c i) → p ≡ t.pipe → IfOk r (λ x. IsMachineText Pipeline t.pipe)
 joined_result t p s c i (Ok j) on pipe = subst (λ b. IsMachineText Pipeline b) pipe (joined_readable p s c i (joined_view j) on)

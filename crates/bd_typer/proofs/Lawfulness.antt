@@ -23,7 +23,7 @@ use Rattle.bd_typer.specs.Completions.{abstract_names, completion_faults, typed_
 use Rattle.bd_typer.specs.Declarations.{declaration_faults}
 use Rattle.bd_typer.specs.Faults.{◌>>=◌, in_file, without_faults}
 use Rattle.bd_typer.specs.Given.{IsMachineFile, IsCompFile, IsInvFile}
-use Rattle.bd_typer.specs.Joined.{declared_comp, declared_inv, declared, start, TypedMachine, typed_machine, typed_completion, TypedInv, typed_inv, flush_count, steps_count, first_count, assembled, Claims, claimed, tested_inv, JoinedView, joined_machines, joined_onto, joined_items, joined_with, joined}
+use Rattle.bd_typer.specs.Joined.{declared_comp, declared_inv, declared, start, TypedMachine, typed_machine, typed_completion, TypedInv, typed_inv, flush_count, steps_count, first_count, assembled, Claims, claimed, tested_inv, JoinedView, joined_machines, joined_onto, joined_items, joined_with}
 use Rattle.bd_typer.specs.NameMap.{no_names, shared_names}
 use Rattle.bd_typer.specs.Repeats.{no_texts, with_names}
 use Rattle.bd_typer.specs.Walk.{typed_items}
@@ -281,10 +281,3 @@ both_lawful pipe spec comp inv j pipe_file spec_file comp_given inv_given h =
       design_lawful pipe.items spec.items t.p t.s t.i p s i pipe_file.limited.count spec_file.limited.count pipe_parts (no_inputs spec.items spec_formed) shared,
       abstraction_lawful pipe spec t.p t.s t.i s names comp t.a comp_given t.declared.comp-is t.a-is,
     )
-
-pub joined_lawful : (pipe spec : AstView) (inv : Option InvView) (d : DesignView) → IsMachineFile Pipeline pipe → IsMachineFile Specification spec → IfSome inv IsInvFile → joined pipe spec inv ≡ Ok d → IsLawful d
-unfolding joined
-joined_lawful pipe spec inv d pipe_file spec_file inv_given h =
-    let j = then_ok (joined_with pipe spec None inv) (λ j. Ok j.design) d h in
-    let e : j.0.design ≡ d = cc j.2 in
-    subst IsLawful e (both_lawful pipe spec None inv j.0 pipe_file spec_file tt inv_given j.1).0

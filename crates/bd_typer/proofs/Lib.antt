@@ -18,6 +18,7 @@ pub mod Machines
 pub mod Operations
 pub mod Parts
 pub mod ReadFiles
+pub mod ReadTexts
 pub mod RepeatedNames
 pub mod SmallDesign
 pub mod SomeResult

@@ -1,5 +1,5 @@
 -- What is read of trees within the limits is such as joining asks.
-use Rattle.std.proofs.Common.{◌≡◌, Some, Result, Ok, Err, refl, ap, subst}
+use Rattle.std.proofs.Common.{◌≡◌, Result, Ok, Err, ap, subst}
 use Rattle.std.specs.Prelude.{ℕ, List, IfOk}
 use Rattle.bd_text.specs.Nodes.{Nodes}
 use Rattle.bd_syntax.specs.Completion.{IsCompAst, IsLimitedCompAst, completion_view}
@@ -11,10 +11,7 @@ use Rattle.bd_syntax.specs.declared.ast.Kind.{Kind}
 use Rattle.bd_syntax.specs.declared.ast.Ast.{Ast}
 use Rattle.bd_syntax.specs.declared.ast.InvAst.{InvAst}
 use Rattle.bd_text.specs.declared.fault.TextFault.{TextFault}
-use Rattle.bd_text.specs.declared.fault.TextFault.TheVariants as forms
 use Rattle.bd_syntax.proofs.WellFormed.{machine_holds, invariant_holds}
-use Rattle.bd_typer.specs.Denotes.{premise_form, premise_head}
-use Rattle.bd_typer.specs.declared.premise.Premise.{Premise}
 use Rattle.bd_typer.specs.Given.{IsMachineFile, IsCompFile, IsInvFile}
 
 first_step : {A B : Type 0} (r : Result A Fault) (f : A → Result B Fault) (y : B) → (r >>= f) ≡ Ok y → (x : A) × (f x ≡ Ok y)
@@ -48,12 +45,6 @@ machine_formed kind trees (Err fault) within h = tt
 pub inv_formed : (head : List ℕ) (trees : Nodes) (read : Result InvAst TextFault) → AreWithinLimits trees → Gives invariant_view read (invariant_form head trees) → IfOk read (λ inv. IsInvFile (invariant_view inv))
 inv_formed head trees (Ok inv) within h = inv_file head trees (invariant_view inv) within h
 inv_formed head trees (Err fault) within h = tt
-
--- a third file that is given
-pub third_gives : (premise : Premise) (trees : Nodes) (read : Result InvAst TextFault) → Gives invariant_view read (invariant_form (premise_head premise) trees) → Gives (λ (inv : InvAst). Some (invariant_view inv)) read (premise_form premise (Some trees))
-third_gives premise trees (Ok inv) h = rw h refl
-third_gives premise trees (Err forms.Memory) h = tt
-third_gives premise trees (Err (forms.Bad offset code)) h = rw h refl
 
 pub comp_formed : (read : Result CompAst TextFault) → IfOk read (λ comp. IsCompAst (completion_view comp)) → IfOk read (λ comp. IsLimitedCompAst (completion_view comp)) → IfOk read (λ comp. IsCompFile (completion_view comp))
 comp_formed (Ok comp) formed limited = record { formed = formed; limited = limited }

@@ -4,6 +4,7 @@ use Rattle.std.specs.Prelude.{◌&&◌, ◌==◌, not, nat_le, codes}
 use Rattle.std.specs.List.{list_all, All}
 use Rattle.std.proofs.lemmas.List.Elements.{All-nil, All-cons}
 use Rattle.std.proofs.lemmas.Bool.Decides.{nat_tests}
+use Rattle.bd_syntax.proofs.Limits.{spelled_within_limits}
 use Rattle.bd_syntax.proofs.Results.{split_and}
 use Rattle.bd_text.specs.Faults.{HasNoFault}
 use Rattle.bd_text.specs.Grammar.{Spells}
@@ -17,12 +18,12 @@ use Rattle.bd_model.specs.Lawful.{IsLawful}
 use Rattle.bd_model.specs.declared.design.Sort.TheVariants as sorts
 use Rattle.bd_syntax.specs.Reading.{machine_form, item_form, latch_form, next_form, flush_form, steps_form, name_form, scalar_form, number_form, leaf_form}
 use Rattle.bd_syntax.specs.Words.{head_of}
-use Rattle.bd_typer.specs.Denotes.{Denotes, design_of_trees, design_of_machines}
-use Rattle.bd_typer.specs.Joined.{declared, typed_machine, typed_inv, typed_completion, tested_inv, claimed, joined_machines, joined_onto, joined_items, joined_with, joined}
+use Rattle.bd_typer.specs.Denotes.{Denotes, design_of_trees, joined_of_trees}
+use Rattle.bd_typer.specs.Joined.{declared, typed_machine, typed_inv, typed_completion, tested_inv, claimed, joined_machines, joined_onto, joined_items, joined_with}
 use Rattle.bd_typer.specs.Typing.{typed_leaf}
 use Rattle.bd_typer.specs.Walk.{typed_next}
 use Rattle.bd_typer.specs.declared.premise.Premise.TheVariants as premises
-use Rattle.bd_typer.proofs.DenotedLawful.{denotes_lawful}
+use Rattle.bd_typer.proofs.DenotedLawful.{trees_lawful}
 
 -- ---- trees with offsets put in
 
@@ -135,8 +136,8 @@ small = record { pipe = kept; spec = kept; symbols = []; visible = 0 ∷ []; flu
 
 -- ---- what they denote
 
-joined_small : (f g : List ℕ → ℕ) → design_of_trees premises.Invariant (node (placed pipe_tree f) no_nodes) (node (placed spec_tree g) no_nodes) None ≡ Ok small
-unfolding design_of_trees design_of_machines declared typed_machine typed_inv typed_completion tested_inv claimed joined_machines joined_onto joined_items joined_with joined typed_leaf typed_next machine_form item_form latch_form next_form flush_form steps_form name_form scalar_form number_form leaf_form head_of
+joined_small : (f g : List ℕ → ℕ) → design_of_trees premises.Invariant (node (placed pipe_tree f) no_nodes) (node (placed spec_tree g) no_nodes) None None ≡ Ok small
+unfolding design_of_trees joined_of_trees declared typed_machine typed_inv typed_completion tested_inv claimed joined_machines joined_onto joined_items joined_with typed_leaf typed_next machine_form item_form latch_form next_form flush_form steps_form name_form scalar_form number_form leaf_form head_of
 joined_small f g = refl
 
 pub small_denoted : Denotes (written pipe_tree) (written spec_tree) None (Ok small)
@@ -146,10 +147,14 @@ small_denoted =
     inr (p.no_fault, (node (placed pipe_tree p.offsets) no_nodes, p.spells, inr (s.no_fault, (node (placed spec_tree s.offsets) no_nodes, s.spells, sym (joined_small p.offsets s.offsets)))))
 
 pub lawful_design_exists : (pipe : List ℕ) × (spec : List ℕ) × (d : DesignView) × Denotes pipe spec None (Ok d) × IsLawful d
-lawful_design_exists = (
-  written pipe_tree,
-  written spec_tree,
-  small,
-  small_denoted,
-  denotes_lawful premises.Invariant (written pipe_tree) (written spec_tree) None small (omega arith) (omega arith) tt small_denoted,
-)
+lawful_design_exists =
+    let p = reads pipe_tree refl (omega arith) in
+    let s = reads spec_tree refl (omega arith) in
+    let pipe = node (placed pipe_tree p.offsets) no_nodes in
+    let spec = node (placed spec_tree s.offsets) no_nodes in (
+      written pipe_tree,
+      written spec_tree,
+      small,
+      small_denoted,
+      trees_lawful premises.Invariant pipe spec small (spelled_within_limits (written pipe_tree) pipe (omega arith) p.no_fault p.spells) (spelled_within_limits (written spec_tree) spec (omega arith) s.no_fault s.spells) (joined_small p.offsets s.offsets),
+    )

@@ -1,4 +1,4 @@
--- A text has a first fault, or none, so three texts denote something.
+-- A text has a first fault, or none, so texts denote something.
 use Rattle.std.proofs.Common.{◌≡◌, ⊎_elim, inl, inr, ℕ, zero, suc, ◌+◌, ◌<◌, ◌≤◌, List, length, Option, Some, None, Result, Err, refl, subst, arith}
 use Rattle.std.specs.Prelude.{◌⊎◌, slice_index}
 use Rattle.std.proofs.lemmas.Bool.{cases_eq, cases_lt}
@@ -11,10 +11,10 @@ use Rattle.bd_text.proofs.SomeReading.{some_reading-holds}
 use Rattle.bd_text.proofs.Steps.{past_end}
 use Rattle.bd_model.specs.DesignView.{DesignView}
 use Rattle.bd_typer.specs.declared.fault.Text.{Text}
-use Rattle.bd_typer.specs.declared.fault.Text.TheVariants.{Pipe, Spec}
+use Rattle.bd_typer.specs.declared.fault.Text.TheVariants.{Pipe, Spec, Comp}
 use Rattle.bd_typer.specs.Faults.{FileFault}
 use Rattle.bd_typer.specs.declared.premise.Premise.{Premise}
-use Rattle.bd_typer.specs.Denotes.{design_of_trees, premise_file, Reads, ReadsIf, DenotesWith}
+use Rattle.bd_typer.specs.Denotes.{design_of_trees, premise_file, Reads, ReadsIf, DenotesBy, DenotesWith}
 
 -- it holds or it does not
 abbrev Known : Type 0 → Type 0
@@ -95,19 +95,22 @@ scan s (suc k) = elim (scan s k) [
 first_or_none : (s : List ℕ) → HasFirst s ⊎ HasNoFault s
 first_or_none s = elim (scan s (suc (length s))) [ inl found ↦ inl found | inr none ↦ inr (λ o code h. none o code (omega (arith, inside s o (some_fault s o code h))) h) ]
 
-reads_some : (file : Text) (source : List ℕ) (Rest : Result DesignView FileFault → Nodes → Type 0) → ((trees : Nodes) → (r : Result DesignView FileFault) × Rest r trees) → (r : Result DesignView FileFault) × Reads file source r (Rest r)
+reads_some : {A : Type 0} (file : Text) (source : List ℕ) (Rest : Result A FileFault → Nodes → Type 0) → ((trees : Nodes) → (r : Result A FileFault) × Rest r trees) → (r : Result A FileFault) × Reads file source r (Rest r)
 reads_some file source Rest then = elim (first_or_none source) [
   | inl found ↦ (Err (record { file = file; offset = found.0; code = found.1 }), inl (found.0, found.1, found.2, refl))
   | inr none ↦ (let trees = some_reading-holds source none in let rest = then trees.0 in (rest.0, inr (none, (trees.0, trees.1, rest.1))))
 ]
 
-reads_some_if : (file : Text) (text : Option (List ℕ)) (Rest : Result DesignView FileFault → Option Nodes → Type 0) → ((trees : Option Nodes) → (r : Result DesignView FileFault) × Rest r trees) → (r : Result DesignView FileFault) × ReadsIf file text r (Rest r)
+reads_some_if : {A : Type 0} (file : Text) (text : Option (List ℕ)) (Rest : Result A FileFault → Option Nodes → Type 0) → ((trees : Option Nodes) → (r : Result A FileFault) × Rest r trees) → (r : Result A FileFault) × ReadsIf file text r (Rest r)
 reads_some_if file None Rest then = then None
 reads_some_if file (Some source) Rest then = reads_some file source (λ r trees. Rest r (Some trees)) (λ trees. then (Some trees))
 
+pub some_denoted : {A : Type 0} (of_trees : Nodes → Nodes → Option Nodes → Option Nodes → Result A FileFault) (file : Text) (pipe spec : List ℕ) (comp third : Option (List ℕ)) → (r : Result A FileFault) × DenotesBy of_trees file pipe spec comp third r
+some_denoted of_trees file pipe spec comp third =
+    reads_some Pipe pipe (λ r p. Reads Spec spec r (λ s. ReadsIf Comp comp r (λ c. ReadsIf file third r (λ t. r ≡ of_trees p s c t))))
+    (λ p. reads_some Spec spec (λ r s. ReadsIf Comp comp r (λ c. ReadsIf file third r (λ t. r ≡ of_trees p s c t)))
+    (λ s. reads_some_if Comp comp (λ r c. ReadsIf file third r (λ t. r ≡ of_trees p s c t))
+    (λ c. reads_some_if file third (λ r t. r ≡ of_trees p s c t) (λ t. (of_trees p s c t, refl)))))
+
 pub some_result : (premise : Premise) (pipe spec : List ℕ) (third : Option (List ℕ)) → (r : Result DesignView FileFault) × DenotesWith premise pipe spec third r
-some_result premise pipe spec third =
-    let file = premise_file premise in
-    reads_some Pipe pipe (λ r p. Reads Spec spec r (λ s. ReadsIf file third r (λ t. r ≡ design_of_trees premise p s t)))
-    (λ p. reads_some Spec spec (λ r s. ReadsIf file third r (λ t. r ≡ design_of_trees premise p s t))
-    (λ s. reads_some_if file third (λ r t. r ≡ design_of_trees premise p s t) (λ t. (design_of_trees premise p s t, refl))))
+some_result premise pipe spec third = some_denoted (design_of_trees premise) (premise_file premise) pipe spec None third

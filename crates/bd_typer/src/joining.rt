@@ -423,22 +423,27 @@ fn joined_with(
     joined_items(alloc, pipe, spec, comp, inv)
 }
 
-/// The design of files without a completion, or their first fault.
-#[tactic(auto, unfolding(crate::specs::Joined::joined))]
-fn joined_design(
+/// The design and the abstraction that the forms of files denote, or their first fault.
+#[tactic(auto, using(crate::proofs::GivenOnce::item_count))]
+pub fn join_all(
     alloc: Global,
     pipe: &Ast,
     spec: &Ast,
+    comp: Option<&CompAst>,
     inv: Option<&InvAst>,
-) -> Result<Design, TypeFault>
-    requires pipe { length pipe.now.items ≤ longest_text }
-    requires spec { length spec.now.items ≤ longest_text }
-    requires inv { IfSome inv (λ inv. IsLimitedInvAst (invariant_view inv.now)) }
-    ensures { GivesIn design_view result (joined (ast_view pipe.now) (ast_view spec.now)
+) -> Result<Joined, TypeFault>
+    requires pipe { IsMachineFile Pipeline (ast_view pipe.now) }
+    requires spec { IsMachineFile Specification (ast_view spec.now) }
+    requires comp { IfSome comp (λ comp. IsCompFile (completion_view comp.now)) }
+    requires inv { IfSome inv (λ inv. IsInvFile (invariant_view inv.now)) }
+    ensures exact { GivesIn joined_view result (joined_with (ast_view pipe.now)
+        (ast_view spec.now) (option_map (λ comp. completion_view comp.now) comp.entry)
         (option_map (λ inv. invariant_view inv.now) inv.entry)) }
+    ensures lawful { IfOk result (λ both. IsLawful (design_view both.design)) }
+    ensures abstraction { IfOk result
+        (λ both. IsLawfulAbstraction (design_view both.design) both.abs) }
 {
-    let both = joined_with(alloc, pipe, spec, None, inv)?;
-    Ok(both.design)
+    joined_with(alloc, pipe, spec, comp, inv)
 }
 
 /// The design that the forms of a pipeline, a specification and an invariant denote, or their first fault. The forms
@@ -450,7 +455,7 @@ fn joined_design(
 /// by item: `E08` to `E10` and `E17`, and at the names of a distinct item `E08`, `E18` and `E07`; the first counts.
 /// The specification against the pipeline: `E15` at a latch or memory, `E16` at a name that one file declares as a
 /// function or predicate and the other as anything but that; the least offset counts, then the least code.
-#[tactic(auto, using(crate::proofs::GivenOnce::item_count))]
+#[tactic(auto, unfolding(crate::specs::Joined::joined))]
 pub fn join(
     alloc: Global,
     pipe: &Ast,
@@ -464,7 +469,8 @@ pub fn join(
         (option_map (λ inv. invariant_view inv.now) inv.entry)) }
     ensures lawful { IfOk result (λ d. IsLawful (design_view d)) }
 {
-    joined_design(alloc, pipe, spec, inv)
+    let both = join_all(alloc, pipe, spec, None, inv)?;
+    Ok(both.design)
 }
 
 /// The design and the abstraction that the forms of a pipeline, a specification, a completion and an invariant denote,
@@ -475,7 +481,6 @@ pub fn join(
 /// invariant's; `E12` is at its tree where a latch or memory of the specification has no `abstract`, and at the name of
 /// a second one; `E08` at a name that is no latch or memory of the specification. The expressions of the abstraction
 /// stand in the specification's order.
-#[tactic(auto, using(crate::proofs::GivenOnce::item_count))]
 pub fn join_completion(
     alloc: Global,
     pipe: &Ast,
@@ -494,5 +499,5 @@ pub fn join_completion(
     ensures abstraction { IfOk result
         (λ joined. IsLawfulAbstraction (design_view joined.design) joined.abs) }
 {
-    joined_with(alloc, pipe, spec, Some(comp), inv)
+    join_all(alloc, pipe, spec, Some(comp), inv)
 }

@@ -1,12 +1,12 @@
 //! What the third file of a design says of states.
 
-ghost use Rattle.std.specs.Prelude.{◌≡◌, Result};
-ghost use Rattle.bd_model.specs.DesignView.{DesignView, design_view};
+ghost use Rattle.std.specs.Prelude.{◌≡◌, IfOk, Ok, Result};
 ghost use Rattle.bd_typer.specs.Denotes.{premise_file, with_premise};
-ghost use Rattle.bd_typer.specs.Faults.{FileFault, GivesIn};
+ghost use Rattle.bd_typer.specs.Faults.{FailsIn, FileFault, GivesIn};
+ghost use Rattle.bd_typer.specs.Joined.{JoinedView, joined_view};
 
 use crate::fault::{Text, TypeFault};
-use bd_model::Design;
+use crate::joining::Joined;
 
 /// What the third file of a design says of states.
 #[derive(Clone, Copy, PartialEq, Eq)]
@@ -27,28 +27,38 @@ impl Premise {
             Premise::Start => Text::Start,
         }
     }
+
+    /// A fault of joining, where one of the invariant is one of this premise's file.
+    fn fault(self, fault: TypeFault) -> TypeFault
+        ensures { (given : Result JoinedView FileFault) → FailsIn fault given →
+            FailsIn result (with_premise self given) }
+    {
+        match fault {
+            TypeFault::Bad {
+                file: Text::Inv,
+                offset,
+                code,
+            } => TypeFault::Bad {
+                file: self.file(),
+                offset,
+                code,
+            },
+            other => other,
+        }
+    }
 }
 
 /// What joining gave, where a fault of the invariant is one of this premise's file.
 pub fn with_premise(
     premise: Premise,
-    joined: Result<Design, TypeFault>,
-) -> Result<Design, TypeFault>
-    ensures { (given : Result DesignView FileFault) → GivesIn design_view joined given →
-        GivesIn design_view result (with_premise premise given) }
+    joined: Result<Joined, TypeFault>,
+) -> Result<Joined, TypeFault>
+    ensures exact { (given : Result JoinedView FileFault) → GivesIn joined_view joined given →
+        GivesIn joined_view result (with_premise premise given) }
+    ensures kept { IfOk result (λ both. joined ≡ Ok both) }
 {
     match joined {
-        Err(
-            TypeFault::Bad {
-                file: Text::Inv,
-                offset,
-                code,
-            },
-        ) => Err(TypeFault::Bad {
-            file: premise.file(),
-            offset,
-            code,
-        }),
-        other => other,
+        Ok(both) => Ok(both),
+        Err(fault) => Err(premise.fault(fault)),
     }
 }

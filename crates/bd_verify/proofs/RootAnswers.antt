@@ -1,5 +1,7 @@
 -- What a solver's answer says of a root, and where the root decides a question, of cases.
-use Rattle.std.proofs.Common.{◌≡◌, ℕ, List, Option, inl, inr, refl, sym, subst}
+use Rattle.std.proofs.Common.{◌≡◌, ℕ, Bool, List, Option, inl, inr, refl, sym, subst}
+use Rattle.std.specs.FinMap.{FinMap}
+use Rattle.std.specs.Ordering.{nat_cmp}
 use Rattle.bd_model.specs.DesignView.{DesignView}
 use Rattle.bd_model.specs.Fits.{Fits}
 use Rattle.bd_model.specs.Lawful.{IsLawful}
@@ -14,6 +16,8 @@ use Rattle.bd_terms.specs.Graph.{IsGraph}
 use Rattle.bd_terms.specs.Valid.{IsValid}
 use Rattle.bd_goal.specs.Claims.{Decides, case_world}
 use Rattle.bd_function.specs.declared.flat.FlatSym.{FlatSym}
+use Rattle.bd_cnf.specs.Assignment.{value_of}
+use Rattle.bd_cnf.specs.Clause.{Satisfies}
 use Rattle.bd_cnf.specs.Problem.{Problem}
 use Rattle.bd_lrat.specs.declared.line.Line.{Line}
 use Rattle.bd_cdcl.specs.Law.{IsLaw}
@@ -24,7 +28,9 @@ use Rattle.bd_verify.specs.declared.reduction.Reduction.{Reduction}
 use Rattle.bd_verify.specs.declared.verdict.Mode.{Mode}
 use Rattle.bd_verify.specs.declared.verdict.Question.{Question}
 use Rattle.bd_verify.specs.declared.verdict.Work.{Work}
+use Rattle.bd_verify.specs.Asked.{IsSaid}
 use Rattle.bd_verify.specs.Decided.{Falsifies, IsKnownRoot, IsRootWork, IsThis, KeepsRoot}
+use Rattle.bd_verify.specs.FromModel.{IsFromModel, StandsFor}
 use Rattle.bd_verify.specs.Kept.{IsFlatOf, IsKept, IsKeptOf, IsRootOf}
 use Rattle.bd_verify.specs.Verdict.{IsAsked, IsWorkOf, Keeps}
 use Rattle.bd_verify.specs.inner.Questions.{DecidesRoot, FollowsRoot}
@@ -65,6 +71,25 @@ kept-of d nodes root m r flat formula = record {
   rows = r.formula.atoms;
   formula_is = formula;
 }
+
+-- some kept formula from whose making the assignment stands for the case
+abbrev KeptFor : DesignView → List Node → ℕ → Mode → (ℕ → Bool) → Case → Problem → Type 0
+KeptFor d nodes root m a c p = (k : IsKeptOf d (IsThis nodes root) m p) × StandsFor k.nodes k.syms k.order k.rows a c
+
+-- where the work has the reduced formula, the case for which a model stands is from the model
+pub from-reduction : (says : Problem → ℕ → Found → List Line → Type 0) (d : DesignView) (nodes : List Node) (root : ℕ) (m : Mode) (budget : ℕ) (r : Reduction) (model : FinMap nat_cmp Bool) (c : Case) (w : Work)
+    → w.cnf ≡ r.formula.cnf → HasFlatOf nodes root m r → HasFormulaOf d r → IsSaid says budget (found.Model model) w → Satisfies (value_of model) r.formula.cnf.clauses
+    → StandsFor r.flat.graph r.flat.syms r.order r.formula.atoms (value_of model) c → IsFromModel says d (IsThis nodes root) m budget c w
+unfolding kept-of
+from-reduction says d nodes root m budget r model c w cnf flat formula said satisfies stands =
+    let kept = subst (KeptFor d nodes root m (value_of model) c) (sym cnf) (kept-of d nodes root m r flat formula, stands) in
+    record {
+      kept = kept.0;
+      model = model;
+      said = said;
+      satisfies = subst (λ p. Satisfies (value_of model) p.clauses) (sym cnf) satisfies;
+      stands = kept.1;
+    }
 
 pub known-of : (d : DesignView) (nodes : List Node) (root : ℕ) (m : Mode) (r : Reduction) → IsKnownRoot d nodes root → HasFlatOf nodes root m r → AreKnown d r.flat.graph r.flat.syms
 known-of d nodes root m r known flat = (this-follows d nodes root m r.flat.graph r.flat.root r.flat.syms r.marked flat known).known
@@ -115,6 +140,18 @@ kept-weaker d P Q m formula weaker k = record {
   formula_is = k.formula_is;
 }
 
+-- and so is a case from a model
+pub from-weaker : (says : Problem → ℕ → Found → List Line → Type 0) (d : DesignView) (P Q : List Node → ℕ → Type 0) (m : Mode) (budget : ℕ) (c : Case) (w : Work) → ((terms : List Node) (term : ℕ) → P terms term → Q terms term)
+    → IsFromModel says d P m budget c w → IsFromModel says d Q m budget c w
+unfolding kept-weaker
+from-weaker says d P Q m budget c w weaker h = record {
+  kept = kept-weaker d P Q m w.cnf weaker h.kept;
+  model = h.model;
+  said = h.said;
+  satisfies = h.satisfies;
+  stands = h.stands;
+}
+
 -- a root of a kind that decides whether some case is such
 module _ (d : DesignView) (lawful : IsLawful d) (such : Case → Type 0) (is_root : List Node → ℕ → Type 0) (known : (terms : List Node) (term : ℕ) → is_root terms term → IsKnownRoot d terms term)
     (decides : (terms : List Node) (term : ℕ) → is_root terms term → IsGraph terms → Decides d such terms term) (nodes : List Node) (root : ℕ) (is : is_root nodes root) where
@@ -127,6 +164,12 @@ module _ (d : DesignView) (lawful : IsLawful d) (such : Case → Type 0) (is_roo
   such-kept m formula k =
       kept-weaker d (IsThis nodes root) is_root m formula (λ terms term this. subst (λ t. is_root t term) (sym this.0) (subst (is_root nodes) (sym this.1) is))
       (subst (λ e. IsKeptOf e (IsThis nodes root) m formula) (widened-once d) k)
+
+  -- and a case from a model of it is from a model of its kind
+  pub such-from : (says : Problem → ℕ → Found → List Line → Type 0) (m : Mode) (budget : ℕ) (c : Case) (w : Work) → IsFromModel says (widened d 1) (IsThis nodes root) m budget c w → IsFromModel says d is_root m budget c w
+  such-from says m budget c w h =
+      from-weaker says d (IsThis nodes root) is_root m budget c w (λ terms term this. subst (λ t. is_root t term) (sym this.0) (subst (is_root nodes) (sym this.1) is))
+      (subst (λ e. IsFromModel says e (IsThis nodes root) m budget c w) (widened-once d) h)
 
   -- and decides whether some case is such
   pub such-keeps : (m : Mode) (formula : Problem) → IsKeptOf (widened d 1) (IsThis nodes root) m formula → Keeps d such formula
@@ -160,6 +203,9 @@ module _ (d : DesignView) (lawful : IsLawful d) (asked : Question) (nodes : List
     keeps = such-keeps d lawful (IsAsked asked d) (IsRootOf d asked) (root-known d asked) (root-decides d lawful asked) nodes root is m w.cnf h.kept;
     law = h.law;
   }
+
+  pub asked-from : (says : Problem → ℕ → Found → List Line → Type 0) (m : Mode) (budget : ℕ) (c : Case) (w : Work) → IsFromModel says (widened d 1) (IsThis nodes root) m budget c w → IsFromModel says d (IsRootOf d asked) m budget c w
+  asked-from = such-from d lawful (IsAsked asked d) (IsRootOf d asked) (root-known d asked) (root-decides d lawful asked) nodes root is
 
   pub asked-none : IsGraph nodes → IsValid d nodes root → (c : Case) → Fits d c → IsAsked asked d c → ⊥
   asked-none = such-none d lawful (IsAsked asked d) (IsRootOf d asked) (root-known d asked) (root-decides d lawful asked) nodes root is

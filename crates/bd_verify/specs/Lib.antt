@@ -3,6 +3,7 @@ pub mod Kept
 pub mod Verdict
 pub mod Decided
 pub mod Asked
+pub mod FromModel
 pub mod Agreement
 pub mod Laws
 pub mod inner

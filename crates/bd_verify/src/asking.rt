@@ -5,7 +5,7 @@ ghost use Rattle.bd_model.specs.DesignView.{design_view};
 ghost use Rattle.bd_model.specs.Lawful.{IsLawful};
 ghost use Rattle.bd_symbolic.specs.Widened.{case_of_trail};
 ghost use Rattle.bd_verify.specs.Kept.{IsRootOf};
-ghost use Rattle.bd_verify.specs.inner.Answered.{IsAnswerSaid, IsAnswered};
+ghost use Rattle.bd_verify.specs.inner.Answered.{IsAnswerFromModel, IsAnswerSaid, IsAnswered};
 
 use crate::deciding::{Decided, decide_by};
 use crate::verdict::{Mode, Question, Work};
@@ -39,6 +39,8 @@ pub(crate) fn ask<S: HonestSolver>(
     requires { IsLawful (design_view design.now) }
     ensures answered { IfOk result (IsAnswered (design_view design.now) asked mode budget) }
     ensures said { IfOk result (IsAnswerSaid (S.says solver.old solver.new) budget) }
+    ensures from_model { IfOk result (IsAnswerFromModel (S.says solver.old solver.new)
+        (design_view design.now) asked mode budget) }
     ensures counted { OnOk result (Asks (S.asked solver.old) (S.asked solver.new) 1) }
     ensures at_most { AsksAtMost (S.asked solver.old) (S.asked solver.new) 1 }
 {

@@ -9,8 +9,9 @@ ghost use Rattle.bd_symbolic.specs.Widened.{HasLawfulSymbols, widened};
 ghost use Rattle.bd_terms.specs.declared.node.Node.{Node as TheNode};
 ghost use Rattle.bd_verify.specs.Asked.{IsDecisionSaid};
 ghost use Rattle.bd_verify.specs.Decided.{Falsifies, IsDecided, IsKnownRoot};
+ghost use Rattle.bd_verify.specs.FromModel.{IsDecisionFromModel};
 ghost use Rattle.bd_verify.specs.declared.verdict.Mode.{Mode as AnyMode};
-ghost use Rattle.bd_verify.specs.inner.Reduced.{HasFlatOf, HasFormulaOf};
+ghost use Rattle.bd_verify.specs.inner.Reduced.{HasFlatOf, HasFormulaOf, TrailStandsFor};
 
 use crate::reduction::{Reduction, reduced};
 use crate::verdict::{Mode, Work};
@@ -50,6 +51,8 @@ pub fn decide<S: HonestSolver>(
     ensures decided { IfOk result
         (IsDecided (design_view design.now) cycles graph.now root Mode.Plain budget) }
     ensures asked { IfOk result (IsDecisionSaid (S.says solver.old solver.new) budget) }
+    ensures from_model { IfOk result (IsDecisionFromModel (S.says solver.old solver.new)
+        (design_view design.now) cycles graph.now root Mode.Plain budget) }
     ensures counted { OnOk result (Asks (S.asked solver.old) (S.asked solver.new) 1) }
     ensures at_most { AsksAtMost (S.asked solver.old) (S.asked solver.new) 1 }
 {
@@ -83,6 +86,8 @@ pub fn decide_by<S: HonestSolver>(
     ensures decided { IfOk result
         (IsDecided (design_view design.now) cycles graph.now root mode budget) }
     ensures asked { IfOk result (IsDecisionSaid (S.says solver.old solver.new) budget) }
+    ensures from_model { IfOk result (IsDecisionFromModel (S.says solver.old solver.new)
+        (design_view design.now) cycles graph.now root mode budget) }
     ensures counted { OnOk result (Asks (S.asked solver.old) (S.asked solver.new) 1) }
     ensures at_most { AsksAtMost (S.asked solver.old) (S.asked solver.new) 1 }
 {
@@ -111,10 +116,11 @@ fn lifted(
         reduction.now.flat.graph reduction.now.flat.syms }
     requires formula { HasFormulaOf (widened (design_view design.now) cycles) reduction.now }
     requires model { Satisfies (value_of model.now) reduction.now.formula.cnf.clauses }
-    ensures { IfOk result (λ t. (nodes : List TheNode) (root : ℕ) (mode : AnyMode) →
+    ensures falsifies { IfOk result (λ t. (nodes : List TheNode) (root : ℕ) (mode : AnyMode) →
         IsKnownRoot (widened (design_view design.now) cycles) nodes root →
         HasFlatOf nodes root mode reduction.now →
         Falsifies (design_view design.now) cycles nodes root t) }
+    ensures stands { IfOk result (TrailStandsFor reduction.now (value_of model.now)) }
 {
     let values = inputs_of(alloc, &reduction.formula, model)?;
     lift_trail(

@@ -7,6 +7,7 @@ ghost use Rattle.bd_model.specs.Conditions.{IsJudged, MeetsInvariant, SomeCaseMe
 ghost use Rattle.bd_model.specs.Lawful.{IsLawful};
 ghost use Rattle.bd_model.specs.Right.{IsRight};
 ghost use Rattle.bd_verify.specs.Asked.{IsAskedInTurn, IsVerdictSaid, most_questions, questions};
+ghost use Rattle.bd_verify.specs.FromModel.{IsVerdictFromModel};
 ghost use Rattle.bd_verify.specs.Verdict.{HasWork, Says};
 ghost use Rattle.bd_verify.specs.inner.Answered.{IsFound};
 
@@ -91,6 +92,8 @@ pub fn verify<S: HonestSolver>(
         (IsVerdictSaid (S.says solver.old solver.new) budget) }
     ensures asked_in_turn { given ≡ true → IfOk result
         (IsAskedInTurn S.says solver.old solver.new (design_view design.now) mode budget) }
+    ensures from_model { IfOk result (λ v. (before : S) ×
+        IsVerdictFromModel (S.says before solver.new) (design_view design.now) mode budget v) }
     ensures counted { IfOk result (λ v.
         Asks (S.asked solver.old) (S.asked solver.new) (questions given v)) }
     ensures at_most { AsksAtMost (S.asked solver.old) (S.asked solver.new) (most_questions given) }
@@ -120,6 +123,8 @@ fn breaks<S: HonestSolver>(
         × MeetsInvariant (design_view design.now) c.interp c.state) }
     ensures found { IfOk result (IsFound (design_view design.now) mode budget met) }
     ensures said { IfOk result (IsVerdictSaid (S.says solver.old solver.new) budget) }
+    ensures from_model { IfOk result (IsVerdictFromModel (S.says solver.old solver.new)
+        (design_view design.now) mode budget) }
     ensures counted { OnOk result (Asks (S.asked solver.old) (S.asked solver.new) 1) }
     ensures at_most { AsksAtMost (S.asked solver.old) (S.asked solver.new) 1 }
 {

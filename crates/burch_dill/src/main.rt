@@ -1,9 +1,10 @@
 //! The program: real files, standard output and standard error for the one call that does its work.
 //!
-//! What is proved ends at `program`: whatever the files and the two streams are, the exit status is
-//! that of the answer, and the answer's clauses hold of these very objects. `main` makes the real
-//! ones, reads the words, and calls it once. That it hands over the right ones is only tested, by a
-//! run of the built program whose words, output and status are stored.
+//! What is proved ends at `on_disk`: whatever the disk and the two streams are, the exit status is
+//! that of the answer, and where the disk tells what it holds, the answer is of the bytes on it.
+//! `main` reads the words and calls it once, with the system's own disk, which tells nothing. That
+//! it hands over the right objects is only tested, by a run of the built program whose words, output
+//! and status are stored.
 #![tactic(auto)]
 
 ghost use Rattle.std.specs.Prelude.{◌≡◌, IfErr, IfOk, OnErr};
@@ -13,13 +14,13 @@ ghost use Rattle.bd_files.specs.Pieces.{PutsInPieces};
 ghost use Rattle.bd_app.specs.Answer.{fault_line_of, status_of};
 ghost use Rattle.bd_app.specs.Meaning.{files_seen};
 ghost use Rattle.bd_app.specs.Pieces.{line_pieces_of};
-ghost use Rattle.bd_app.specs.Program.{sink_seen};
+ghost use Rattle.bd_app.specs.Program.{Headline, sink_seen};
 ghost use Rattle.bd_app.specs.Words.{texts_of};
 ghost use Rattle.burch_dill.specs.Program.{EndsWith, ended_without};
 
 use bd_app::{Ended, run};
 use bd_files::{Files, Sink};
-use bd_host::{RealFiles, Stream, WordsError, command_line};
+use bd_host::{Disk, RealFiles, Stream, WordsError, command_line};
 use std::alloc::Global;
 use std::process::ExitCode;
 
@@ -102,12 +103,28 @@ fn program<F: Files, O: Sink, E: Sink>(
     }
 }
 
+/// The program on the files of a disk.
+fn on_disk<D: Disk + Drop, O: Sink, E: Sink>(
+    alloc: Global,
+    words: Result<Vec<String>, WordsError>,
+    disk: D,
+    out: &mut O,
+    err: &mut E,
+) -> ExitCode
+    // Where the disk tells what it holds, the answer's verdict is of the design that the bytes on the disk denote.
+    ensures headline { IfOk words (λ words. (ended : Ended)
+        × (exit_status result ≡ status_of ended)
+        × Headline (D.held disk) (texts_of words.items) ended) }
+{
+    program(alloc, words, &mut RealFiles::new(alloc, disk), out, err)
+}
+
 /// The program on the host's command line, files, standard output and standard error.
 fn main(rt: HostRuntime) -> ExitCode {
-    program(
+    on_disk(
         rt.alloc(),
         command_line(rt.alloc(), &rt),
-        &mut RealFiles::new(rt.alloc(), &rt),
+        &rt,
         &mut Stream::new(rt.stdout()),
         &mut Stream::new(rt.stderr()),
     )

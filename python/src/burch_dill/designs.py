@@ -8,12 +8,11 @@ from contextlib import contextmanager
 from typing import Any, Callable, ClassVar, TypeVar, Union
 
 from .errors import DesignError
-from .expressions import FALSE, TRUE, AnyBundle, Bool, Expression, Function, Group, Memory, Predicate, Scalar, Sorted
-from .expressions import Vector, Word, all_of, held, tree_of
+from .expressions import FALSE, RESERVED, TRUE, AnyBundle, Bool, Expression, Function, Group, Memory, Predicate
+from .expressions import Scalar, Sorted, Vector, Word, all_of, held, tree_of
 from .trees import WIDTH, Tree, laid_out, written
 
 NAME = re.compile(r"[A-Za-z_][A-Za-z0-9_.-]{0,63}")
-RESERVED = frozenset("true false not and or implies iff ite read write let".split())
 
 Index = TypeVar("Index", bound=Union[int, str, tuple[int, ...]])
 

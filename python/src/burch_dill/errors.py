@@ -17,7 +17,7 @@ class NoFile(BurchDillError, FileNotFoundError):
 class NoAnswer(BurchDillError):
     """The program ended without an answer. `status` is its exit status, `line` what it wrote to its error output.
 
-    By status: 2, the words aren't taken; 5, a device failed; 6, out of memory; None, no program was found; 0, this
+    By status: 2, unrecognized arguments; 5, an I/O error; 6, out of memory; None, no program was found; 0, this
     package doesn't know the answer; and what else an operating system makes of a program that ends early.
     """
 

@@ -12,6 +12,9 @@ from typing import Any, Callable, ClassVar, Generic, NoReturn, TypeVar, Union, o
 from .errors import DesignError
 from .trees import Tree, written
 
+# The words of expressions, which are no names.
+RESERVED = frozenset("true false not and or implies iff ite read write let".split())
+
 
 @dataclass(frozen=True, eq=False)
 class Expression:

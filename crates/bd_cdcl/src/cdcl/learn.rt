@@ -16,6 +16,7 @@ ghost use Rattle.bd_cdcl.specs.inner.Analyses.{IsClear, IsSecond, IsLesson};
 
 use super::analyze::Analysis;
 use super::guide::Guide;
+use super::reasons::see_reasons;
 use bd_cnf::{Clause, Lit, PackedLit};
 use bd_lrat::Hints;
 use bd_watch::Watch;
@@ -119,6 +120,7 @@ pub(crate) fn learned_from(
     let first = kept[0];
     let Second { literal, floor } = last_falsified(watch, first, &kept[1..]);
     let lbd = lbd(watch, &kept[1..]).saturating_add(1);
+    see_reasons(&mut guide.queue, watch, kept, lbd)?;
     let backjump = watch.trail().start_from(floor).unwrap_or(start);
     let hints = analysis.hints(alloc, conflict)?;
     Ok(Lesson {

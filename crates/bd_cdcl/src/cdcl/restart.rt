@@ -16,10 +16,10 @@ const FOCUSED_CLAUSES: u64 = 2_000;
 const STABLE_CLAUSES: u64 = 11_000;
 
 /// How many clauses are learned between two restarts of focused mode.
-const FOCUSED_INTERVAL: u64 = 5;
+const FOCUSED_INTERVAL: u64 = 7;
 
 /// The fewest clauses that are learned between two restarts of stable mode.
-const STABLE_INTERVAL: u64 = 3;
+const STABLE_INTERVAL: u64 = 6;
 
 /// With each clause the fast average forgets one part in so many.
 const FAST_EMA_WINDOW: u64 = 32;

@@ -1,5 +1,5 @@
 -- Faults with their file, as the program has them; and the least of offsets.
-use Rattle.std.specs.Prelude.{◌≡◌, ℕ, List, [], ◌∷◌, Option, Some, None, Result, Ok, Err, min}
+use Rattle.std.specs.Prelude.{ℕ, List, [], ◌∷◌, Option, Some, None, Result, Ok, Err, min}
 use Rattle.std.specs.Option.{option_map}
 use Rattle.bd_text.specs.declared.code.Code.{Code}
 use Rattle.bd_syntax.specs.Reading.{Fault}
@@ -17,11 +17,6 @@ text_located file texts.Memory = faults.Memory
 abbrev pub located : {A : Type 0} → Text → Result A TextFault → Result A TypeFault
 located file (Ok x) = Ok x
 located file (Err fault) = Err (text_located file fault)
-
--- what holds of the offset and the code of a fault of that file
-abbrev pub OnText : Text → TypeFault → (ℕ → Code → Type 0) → Type 0
-OnText file (faults.Bad other offset code) P = (other ≡ file) × P offset code
-OnText file faults.Memory P = Unit {0}
 
 -- the lesser of two offsets, where there are any
 abbrev pub first_offset : Option ℕ → Option ℕ → Option ℕ

@@ -17,6 +17,8 @@ use Rattle.bd_verify.specs.declared.verdict.Question.TheVariants as question
 use Rattle.bd_verify.specs.declared.verdict.Verdict.{Verdict}
 use Rattle.bd_verify.specs.declared.verdict.Verdict.TheVariants.{Correct, Wrong, Void, Undecided}
 use Rattle.bd_verify.specs.Asked.{IsModelSaid, IsSaid}
+use Rattle.bd_verify.specs.FromModel.{IsFromModel}
+use Rattle.bd_verify.specs.Kept.{IsRootOf}
 use Rattle.bd_verify.specs.Verdict.{IsAsked, IsWorkOf}
 
 -- no case is such; this one is; or the budget is spent
@@ -32,6 +34,11 @@ abbrev pub IsAnswerSaid : (Problem → ℕ → Found → List Line → Type 0) �
 IsAnswerSaid says budget (decision.NoCase work) = IsSaid says budget found.Refuted work
 IsAnswerSaid says budget (decision.ThisCase c work) = IsModelSaid says budget work
 IsAnswerSaid says budget (decision.Spent work) = IsSaid says budget found.Spent work
+
+-- the case that is found is from the solver's model
+abbrev pub IsAnswerFromModel : (Problem → ℕ → Found → List Line → Type 0) → DesignView → Question → Mode → ℕ → Decision → Type 0
+IsAnswerFromModel says d asked m budget (decision.ThisCase c work) = IsFromModel says d (IsRootOf d asked) m budget c work
+IsAnswerFromModel says d asked m budget _ = Unit {0}
 
 -- the verdict where it is asked whether a case breaks a condition: the case that is carried is this one, and none is such;
 -- or the case is judged to break the condition

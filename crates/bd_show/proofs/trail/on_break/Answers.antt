@@ -1,9 +1,10 @@
+use Rattle.std.proofs.Common.{refl}
 use Rattle.bd_model.specs.DesignView.{design_view}
+use Rattle.bd_show.specs.Saves.{save_names}
 use Rattle.bd_show.proofs.Trails.{break_seen}
 use Rattle.bd_show.proofs.trail.on_break.Goals as goal
 
 pub returns : goal.returns
 returns c =
-    break_seen (design_view c.args.design.now) c.args.judging.now.trail c.args.judging.now.judged c.args.cycle c.in_ok-picture.picture.sentence.items c.in_ok-shown.shown.items
-    c.as_slice-tables.result.now c.in_ok-page.page.items c.in_ok-text.text.items c.push.new.self.items c.extend_from_slice.new.self.items c.requires.broken c.requires.breaking
-    c.in_ok-picture.ensures c.in_ok-shown.ensures c.as_slice-tables.ensures.value c.in_ok-page.ensures c.in_ok-text.ensures c.in_ok-push.ensures.items c.in_ok-extend_from_slice.ensures.items
+    break_seen (save_names c.args.options.saves) (design_view c.args.design.now) c.args.judging.now.trail c.args.judging.now.judged c.args.cycle _ _ _ c.requires.broken refl
+    c.in_ok-text.ensures.text c.in_ok-text.ensures.pictured c.in_ok-text.ensures.wave c.in_ok-saves.ensures

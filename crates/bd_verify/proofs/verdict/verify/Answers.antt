@@ -1,12 +1,13 @@
 use Rattle.std.proofs.Common.{◌∙◌, Some, IfOk, None, subst, sym, true≢false}
-use Rattle.bd_cdcl.specs.Asks.{AsksAtMost}
+use Rattle.bd_cdcl.specs.Asks.{Asks, AsksAtMost}
 use Rattle.bd_cdcl.proofs.Questions.{one_more}
 use Rattle.bd_model.specs.DesignView.{design_view}
-use Rattle.bd_verify.specs.Asked.{most_questions}
+use Rattle.bd_verify.specs.Asked.{most_questions, questions}
+use Rattle.bd_verify.specs.FromModel.{IsVerdictFromModel}
 use Rattle.bd_verify.specs.inner.Answered.{IsAnswerSaid, IsAnswered, IsFound}
 use Rattle.bd_verify.specs.declared.verdict.Question.TheVariants as question
 use Rattle.bd_verify.proofs.Judgements.{holds-found, right-found, says-result}
-use Rattle.bd_verify.proofs.Said.{in-turn, meets-first}
+use Rattle.bd_verify.proofs.Said.{counted-twice, in-turn, meets-first, some-before}
 use Rattle.bd_verify.proofs.verdict.verify.Goals as goal
 
 pub returns-then-not-given-clause-correct : goal.returns-then-not-given-clause-correct
@@ -45,8 +46,22 @@ returns-in-ThisCase-clause-asked_in_turn g c = λ given.
     (subst (IsAnswerSaid says c.args.budget) c.in-ThisCase.is c.in_ok-work.ensures.said) in
     in-turn g.S.Solver.says c.args.solver.now between c.breaks-in-ThisCase.new.solver d c.args.mode c.args.budget (Some c.in-ThisCase.case) c.breaks-in-ThisCase.result first c.breaks-in-ThisCase.ensures.found c.breaks-in-ThisCase.ensures.said
 
+pub returns-in-ThisCase-clause-counted : goal.returns-in-ThisCase-clause-counted
+returns-in-ThisCase-clause-counted g c =
+    let asked = g.S.Solver.asked in
+    subst (λ b. IfOk c.breaks-in-ThisCase.result (λ v. Asks (asked c.args.solver.now) (asked c.breaks-in-ThisCase.new.solver) (questions b v))) (sym c.if-not-given.false)
+    (counted-twice (asked c.args.solver.now) (asked c.ask.new.solver) (asked c.breaks-in-ThisCase.new.solver) (design_view c.args.design.now) c.args.mode c.args.budget (Some c.in-ThisCase.case) c.breaks-in-ThisCase.result c.in_ok-work.ensures.counted c.breaks-in-ThisCase.ensures.found c.breaks-in-ThisCase.ensures.counted)
+
 pub returns-in-ThisCase-clause-at_most : goal.returns-in-ThisCase-clause-at_most
 returns-in-ThisCase-clause-at_most g c =
     let asked = g.S.Solver.asked in
     subst (λ b. AsksAtMost (asked c.args.solver.now) (asked c.breaks-in-ThisCase.new.solver) (most_questions b)) (sym c.if-not-given.false)
     (one_more (asked c.args.solver.now) (asked c.ask.new.solver) (asked c.breaks-in-ThisCase.new.solver) c.in_ok-work.ensures.counted c.breaks-in-ThisCase.ensures.at_most)
+
+pub returns-then-not-given-clause-from_model : goal.returns-then-not-given-clause-from_model
+returns-then-not-given-clause-from_model g c =
+    some-before c.args.solver.now (λ before. IsVerdictFromModel (g.S.Solver.says before c.breaks.new.solver) (design_view c.args.design.now) c.args.mode c.args.budget) c.breaks.result c.breaks.ensures.from_model
+
+pub returns-in-ThisCase-clause-from_model : goal.returns-in-ThisCase-clause-from_model
+returns-in-ThisCase-clause-from_model g c =
+    some-before c.ask.new.solver (λ before. IsVerdictFromModel (g.S.Solver.says before c.breaks-in-ThisCase.new.solver) (design_view c.args.design.now) c.args.mode c.args.budget) c.breaks-in-ThisCase.result c.breaks-in-ThisCase.ensures.from_model
