@@ -183,6 +183,8 @@ def companion_commands() -> Iterator[Command]:
     yield command("shrink, holds", "shrink", *right, "pending_write.case")
     yield command("about", "about", *right)
     yield command("about, with an invariant", "about", "twin_valid_bits.pipe", "two_stage.spec", "twin_valid_bits.inv")
+    yield command("lint", "lint", *right, inv, "pending_write.case")
+    yield command("lint, faults", "lint", "spoiled.lrat", right[0], "spoiled.lrat")
     yield command("a faulty text", "about", "two_stage.spec", "two_stage.spec")
     yield command("a faulty case", "show", *right, "two_stage.spec", *page, saves=SAVED[2:])
     yield command("no file", "about", "two_stage.pipe", "nowhere")

@@ -23,7 +23,7 @@ ROOT = Path(__file__).resolve().parent.parent
 PAGES = ROOT / "docs" / "commands"
 CODES = range(25)
 # the crates whose texts are answers, and words of the programs
-SPEAKING = ("bd_app", "bd_show", "bd_about", "bd_why")
+SPEAKING = ("bd_app", "bd_show", "bd_lint", "bd_about", "bd_why")
 LITERAL = re.compile(r'b?"((?:[^"\\]|\\.)*)"', re.S)
 # answers that a page has to name, though no example's budget is spent by such a question
 NEVER = ("gen DEPTH DROP latches N undecided 200000", "undecided: the budget is 200000")
@@ -122,7 +122,7 @@ def is_printed(answer: str, lines: Tuple[str, ...]) -> bool:
     """Whether a line begins with an answer, whose open places are any words."""
     code = re.search(r"E\d\d", answer)
     if code:
-        return any(re.search(rf":\d+: {code[0]} ", line) for line in lines)
+        return any(re.search(rf":\d+: (?:error: )?{code[0]} ", line) for line in lines)
     wanted = "".join("\\S+" if OPEN.fullmatch(part) and part != ".." else ".*" if part == ".." else re.escape(part)
                      for part in re.split(f"({OPEN.pattern})", answer))
     ending = "" if answer.endswith("..") else "$"

@@ -23,17 +23,20 @@ WORD = re.compile(r"\[(--[\w-]+)(?: ([A-Z]+))?\]|\[([A-Z]+)\]|([A-Z]+)")
 
 
 class Command(NamedTuple):
-    """A command: what it does, its places, the last of which may be left out, and its options with their values."""
+    """A command: what it does, its places, the last of which may be left out, and its options with their values. Where
+    the one place is repeated, further words stand for more of it."""
 
     name: str
     does: str
     places: Tuple[str, ...]
     optional: Tuple[str, ...] = ()
     options: Tuple[Tuple[str, str], ...] = ()
+    repeated: bool = False
 
     def synopsis(self) -> str:
         """The words, as usage texts have them."""
-        words = [self.name, *self.places, *(f"[{place}]" for place in self.optional)]
+        words = [self.name, *self.places, *([".."] if self.repeated else []),
+                 *(f"[{place}]" for place in self.optional)]
         return " ".join(words + [f"[{' '.join(filter(None, option))}]" for option in self.options])
 
 
@@ -43,7 +46,7 @@ def command_of(synopsis: str, does: str) -> Command:
     found = WORD.findall(rest)
     return Command(name, does, tuple(place for *_, place in found if place),
                    tuple(place for _, _, place, _ in found if place),
-                   tuple((option, value) for option, value, _, _ in found if option))
+                   tuple((option, value) for option, value, _, _ in found if option), rest.endswith(".."))
 
 
 def listed_in(page: Path) -> Tuple[Command, ...]:
@@ -132,7 +135,8 @@ def bash() -> str:
                                f'<(compgen -W "{words}" -- "$current") ;;')
             for at, place in enumerate(command.places + command.optional):
                 if pattern(place):
-                    places.append(f"        {program}:{command.name}:{at}) {bash_reply(place)} ;;")
+                    number = "*" if command.repeated else at
+                    places.append(f"        {program}:{command.name}:{number}) {bash_reply(place)} ;;")
     values = [f"        {name}) {bash_reply(value)}; return ;;" for name, value in valued()]
     made = {"COMMANDS": commands, "OPTIONS": options, "PLACES": places, "VALUES": values,
             "VALUED": ["|".join(name for name, _ in valued())]}
@@ -159,7 +163,7 @@ def zsh_value(place: str) -> str:
 def zsh_command(program: str, command: Command) -> List[str]:
     """The case of a command: its options and its places."""
     parts = [f"'{name}[{name}]" + (f":{zsh_value(value)}'" if value else "'") for name, value in command.options]
-    parts += [f"'{at}:{zsh_value(place)}'" for at, place in enumerate(command.places, 1)]
+    parts += [f"'{'*' if command.repeated else at}:{zsh_value(place)}'" for at, place in enumerate(command.places, 1)]
     parts += [f"'{at}::{zsh_value(place)}'" for at, place in enumerate(command.optional, len(command.places) + 1)]
     return [f"        {program}:{command.name})", "            _arguments -s \\",
             *(f"                {part} \\" for part in parts[:-1]), f"                {parts[-1]} ;;"]
@@ -205,7 +209,9 @@ def fish() -> str:
                 given = " -r -F" if value and pattern(value) else " -x" if value else ""
                 lines.append(f"complete -c {program} -n {seen} -l {name[2:]}{given}")
             for at, place in enumerate(command.places + command.optional):
-                if pattern(place):
+                if command.repeated:
+                    lines.append(f"complete -c {program} -n {seen} -F")
+                elif pattern(place):
                     lines.append(f"complete -c {program} -n '__burch_dill_place {command.name} {at}' "
                                  f"-k -a '(__fish_complete_suffix {pattern(place)[1:]})'")
     lines += [f"complete -c bd_view -n __fish_use_subcommand -l {word[2:]} -d '{does}'"

@@ -24,7 +24,7 @@ class Pages(unittest.TestCase):
         self.assertIn(shown.Answer("burch_dill", "check", "undecided N meets", "4"), listed)
         self.assertIn(shown.Answer("bd_view", "", "out of memory", "6"), listed)
         self.assertEqual({answer.command for answer in listed if answer.program == "bd_view"},
-                         {"", "check", "show", "shrink", "why", "recheck"})
+                         {"", "check", "show", "shrink", "why", "recheck", "lint"})
 
 
 class Reading(unittest.TestCase):

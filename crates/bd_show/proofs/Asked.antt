@@ -10,7 +10,7 @@ use Rattle.clap.specs.declared.error.kind.ErrorKind.TheVariants as kind
 use Rattle.clap.proofs.OnLiterals.{clap_on_literals}
 use Rattle.bd_app.specs.Words.{◌>>=◌}
 use Rattle.bd_app.proofs.WordValues.{refused_kinds}
-use Rattle.bd_show.specs.Commands.{command_line, question_of, taken}
+use Rattle.bd_show.specs.Commands.{command_line, taken, task_of}
 use Rattle.bd_show.specs.declared.command.WordsFault.{WordsFault}
 use Rattle.bd_show.specs.declared.command.WordsFault.TheVariants.{Told, Usage, Memory}
 use Rattle.bd_show.specs.inner.Asked.{IsToldBy, IsWordsFault}
@@ -30,7 +30,7 @@ refused words k among = refused_kinds k (fault_of command_line words) _ among
 
 -- where clap finds no fault, the words ask what the subcommand asks
 pub met : (words : List Text) (r : Option (Text × List Row)) → fault_of command_line words ≡ [] → subcommand_of command_line words ≡ r
-    → taken words ≡ (r >>= λ p. question_of p.0 p.1)
+    → taken words ≡ (r >>= λ p. task_of p.0 p.1)
 unfolding taken
 met words r none is = rw (none, is) refl
 

@@ -4,7 +4,7 @@ use Rattle.bd_model.specs.declared.case.Judged.TheVariants as judged
 use Rattle.bd_model.specs.declared.case.TrailJudged.TheVariants as trail
 use Rattle.bd_about.specs.declared.asking.Finding.TheVariants as finding
 use Rattle.bd_show.specs.declared.answer.Ended.{Ended}
-use Rattle.bd_show.specs.declared.answer.Ended.TheVariants.{Checked, Shown, Completed, Compared, Traced, Explained, Unknown, Shrunk, Unbroken, Described, Proved, BadProof, Told, Usage, Refused, TooLong, Unread, Unsaved, Unwritten, Memory}
+use Rattle.bd_show.specs.declared.answer.Ended.TheVariants.{Checked, Shown, Completed, Compared, Traced, Explained, Unknown, Shrunk, Unbroken, Described, Proved, BadProof, Linted, Unopened, Told, Usage, Refused, TooLong, Unread, Unsaved, Unwritten, Memory}
 
 abbrev pub status_of : Ended → ℕ
 status_of (Checked finding.Right) = 0
@@ -31,6 +31,9 @@ status_of (Unbroken j) = 9
 status_of (Described found) = 0
 status_of Proved = 0
 status_of (BadProof line column why) = 3
+status_of (Linted true) = 0
+status_of (Linted false) = 3
+status_of Unopened = 5
 status_of Told = 0
 status_of Usage = 2
 status_of (Refused file offset code) = 3
@@ -51,5 +54,6 @@ HasReport (Explained j) = Unit {0}
 HasReport (Shrunk k) = Unit {0}
 HasReport (Described found) = Unit {0}
 HasReport Proved = Unit {0}
+HasReport (Linted clean) = Unit {0}
 HasReport Told = Unit {0}
 HasReport _ = ⊥

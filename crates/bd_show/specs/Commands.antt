@@ -1,49 +1,62 @@
 -- The command line: which words are taken, and what they ask for.
 -- Source: what `clap` makes of the words of a simple command, as the crate states it.
-use Rattle.std.specs.Prelude.{◌≡◌, ◌≢◌, ◌⊎◌, ℕ, true, false, List, [], ◌∷◌, codes, min, Option, Some, None, if◌then◌else◌}
+use Rattle.std.specs.Prelude.{◌≡◌, ◌≢◌, ◌⊎◌, ℕ, true, false, List, [], ◌∷◌, codes, min, Option, Some, None, if◌then◌else◌, option_map, unwrap_or}
 use Rattle.std.specs.Str.{bytes_eq}
 use Rattle.clap.specs.Faults.{fault_of}
 use Rattle.clap.specs.Kinds.{IsAmong}
 use Rattle.clap.specs.Simple.{App, Shape, new_rule, new_shape, subcommand_of}
-use Rattle.clap.specs.Walk.{Row, Rule, first_of}
+use Rattle.clap.specs.Walk.{Row, Rule, all_of, first_of}
+use Rattle.clap.specs.declared.builder.action.ArgAction.TheVariants.{Append}
 use Rattle.clap.specs.declared.error.kind.ErrorKind.{ErrorKind}
 use Rattle.clap.specs.declared.error.kind.ErrorKind.TheVariants.{DisplayHelp, DisplayVersion}
 use Rattle.bd_app.specs.Commands.{if_faultless}
 use Rattle.bd_model.specs.Limits.{most_cycles}
-use Rattle.bd_app.specs.Words.{Name, budget_option, flag, flag_at, in_range, machines_command, mode_at, number_at, number_of, option, text_command, text_of_required, ◌>>=◌}
+use Rattle.bd_app.specs.Words.{Name, budget_option, command, flag, flag_at, in_range, machines_command, mode_at, number_at, number_of, option, required, text_command, text_of_required, ◌>>=◌}
 use Rattle.bd_show.specs.Files.{Names}
-use Rattle.bd_show.specs.Meaning.{BoundedCheck, Check, Explain, Question, Recheck, Show, bounded, check, show, shrink, explain, about, recheck}
+use Rattle.bd_show.specs.Saves.{SaveNames}
+use Rattle.bd_show.specs.Meaning.{BoundedCheck, Check, Describe, Explain, Question, Recheck, Show, bounded, check, show, shrink, explain, about, recheck}
 
--- check PIPE SPEC [INV] [--diverse] [--budget N] [--start START] [--cycles C] [--case FILE]
+-- check PIPE SPEC [INV] [--diverse] [--budget N] [--start START] [--cycles C] [--case FILE] [--vcd FILE] [--json FILE]
 abbrev pub check_command : Shape
 check_command =
     machines_command (codes "check") (new_rule (codes "INV") ∷ flag (codes "diverse")
     ∷ budget_option ∷ option (codes "start")
-    ∷ in_range 0 most_cycles (option (codes "cycles")) ∷ option (codes "case") ∷ [])
+    ∷ in_range 0 most_cycles (option (codes "cycles")) ∷ option (codes "case") ∷ option (codes "vcd")
+    ∷ option (codes "json") ∷ [])
 
--- show PIPE SPEC CASE [INV] [--whole] [--comp COMP] [--html FILE]
+-- show PIPE SPEC CASE [INV] [--whole] [--comp COMP] [--html FILE] [--vcd FILE] [--json FILE]
 abbrev pub show_command : Shape
 show_command =
     text_command (codes "show") (codes "CASE") (flag (codes "whole") ∷ option (codes "comp")
-    ∷ option (codes "html") ∷ [])
+    ∷ option (codes "html") ∷ option (codes "vcd") ∷ option (codes "json") ∷ [])
 
 -- shrink PIPE SPEC CASE [INV]
 abbrev pub shrink_command : Shape
 shrink_command = text_command (codes "shrink") (codes "CASE") []
 
--- why PIPE SPEC CASE [INV] [--of VALUE] [--whole]
+-- why PIPE SPEC CASE [INV] [--of VALUE] [--whole] [--json FILE]
 abbrev pub why_command : Shape
 why_command =
-    text_command (codes "why") (codes "CASE") (option (codes "of") ∷ flag (codes "whole") ∷ [])
+    text_command (codes "why") (codes "CASE")
+    (option (codes "of") ∷ flag (codes "whole") ∷ option (codes "json") ∷ [])
 
--- about PIPE SPEC [INV]
+-- about PIPE SPEC [INV] [--json FILE]
 abbrev pub about_command : Shape
-about_command = machines_command (codes "about") (new_rule (codes "INV") ∷ [])
+about_command =
+    machines_command (codes "about") (new_rule (codes "INV") ∷ option (codes "json") ∷ [])
 
 -- recheck PIPE SPEC PROOF [INV] [--diverse]
 abbrev pub recheck_command : Shape
 recheck_command =
     text_command (codes "recheck") (codes "PROOF") (flag (codes "diverse") ∷ [])
+
+-- one file or more
+abbrev pub files_rule : Rule
+files_rule = record (required (codes "FILE")) { action = Some Append }
+
+-- lint FILE ..
+abbrev pub lint_command : Shape
+lint_command = command (codes "lint") (files_rule ∷ [])
 
 -- the files of a design
 abbrev pub design_names : List Row → Names
@@ -66,12 +79,20 @@ abbrev pub proof_names : List Row → Names
 proof_names rows =
     record (design_names rows) { proof = Some (text_of_required (codes "PROOF") rows) }
 
+-- where texts of the answer are saved: the first of them under the name of this option
+abbrev pub saves_at : List ℕ → List Row → SaveNames
+saves_at text rows = record {
+  text = first_of text rows;
+  wave = first_of (codes "vcd") rows;
+  object = first_of (codes "json") rows;
+}
+
 abbrev pub check_question : List Row → Check
 check_question rows = record {
   names = design_names rows;
   mode = mode_at (codes "diverse") rows;
   budget = number_of (codes "budget") rows;
-  case = first_of (codes "case") rows;
+  saves = saves_at (codes "case") rows;
 }
 
 abbrev pub bounded_question : ℕ → List Row → BoundedCheck
@@ -80,7 +101,7 @@ bounded_question cycles rows = record {
   cycles = min cycles most_cycles;
   mode = mode_at (codes "diverse") rows;
   budget = number_of (codes "budget") rows;
-  trail = first_of (codes "case") rows;
+  saves = saves_at (codes "case") rows;
 }
 
 -- a start and a number of cycles stand together, and not with an invariant
@@ -99,7 +120,7 @@ abbrev pub show_question : List Row → Show
 show_question rows = record {
   names = record (case_names rows) { comp = first_of (codes "comp") rows };
   whole = flag_at (codes "whole") rows;
-  page = first_of (codes "html") rows;
+  saves = saves_at (codes "html") rows;
 }
 
 abbrev pub why_question : List Row → Explain
@@ -107,6 +128,13 @@ why_question rows = record {
   names = case_names rows;
   whole = flag_at (codes "whole") rows;
   value = first_of (codes "of") rows;
+  object = first_of (codes "json") rows;
+}
+
+abbrev pub about_question : List Row → Describe
+about_question rows = record {
+  names = design_names rows;
+  object = first_of (codes "json") rows;
 }
 
 abbrev pub recheck_question : List Row → Recheck
@@ -116,7 +144,7 @@ recheck_question rows =
 unfoldable pub command_line : App
 command_line = record {
   top = record (new_shape (codes "bd_view")) { is_leaf = false; has_version = true };
-  subs = check_command ∷ show_command ∷ shrink_command ∷ why_command ∷ about_command ∷ recheck_command ∷ [];
+  subs = check_command ∷ show_command ∷ shrink_command ∷ why_command ∷ about_command ∷ recheck_command ∷ lint_command ∷ [];
 }
 
 -- what the command of this name asks
@@ -126,15 +154,29 @@ question_of name rows =
     else (if bytes_eq name (codes "show") then Some (show (show_question rows))
     else (if bytes_eq name (codes "shrink") then Some (shrink (case_names rows))
     else (if bytes_eq name (codes "why") then Some (explain (why_question rows))
-    else (if bytes_eq name (codes "about") then Some (about (design_names rows))
+    else (if bytes_eq name (codes "about") then Some (about (about_question rows))
     else (if bytes_eq name (codes "recheck") then Some (recheck (recheck_question rows))
     else None)))))
 
+-- what is asked: of the files of a design, or of files of which each is read alone
+pub data Task : Type 0 where
+  of_design : Question → Task
+  lint : List Name → Task
+
+-- the files that are named, one or more
+abbrev pub file_names : List Row → List Name
+file_names rows = unwrap_or (all_of (codes "FILE") rows) []
+
+unfoldable pub task_of : List ℕ → List Row → Option Task
+task_of name rows =
+    if bytes_eq name (codes "lint") then Some (lint (file_names rows))
+    else option_map of_design (question_of name rows)
+
 -- what the words ask for, where they are taken: clap finds no fault in them, and they name a command
-unfoldable pub taken : List (List ℕ) → Option Question
+unfoldable pub taken : List (List ℕ) → Option Task
 taken words = if_faultless (fault_of command_line words) (do
   named ← subcommand_of command_line words
-  question_of named.0 named.1)
+  task_of named.0 named.1)
 
 -- they ask for help, or for the version
 abbrev pub AskHelp : List (List ℕ) → Type 0

@@ -3,8 +3,10 @@ use Rattle.std.specs.Prelude.{◌≡◌, ◌⊎◌, ℕ, List, codes, Some, None
 use Rattle.bd_files.specs.Devices.{Appends, AppendsPrefix, Counts, PutsOrFaults, Rose}
 use Rattle.bd_app.specs.Meaning.{FilesSeen}
 use Rattle.bd_app.specs.Program.{SinkSeen}
+use Rattle.bd_app.specs.Words.{Name}
 use Rattle.bd_show.specs.Answer.{HasReport}
-use Rattle.bd_show.specs.Commands.{AreMisused, AskHelp, taken}
+use Rattle.bd_show.specs.Commands.{AreMisused, AskHelp, lint, of_design, taken}
+use Rattle.bd_show.specs.Lint.{IsLintAnswered}
 use Rattle.bd_show.specs.Meaning.{IsAnswered, Question}
 use Rattle.bd_show.specs.declared.answer.Ended.{Ended}
 use Rattle.bd_show.specs.declared.answer.Ended.TheVariants.{Told, Usage, Unwritten, Memory}
@@ -21,7 +23,10 @@ pub record IsDone (words : List (List ℕ)) (before after : FilesSeen) (e : Ende
     Type 0 where
   pub unasked : taken words ≡ None → IsOnWords words e
   pub untouched : taken words ≡ None → after ≡ before
-  pub answered : (q : Question) → taken words ≡ Some q → IsAnswered q before after e text
+  pub answered : (q : Question) → taken words ≡ Some (of_design q) →
+      IsAnswered q before after e text
+  pub linted : (files : List Name) → taken words ≡ Some (lint files) →
+      IsLintAnswered files before after e text
 
 -- a line is put at once, or a prefix of it where the count of faults rose
 abbrev pub PutsLine : SinkSeen → SinkSeen → List ℕ → Type 0

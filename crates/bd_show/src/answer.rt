@@ -40,6 +40,10 @@ pub enum Ended {
         column: u64,
         why: Why,
     },
+    /// The faults of files, each read alone, were printed; whether there was none.
+    Linted(bool),
+    /// A file to be read alone can't be read.
+    Unopened,
     /// Help or the version was asked for.
     Told,
     /// The words aren't taken.
@@ -84,6 +88,7 @@ impl Ended {
             | Ended::Shrunk(_)
             | Ended::Described(_)
             | Ended::Proved
+            | Ended::Linted(true)
             | Ended::Told => 0,
             Ended::Checked(Finding::Wrong(_))
             | Ended::Shown(Judged::Broken(_))
@@ -92,9 +97,12 @@ impl Ended {
             | Ended::Traced(TrailJudged::Broken(_))
             | Ended::Explained(Judged::Broken(_)) => 1,
             Ended::Usage | Ended::Unknown => 2,
-            Ended::Refused { .. } | Ended::BadProof { .. } | Ended::TooLong(_) => 3,
+            Ended::Refused { .. }
+            | Ended::BadProof { .. }
+            | Ended::Linted(false)
+            | Ended::TooLong(_) => 3,
             Ended::Checked(Finding::Undecided) => 4,
-            Ended::Unread(_) | Ended::Unsaved | Ended::Unwritten => 5,
+            Ended::Unread(_) | Ended::Unopened | Ended::Unsaved | Ended::Unwritten => 5,
             Ended::Memory => 6,
             Ended::Checked(Finding::Void) => 7,
             Ended::Shown(Judged::Outside)
@@ -120,6 +128,7 @@ impl Ended {
                 | Ended::Shrunk(_)
                 | Ended::Described(_)
                 | Ended::Proved
+                | Ended::Linted(_)
                 | Ended::Told
         )
     }

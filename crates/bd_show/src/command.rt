@@ -1,20 +1,23 @@
 //! The command line, read with `clap`.
-ghost use Rattle.std.specs.Prelude.{◌≡◌, [], codes, false, is_some, true, None, Some, IfOk, IfErr, IfSome};
+ghost use Rattle.std.specs.Prelude.{◌≡◌, [], codes, false, is_some, map, true, None, Some, IfOk, IfErr, IfSome};
 ghost use Rattle.std.specs.Option.{option_map};
 ghost use Rattle.clap.specs.Values.{kind_of};
-ghost use Rattle.clap.specs.Words.{app_of, found_of, rows_of, rule_of, shape_of, with_subcommand};
+ghost use Rattle.clap.specs.Words.{all_of, app_of, found_of, rows_of, rule_of, shape_of, with_subcommand};
 ghost use Rattle.clap.specs.declared.builder.command.Command.TheViews.{out-Command as fields_of};
 ghost use Rattle.bd_app.specs.Words.{in_range, option, texts_of};
 ghost use Rattle.bd_model.specs.Limits.{most_cycles};
 ghost use Rattle.bd_show.specs.Files.{names_of};
-ghost use Rattle.bd_show.specs.Commands.{about_command, bounded_question, case_names, check_asked, check_command, check_question, command_line, design_names, proof_names, question_of, recheck_command, show_command, shrink_command, taken, why_command};
+ghost use Rattle.bd_show.specs.Commands.{about_command, bounded_question, case_names, check_asked, check_command, check_question, command_line, design_names, file_names, files_rule, lint_command, proof_names, question_of, recheck_command, saves_at, show_command, shrink_command, taken, task_of, why_command};
 ghost use Rattle.bd_show.specs.Meaning.{bounded, check};
-ghost use Rattle.bd_show.specs.inner.Asked.{IsParsed, IsToldBy, IsWellAsked, IsWordsFault, asked, first_commands};
+ghost use Rattle.bd_show.specs.Saves.{save_names};
+ghost use Rattle.bd_show.specs.inner.Asked.{IsParsed, IsToldBy, IsWellAsked, IsWellWanted, IsWordsFault, asked, first_commands, wanted_of};
 
+use crate::about::AboutOptions;
 use crate::bounding::BoundedOptions;
 use crate::checking::CheckOptions;
 use crate::load::FileNames;
 use crate::rechecking::RecheckOptions;
+use crate::saving::SaveNames;
 use crate::show::ShowOptions;
 use crate::why::WhyOptions;
 use bd_app::words::{
@@ -22,10 +25,19 @@ use bd_app::words::{
     required_word, text_command, with, word_at,
 };
 use clap::error::ErrorKind;
-use clap::{Arg, ArgMatches, value_parser};
+use clap::{Arg, ArgAction, ArgMatches, value_parser};
 use std::alloc::{AllocError, Global};
 
 /// What the words ask for.
+#[derive(Drop)]
+pub enum Task<'a> {
+    /// This of the files of a design.
+    Design(Command<'a>),
+    /// The faults of these files, of which each is read alone.
+    Lint(Vec<&'a str>),
+}
+
+/// What they ask of the files of a design.
 #[derive(Clone, Copy)]
 pub enum Command<'a> {
     /// Whether a pipeline is right, and else what a case shows.
@@ -39,7 +51,7 @@ pub enum Command<'a> {
     /// Why a value of a case is what it is.
     Why(WhyOptions<'a>),
     /// What can be said of a design without a case.
-    About(FileNames<'a>),
+    About(AboutOptions<'a>),
     /// Whether a text proves that a design is right.
     Recheck(RecheckOptions<'a>),
 }
@@ -102,6 +114,8 @@ fn check_command<'a>(alloc: Global) -> Result<clap::Command<'a>, AllocError>
     let command = with(command, described(option(alloc, "start"), START))?;
     let command = with(command, described(cycles(alloc), CYCLE_COUNT))?;
     let command = with(command, described(option(alloc, "case"), CASE))?;
+    let command = with(command, described(option(alloc, "vcd"), VCD))?;
+    let command = with(command, described(option(alloc, "json"), JSON))?;
     Ok(explained(command, LEGEND))
 }
 
@@ -114,6 +128,8 @@ fn show_command<'a>(alloc: Global) -> Result<clap::Command<'a>, AllocError>
     let command = with(command, described(flag(alloc, "whole"), WHOLE))?;
     let command = with(command, described(option(alloc, "comp"), COMP))?;
     let command = with(command, described(option(alloc, "html"), HTML))?;
+    let command = with(command, described(option(alloc, "vcd"), VCD))?;
+    let command = with(command, described(option(alloc, "json"), JSON))?;
     Ok(explained(command, LEGEND))
 }
 
@@ -132,7 +148,8 @@ fn why_command<'a>(alloc: Global) -> Result<clap::Command<'a>, AllocError>
 {
     let command = text_command(alloc, "why", "CASE")?;
     let command = with(command, described(option(alloc, "of"), VALUE))?;
-    with(command, described(flag(alloc, "whole"), WHOLE))
+    let command = with(command, described(flag(alloc, "whole"), WHOLE))?;
+    with(command, described(option(alloc, "json"), JSON))
 }
 
 /// The words of `about`.
@@ -141,7 +158,8 @@ fn about_command<'a>(alloc: Global) -> Result<clap::Command<'a>, AllocError>
     ensures local { IfOk result (λ c. (fields_of c).has_globals ≡ false) }
 {
     let command = machines_command(alloc, "about")?;
-    with(command, Arg::new(alloc, "INV"))
+    let command = with(command, Arg::new(alloc, "INV"))?;
+    with(command, described(option(alloc, "json"), JSON))
 }
 
 /// The words of `recheck`.
@@ -151,6 +169,24 @@ fn recheck_command<'a>(alloc: Global) -> Result<clap::Command<'a>, AllocError>
 {
     let command = text_command(alloc, "recheck", "PROOF")?;
     with(command, described(flag(alloc, "diverse"), DIVERSE))
+}
+
+/// One file or more.
+fn files<'a>(alloc: Global) -> Arg<'a>
+    ensures rule { rule_of result ≡ files_rule }
+    ensures local { result.global ≡ false }
+{
+    Arg::new(alloc, "FILE")
+        .required(true)
+        .action(ArgAction::Append)
+}
+
+/// The words of `lint`.
+fn lint_command<'a>(alloc: Global) -> Result<clap::Command<'a>, AllocError>
+    ensures shape { IfOk result (λ c. shape_of c ≡ lint_command) }
+    ensures local { IfOk result (λ c. (fields_of c).has_globals ≡ false) }
+{
+    with(clap::Command::new(alloc, "lint"), files(alloc))
 }
 
 /// The command line with one more command, of which this is said.
@@ -183,7 +219,8 @@ fn command_line<'a>(alloc: Global) -> Result<clap::Command<'a>, AllocError>
     let first = first_commands(alloc)?;
     let with_why = with_command(first, why_command(alloc)?, WHY)?;
     let with_about = with_command(with_why, about_command(alloc)?, ABOUT)?;
-    with_command(with_about, recheck_command(alloc)?, RECHECK)
+    let with_recheck = with_command(with_about, recheck_command(alloc)?, RECHECK)?;
+    with_command(with_recheck, lint_command(alloc)?, LINT)
 }
 
 const CHECK: &str = "Says whether a pipeline is right, and where it isn't, what a case shows";
@@ -198,6 +235,8 @@ const ABOUT: &str = "Says what nothing reads and what the verdict rests on";
 
 const RECHECK: &str =
     "Checks a proof in LRAT that a pipeline is right, with --diverse by positive equality";
+
+const LINT: &str = "Tells the first fault of each file alone, as compilers do, with hints";
 
 const DIVERSE: &str = "By positive equality: mostly a smaller formula, of the same meaning";
 
@@ -215,6 +254,10 @@ const WHOLE: &str = "The case as it is, with all of its values";
 const COMP: &str = "By this completion function, in place of flushing; after `differ`, beside it";
 
 const HTML: &str = "Saves the same as a page with a drawing";
+
+const VCD: &str = "Saves the same as a value change dump, which viewers of waveforms read";
+
+const JSON: &str = "Saves the answer as an object of JSON (docs/answer.schema.json)";
 
 const VALUE: &str = "A latch or MEMORY[ADDRESS], then @before, @after or @step, then .N";
 
@@ -269,6 +312,17 @@ fn proof_names<'a>(matches: &ArgMatches<'a>) -> FileNames<'a>
     }
 }
 
+/// Where texts of the answer are saved: the first of them under the name of this option.
+fn saves_at<'a>(matches: &ArgMatches<'a>, text: &str) -> SaveNames<'a>
+    ensures { save_names result ≡ saves_at text.now (rows_of (found_of matches.now)) }
+{
+    SaveNames {
+        text: word_at(matches, text),
+        wave: word_at(matches, "vcd"),
+        object: word_at(matches, "json"),
+    }
+}
+
 /// What `check` asks of each state.
 fn whole_question<'a>(matches: &ArgMatches<'a>) -> Command<'a>
     ensures asked { asked result ≡ check (check_question (rows_of (found_of matches.now))) }
@@ -278,7 +332,7 @@ fn whole_question<'a>(matches: &ArgMatches<'a>) -> Command<'a>
         names: design_names(matches),
         mode: mode_at(matches, "diverse"),
         budget: required_number(matches, "budget"),
-        case: word_at(matches, "case"),
+        saves: saves_at(matches, "case"),
     })
 }
 
@@ -296,7 +350,7 @@ fn run_question<'a>(matches: &ArgMatches<'a>, cycles: u32) -> Command<'a>
         cycles: cycles.min(MOST_CYCLES),
         mode: mode_at(matches, "diverse"),
         budget: required_number(matches, "budget"),
-        trail: word_at(matches, "case"),
+        saves: saves_at(matches, "case"),
     })
 }
 
@@ -339,7 +393,7 @@ fn question<'a>(name: &str, matches: &ArgMatches<'a>) -> Option<Command<'a>>
                 ..case_names(matches)
             },
             whole: flag_at(matches, "whole"),
-            page: word_at(matches, "html"),
+            saves: saves_at(matches, "html"),
         }))
     } else if name == "shrink" {
         Some(Command::Shrink(case_names(matches)))
@@ -348,9 +402,13 @@ fn question<'a>(name: &str, matches: &ArgMatches<'a>) -> Option<Command<'a>>
             names: case_names(matches),
             whole: flag_at(matches, "whole"),
             value: word_at(matches, "of"),
+            object: word_at(matches, "json"),
         }))
     } else if name == "about" {
-        Some(Command::About(design_names(matches)))
+        Some(Command::About(AboutOptions {
+            names: design_names(matches),
+            object: word_at(matches, "json"),
+        }))
     } else if name == "recheck" {
         Some(Command::Recheck(RecheckOptions {
             names: proof_names(matches),
@@ -358,6 +416,45 @@ fn question<'a>(name: &str, matches: &ArgMatches<'a>) -> Option<Command<'a>>
         }))
     } else {
         None
+    }
+}
+
+/// All words given for an argument.
+fn words_at<'m, 'a>(matches: &'m ArgMatches<'a>, id: &str) -> Option<&'m [&'a str]>
+    ensures { option_map (λ words. map (λ word. word.now) words.now) result
+        ≡ all_of id.now (rows_of (found_of matches.now)) }
+{
+    matches.get_strs(id)
+}
+
+/// The files that are named.
+fn file_names<'a>(alloc: Global, matches: &ArgMatches<'a>) -> Result<Vec<&'a str>, AllocError>
+    ensures { IfOk result (λ names. map (λ name. name.now) names.items
+        ≡ file_names (rows_of (found_of matches.now))) }
+{
+    match words_at(matches, "FILE") {
+        Some(names) => Vec::from_slice(alloc, names),
+        None => Ok(Vec::new(alloc)),
+    }
+}
+
+/// What the command of this name with these arguments asks for, of a design or of files alone.
+#[tactic(auto, unfolding(crate::specs::Commands::task_of))]
+fn wanted<'a>(
+    alloc: Global,
+    name: &str,
+    matches: &ArgMatches<'a>,
+) -> Result<Option<Task<'a>>, AllocError>
+    ensures asked { IfOk result (λ task. option_map wanted_of task
+        ≡ task_of name.now (rows_of (found_of matches.now))) }
+    ensures well { IfOk result (λ task. IfSome task IsWellWanted) }
+{
+    if name == "lint" {
+        return Ok(Some(Task::Lint(file_names(alloc, matches)?)));
+    }
+    match question(name, matches) {
+        Some(command) => Ok(Some(Task::Design(command))),
+        None => Ok(None),
     }
 }
 
@@ -385,20 +482,20 @@ fn parsed<'a>(alloc: Global, words: &'a [String]) -> Result<ArgMatches<'a>, Word
 }
 
 /// What the words ask for, the program's name first.
-pub fn command_of<'a>(alloc: Global, words: &'a [String]) -> Result<Command<'a>, WordsFault>
-    ensures asked { IfOk result (λ c. taken (texts_of words.entry.now) ≡ Some (asked c)) }
-    ensures well { IfOk result IsWellAsked }
+pub fn task_of<'a>(alloc: Global, words: &'a [String]) -> Result<Task<'a>, WordsFault>
+    ensures asked { IfOk result (λ t. taken (texts_of words.entry.now) ≡ Some (wanted_of t)) }
+    ensures well { IfOk result IsWellWanted }
     ensures fault { IfErr result (IsWordsFault (texts_of words.entry.now)) }
 {
     let matches = parsed(alloc, words)?;
     let Some((name, matches)) = matches.subcommand() else {
         return Err(WordsFault::Usage(Vec::from_slice(alloc, NONE)?));
     };
-    match question(name, matches) {
-        Some(command) => Ok(command),
+    match wanted(alloc, name, matches)? {
+        Some(task) => Ok(task),
         None => Err(WordsFault::Usage(Vec::from_slice(alloc, NONE)?)),
     }
 }
 
 const NONE: &[u8] = b"usage: bd_view check PIPE SPEC [INV | --start START --cycles C] [--diverse], \
-show|shrink|why PIPE SPEC CASE [INV], about PIPE SPEC [INV], or recheck PIPE SPEC PROOF [INV] [--diverse]; --help says more\n";
+show|shrink|why PIPE SPEC CASE [INV], about PIPE SPEC [INV], recheck PIPE SPEC PROOF [INV] [--diverse], or lint FILE ..; --help says more\n";

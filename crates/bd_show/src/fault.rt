@@ -9,9 +9,9 @@ ghost use Rattle.bd_show.specs.inner.Answered.{IsRefusal, IsUnloaded, TakesCase}
 
 use crate::answer::{Answer, Ended};
 use crate::load::{FileNames, Texts};
-use crate::place::fault_text;
 use bd_app::loading::LoadFault;
 use bd_hint::{FaultPlace, NamedFile, hint_of};
+use bd_lint::fault_text;
 use bd_typer::{DesignFault, Text};
 use std::alloc::{AllocError, Global};
 

@@ -4,27 +4,45 @@ ghost use Rattle.bd_app.specs.Meaning.{files_seen};
 ghost use Rattle.bd_app.specs.Program.{sink_seen};
 ghost use Rattle.bd_app.specs.Words.{texts_of};
 ghost use Rattle.bd_show.specs.Program.{IsDone, IsPut, IsRun};
-ghost use Rattle.bd_show.specs.inner.Answered.{ended_of, text_of};
+ghost use Rattle.bd_show.specs.inner.Answered.{IsDoneOn, ended_of, text_of};
+ghost use Rattle.bd_show.specs.inner.Asked.{IsWellAsked, asked};
 
 use crate::answer::{Answer, Ended};
-use crate::command::{Command, WordsFault, command_of};
-use crate::{about, bounding, checking, rechecking, show, shrinking, why};
+use crate::command::{Command, Task, WordsFault, task_of};
+use crate::{about, bounding, checking, lint, rechecking, show, shrinking, why};
 use bd_files::{Files, Sink};
 use std::alloc::{AllocError, Global};
+
+/// The answer to what is asked of the files of a design.
+fn answered<F: Files>(
+    alloc: Global,
+    files: &mut F,
+    command: Command<'_>,
+) -> Result<Answer, AllocError>
+    requires { IsWellAsked command }
+    ensures { IsDoneOn (asked command.entry)
+        (files_seen F.held F.faults F.blame F.calls files.old)
+        (files_seen F.held F.faults F.blame F.calls files.new) result }
+{
+    match command {
+        Command::Check(options) => checking::answer(alloc, files, options),
+        Command::Bounded(options) => bounding::answer(alloc, files, options),
+        Command::Show(options) => show::answer(alloc, files, options),
+        Command::Shrink(names) => shrinking::answer(alloc, files, names),
+        Command::Why(options) => why::answer(alloc, files, options),
+        Command::About(options) => about::answer(alloc, files, options),
+        Command::Recheck(options) => rechecking::answer(alloc, files, options),
+    }
+}
 
 /// The answer to the words, before anything is printed.
 fn answer_of<F: Files>(alloc: Global, words: &[String], files: &mut F) -> Result<Answer, AllocError>
     ensures { IsDone (texts_of words.now) (files_seen F.held F.faults F.blame F.calls files.old)
         (files_seen F.held F.faults F.blame F.calls files.new) (ended_of result) (text_of result) }
 {
-    match command_of(alloc, words) {
-        Ok(Command::Check(options)) => checking::answer(alloc, files, options),
-        Ok(Command::Bounded(options)) => bounding::answer(alloc, files, options),
-        Ok(Command::Show(options)) => show::answer(alloc, files, options),
-        Ok(Command::Shrink(names)) => shrinking::answer(alloc, files, names),
-        Ok(Command::Why(options)) => why::answer(alloc, files, options),
-        Ok(Command::About(names)) => about::answer(alloc, files, names),
-        Ok(Command::Recheck(options)) => rechecking::answer(alloc, files, options),
+    match task_of(alloc, words) {
+        Ok(Task::Design(command)) => answered(alloc, files, command),
+        Ok(Task::Lint(names)) => lint::answer(alloc, files, names.as_slice()),
         Err(WordsFault::Told(text)) => Ok(Answer {
             ended: Ended::Told,
             text,

@@ -2,6 +2,7 @@
 ghost use Rattle.std.specs.Prelude.{IfOk};
 ghost use Rattle.bd_model.specs.DesignView.{design_view};
 ghost use Rattle.bd_model.specs.Lawful.{IsLawful};
+ghost use Rattle.bd_why.specs.Told.{IsExplained, IsTold};
 
 use crate::asked::Answered;
 use crate::coincidence::coincidence_of;
@@ -15,6 +16,7 @@ use crate::room::ALONE;
 use crate::sides::{Run, add_both};
 use crate::source::{Explanation, Sources};
 use crate::target::{Target, asked_target};
+use crate::told_text::ToldText;
 use crate::trial::Goal;
 use crate::view::ListedDesign;
 use bd_diagram::{Diagram, diagram_of};
@@ -40,13 +42,14 @@ pub fn why_of(
     asked: Option<&str>,
 ) -> Result<Explanation, AllocError>
     requires lawful { IsLawful (design_view design.now) }
+    ensures told { IfOk result IsExplained }
 {
     let view = view_of(alloc, design, sources)?;
     let diagram = diagram_of(alloc, design, case)?;
     match target_of(alloc, &view, judged, &diagram, asked)? {
         Ok(target) => {
-            let text = explained(alloc, &view, case, &diagram, &target, asked.is_some())?;
-            Ok(Explanation::Explained(text))
+            let told = explained(alloc, &view, case, &diagram, &target, asked.is_some())?;
+            Ok(Explanation::Explained(told))
         }
         Err(missing) => {
             let text = asked.unwrap_or("").as_bytes();
@@ -111,8 +114,9 @@ fn explained(
     diagram: &Diagram,
     target: &Target,
     is_asked: bool,
-) -> Result<Vec<u8>, AllocError>
+) -> Result<ToldText, AllocError>
     requires lawful { IsLawful (design_view view.now.design.now) }
+    ensures { IfOk result IsTold }
 {
     let history = history_of(alloc, view.design, case)?;
     let run = Run {
@@ -125,14 +129,14 @@ fn explained(
         add_first(alloc, &mut report, view, run, target)?;
     }
     match target {
-        Target::Nothing => report.put(b"nothing differs\n")?,
+        Target::Nothing => report.nothing(alloc)?,
         Target::One(subject) => add_one(alloc, &mut report, view, run, *subject)?,
         Target::Both(parting) => add_both(alloc, &mut report, view, run, *parting, is_asked)?,
         Target::Row(symbol, words) => {
             add_row(alloc, &mut report, view, run, *symbol, words.as_slice())?
         }
     }
-    Ok(report.into_text())
+    report.into_text(alloc)
 }
 
 /// Adds what is said first: that one flush cycle more would do where both sides differ, or that constants are the same

@@ -1,16 +1,18 @@
 -- The commands as the definitions see them, and why words ask nothing.
-use Rattle.std.specs.Prelude.{◌≡◌, ◌≢◌, ◌⊎◌, ℕ, true, false, List, [], ◌∷◌, None, is_some, codes}
+use Rattle.std.specs.Prelude.{◌≡◌, ◌≢◌, ◌⊎◌, ℕ, true, false, List, [], ◌∷◌, None, is_some, codes, map}
 use Rattle.clap.specs.Faults.{fault_of}
 use Rattle.clap.specs.Simple.{App, new_shape, subcommand_of, subcommand_rows_of}
 use Rattle.clap.specs.declared.error.kind.ErrorKind.{ErrorKind}
 use Rattle.clap.specs.declared.error.kind.ErrorKind.TheVariants as kind
 use Rattle.clap.specs.declared.parser.matches.ArgMatches.{ArgMatches}
-use Rattle.bd_show.specs.Commands.{AreMisused, AskHelp, check_command, command_line, show_command, shrink_command, taken}
+use Rattle.bd_show.specs.Commands.{AreMisused, AskHelp, Task, check_command, command_line, lint, of_design, show_command, shrink_command, taken}
 use Rattle.bd_show.specs.Files.{names_of}
 use Rattle.bd_show.specs.Meaning.{Question, bounded, check, show, shrink, explain, about, recheck}
-use Rattle.bd_show.specs.inner.Answered.{HasFewCycles, bounded_of, check_of, recheck_of, show_of, why_of}
+use Rattle.bd_show.specs.inner.Answered.{HasFewCycles, about_of, bounded_of, check_of, recheck_of, show_of, why_of}
 use Rattle.bd_show.specs.declared.command.Command.{Command}
 use Rattle.bd_show.specs.declared.command.Command.TheVariants.{Bounded, Check, Show, Shrink, Why, About, Recheck}
+use Rattle.bd_show.specs.declared.command.Task.{Task as Wanted}
+use Rattle.bd_show.specs.declared.command.Task.TheVariants as wanted
 use Rattle.bd_show.specs.declared.command.WordsFault.{WordsFault}
 use Rattle.bd_show.specs.declared.command.WordsFault.TheVariants.{Told, Usage, Memory}
 
@@ -21,7 +23,7 @@ asked (Bounded options) = bounded (bounded_of options)
 asked (Show options) = show (show_of options)
 asked (Shrink names) = shrink (names_of names)
 asked (Why options) = explain (why_of options)
-asked (About names) = about (names_of names)
+asked (About options) = about (about_of options)
 asked (Recheck options) = recheck (recheck_of options)
 
 -- a command on a case names its file, and one on cycles from a start asks of few
@@ -31,6 +33,14 @@ IsWellAsked (Show options) = is_some (names_of options.names).case ≡ true
 IsWellAsked (Shrink names) = is_some (names_of names).case ≡ true
 IsWellAsked (Why options) = is_some (names_of options.names).case ≡ true
 IsWellAsked _ = Unit {0}
+
+abbrev pub wanted_of : Wanted → Task
+wanted_of (wanted.Design command) = of_design (asked command)
+wanted_of (wanted.Lint files) = lint (map (λ name. name.now) files.items)
+
+abbrev pub IsWellWanted : Wanted → Type 0
+IsWellWanted (wanted.Design command) = IsWellAsked command
+IsWellWanted (wanted.Lint files) = Unit {0}
 
 -- the command line with its first three commands
 abbrev pub first_commands : App

@@ -9,4 +9,5 @@ unfolding command_line
 returns c =
     let whys = c.in_ok-with_why.ensures ∙ ap₂ with_subcommand c.in_ok-first.ensures c.in_ok-why_command.ensures.shape in
     let abouts = c.in_ok-with_about.ensures ∙ ap₂ with_subcommand whys c.in_ok-about_command.ensures.shape in
-    IfOk-weaker c.with_command-3.result _ _ (λ r added. added ∙ ap₂ with_subcommand abouts c.in_ok-recheck_command.ensures.shape) c.with_command-3.ensures
+    let rechecks = c.in_ok-with_recheck.ensures ∙ ap₂ with_subcommand abouts c.in_ok-recheck_command.ensures.shape in
+    IfOk-weaker c.with_command-4.result _ _ (λ r added. added ∙ ap₂ with_subcommand rechecks c.in_ok-lint_command.ensures.shape) c.with_command-4.ensures
