@@ -238,12 +238,12 @@ class Shown(unittest.TestCase):
     def test_about(self) -> None:
         said = about(TWO_STAGE, SPEC)
         self.assertEqual((said.compared, said.not_compared, said.unread), (("pc", "rf"), ("v", "d", "o", "a"), ()))
-        self.assertEqual(said.findings["as it is"], "right")
+        self.assertEqual(said.findings["as it is"], Outcome.CORRECT)
         self.assertEqual(str(said), said.text)
         idle = Pipeline(flush=0, steps=1)
         idle.next(idle.latch("a", Bool), Bool("a"))
         unread = about(idle, DATA / "stalling_bit.spec")
-        self.assertEqual(unread.findings["(exact 0 true)"], "right, so this pipeline may never fetch")
+        self.assertEqual(unread.findings["(exact 0 true)"], Outcome.CORRECT)
         self.assertEqual(unread.not_compared, ())
 
     def test_faults_of_the_companion(self) -> None:

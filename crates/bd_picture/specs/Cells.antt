@@ -1,12 +1,10 @@
--- What the cells of the tables show: values of the diagram of a case.
+-- What the cells of the tables show: values of the diagram of a case, and of the run that led to it.
 use Rattle.std.specs.Prelude.{◌≡◌, ◌≢◌, ◌-◌, ◌==◌, ⊤, ℕ, List, Option, Some, None, slice_get, if◌then◌else◌, IfSome}
-use Rattle.std.specs.Option.{option_map, option_and_then}
+use Rattle.std.specs.Option.{option_map}
 use Rattle.std.specs.List.{All, AllZip}
 use Rattle.bd_model.specs.DesignView.{DesignView}
 use Rattle.bd_model.specs.declared.table.Scalar.{Scalar}
-use Rattle.bd_model.specs.declared.table.Value.{Value}
 use Rattle.bd_model.specs.declared.case.Case.{Case}
-use Rattle.bd_diagram.specs.declared.flushing.Flushing.{Flushing}
 use Rattle.bd_diagram.specs.declared.diagram.Diagram.{Diagram}
 use Rattle.bd_slice.specs.Columns.{spot_value}
 use Rattle.bd_slice.specs.declared.place.Column.{Column}
@@ -20,24 +18,19 @@ use Rattle.bd_picture.specs.declared.grid.Cell.{Cell}
 use Rattle.bd_picture.specs.declared.grid.Look.{Look}
 use Rattle.bd_picture.specs.declared.grid.Look.TheVariants as look
 use Rattle.bd_picture.specs.declared.grid.Head.{Head}
+use Rattle.bd_picture.specs.declared.grid.Standing.{Standing}
+use Rattle.bd_picture.specs.declared.grid.Standing.TheVariants as standing
 use Rattle.bd_picture.specs.declared.grid.GridRow.{GridRow}
 use Rattle.bd_picture.specs.declared.picture.Tables.{Tables}
+use Rattle.bd_picture.specs.declared.picture.ShownRun.{ShownRun}
 use Rattle.bd_picture.specs.Claims.{IsClaimsRow}
-
--- a value of one of these states
-abbrev pub state_value : List (List Value) → ℕ → Location → Option Scalar
-state_value states n s = option_map (λ state. spot_value state s) (slice_get states n)
-
--- the value of an input in the flush cycle that ends in a state
-abbrev pub flush_input : Flushing → ℕ → ℕ → Option Scalar
-flush_input f n i =
-    if n == 0 then None else option_and_then (λ inputs. slice_get inputs i) (slice_get f.inputs (n - 1))
+use Rattle.bd_picture.specs.Runs.{input_before, passed_value, stands_under, state_value}
 
 -- the value of an input in the cycle that leads to a state
 abbrev pub input_in : Case → Diagram → ℕ → Column → Option Scalar
-input_in c g i (column.Before n) = flush_input g.before n i
+input_in c g i (column.Before n) = input_before g.before.inputs n i
 input_in c g i (column.After n) =
-    if n == 0 then slice_get c.inputs i else flush_input g.after n i
+    if n == 0 then slice_get c.inputs i else input_before g.after.inputs n i
 input_in c g i (column.Steps j) = None
 
 -- the value that a line has in a state of the pipeline
@@ -53,27 +46,38 @@ earlier (column.Before n) = if n == 0 then None else Some (column.Before (n - 1)
 earlier (column.After n) = if n == 0 then None else Some (column.After (n - 1))
 earlier (column.Steps j) = if j == 0 then None else Some (column.Steps (j - 1))
 
+-- the same of all states that are printed
+abbrev pub value_at : Option ShownRun → Case → Diagram → Signal → Standing → Option Scalar
+value_at run c g p (standing.Passed k) = passed_value run p k
+value_at run c g p (standing.Drawn which) = value_in c g p which
+
+abbrev pub state_before : Standing → Option Standing
+state_before (standing.Passed k) = if k == 0 then None else Some (standing.Passed (k - 1))
+state_before (standing.Drawn which) = option_map standing.Drawn (earlier which)
+
 -- there is a state before, on the same way, and the line has the same value there
-pub record Stays (c : Case) (g : Diagram) (p : Signal) (which : Column) : Type 0 where
-  pub before : Column
-  pub is_before : earlier which ≡ Some before
-  pub same : value_in c g p which ≡ value_in c g p before
+pub record Stays (run : Option ShownRun) (c : Case) (g : Diagram) (p : Signal) (at : Standing) :
+    Type 0 where
+  pub before : Standing
+  pub is_before : state_before at ≡ Some before
+  pub same : value_at run c g p at ≡ value_at run c g p before
 
 -- what a cell of the states shows: the value that its line has there, that it has the value of the state before, that
 -- there is none, or `.`, which says nothing
-abbrev pub IsContent : Case → Diagram → Signal → Column → Content → Type 0
-IsContent c g p which (content.Value x) = value_in c g p which ≡ Some x
-IsContent c g p which content.Unchanged = Stays c g p which
-IsContent c g p which content.Nothing = value_in c g p which ≡ None
-IsContent c g p which content.Hidden = ⊤
+abbrev pub IsContent :
+    Option ShownRun → Case → Diagram → Signal → Standing → Content → Type 0
+IsContent run c g p at (content.Value x) = value_at run c g p at ≡ Some x
+IsContent run c g p at content.Unchanged = Stays run c g p at
+IsContent run c g p at content.Nothing = value_at run c g p at ≡ None
+IsContent run c g p at content.Hidden = ⊤
 
 -- a cell of the states, under its heading
-abbrev pub IsStatesCell : Case → Diagram → Signal → Head → Cell → Type 0
-IsStatesCell c g p h cell = IsContent c g p h.column cell.content
+abbrev pub IsStatesCell : Option ShownRun → Case → Diagram → Signal → Head → Cell → Type 0
+IsStatesCell run c g p h cell = IsContent run c g p (stands_under h) cell.content
 
 -- the cells of a row of the states, under their headings
-abbrev pub IsStatesRow : Case → Diagram → List Head → GridRow → Type 0
-IsStatesRow c g heads row = AllZip (IsStatesCell c g row.place) heads row.cells.items
+abbrev pub IsStatesRow : Option ShownRun → Case → Diagram → List Head → GridRow → Type 0
+IsStatesRow run c g heads row = AllZip (IsStatesCell run c g row.place) heads row.cells.items
 
 -- the value of the specification's entry in a state that is compared: where the pipeline stands, or after some steps
 abbrev pub compared_in : Diagram → Location → Column → Option Scalar
@@ -106,7 +110,8 @@ abbrev pub IsStepsRow : Diagram → List Head → GridRow → Type 0
 IsStepsRow g heads row = AllZip (IsStepsCell g row.place) heads row.cells.items
 
 -- the cells of all tables are those of the diagram, and of what the invariant says in its states
-pub record ArePrinted (d : DesignView) (c : Case) (g : Diagram) (t : Tables) : Type 0 where
+pub record ArePrinted
+    (d : DesignView) (c : Case) (run : Option ShownRun) (g : Diagram) (t : Tables) : Type 0 where
   pub claims : IfSome t.claims (λ s. All (IsClaimsRow d c g s.heads.items) s.rows.items)
-  pub states : All (IsStatesRow c g t.states.heads.items) t.states.rows.items
+  pub states : All (IsStatesRow run c g t.states.heads.items) t.states.rows.items
   pub steps : IfSome t.steps (λ s. All (IsStepsRow g s.heads.items) s.rows.items)

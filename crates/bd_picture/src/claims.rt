@@ -72,7 +72,7 @@ fn part_values(
 }
 
 /// The values of the invariant's conjuncts in a state, where its lets have these values.
-fn conjunct_values(
+pub fn conjunct_values(
     alloc: Global,
     design: &Design,
     interp: &Interp,
@@ -313,6 +313,7 @@ fn heading(alloc: Global, text: &[u8], column: Column) -> Result<Head, AllocErro
     Ok(Head {
         text: Vec::from_slice(alloc, text)?,
         column,
+        passed: None,
         allowed: true,
     })
 }

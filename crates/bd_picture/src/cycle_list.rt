@@ -2,12 +2,11 @@
 //! to.
 
 use crate::list::{ListItem, ListPart, row_item};
-use crate::marks::Slice;
+use crate::marks::{Slice, Slices};
 use crate::picture::ShownCase;
-use crate::words::{addressed, is_zero};
-use bd_label::{push_cycle, push_scalar};
+use crate::words::{addressed, is_zero, push_state_name};
 use bd_model::Design;
-use bd_slice::{Cycle, Finding, Reason, Subject};
+use bd_slice::{Cycle, Finding, Reason, Subject, push_cycle, push_number, push_scalar};
 use std::alloc::{AllocError, Global};
 use std::collections::{BTreeMap, BTreeSet};
 
@@ -135,13 +134,55 @@ fn cycles_of(alloc: Global, design: &Design, slice: &Slice) -> Result<Cycles, Al
     Ok(cycles)
 }
 
+/// A cycle that has a heading: one of the case's run, or so many before the case's.
+#[derive(Clone, Copy)]
+enum Headed {
+    Own(Cycle),
+    Back(u32),
+}
+
+/// Puts `START to f1` of the first flush cycle from a state of a run, or `START f1 to f2` of a later one.
+fn push_flushed(out: &mut Vec<u8>, start: u32, number: u32) -> Result<(), AllocError> {
+    push_state_name(out, start)?;
+    if number != 0 {
+        out.extend_from_slice(b" f")?;
+        push_number(out, u64::from(number))?;
+    }
+    out.extend_from_slice(b" to f")?;
+    push_number(out, u64::from(number).saturating_add(1))
+}
+
+/// Puts `START to 1` of a cycle of a run, by its place from 0.
+fn push_passed(out: &mut Vec<u8>, place: u32) -> Result<(), AllocError> {
+    push_state_name(out, place)?;
+    out.extend_from_slice(b" to ")?;
+    push_state_name(out, place.saturating_add(1))
+}
+
+/// Puts what a cycle is called where a run led to the case's, whose place this is.
+fn push_in_run(out: &mut Vec<u8>, place: u32, cycle: Headed) -> Result<(), AllocError> {
+    match cycle {
+        Headed::Back(back) => push_passed(out, place.saturating_sub(back)),
+        Headed::Own(Cycle::Case) => push_passed(out, place),
+        Headed::Own(Cycle::FlushBefore(number)) => push_flushed(out, place, number),
+        Headed::Own(Cycle::FlushAfter(number)) => {
+            push_flushed(out, place.saturating_add(1), number)
+        }
+        Headed::Own(cycle) => push_cycle(out, cycle),
+    }
+}
+
 /// What a cycle is called above what it has.
-fn heading_of(alloc: Global, cycle: Cycle) -> Result<Vec<u8>, AllocError> {
-    if let Cycle::Invariant = cycle {
+fn heading_of(alloc: Global, view: &ShownCase<'_>, cycle: Headed) -> Result<Vec<u8>, AllocError> {
+    if let Headed::Own(Cycle::Invariant) = cycle {
         return Vec::from_slice(alloc, b"invariant");
     }
     let mut heading = Vec::new(alloc);
-    push_cycle(&mut heading, cycle)?;
+    match (view.run, cycle) {
+        (Some(run), _) => push_in_run(&mut heading, run.place, cycle)?,
+        (None, Headed::Own(cycle)) => push_cycle(&mut heading, cycle)?,
+        (None, Headed::Back(_)) => {}
+    }
     Ok(heading)
 }
 
@@ -149,14 +190,28 @@ fn heading_of(alloc: Global, cycle: Cycle) -> Result<Vec<u8>, AllocError> {
 fn push_part(
     alloc: Global,
     parts: &mut Vec<ListPart>,
-    cycle: Cycle,
+    view: &ShownCase<'_>,
+    cycle: Headed,
     items: Vec<ListItem>,
 ) -> Result<(), AllocError> {
     if !items.is_empty() {
-        let heading = heading_of(alloc, cycle)?;
+        let heading = heading_of(alloc, view, cycle)?;
         parts.push(ListPart { heading, items })?;
     }
     Ok(())
+}
+
+/// What a slice has in the case's cycle, where it has nothing in others.
+fn case_facts(alloc: Global, slice: &Slice) -> Result<CycleFacts, AllocError> {
+    let mut facts = CycleFacts {
+        cycle: Cycle::Case,
+        lets: BTreeMap::new(alloc),
+        applied: BTreeSet::new(alloc),
+    };
+    for reason in slice.reasons.as_slice() {
+        facts.note(alloc, slice, reason)?;
+    }
+    Ok(facts)
 }
 
 /// The names of the lets of a cycle; those of the invariant have a table of their own.
@@ -203,16 +258,21 @@ fn let_items(
     Ok(items)
 }
 
-/// The lets of a slice, under each cycle those that aren't what they were in the cycle before.
+/// The lets of slices, under each cycle of the case's run those that aren't what they were in the cycle before.
 pub fn let_parts(
     alloc: Global,
     view: &ShownCase<'_>,
-    slice: &Slice,
+    slices: &Slices,
 ) -> Result<Vec<ListPart>, AllocError> {
     let mut parts = Vec::new(alloc);
-    for (_, facts) in cycles_of(alloc, view.design, slice)?.iter() {
-        let items = let_items(alloc, view, slice, facts)?;
-        push_part(alloc, &mut parts, facts.cycle, items)?;
+    for slice in slices.earlier.iter().rev() {
+        let facts = case_facts(alloc, slice)?;
+        let items = let_items(alloc, view, slice, &facts)?;
+        push_part(alloc, &mut parts, view, Headed::Back(slice.back), items)?;
+    }
+    for (_, facts) in cycles_of(alloc, view.design, &slices.own)?.iter() {
+        let items = let_items(alloc, view, &slices.own, facts)?;
+        push_part(alloc, &mut parts, view, Headed::Own(facts.cycle), items)?;
     }
     Ok(parts)
 }
@@ -241,16 +301,21 @@ fn row_items(
     Ok(items)
 }
 
-/// What functions and predicates are applied to in a slice, under each cycle that applies them.
+/// What functions and predicates are applied to in slices, under each cycle that applies them.
 pub fn row_parts(
     alloc: Global,
     view: &ShownCase<'_>,
-    slice: &Slice,
+    slices: &Slices,
 ) -> Result<Vec<ListPart>, AllocError> {
     let mut parts = Vec::new(alloc);
-    for (_, facts) in cycles_of(alloc, view.design, slice)?.iter() {
-        let items = row_items(alloc, view, slice, facts)?;
-        push_part(alloc, &mut parts, facts.cycle, items)?;
+    for slice in slices.earlier.iter().rev() {
+        let facts = case_facts(alloc, slice)?;
+        let items = row_items(alloc, view, slice, &facts)?;
+        push_part(alloc, &mut parts, view, Headed::Back(slice.back), items)?;
+    }
+    for (_, facts) in cycles_of(alloc, view.design, &slices.own)?.iter() {
+        let items = row_items(alloc, view, &slices.own, facts)?;
+        push_part(alloc, &mut parts, view, Headed::Own(facts.cycle), items)?;
     }
     Ok(parts)
 }

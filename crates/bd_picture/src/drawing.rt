@@ -6,7 +6,7 @@
 
 use crate::grid::{Cell, Grid, GridRow, Head, Look, content_text, is_shown, sign_of};
 use crate::picture::Tables;
-use bd_label::push_number;
+use bd_slice::push_number;
 use std::alloc::{AllocError, Global};
 
 const BOX_WIDTH: u64 = 240;
@@ -216,12 +216,27 @@ fn put_down(out: &mut Vec<u8>, x: u64, y: u64, what: &str) -> Result<(), AllocEr
     )
 }
 
-/// The columns of one way, and where their boxes stand.
+/// The columns of one way, where their boxes stand, and how many boxes down the first of them is.
 #[derive(Clone, Copy)]
 struct Arrow {
     from: usize,
     to: usize,
     x: u64,
+    down: usize,
+}
+
+/// What leads to the state of a column from the one above it.
+fn label_of(grid: &Grid, column: usize) -> &'static str {
+    match grid.heads.get(column) {
+        Some(head) if head.passed.is_some() => "cycle",
+        _ => "flush",
+    }
+}
+
+/// How many boxes down the cycle begins: under those of the run that led to it.
+fn passed(grid: &Grid) -> usize {
+    let states = grid.heads.iter().filter(|head| head.passed.is_some());
+    states.count().saturating_sub(1)
 }
 
 /// Puts the boxes of the columns of one way, one under another. Where the pipeline stands in the end what differs is
@@ -234,7 +249,7 @@ fn put_way(
 ) -> Result<(), AllocError> {
     let states = &tables.states;
     for column in way.from..way.to {
-        let y = top(column.saturating_sub(way.from));
+        let y = top(column.saturating_sub(way.from).saturating_add(way.down));
         let spot = DrawnBox {
             x: way.x,
             y,
@@ -242,7 +257,7 @@ fn put_way(
             named: BoxContent::Shown,
         };
         if column != way.from {
-            put_down(out, way.x, y, "flush")?;
+            put_down(out, way.x, y, label_of(states, column))?;
         }
         match (&tables.steps, states.heads.get(column)) {
             (Some(steps), Some(head)) if is_last(states, column) && differs(steps) => {
@@ -351,9 +366,9 @@ fn put_steps(
     Ok(())
 }
 
-/// Puts the arrow of the cycle.
-fn put_cycle(out: &mut Vec<u8>) -> Result<(), AllocError> {
-    let y = top(0).saturating_add(BOX_HEIGHT / 2);
+/// Puts the arrow of the cycle, so many boxes down.
+fn put_cycle(out: &mut Vec<u8>, down: usize) -> Result<(), AllocError> {
+    let y = top(down).saturating_add(BOX_HEIGHT / 2);
     put_line(out, "arrow", (LEFT + BOX_WIDTH, y), (RIGHT - 7, y))?;
     put_label(
         out,
@@ -368,6 +383,7 @@ fn put_cycle(out: &mut Vec<u8>) -> Result<(), AllocError> {
 fn height(tables: &Tables) -> usize {
     let states = &tables.states;
     let right = states.heads.len().saturating_sub(states.bar);
+    let right = right.saturating_add(passed(states));
     let steps = match &tables.steps {
         Some(steps) => steps.heads.len().saturating_sub(1),
         None => 0,
@@ -379,25 +395,29 @@ fn height(tables: &Tables) -> usize {
 pub fn put_drawing(alloc: Global, out: &mut Vec<u8>, tables: &Tables) -> Result<(), AllocError> {
     let states = &tables.states;
     let all = states.heads.len();
+    let down = passed(states);
     let left = Arrow {
         from: 0,
         to: states.bar,
         x: LEFT,
+        down: 0,
     };
     let right = Arrow {
         from: states.bar,
         to: all,
         x: RIGHT,
+        down,
     };
     out.extend_from_slice(b"<svg role=\"img\" viewBox=\"0 0 680 ")?;
     push_number(out, top(height(tables)))?;
     out.extend_from_slice(b"\" xmlns=\"http://www.w3.org/2000/svg\">\n")?;
     out.extend_from_slice(ARROW)?;
-    put_cycle(out)?;
+    put_cycle(out, down)?;
     put_way(alloc, out, tables, left)?;
     put_way(alloc, out, tables, right)?;
     if let Some(steps) = &tables.steps {
-        let last = top(all.saturating_sub(states.bar).saturating_sub(1));
+        let last = all.saturating_sub(states.bar).saturating_sub(1);
+        let last = top(last.saturating_add(down));
         let stands = last.saturating_add(BOX_HEIGHT / 2);
         put_steps(alloc, out, steps, states.bar, stands)?;
     }

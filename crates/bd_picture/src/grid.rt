@@ -1,8 +1,9 @@
 //! Cells in rows under headings.
+ghost use Rattle.std.specs.Prelude.{◌≡◌};
+ghost use Rattle.bd_picture.specs.Runs.{stands_under};
 
-use bd_label::push_scalar;
 use bd_model::Scalar;
-use bd_slice::{Column, Location};
+use bd_slice::{Column, Location, push_scalar};
 use std::alloc::{AllocError, Global};
 
 /// What a line is of: a value of a state, or an input of the cycle that led to it.
@@ -58,12 +59,34 @@ pub struct GridRow {
     pub cells: Vec<Cell>,
 }
 
+/// A state that is printed: one of the run that led to the case, after so many cycles from its start, or one of the
+/// case's diagram.
+#[derive(Clone, Copy, PartialEq, Eq)]
+pub enum Standing {
+    Passed(u32),
+    Drawn(Column),
+}
+
 /// A heading, the state that stands under it, and whether the cycle may stand for so many steps.
 #[derive(Drop)]
 pub struct Head {
     pub text: Vec<u8>,
     pub column: Column,
+    /// The number of cycles, where a state of the run that led to the case stands here in place of the column's.
+    pub passed: Option<u32>,
     pub allowed: bool,
+}
+
+impl Head {
+    /// The state that stands under the heading.
+    pub fn state(&self) -> Standing
+        ensures { result ≡ stands_under self.now }
+    {
+        match self.passed {
+            Some(cycles) => Standing::Passed(cycles),
+            None => Standing::Drawn(self.column),
+        }
+    }
 }
 
 /// Rows under headings. A bar stands before the column of the number `bar`.

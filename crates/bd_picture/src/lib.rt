@@ -21,7 +21,9 @@ mod steps;
 mod table;
 mod words;
 
+pub use grid::{Cell, Content, Grid, GridRow, Head, Look, Signal};
+pub use list::{ListItem, ListPart, TitledList};
 pub use page::page_of;
-pub use picture::{Outcome, Picture, ShownCase, ShownNames, picture_of};
+pub use picture::{Outcome, Picture, ShownCase, ShownNames, ShownRun, Tables, picture_of};
 pub use table::text_of;
 pub use words::sentence;

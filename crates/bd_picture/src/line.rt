@@ -8,7 +8,7 @@ use crate::grid::Signal;
 use crate::marks::ShownValues;
 use crate::picture::ShownCase;
 use crate::words::{addressed, elsewhere};
-use bd_model::{Design, Sort};
+use bd_model::{Design, Sort, State};
 use bd_slice::Location;
 use std::alloc::{AllocError, Global};
 use std::collections::BTreeSet;
@@ -100,6 +100,20 @@ fn push_elsewhere(
     Ok(())
 }
 
+/// Puts the addresses that a row of an entry has in one of these states into a set.
+fn note_states(
+    addresses: &mut BTreeSet<u64>,
+    states: &[State],
+    number: u32,
+) -> Result<(), AllocError> {
+    for state in states {
+        if let Some(value) = state.as_slice().get(number as usize) {
+            note_rows(addresses, value)?;
+        }
+    }
+    Ok(())
+}
+
 /// The addresses of an entry of the pipeline that a row has, in any state.
 fn row_addresses(
     alloc: Global,
@@ -110,13 +124,19 @@ fn row_addresses(
         Some(number) => compared_addresses(alloc, view, number)?,
         None => BTreeSet::new(alloc),
     };
-    let before = view.diagram.before.states.as_slice();
-    let after = view.diagram.after.states.as_slice();
-    for state in before.iter().chain(after) {
-        if let Some(value) = state.as_slice().get(entry.number as usize) {
-            note_rows(&mut addresses, value)?;
-        }
+    if let Some(run) = view.run {
+        note_states(&mut addresses, run.states.as_slice(), entry.number)?;
     }
+    note_states(
+        &mut addresses,
+        view.diagram.before.states.as_slice(),
+        entry.number,
+    )?;
+    note_states(
+        &mut addresses,
+        view.diagram.after.states.as_slice(),
+        entry.number,
+    )?;
     Ok(addresses)
 }
 
@@ -136,7 +156,7 @@ fn push_memory(
             let free = free_address(&addresses);
             push_elsewhere(alloc, lines, entry, spots, free)
         }
-        ShownValues::Of(slice) => match slice.addresses(entry.number) {
+        ShownValues::Of(slices) => match slices.addresses(entry.number) {
             Some(addresses) => push_cells(alloc, lines, entry, spots, addresses),
             None => Ok(()),
         },

@@ -5,8 +5,8 @@ use crate::differing::note_rows;
 use crate::marks::ShownValues;
 use crate::picture::ShownCase;
 use crate::words::is_zero;
-use bd_label::{push_application, push_number, push_scalar};
 use bd_model::{Scalar, Symbol, Table, Value};
+use bd_slice::{push_application, push_number, push_scalar};
 use std::alloc::{AllocError, Global};
 use std::collections::BTreeSet;
 
@@ -96,7 +96,7 @@ pub fn lets(
         title: "lets",
         parts: match marks {
             ShownValues::All => one_part(alloc, all_lets(alloc, view)?)?,
-            ShownValues::Of(slice) => let_parts(alloc, view, slice)?,
+            ShownValues::Of(slices) => let_parts(alloc, view, slices)?,
         },
     })
 }
@@ -166,7 +166,7 @@ pub fn rows(
         title: "functions",
         parts: match marks {
             ShownValues::All => one_part(alloc, all_rows(alloc, view)?)?,
-            ShownValues::Of(slice) => row_parts(alloc, view, slice)?,
+            ShownValues::Of(slices) => row_parts(alloc, view, slices)?,
         },
     })
 }

@@ -1,13 +1,15 @@
 //! Which values are shown: those that what differs, or the broken invariant, rests on.
 ghost use Rattle.bd_model.specs.DesignView.{design_view};
 ghost use Rattle.bd_model.specs.Lawful.{IsLawful};
+ghost use Rattle.bd_picture.specs.Runs.{IsLed};
 
 use crate::differing::{Differing, both_sides};
-use crate::grid::Signal;
+use crate::grid::{Signal, Standing};
 use crate::picture::{Outcome, ShownCase};
 use crate::words::is_zero;
-use bd_model::{Condition, Design, Judged};
-use bd_slice::{Column, Finding, Location, Reasons, Subject, history_of, reasons_of};
+use bd_model::{Condition, Judged};
+use bd_slice::{Column, Cycle, Finding, Location, Reasons, Subject, history_of, reasons_of};
+use bd_trail::{carried, reasons_before};
 use indexmap::IndexSet;
 use std::alloc::{AllocError, Global};
 use std::collections::{BTreeMap, BTreeSet};
@@ -42,33 +44,83 @@ impl Addresses {
     }
 }
 
-/// The values of a run that some of its values rest on, and what the functions and predicates are applied to in them
-/// where the value isn't 0 or false. Values are numbered from 0 in the order of their reasons, and applications after
-/// them.
+/// The values of a case's run that some of its values rest on, and what the functions and predicates are applied to in
+/// them where the value isn't 0 or false. From `first` on values are numbered in the order of their reasons, and
+/// applications after them. The case is the one so many cycles back from the case that is shown.
 #[derive(Drop)]
 pub struct Slice {
     pub reasons: Reasons,
-    cells: Addresses,
+    pub back: u32,
+    first: usize,
     numbers: IndexSet<Subject>,
     pub applied: BTreeMap<(u32, Vec<u64>), usize>,
 }
 
-/// Which values of a run are shown: all, or those of a slice.
+/// What values of a case rest on: in its own run, and where a run led to it, in each cycle before, the last one first.
+#[derive(Drop)]
+pub struct Slices {
+    pub own: Slice,
+    pub earlier: Vec<Slice>,
+    cells: Addresses,
+    place: u32,
+}
+
+/// Which values are shown: all, or those of slices.
 #[derive(Drop)]
 pub enum ShownValues {
     All,
-    Of(Slice),
+    Of(Slices),
 }
 
 impl Slice {
-    /// The addresses at which words of an entry of the pipeline are in the slice.
+    /// The number of a value that is in the slice.
+    pub fn number(&self, subject: Subject) -> Option<usize> {
+        let place = self.numbers.get_index_of(&subject)?;
+        Some(self.first.saturating_add(place))
+    }
+
+    /// The first number after those of the slice.
+    fn end(&self) -> usize {
+        self.first
+            .saturating_add(self.numbers.len())
+            .saturating_add(self.applied.len())
+    }
+}
+
+impl Slices {
+    /// The addresses at which words of an entry of the pipeline are shown.
     pub fn addresses(&self, entry: u32) -> Option<&BTreeSet<u64>> {
         self.cells.get(entry)
     }
 
-    /// The number of a value that is in the slice.
-    pub fn number(&self, subject: Subject) -> Option<usize> {
-        self.numbers.get_index_of(&subject)
+    /// The slice of the cycle so many cycles before the case's.
+    pub fn back(&self, cycles: u32) -> Option<&Slice> {
+        match cycles.checked_sub(1) {
+            None => Some(&self.own),
+            Some(place) => self.earlier.get(place as usize),
+        }
+    }
+
+    /// The slice of the cycle at a place of the run, if there is one.
+    fn cycle(&self, place: u32) -> Option<&Slice> {
+        self.back(self.place.checked_sub(place)?)
+    }
+
+    /// The slice that has the value of a line in a state, and the value there.
+    fn find(&self, place: Signal, state: Standing) -> Option<(&Slice, Subject)> {
+        match state {
+            Standing::Drawn(column) => Some((&self.own, subject_of(place, column)?)),
+            Standing::Passed(cycles) => match place {
+                Signal::Input(number) => {
+                    let slice = self.cycle(cycles.checked_sub(1)?)?;
+                    Some((slice, Subject::Input(Cycle::Case, number)))
+                }
+                Signal::Value(_) => {
+                    let subject = subject_of(place, Column::Before(0))?;
+                    Some((self.cycle(cycles)?, subject))
+                }
+            },
+        }
     }
 }
 
@@ -103,9 +155,8 @@ fn applied_in(
     Ok(applied)
 }
 
-/// The addresses at which words of the pipeline's entries are among values.
-fn cells_of(alloc: Global, design: &Design, reasons: &Reasons) -> Result<Addresses, AllocError> {
-    let mut cells = Addresses::new(alloc, design.pipe.entries.len())?;
+/// Marks the addresses at which words of the pipeline's entries are among values.
+fn add_cells(cells: &mut Addresses, reasons: &Reasons) -> Result<(), AllocError> {
     for reason in reasons.as_slice() {
         if let Subject::Cell(
             Column::Before(_) | Column::After(_),
@@ -116,20 +167,56 @@ fn cells_of(alloc: Global, design: &Design, reasons: &Reasons) -> Result<Address
             cells.add(entry, address)?;
         }
     }
-    Ok(cells)
+    Ok(())
 }
 
-/// The slice of these values.
-fn sliced(alloc: Global, design: &Design, reasons: Reasons) -> Result<Slice, AllocError> {
-    let cells = cells_of(alloc, design, &reasons)?;
+/// The slice of these values of the case so many cycles back, numbered from `first` on.
+fn sliced(alloc: Global, reasons: Reasons, back: u32, first: usize) -> Result<Slice, AllocError> {
     let numbers = numbers_of(alloc, &reasons)?;
-    let applied = applied_in(alloc, &reasons, numbers.len())?;
+    let applied = applied_in(alloc, &reasons, first.saturating_add(numbers.len()))?;
     Ok(Slice {
         reasons,
-        cells,
+        back,
+        first,
         numbers,
         applied,
     })
+}
+
+/// The slices of these values, and of those of the cycles before.
+fn slices_of(
+    alloc: Global,
+    view: &ShownCase<'_>,
+    own: Reasons,
+    before: Vec<Reasons>,
+) -> Result<Slices, AllocError> {
+    let mut cells = Addresses::new(alloc, view.design.pipe.entries.len())?;
+    add_cells(&mut cells, &own)?;
+    let own = sliced(alloc, own, 0, 0)?;
+    let mut end = own.end();
+    let mut back = 0u32;
+    let mut earlier = Vec::new(alloc);
+    for reasons in before {
+        add_cells(&mut cells, &reasons)?;
+        back = back.saturating_add(1);
+        let slice = sliced(alloc, reasons, back, end)?;
+        end = slice.end();
+        earlier.push(slice)?;
+    }
+    Ok(Slices {
+        own,
+        earlier,
+        cells,
+        place: place_of(view),
+    })
+}
+
+/// The place of the case's cycle in the run that led to it.
+fn place_of(view: &ShownCase<'_>) -> u32 {
+    match view.run {
+        Some(run) => run.place,
+        None => 0,
+    }
 }
 
 /// The value of the run that a line has in a column.
@@ -144,28 +231,31 @@ fn subject_of(place: Signal, column: Column) -> Option<Subject> {
 }
 
 impl ShownValues {
-    /// The number of the value that a line has in a column, where it is in a slice.
-    pub fn number(&self, place: Signal, column: Column) -> Option<usize> {
+    /// The number of the value that a line has in a state, where it is in a slice.
+    pub fn number(&self, place: Signal, state: Standing) -> Option<usize> {
         match self {
             ShownValues::All => None,
-            ShownValues::Of(slice) => slice.number(subject_of(place, column)?),
+            ShownValues::Of(slices) => {
+                let (slice, subject) = slices.find(place, state)?;
+                slice.number(subject)
+            }
         }
     }
 
-    /// Whether the value that a line has in a column is shown.
-    pub fn has(&self, place: Signal, column: Column) -> bool {
+    /// Whether the value that a line has in a state is shown.
+    pub fn has(&self, place: Signal, state: Standing) -> bool {
         match self {
             ShownValues::All => true,
-            ShownValues::Of(slice) => match subject_of(place, column) {
-                Some(subject) => slice.reasons.has(subject),
+            ShownValues::Of(slices) => match slices.find(place, state) {
+                Some((slice, subject)) => slice.reasons.has(subject),
                 None => false,
             },
         }
     }
 }
 
-/// What the values rest on, each with its reason.
-fn reasons_behind(
+/// What the values rest on in the case's own run, each with its reason.
+fn own_reasons(
     alloc: Global,
     view: &ShownCase<'_>,
     subjects: &[Subject],
@@ -176,6 +266,25 @@ fn reasons_behind(
     reasons_of(alloc, view.design, view.case, &history, subjects)
 }
 
+/// What the values rest on in each cycle that led to the case, the last one first.
+fn reasons_back(
+    alloc: Global,
+    view: &ShownCase<'_>,
+    own: &Reasons,
+) -> Result<Vec<Reasons>, AllocError>
+    requires lawful { IsLawful (design_view view.now.design.now) }
+    requires led { IsLed (design_view view.now.design.now) view.now.case.now view.now.run }
+{
+    match view.run {
+        Some(run) if run.place != 0 => {
+            let subjects = carried(alloc, own)?;
+            let before = run.place - 1;
+            reasons_before(alloc, view.design, run.trail, before, subjects.as_slice())
+        }
+        _ => Ok(Vec::new(alloc)),
+    }
+}
+
 /// What the values rest on.
 fn slice_of(
     alloc: Global,
@@ -183,9 +292,11 @@ fn slice_of(
     subjects: &[Subject],
 ) -> Result<ShownValues, AllocError>
     requires lawful { IsLawful (design_view view.now.design.now) }
+    requires led { IsLed (design_view view.now.design.now) view.now.case.now view.now.run }
 {
-    let reasons = reasons_behind(alloc, view, subjects)?;
-    Ok(ShownValues::Of(sliced(alloc, view.design, reasons)?))
+    let own = own_reasons(alloc, view, subjects)?;
+    let before = reasons_back(alloc, view, &own)?;
+    Ok(ShownValues::Of(slices_of(alloc, view, own, before)?))
 }
 
 /// What is shown of a case: where it breaks a condition, what the values that differ rest on, on both sides, or what
@@ -196,6 +307,7 @@ pub fn marks_of(
     differing: &Differing,
 ) -> Result<ShownValues, AllocError>
     requires lawful { IsLawful (design_view view.now.design.now) }
+    requires led { IsLed (design_view view.now.design.now) view.now.case.now view.now.run }
 {
     match view.outcome {
         Outcome::Flushed(Judged::Broken(Condition::Invariant)) => {

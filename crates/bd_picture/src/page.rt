@@ -6,8 +6,8 @@ use crate::drawing::put_drawing;
 use crate::grid::{Cell, Content, Grid, GridRow, Head, Look, content_text, sign_of};
 use crate::list::{ListPart, TitledList};
 use crate::picture::{Outcome, Picture, Tables};
-use bd_label::push_number;
 use bd_model::{Condition, Judged};
+use bd_slice::push_number;
 use std::alloc::{AllocError, Global};
 
 /// The class of a cell under a heading. What a cycle may not stand for never looks right.
@@ -152,7 +152,10 @@ fn steps_legend(outcome: Outcome) -> &'static str {
 }
 
 /// What the states are.
-fn states_legend(outcome: Outcome) -> &'static str {
+fn states_legend(outcome: Outcome, states: &Grid) -> &'static str {
+    if states.heads.iter().any(|head| head.passed.is_some()) {
+        return RUN;
+    }
     match outcome {
         Outcome::Flushed(Judged::Broken(Condition::Invariant)) | Outcome::Completed(_) => BOTH,
         Outcome::Flushed(_) => STATES,
@@ -201,7 +204,12 @@ fn put_states(
     tables: &Tables,
     outcome: Outcome,
 ) -> Result<(), AllocError> {
-    put_grid(alloc, out, &tables.states, states_legend(outcome))?;
+    put_grid(
+        alloc,
+        out,
+        &tables.states,
+        states_legend(outcome, &tables.states),
+    )?;
     put_list(out, &tables.lets, LETS)?;
     put_list(out, &tables.rows, ROWS)
 }
@@ -321,6 +329,12 @@ const STATES: &str =
     "The states before the cycle and after it, and after each flush cycle (f1, f2, ..) \
 from there. * is visible to the specification, and # differs there; an empty cell is what stands on its left, \
 . is a value that doesn't matter, and an input stands under the state that its cycle led to.";
+
+const RUN: &str =
+    "The states of the run from its start, each by the number of the cycle that led to it, and after each flush cycle \
+(f1, f2, ..) from before the cycle that breaks and from after it. * is visible to the specification, and # differs \
+there; an empty cell is what stands on its left, . is a value that doesn't matter, and an input stands under the state \
+that its cycle led to.";
 
 const BOTH: &str = "The states before the cycle and after it. * is visible to the specification, \
 . is a value that doesn't matter, and an input stands under the state that its cycle led to.";

@@ -4,6 +4,7 @@ ghost use Rattle.std.specs.List.{All};
 ghost use Rattle.bd_model.specs.DesignView.{design_view};
 ghost use Rattle.bd_model.specs.Lawful.{IsLawful};
 ghost use Rattle.bd_picture.specs.Cells.{ArePrinted, IsStepsRow};
+ghost use Rattle.bd_picture.specs.Runs.{IsLed};
 ghost use Rattle.bd_picture.specs.Seen.{IsSeen};
 ghost use Rattle.bd_picture.specs.Sentence.{outcome_sentence};
 
@@ -17,7 +18,7 @@ use crate::states::states_grid;
 use crate::steps::steps_grid;
 use crate::words::outcome_sentence;
 use bd_diagram::Diagram;
-use bd_model::{Case, Condition, Design, Judged};
+use bd_model::{Case, Condition, Design, Judged, States, Trail};
 use std::alloc::{AllocError, Global};
 
 /// What is found of a case.
@@ -41,7 +42,8 @@ pub struct ShownNames<'a> {
 }
 
 /// A case of a design, what is found of it and its diagram, and names; and whether all values are printed, or only those
-/// that what is broken rests on. By a completion function all are printed.
+/// that what is broken rests on. By a completion function all are printed. Where a run led to the case, its states stand
+/// before the case's.
 #[derive(Drop)]
 pub struct ShownCase<'a> {
     pub design: &'a Design,
@@ -50,6 +52,16 @@ pub struct ShownCase<'a> {
     pub diagram: &'a Diagram,
     pub names: ShownNames<'a>,
     pub whole: bool,
+    pub run: Option<ShownRun<'a>>,
+}
+
+/// The run that led to a case: its trail, the place of the case's cycle in it from 0, and the states from its start to
+/// the case's.
+#[derive(Clone, Copy)]
+pub struct ShownRun<'a> {
+    pub trail: &'a Trail,
+    pub place: u32,
+    pub states: &'a States,
 }
 
 /// Tables and lists. Where the invariant is broken no steps are compared.
@@ -66,8 +78,8 @@ pub struct Tables {
 #[derive(Drop)]
 pub struct Picture {
     pub sentence: Vec<u8>,
-    pub(crate) outcome: Outcome,
-    pub(crate) tables: Tables,
+    pub outcome: Outcome,
+    pub tables: Tables,
     pub(crate) whole: Option<Tables>,
     /// What each numbered value rests on, where only some values are shown: an array of arrays of numbers.
     pub(crate) rests: Option<Vec<u8>>,
@@ -99,7 +111,7 @@ fn tables_of(
 ) -> Result<Tables, AllocError>
     requires lawful { IsLawful (design_view view.now.design.now) }
     ensures { IfOk result (ArePrinted (design_view view.now.design.now)
-        view.now.case.now view.now.diagram.now) }
+        view.now.case.now view.now.run view.now.diagram.now) }
 {
     Ok(Tables {
         claims: claims_grid(alloc, view)?,
@@ -117,6 +129,7 @@ fn some_marks(
     differing: &Differing,
 ) -> Result<Option<ShownValues>, AllocError>
     requires lawful { IsLawful (design_view view.now.design.now) }
+    requires led { IsLed (design_view view.now.design.now) view.now.case.now view.now.run }
 {
     if view.whole {
         return Ok(None);
@@ -132,12 +145,14 @@ pub fn picture_of(alloc: Global, view: &ShownCase<'_>) -> Result<Picture, AllocE
     requires lawful { IsLawful (design_view view.now.design.now) }
     requires seen { IsSeen (design_view view.now.design.now) view.now.case.now view.now.outcome
         view.now.diagram.now }
+    requires led { IsLed (design_view view.now.design.now) view.now.case.now view.now.run }
     ensures sentence { IfOk result (λ p.
         p.sentence.items ≡ outcome_sentence (design_view view.now.design.now) view.now.outcome) }
     ensures tables { IfOk result (λ p. ArePrinted (design_view view.now.design.now)
-        view.now.case.now view.now.diagram.now p.tables) }
+        view.now.case.now view.now.run view.now.diagram.now p.tables) }
     ensures whole { IfOk result (λ p. IfSome p.whole (ArePrinted
-        (design_view view.now.design.now) view.now.case.now view.now.diagram.now)) }
+        (design_view view.now.design.now) view.now.case.now view.now.run
+        view.now.diagram.now)) }
 {
     let differing = differing_of(alloc, view)?;
     let sentence = outcome_sentence(alloc, view.design, view.outcome)?;

@@ -1,8 +1,8 @@
 //! What each value of a slice rests on, for the page, which shows it where one points at the value.
 
-use crate::marks::{ShownValues, Slice};
-use bd_label::push_number;
-use bd_slice::{Fact, Finding, Reason};
+use crate::marks::{ShownValues, Slice, Slices};
+use bd_slice::{Fact, Finding, Reason, Subject, push_number};
+use bd_trail::carried_over;
 use std::alloc::{AllocError, Global};
 
 /// The number of what a fact names, where it is numbered.
@@ -39,14 +39,63 @@ fn push_reason(
     Ok(())
 }
 
-/// What each value of a slice rests on, in the order of their numbers: an array of arrays of numbers.
-fn rests_in(alloc: Global, slice: &Slice) -> Result<Vec<u8>, AllocError> {
-    let mut out = Vec::from_slice(alloc, b"[")?;
-    for (number, reason) in slice.reasons.as_slice().iter().enumerate() {
-        if number != 0 {
-            out.push(b',')?;
+/// Puts a comma between two parts of an array that is begun.
+fn put_between(out: &mut Vec<u8>) -> Result<(), AllocError> {
+    if out.len() > 1 {
+        out.push(b',')?;
+    }
+    Ok(())
+}
+
+/// Puts what each value of a slice rests on, in the order of their numbers.
+fn push_slice(
+    alloc: Global,
+    out: &mut Vec<u8>,
+    slices: &Slices,
+    slice: &Slice,
+) -> Result<(), AllocError> {
+    for reason in slice.reasons.as_slice() {
+        put_between(out)?;
+        match given_before(slices, reason.subject, slice.back) {
+            Some(number) => push_one(out, number)?,
+            None => push_reason(alloc, out, slice, reason)?,
         }
-        push_reason(alloc, &mut out, slice, reason)?;
+    }
+    Ok(())
+}
+
+/// Puts that each application of a slice rests on nothing.
+fn push_applied(out: &mut Vec<u8>, slice: &Slice) -> Result<(), AllocError> {
+    for _row in slice.applied.iter() {
+        put_between(out)?;
+        out.extend_from_slice(b"[]")?;
+    }
+    Ok(())
+}
+
+/// The number of the value of the cycle before that a value of the state in which a cycle begins is.
+fn given_before(slices: &Slices, subject: Subject, back: u32) -> Option<usize> {
+    let carried = carried_over(subject)?;
+    slices.back(back.saturating_add(1))?.number(carried)
+}
+
+/// Puts an array of one number.
+fn push_one(out: &mut Vec<u8>, number: usize) -> Result<(), AllocError> {
+    out.push(b'[')?;
+    push_number(out, number as u64)?;
+    out.push(b']')?;
+    Ok(())
+}
+
+/// What each value of slices rests on, in the order of their numbers: an array of arrays of numbers.
+fn rests_in(alloc: Global, slices: &Slices) -> Result<Vec<u8>, AllocError> {
+    let mut out = Vec::from_slice(alloc, b"[")?;
+    push_slice(alloc, &mut out, slices, &slices.own)?;
+    let mut later = &slices.own;
+    for slice in &slices.earlier {
+        push_applied(&mut out, later)?;
+        push_slice(alloc, &mut out, slices, slice)?;
+        later = slice;
     }
     out.push(b']')?;
     Ok(out)
@@ -56,6 +105,6 @@ fn rests_in(alloc: Global, slice: &Slice) -> Result<Vec<u8>, AllocError> {
 pub fn rests_of(alloc: Global, marks: &ShownValues) -> Result<Option<Vec<u8>>, AllocError> {
     match marks {
         ShownValues::All => Ok(None),
-        ShownValues::Of(slice) => Ok(Some(rests_in(alloc, slice)?)),
+        ShownValues::Of(slices) => Ok(Some(rests_in(alloc, slices)?)),
     }
 }

@@ -5,7 +5,7 @@ ghost use Rattle.bd_picture.specs.Cells.{IsCompared, IsSigned, IsStepsCell, IsSt
 ghost use Rattle.bd_picture.specs.declared.grid.Content.TheVariants as content;
 
 use crate::differing::Spots;
-use crate::grid::{Cell, Content, Grid, GridRow, Head, Look, Signal};
+use crate::grid::{Cell, Content, Grid, GridRow, Head, Look, Signal, Standing};
 use crate::line::{RowLabel, visible_lines};
 use crate::marks::ShownValues;
 use crate::picture::{Outcome, ShownCase};
@@ -37,6 +37,7 @@ fn heading(
     Ok(Head {
         text,
         column: Column::Steps(count),
+        passed: None,
         allowed: comparison.allowed,
     })
 }
@@ -55,6 +56,7 @@ fn headings(alloc: Global, view: &ShownCase<'_>) -> Result<Vec<Head>, AllocError
     heads.push(Head {
         text: Vec::from_slice(alloc, first_name(view.outcome))?,
         column: Column::After(view.design.flush),
+        passed: None,
         allowed: true,
     })?;
     let mut count = 0u32;
@@ -121,7 +123,7 @@ fn number_of(
     column: Column,
 ) -> Option<usize> {
     let spot = spot_in_run(view, spot, column)?;
-    marks.number(Signal::Value(spot), column)
+    marks.number(Signal::Value(spot), Standing::Drawn(column))
 }
 
 /// The cell of an entry of the specification in a state that is compared.

@@ -6,14 +6,21 @@ ghost use Rattle.bd_slice.specs.declared.place.Location.TheVariants as spot;
 ghost use Rattle.bd_picture.specs.Sentence.{compared_sentence, completed_sentence, outcome_sentence, sentence};
 
 use crate::picture::Outcome;
-use bd_label::{push_number, push_word_name};
 use bd_model::{Condition, Design, Judged, Scalar, Value};
-use bd_slice::Location;
+use bd_slice::{Location, push_number, push_word_name};
 use std::alloc::{AllocError, Global};
 
 /// Whether a value is 0 or false.
 pub fn is_zero(scalar: Scalar) -> bool {
     matches!(scalar, Scalar::Bool(false) | Scalar::Word(0))
+}
+
+/// Puts what the state after so many cycles of a run is called: `start`, or the number of the last cycle.
+pub fn push_state_name(out: &mut Vec<u8>, cycles: u32) -> Result<(), AllocError> {
+    if cycles == 0 {
+        return out.extend_from_slice(b"start");
+    }
+    push_number(out, u64::from(cycles))
 }
 
 /// A word and a number after it.

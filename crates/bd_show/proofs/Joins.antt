@@ -1,13 +1,12 @@
 -- What is said of a case by a completion function.
-use Rattle.std.proofs.Common.{◌≡◌, ◌↔◌, ◌++◌, ℕ, List, Bool, IsTrue, refl, sym, subst}
-use Rattle.std.specs.Prelude.{Option, Some, Result, Ok, Err, IfOk, MatchOption}
+use Rattle.std.proofs.Common.{◌≡◌, ◌↔◌, ◌++◌, ℕ, List, Bool, IsTrue, inl, inr, refl, sym, subst}
+use Rattle.std.specs.Prelude.{Option, Some, Result, Ok, Err, IfOk}
 use Rattle.std.specs.declared.alloc.AllocError.{AllocError}
 use Rattle.std.proofs.lemmas.Result.{IfOk-weaker}
 use Rattle.bd_model.specs.Abstraction.{abstraction_of, abstraction_view}
 use Rattle.bd_model.specs.declared.abstraction.Abstraction as given
 use Rattle.bd_model.specs.declared.abstraction.Abstraction.TheVariants as abstraction
 use Rattle.bd_app.specs.Completions.{abstraction_by}
-use Rattle.bd_app.specs.Loading.{bytes_of}
 use Rattle.bd_model.specs.Conditions.{Abstraction, JudgedBy, MeetsInvariant}
 use Rattle.bd_model.specs.Cycle.{flushed}
 use Rattle.bd_model.specs.DesignView.{DesignView, design_view}
@@ -17,18 +16,24 @@ use Rattle.bd_model.specs.declared.case.Condition.TheVariants as condition
 use Rattle.bd_model.specs.declared.case.Judged.{Judged}
 use Rattle.bd_model.specs.declared.case.Judged.TheVariants as judged
 use Rattle.bd_model.specs.declared.table.Value.{Value}
-use Rattle.bd_picture.specs.Page.{IsPage}
 use Rattle.bd_picture.specs.Sentence.{compared_sentence, completed_sentence}
+use Rattle.bd_picture.specs.declared.picture.Outcome.TheVariants as outcome
+use Rattle.bd_picture.specs.declared.picture.Picture.{Picture}
 use Rattle.bd_typer.specs.Joined.{joined_view}
 use Rattle.bd_typer.specs.declared.joining.Joined.{Joined}
 use Rattle.bd_show.specs.Claims.{claim_in, compared_note, completed_note}
 use Rattle.bd_show.specs.Files.{AreJoinedCase, Texts}
-use Rattle.bd_show.specs.Meaning.{Says, Show, show}
-use Rattle.bd_show.specs.declared.answer.Ended.{Ended}
+use Rattle.bd_show.specs.Meaning.{AreReadAs, AreSavesOn, Says, Show, show}
+use Rattle.bd_show.specs.Objects.{IsPictured}
+use Rattle.bd_show.specs.Saves.{IsSaveIf, SaveNames}
+use Rattle.bd_show.specs.Waves.{IsWave}
 use Rattle.bd_show.specs.declared.answer.Ended.TheVariants as ended
 use Rattle.bd_show.specs.declared.claim.Claim.TheVariants.{Differ}
-use Rattle.bd_show.specs.declared.show.Showing.{Showing}
-use Rattle.bd_show.specs.inner.Answered.{IsDrawn, IsOfJoined}
+use Rattle.bd_show.specs.declared.saving.Showing.{Showing}
+use Rattle.bd_show.specs.inner.Answered.{IsOfJoined, IsShowing}
+use Rattle.bd_show.specs.inner.Drawn.{AreDrawn}
+use Rattle.bd_show.specs.inner.Saved.{texts_of}
+use Rattle.bd_show.proofs.Shown.{shown_saves}
 
 same_abstraction : (d : DesignView) (abs : given.Abstraction) → abstraction_of d abs ≡ abstraction_by d (abstraction_view abs)
 same_abstraction d abstraction.Flushing = refl
@@ -47,101 +52,63 @@ same_lists b xs ys vs ws is first second = subst (λ zs. IsTrue b ↔ Same vs zs
 
 -- ---- what is shown
 
-completed_says : (case : Option (List ℕ)) (d : DesignView) (abs : Abstraction) (c : Case) (j : Judged) (title note rest text : List ℕ) (page : Option (List ℕ)) → JudgedBy d abs c j
-    → (claim_in case ≡ Some Differ → j ≡ judged.Outside) → title ≡ completed_sentence d j → note ≡ completed_note (claim_in case) j → text ≡ (title ++ rest) ++ note → MatchOption page ⊥ (IsPage title)
-    → IsOfJoined case d abs c (ended.Completed j) text page
-completed_says case d abs c j title note rest text page is asked titled noted whole drawn = (
-  record { is_judged = is; asked = asked; rest = rest; whole = subst (λ n. text ≡ (completed_sentence d j ++ rest) ++ n) noted (subst (λ s. text ≡ (s ++ rest) ++ note) titled whole) },
-  subst (λ s. MatchOption page ⊥ (IsPage s)) titled drawn,
+completed_shown_of : (case : Option (List ℕ)) (d : DesignView) (abs : Abstraction) (c : Case) (names : SaveNames) (j : Judged) (note : List ℕ) (p : Picture) (wave : Option (List ℕ)) (r : Showing) → JudgedBy d abs c j
+    → (claim_in case ≡ Some Differ → j ≡ judged.Outside) → note ≡ completed_note (claim_in case) j → IsPictured d (outcome.Completed j) p → IsSaveIf names.wave (Unit {0}) (IsWave d (outcome.Completed j)) wave
+    → r.answer.ended ≡ ended.Completed j → ((rest : List ℕ) × (r.answer.text.items ≡ (p.sentence.items ++ rest) ++ note)) → AreDrawn names p wave (texts_of r.saves) → IsOfJoined case d abs c names r
+completed_shown_of case d abs c names j note p wave r is asked noted pictured waved ends whole drawn = inl (
+  j,
+  ends,
+  record { is_judged = is; asked = asked; rest = whole.0; whole = subst (λ n. r.answer.text.items ≡ (completed_sentence d j ++ whole.0) ++ n) noted (subst (λ s. r.answer.text.items ≡ (s ++ whole.0) ++ note) pictured.sentence whole.1) },
+  shown_saves names d (outcome.Completed j) p wave (texts_of r.saves) pictured waved drawn,
 )
 
-pub completed_shown : (case : Option (List ℕ)) (d : DesignView) (abs : Abstraction) (c : Case) (j : Judged) (title note : List ℕ) (r : Result Showing AllocError) → JudgedBy d abs c j
-    → (claim_in case ≡ Some Differ → j ≡ judged.Outside) → title ≡ completed_sentence d j → note ≡ completed_note (claim_in case) j → IfOk r (λ s. s.answer.ended ≡ ended.Completed j)
-    → IfOk r (λ s. (rest : List ℕ) × (s.answer.text.items ≡ (title ++ rest) ++ note)) → IfOk r (λ s. MatchOption (bytes_of s.page) ⊥ (IsPage title))
-    → IfOk r (λ s. IsOfJoined case d abs c s.answer.ended s.answer.text.items (bytes_of s.page))
-completed_shown case d abs c j title note (Err e) is asked titled noted same whole drawn = tt
-completed_shown case d abs c j title note (Ok s) is asked titled noted same whole drawn =
-    subst (λ x. IsOfJoined case d abs c x s.answer.text.items (bytes_of s.page)) (sym same)
-    (completed_says case d abs c j title note whole.0 s.answer.text.items (bytes_of s.page) is asked titled noted whole.1 drawn)
+pub completed_shown : (case : Option (List ℕ)) (d : DesignView) (abs : Abstraction) (c : Case) (names : SaveNames) (j : Judged) (note : List ℕ) (p : Picture) (wave : Option (List ℕ)) (r : Result Showing AllocError) → JudgedBy d abs c j
+    → (claim_in case ≡ Some Differ → j ≡ judged.Outside) → note ≡ completed_note (claim_in case) j → IsPictured d (outcome.Completed j) p → IsSaveIf names.wave (Unit {0}) (IsWave d (outcome.Completed j)) wave
+    → IfOk r (λ s. s.answer.ended ≡ ended.Completed j) → IfOk r (λ s. (rest : List ℕ) × (s.answer.text.items ≡ (p.sentence.items ++ rest) ++ note)) → IfOk r (λ s. AreDrawn names p wave (texts_of s.saves))
+    → IfOk r (IsOfJoined case d abs c names)
+completed_shown case d abs c names j note p wave (Err e) is asked noted pictured waved ends whole drawn = tt
+completed_shown case d abs c names j note p wave (Ok s) is asked noted pictured waved ends whole drawn = completed_shown_of case d abs c names j note p wave s is asked noted pictured waved ends whole drawn
 
-compared_says : (case : Option (List ℕ)) (d : DesignView) (abs : Abstraction) (c : Case) (same : Bool) (title note rest text : List ℕ) (page : Option (List ℕ)) → claim_in case ≡ Some Differ
-    → MeetsInvariant d c.interp c.state → IsTrue same ↔ Same (flushed d c.interp c.state) (abs c.interp c.state) → title ≡ compared_sentence same → note ≡ compared_note same
-    → text ≡ (title ++ rest) ++ note → MatchOption page ⊥ (IsPage title) → IsOfJoined case d abs c (ended.Compared same) text page
-compared_says case d abs c same title note rest text page asked inside is titled noted whole drawn = (
-  record { asked = asked; inside = inside; is_same = is; rest = rest; whole = subst (λ n. text ≡ (compared_sentence same ++ rest) ++ n) noted (subst (λ s. text ≡ (s ++ rest) ++ note) titled whole) },
-  subst (λ s. MatchOption page ⊥ (IsPage s)) titled drawn,
+compared_shown_of : (case : Option (List ℕ)) (d : DesignView) (abs : Abstraction) (c : Case) (names : SaveNames) (same : Bool) (note : List ℕ) (p : Picture) (wave : Option (List ℕ)) (r : Showing) → claim_in case ≡ Some Differ
+    → MeetsInvariant d c.interp c.state → IsTrue same ↔ Same (flushed d c.interp c.state) (abs c.interp c.state) → note ≡ compared_note same → IsPictured d (outcome.Compared same) p
+    → IsSaveIf names.wave (Unit {0}) (IsWave d (outcome.Compared same)) wave → r.answer.ended ≡ ended.Compared same → ((rest : List ℕ) × (r.answer.text.items ≡ (p.sentence.items ++ rest) ++ note)) → AreDrawn names p wave (texts_of r.saves)
+    → IsOfJoined case d abs c names r
+compared_shown_of case d abs c names same note p wave r asked inside is noted pictured waved ends whole drawn = inr (
+  same,
+  ends,
+  record { asked = asked; inside = inside; is_same = is; rest = whole.0; whole = subst (λ n. r.answer.text.items ≡ (compared_sentence same ++ whole.0) ++ n) noted (subst (λ s. r.answer.text.items ≡ (s ++ whole.0) ++ note) pictured.sentence whole.1) },
+  shown_saves names d (outcome.Compared same) p wave (texts_of r.saves) pictured waved drawn,
 )
 
-pub compared_shown : (case : Option (List ℕ)) (d : DesignView) (abs : Abstraction) (c : Case) (same : Bool) (title note : List ℕ) (r : Result Showing AllocError) → claim_in case ≡ Some Differ
-    → MeetsInvariant d c.interp c.state → IsTrue same ↔ Same (flushed d c.interp c.state) (abs c.interp c.state) → title ≡ compared_sentence same → note ≡ compared_note same
-    → IfOk r (λ s. s.answer.ended ≡ ended.Compared same) → IfOk r (λ s. (rest : List ℕ) × (s.answer.text.items ≡ (title ++ rest) ++ note)) → IfOk r (λ s. MatchOption (bytes_of s.page) ⊥ (IsPage title))
-    → IfOk r (λ s. IsOfJoined case d abs c s.answer.ended s.answer.text.items (bytes_of s.page))
-compared_shown case d abs c same title note (Err e) asked inside is titled noted ends whole drawn = tt
-compared_shown case d abs c same title note (Ok s) asked inside is titled noted ends whole drawn =
-    subst (λ x. IsOfJoined case d abs c x s.answer.text.items (bytes_of s.page)) (sym ends)
-    (compared_says case d abs c same title note whole.0 s.answer.text.items (bytes_of s.page) asked inside is titled noted whole.1 drawn)
+pub compared_shown : (case : Option (List ℕ)) (d : DesignView) (abs : Abstraction) (c : Case) (names : SaveNames) (same : Bool) (note : List ℕ) (p : Picture) (wave : Option (List ℕ)) (r : Result Showing AllocError) → claim_in case ≡ Some Differ
+    → MeetsInvariant d c.interp c.state → IsTrue same ↔ Same (flushed d c.interp c.state) (abs c.interp c.state) → note ≡ compared_note same → IsPictured d (outcome.Compared same) p
+    → IsSaveIf names.wave (Unit {0}) (IsWave d (outcome.Compared same)) wave → IfOk r (λ s. s.answer.ended ≡ ended.Compared same) → IfOk r (λ s. (rest : List ℕ) × (s.answer.text.items ≡ (p.sentence.items ++ rest) ++ note))
+    → IfOk r (λ s. AreDrawn names p wave (texts_of s.saves)) → IfOk r (IsOfJoined case d abs c names)
+compared_shown case d abs c names same note p wave (Err e) asked inside is noted pictured waved ends whole drawn = tt
+compared_shown case d abs c names same note p wave (Ok s) asked inside is noted pictured waved ends whole drawn = compared_shown_of case d abs c names same note p wave s asked inside is noted pictured waved ends whole drawn
 
 -- ---- and so of texts
 
-joined_says : (q : Show) (t : Texts) (j : Joined) (c : Case) (x : Ended) (text : List ℕ) (page : Option (List ℕ)) → AreJoinedCase t (joined_view j) c
-    → IsOfJoined t.case (design_view j.design) (abstraction_by (design_view j.design) (abstraction_view j.abs)) c x text page → Says (show q) t x text
-joined_says q t j c (ended.Completed k) text page are said = (joined_view j, c, are, said.0)
-joined_says q t j c (ended.Compared same) text page are said = (joined_view j, c, are, said.0)
-joined_says q t j c (ended.Refused file offset code) text page are said = absurd said
-joined_says q t j c (ended.Checked found) text page are said = absurd said
-joined_says q t j c (ended.Shown k) text page are said = absurd said
-joined_says q t j c (ended.Traced k) text page are said = absurd said
-joined_says q t j c (ended.Shrunk k) text page are said = absurd said
-joined_says q t j c (ended.Explained k) text page are said = absurd said
-joined_says q t j c ended.Unknown text page are said = absurd said
-joined_says q t j c (ended.Unbroken k) text page are said = absurd said
-joined_says q t j c (ended.Described found) text page are said = absurd said
-joined_says q t j c ended.Proved text page are said = absurd said
-joined_says q t j c (ended.BadProof line column why) text page are said = absurd said
-joined_says q t j c ended.Told text page are said = absurd said
-joined_says q t j c ended.Usage text page are said = absurd said
-joined_says q t j c (ended.TooLong file) text page are said = absurd said
-joined_says q t j c (ended.Unread file) text page are said = absurd said
-joined_says q t j c ended.Unsaved text page are said = absurd said
-joined_says q t j c ended.Unwritten text page are said = absurd said
-joined_says q t j c ended.Memory text page are said = absurd said
+joined_shown : (q : Show) (t : Texts) (j : Joined) (c : Case) (r : Showing) → AreJoinedCase t (joined_view j) c
+    → IsOfJoined t.case (design_view j.design) (abstraction_by (design_view j.design) (abstraction_view j.abs)) c q.saves r → IsShowing (show q) t r
+joined_shown q t j c r are (inl (k, ends, of, saves)) = record {
+  says = subst (λ x. Says (show q) t x r.answer.text.items) (sym ends) (joined_view j, c, are, of);
+  saves = inl (
+    design_view j.design,
+    subst (λ x. AreReadAs (show q) x t (design_view j.design)) (sym ends) (joined_view j, are.joined, refl),
+    subst (λ x. AreSavesOn (show q) t x (design_view j.design) (texts_of r.saves)) (sym ends) (record { text = saves.text; wave = saves.wave; object = saves.object }),
+  );
+}
+joined_shown q t j c r are (inr (same, ends, of, saves)) = record {
+  says = subst (λ x. Says (show q) t x r.answer.text.items) (sym ends) (joined_view j, c, are, of);
+  saves = inl (
+    design_view j.design,
+    subst (λ x. AreReadAs (show q) x t (design_view j.design)) (sym ends) (joined_view j, are.joined, refl),
+    subst (λ x. AreSavesOn (show q) t x (design_view j.design) (texts_of r.saves)) (sym ends) (record { text = saves.text; wave = saves.wave; object = saves.object }),
+  );
+}
 
-joined_drawn : (t : Texts) (j : Joined) (c : Case) (x : Ended) (text : List ℕ) (page : Option (List ℕ)) → AreJoinedCase t (joined_view j) c
-    → IsOfJoined t.case (design_view j.design) (abstraction_by (design_view j.design) (abstraction_view j.abs)) c x text page → IsDrawn t x page
-joined_drawn t j c (ended.Completed k) text page are said = (design_view j.design, (joined_view j, are.joined, refl), said.1)
-joined_drawn t j c (ended.Compared same) text page are said = (design_view j.design, (joined_view j, are.joined, refl), said.1)
-joined_drawn t j c (ended.Refused file offset code) text page are said = absurd said
-joined_drawn t j c (ended.Checked found) text page are said = absurd said
-joined_drawn t j c (ended.Shown k) text page are said = absurd said
-joined_drawn t j c (ended.Traced k) text page are said = absurd said
-joined_drawn t j c (ended.Shrunk k) text page are said = absurd said
-joined_drawn t j c (ended.Explained k) text page are said = absurd said
-joined_drawn t j c ended.Unknown text page are said = absurd said
-joined_drawn t j c (ended.Unbroken k) text page are said = absurd said
-joined_drawn t j c (ended.Described found) text page are said = absurd said
-joined_drawn t j c ended.Proved text page are said = absurd said
-joined_drawn t j c (ended.BadProof line column why) text page are said = absurd said
-joined_drawn t j c ended.Told text page are said = absurd said
-joined_drawn t j c ended.Usage text page are said = absurd said
-joined_drawn t j c (ended.TooLong file) text page are said = absurd said
-joined_drawn t j c (ended.Unread file) text page are said = absurd said
-joined_drawn t j c ended.Unsaved text page are said = absurd said
-joined_drawn t j c ended.Unwritten text page are said = absurd said
-joined_drawn t j c ended.Memory text page are said = absurd said
-
-by_view : (case : Option (List ℕ)) (j : Joined) (c : Case) (s : Showing) → IsOfJoined case (design_view j.design) (abstraction_of (design_view j.design) j.abs) c s.answer.ended s.answer.text.items (bytes_of s.page)
-    → IsOfJoined case (design_view j.design) (abstraction_by (design_view j.design) (abstraction_view j.abs)) c s.answer.ended s.answer.text.items (bytes_of s.page)
-by_view case j c s said =
-    subst (λ abs. IsOfJoined case (design_view j.design) abs c s.answer.ended s.answer.text.items (bytes_of s.page)) (same_abstraction (design_view j.design) j.abs) said
-
-pub case_says : (q : Show) (t : Texts) (j : Joined) (c : Case) (r : Result Showing AllocError) → AreJoinedCase t (joined_view j) c
-    → IfOk r (λ s. IsOfJoined t.case (design_view j.design) (abstraction_of (design_view j.design) j.abs) c s.answer.ended s.answer.text.items (bytes_of s.page))
-    → IfOk r (λ s. Says (show q) t s.answer.ended s.answer.text.items)
-case_says q t j c r are said =
-    IfOk-weaker r _ _ (λ s h. joined_says q t j c s.answer.ended s.answer.text.items (bytes_of s.page) are (by_view t.case j c s h)) said
-
-pub case_drawn : (t : Texts) (j : Joined) (c : Case) (r : Result Showing AllocError) → AreJoinedCase t (joined_view j) c
-    → IfOk r (λ s. IsOfJoined t.case (design_view j.design) (abstraction_of (design_view j.design) j.abs) c s.answer.ended s.answer.text.items (bytes_of s.page))
-    → IfOk r (λ s. IsDrawn t s.answer.ended (bytes_of s.page))
-case_drawn t j c r are said =
-    IfOk-weaker r _ _ (λ s h. joined_drawn t j c s.answer.ended s.answer.text.items (bytes_of s.page) are (by_view t.case j c s h)) said
+pub case_shows : (q : Show) (t : Texts) (j : Joined) (c : Case) (r : Result Showing AllocError) → AreJoinedCase t (joined_view j) c
+    → IfOk r (IsOfJoined t.case (design_view j.design) (abstraction_of (design_view j.design) j.abs) c q.saves) → IfOk r (IsShowing (show q) t)
+case_shows q t j c r are said =
+    IfOk-weaker r _ _ (λ s h. joined_shown q t j c s are (subst (λ abs. IsOfJoined t.case (design_view j.design) abs c q.saves s) (same_abstraction (design_view j.design) j.abs) h)) said

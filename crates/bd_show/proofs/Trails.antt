@@ -1,6 +1,6 @@
 -- What is said of a trail, whose cycles are those of the design without its start.
-use Rattle.std.proofs.Common.{◌≡◌, ◌≢◌, ◌∙◌, ℕ, zero, suc, List, [], ◌∷◌, ◌++◌, ap, refl, sym, subst, take, true}
-use Rattle.std.specs.Prelude.{Option, Some, None, Result, IfOk}
+use Rattle.std.proofs.Common.{◌≡◌, ◌≢◌, ◌∙◌, ℕ, zero, suc, List, [], ◌∷◌, ◌++◌, ap, inl, refl, sym, subst, take, true}
+use Rattle.std.specs.Prelude.{Option, None, Result, IfOk}
 use Rattle.std.specs.declared.alloc.AllocError.{AllocError}
 use Rattle.std.proofs.lemmas.List.{append-nil, append_assoc}
 use Rattle.std.proofs.lemmas.Result.{IfOk-weaker}
@@ -22,13 +22,21 @@ use Rattle.bd_model.specs.declared.table.Value.{Value}
 use Rattle.bd_about.proofs.Changed.{without_invariant_lawful}
 use Rattle.bd_picture.specs.Page.{IsPage}
 use Rattle.bd_picture.specs.Sentence.{sentence}
+use Rattle.bd_picture.specs.declared.picture.Outcome.TheVariants.{Flushed}
+use Rattle.bd_picture.specs.declared.picture.Picture.{Picture}
+use Rattle.bd_trail.specs.Cycles.{cycle_case}
 use Rattle.bd_show.specs.Files.{AreTrail, Texts}
-use Rattle.bd_show.specs.Meaning.{IsShown, IsTrailShown, Says, Show, show}
-use Rattle.bd_show.specs.Trails.{cycle_case, cycles_text, unstarted}
-use Rattle.bd_show.specs.declared.answer.Ended.{Ended}
+use Rattle.bd_show.specs.Meaning.{AreReadAs, AreSavesOn, IsBreakShown, IsShown, IsTrailShown, Says, Show, show}
+use Rattle.bd_show.specs.Objects.{IsPictured}
+use Rattle.bd_show.specs.Saves.{IsSaveIf, SaveNames, SaveTexts, no_texts}
+use Rattle.bd_show.specs.Trails.{cycles_text, unstarted}
+use Rattle.bd_show.specs.Waves.{IsTrailDump, IsWholeDump}
 use Rattle.bd_show.specs.declared.answer.Ended.TheVariants.{Traced}
-use Rattle.bd_show.specs.declared.show.Showing.{Showing}
-use Rattle.bd_show.specs.inner.Answered.{IsBreaking, IsBreakingIf, IsDrawn, IsTrailPage, IsTrailSeen}
+use Rattle.bd_show.specs.declared.saving.Showing.{Showing}
+use Rattle.bd_show.specs.inner.Answered.{IsBreaking, IsBreakingIf, IsShowing, IsTrailSeen}
+use Rattle.bd_show.specs.inner.Drawn.{AreDrawn}
+use Rattle.bd_show.specs.inner.Saved.{texts_of}
+use Rattle.bd_show.proofs.Shown.{save_if_not, save_if_weaker}
 use Rattle.bd_app.specs.Loading.{bytes_of}
 
 -- ---- the start counts in no cycle
@@ -94,62 +102,76 @@ pub break_shown : (d : DesignView) (t : Trail) (cycle : ℕ) (title drawn slice 
 break_shown d t cycle title drawn slice lines apart text b named begins same are ends is =
     broken_shown d t cycle title drawn text b named begins (is ∙ ap (λ s. apart ++ s) same ∙ ap (λ l. l ++ drawn) (ends ∙ ap (λ l. l ++ 10 ∷ []) are))
 
-broken_seen : (d : DesignView) (t : Trail) (cycle : ℕ) (title drawn page text : List ℕ) → IsBreaking d t cycle → title ≡ sentence d (of_case.Broken Commute) → ((rest : List ℕ) × (drawn ≡ title ++ rest))
-    → IsPage title page → text ≡ ((retraced_words (Broken cycle) ++ 10 ∷ cycles_text d.pipe.ports 1 t.inputs) ++ 10 ∷ []) ++ drawn
-    → IsTrailSeen d t (Broken cycle) (Traced (Broken cycle)) text (Some page)
-broken_seen d t cycle title drawn page text b named begins titled is = record {
-  ended = refl;
-  shown = broken_shown d t cycle title drawn text b named begins is;
-  drawn = subst (λ x. IsPage x page) named titled;
+-- ---- what is seen of a trail, and saved of it
+
+broken_seen : (names : SaveNames) (d : DesignView) (t : Trail) (cycle : ℕ) (p : Picture) (wave : Option (List ℕ)) (r : Showing) → r.answer.ended ≡ Traced (Broken cycle) → IsTrailShown d t (Broken cycle) r.answer.text.items
+    → IsPictured d (Flushed (of_case.Broken Commute)) p → IsSaveIf names.wave (Unit {0}) (IsTrailDump d t (Broken cycle)) wave → AreDrawn names p wave (texts_of r.saves) → IsTrailSeen names d t (Broken cycle) r
+broken_seen names d t cycle p wave r ended shown pictured waved drawn = record {
+  ended = ended;
+  shown = shown;
+  text = subst (λ title. IsSaveIf names.text (Unit {0}) (IsPage title) (bytes_of r.saves.text)) pictured.sentence drawn.text;
+  wave = subst (λ w. IsSaveIf names.wave (Unit {0}) (IsTrailDump d t (Broken cycle)) w) (sym drawn.wave) waved;
+  object = save_if_weaker names.object (Unit {0}) _ _ (bytes_of r.saves.object) (λ b is. record { picture = p; is_pictured = pictured; object = is }) drawn.object;
 }
 
--- of a trail with a cycle that breaks: its lines, an empty line and the picture, of which the page is made too
-pub break_seen : (d : DesignView) (t : Trail) (j : TrailJudged) (cycle : ℕ) (title drawn slice page lines apart text : List ℕ) → j ≡ Broken cycle → IsBreaking d t cycle
-    → title ≡ sentence d (of_case.Broken Commute) → ((rest : List ℕ) × (drawn ≡ title ++ rest)) → slice ≡ drawn → IsPage title page
-    → lines ≡ retraced_words j ++ 10 ∷ cycles_text d.pipe.ports 1 t.inputs → apart ≡ lines ++ 10 ∷ [] → text ≡ apart ++ slice
-    → IsTrailSeen d t j (Traced j) text (Some page)
-break_seen d t j cycle title drawn slice page lines apart text broken b named begins same titled are ends is =
-    let whole = is ∙ ap (λ s. apart ++ s) same ∙ ap (λ l. l ++ drawn) (ends ∙ ap (λ l. l ++ 10 ∷ []) (are ∙ ap (λ x. retraced_words x ++ 10 ∷ cycles_text d.pipe.ports 1 t.inputs) broken)) in
-    subst (λ x. IsTrailSeen d t x (Traced x) text (Some page)) (sym broken) (broken_seen d t cycle title drawn page text b named begins titled whole)
+-- of a trail with a cycle that breaks: its lines, an empty line and the picture
+pub break_seen : (names : SaveNames) (d : DesignView) (t : Trail) (j : TrailJudged) (cycle : ℕ) (p : Picture) (wave : Option (List ℕ)) (r : Showing) → j ≡ Broken cycle → r.answer.ended ≡ Traced j → IsTrailShown d t (Broken cycle) r.answer.text.items
+    → IsPictured d (Flushed (of_case.Broken Commute)) p → IsSaveIf names.wave (Unit {0}) (IsTrailDump d t (Broken cycle)) wave → AreDrawn names p wave (texts_of r.saves) → IsTrailSeen names d t j r
+break_seen names d t j cycle p wave r is ended shown pictured waved drawn =
+    subst (λ x. IsTrailSeen names d t x r) (sym is) (broken_seen names d t cycle p wave r (subst (λ x. r.answer.ended ≡ Traced x) is ended) shown pictured waved drawn)
 
--- of a trail in which no cycle breaks: its lines, and no page
-pub lines_seen : (d : DesignView) (t : Trail) (j : TrailJudged) (text : List ℕ) → ((cycle : ℕ) → j ≢ Broken cycle) → text ≡ retraced_words j ++ 10 ∷ cycles_text d.pipe.ports 1 t.inputs
-    → IsTrailSeen d t j (Traced j) text None
-lines_seen d t (Broken cycle) text whole is = absurd (whole cycle refl)
-lines_seen d t Holds text whole is = record {
-  ended = refl;
-  shown = record { shown = []; is_shown = refl; lines = is ∙ ap (λ l. retraced_words Holds ++ 10 ∷ l) (sym (append-nil (cycles_text d.pipe.ports 1 t.inputs))) };
-  drawn = refl;
+whole_shown : (d : DesignView) (t : Trail) (j : TrailJudged) (text : List ℕ) → IsBreakShown d t j [] → text ≡ retraced_words j ++ 10 ∷ cycles_text d.pipe.ports 1 t.inputs → IsTrailShown d t j text
+whole_shown d t j text none is = record { shown = []; is_shown = none; lines = is ∙ ap (λ l. retraced_words j ++ 10 ∷ l) (sym (append-nil (cycles_text d.pipe.ports 1 t.inputs))) }
+
+-- of a trail in which no cycle breaks: its lines alone
+pub lines_seen : (names : SaveNames) (d : DesignView) (t : Trail) (j : TrailJudged) (wave : Option (List ℕ)) (r : Showing) → ((cycle : ℕ) → j ≢ Broken cycle) → r.answer.ended ≡ Traced j
+    → r.answer.text.items ≡ retraced_words j ++ 10 ∷ cycles_text d.pipe.ports 1 t.inputs → IsSaveIf names.wave (Unit {0}) (IsWholeDump d t) wave → texts_of r.saves ≡ record no_texts { wave = wave } → IsTrailSeen names d t j r
+lines_seen names d t (Broken cycle) wave r whole ended is waved saved = absurd (whole cycle refl)
+lines_seen names d t Holds wave r whole ended is waved saved = record {
+  ended = ended;
+  shown = whole_shown d t Holds r.answer.text.items refl is;
+  text = save_if_not names.text ⊥ _ (bytes_of r.saves.text) (ap (λ (s : SaveTexts). s.text) saved) (λ has. has);
+  wave = save_if_weaker names.wave (Unit {0}) _ _ (bytes_of r.saves.wave) (λ b dump. record { drawn = None; is_drawn = refl; names = dump.names; dump = dump.dump }) (subst (λ w. IsSaveIf names.wave (Unit {0}) (IsWholeDump d t) w) (sym (ap (λ (s : SaveTexts). s.wave) saved)) waved);
+  object = save_if_not names.object ⊥ _ (bytes_of r.saves.object) (ap (λ (s : SaveTexts). s.object) saved) (λ has. has);
 }
-lines_seen d t Outside text whole is = record {
-  ended = refl;
-  shown = record { shown = []; is_shown = refl; lines = is ∙ ap (λ l. retraced_words Outside ++ 10 ∷ l) (sym (append-nil (cycles_text d.pipe.ports 1 t.inputs))) };
-  drawn = refl;
+lines_seen names d t Outside wave r whole ended is waved saved = record {
+  ended = ended;
+  shown = whole_shown d t Outside r.answer.text.items refl is;
+  text = save_if_not names.text ⊥ _ (bytes_of r.saves.text) (ap (λ (s : SaveTexts). s.text) saved) (λ has. has);
+  wave = save_if_weaker names.wave (Unit {0}) _ _ (bytes_of r.saves.wave) (λ b dump. record { drawn = None; is_drawn = refl; names = dump.names; dump = dump.dump }) (subst (λ w. IsSaveIf names.wave (Unit {0}) (IsWholeDump d t) w) (sym (ap (λ (s : SaveTexts). s.wave) saved)) waved);
+  object = save_if_not names.object ⊥ _ (bytes_of r.saves.object) (ap (λ (s : SaveTexts). s.object) saved) (λ has. has);
 }
 
 -- ---- and so of its texts
 
-page_same : (d : DesignView) (j : TrailJudged) (page : Option (List ℕ)) → IsTrailPage (unstarted d) j page → IsTrailPage d j page
-page_same d (Broken cycle) page is = is
-page_same d Holds page is = is
-page_same d Outside page is = is
+-- what is saved is that of the design with its start
+trail_saves : (q : Show) (texts : Texts) (d : DesignView) (t : Trail) (j : TrailJudged) (r : Showing) → IsTrailJudged d t j → IsTrailSeen q.saves (unstarted d) t j r → AreSavesOn (show q) texts (Traced j) d (texts_of r.saves)
+trail_saves q texts d t (Broken cycle) r judged seen = record {
+  text = seen.text;
+  wave = save_if_weaker q.saves.wave (Unit {0}) _ _ (bytes_of r.saves.wave) (λ b dump. record { shown = t; is_judged = judged; dump = dump }) seen.wave;
+  object = seen.object;
+}
+trail_saves q texts d t Holds r judged seen = record {
+  text = seen.text;
+  wave = save_if_weaker q.saves.wave (Unit {0}) _ _ (bytes_of r.saves.wave) (λ b dump. record { shown = t; is_judged = judged; dump = dump }) seen.wave;
+  object = seen.object;
+}
+trail_saves q texts d t Outside r judged seen = record {
+  text = seen.text;
+  wave = save_if_weaker q.saves.wave (Unit {0}) _ _ (bytes_of r.saves.wave) (λ b dump. record { shown = t; is_judged = judged; dump = dump }) seen.wave;
+  object = seen.object;
+}
 
-says : (q : Show) (texts : Texts) (d e : DesignView) (t : Trail) (j : TrailJudged) (x : Ended) (text : List ℕ) (page : Option (List ℕ)) → texts.comp ≡ None → e ≡ unstarted d → AreTrail texts d t → IsTrailJudged d t j
-    → IsTrailSeen e t j x text page → Says (show q) texts x text
-says q texts d e t j x text page alone is trail judged seen =
-    subst (λ y. Says (show q) texts y text) (sym seen.ended) (alone, (d, t, trail, record { is_judged = judged; shown = subst (λ y. IsTrailShown y t j text) is seen.shown }))
+trail_shown : (q : Show) (texts : Texts) (d e : DesignView) (t : Trail) (j : TrailJudged) (r : Showing) → texts.comp ≡ None → e ≡ unstarted d → AreTrail texts d t → IsTrailJudged d t j → IsTrailSeen q.saves e t j r → IsShowing (show q) texts r
+trail_shown q texts d e t j r alone is trail judged seen = record {
+  says = subst (λ y. Says (show q) texts y r.answer.text.items) (sym seen.ended) (alone, (d, t, trail, record { is_judged = judged; shown = subst (λ y. IsTrailShown y t j r.answer.text.items) is seen.shown }));
+  saves = inl (
+    d,
+    subst (λ y. AreReadAs (show q) y texts d) (sym seen.ended) trail.design,
+    subst (λ y. AreSavesOn (show q) texts y d (texts_of r.saves)) (sym seen.ended) (trail_saves q texts d t j r judged (subst (λ y. IsTrailSeen q.saves y t j r) is seen)),
+  );
+}
 
-draws : (texts : Texts) (d e : DesignView) (t : Trail) (j : TrailJudged) (x : Ended) (text : List ℕ) (page : Option (List ℕ)) → e ≡ unstarted d → AreTrail texts d t
-    → IsTrailSeen e t j x text page → IsDrawn texts x page
-draws texts d e t j x text page is trail seen =
-    subst (λ y. IsDrawn texts y page) (sym seen.ended) (d, trail.design, page_same d j page (subst (λ y. IsTrailPage y j page) is seen.drawn))
-
-pub seen_says : (q : Show) (texts : Texts) (d e : DesignView) (t : Trail) (j : TrailJudged) (r : Result Showing AllocError) → texts.comp ≡ None → e ≡ unstarted d → AreTrail texts d t → IsTrailJudged d t j
-    → IfOk r (λ s. IsTrailSeen e t j s.answer.ended s.answer.text.items (bytes_of s.page)) → IfOk r (λ s. Says (show q) texts s.answer.ended s.answer.text.items)
-seen_says q texts d e t j r alone is trail judged seen =
-    IfOk-weaker r _ _ (λ s h. says q texts d e t j s.answer.ended s.answer.text.items (bytes_of s.page) alone is trail judged h) seen
-
-pub seen_drawn : (texts : Texts) (d e : DesignView) (t : Trail) (j : TrailJudged) (r : Result Showing AllocError) → e ≡ unstarted d → AreTrail texts d t
-    → IfOk r (λ s. IsTrailSeen e t j s.answer.ended s.answer.text.items (bytes_of s.page)) → IfOk r (λ s. IsDrawn texts s.answer.ended (bytes_of s.page))
-seen_drawn texts d e t j r is trail seen =
-    IfOk-weaker r _ _ (λ s h. draws texts d e t j s.answer.ended s.answer.text.items (bytes_of s.page) is trail h) seen
+pub seen_shows : (q : Show) (texts : Texts) (d e : DesignView) (t : Trail) (j : TrailJudged) (r : Result Showing AllocError) → texts.comp ≡ None → e ≡ unstarted d → AreTrail texts d t → IsTrailJudged d t j
+    → IfOk r (IsTrailSeen q.saves e t j) → IfOk r (IsShowing (show q) texts)
+seen_shows q texts d e t j r alone is trail judged seen = IfOk-weaker r _ _ (λ s h. trail_shown q texts d e t j s alone is trail judged h) seen

@@ -12,33 +12,37 @@ use Rattle.bd_app.specs.Commands.{if_faultless}
 use Rattle.bd_model.specs.Limits.{most_cycles}
 use Rattle.bd_app.specs.Words.{Name, budget_option, flag, flag_at, in_range, machines_command, mode_at, number_at, number_of, option, text_command, text_of_required, ◌>>=◌}
 use Rattle.bd_show.specs.Files.{Names}
-use Rattle.bd_show.specs.Meaning.{BoundedCheck, Check, Explain, Question, Recheck, Show, bounded, check, show, shrink, explain, about, recheck}
+use Rattle.bd_show.specs.Saves.{SaveNames}
+use Rattle.bd_show.specs.Meaning.{BoundedCheck, Check, Describe, Explain, Question, Recheck, Show, bounded, check, show, shrink, explain, about, recheck}
 
--- check PIPE SPEC [INV] [--diverse] [--budget N] [--start START] [--cycles C] [--case FILE]
+-- check PIPE SPEC [INV] [--diverse] [--budget N] [--start START] [--cycles C] [--case FILE] [--vcd FILE] [--json FILE]
 abbrev pub check_command : Shape
 check_command =
     machines_command (codes "check") (new_rule (codes "INV") ∷ flag (codes "diverse")
     ∷ budget_option ∷ option (codes "start")
-    ∷ in_range 0 most_cycles (option (codes "cycles")) ∷ option (codes "case") ∷ [])
+    ∷ in_range 0 most_cycles (option (codes "cycles")) ∷ option (codes "case") ∷ option (codes "vcd")
+    ∷ option (codes "json") ∷ [])
 
--- show PIPE SPEC CASE [INV] [--whole] [--comp COMP] [--html FILE]
+-- show PIPE SPEC CASE [INV] [--whole] [--comp COMP] [--html FILE] [--vcd FILE] [--json FILE]
 abbrev pub show_command : Shape
 show_command =
     text_command (codes "show") (codes "CASE") (flag (codes "whole") ∷ option (codes "comp")
-    ∷ option (codes "html") ∷ [])
+    ∷ option (codes "html") ∷ option (codes "vcd") ∷ option (codes "json") ∷ [])
 
 -- shrink PIPE SPEC CASE [INV]
 abbrev pub shrink_command : Shape
 shrink_command = text_command (codes "shrink") (codes "CASE") []
 
--- why PIPE SPEC CASE [INV] [--of VALUE] [--whole]
+-- why PIPE SPEC CASE [INV] [--of VALUE] [--whole] [--json FILE]
 abbrev pub why_command : Shape
 why_command =
-    text_command (codes "why") (codes "CASE") (option (codes "of") ∷ flag (codes "whole") ∷ [])
+    text_command (codes "why") (codes "CASE")
+    (option (codes "of") ∷ flag (codes "whole") ∷ option (codes "json") ∷ [])
 
--- about PIPE SPEC [INV]
+-- about PIPE SPEC [INV] [--json FILE]
 abbrev pub about_command : Shape
-about_command = machines_command (codes "about") (new_rule (codes "INV") ∷ [])
+about_command =
+    machines_command (codes "about") (new_rule (codes "INV") ∷ option (codes "json") ∷ [])
 
 -- recheck PIPE SPEC PROOF [INV] [--diverse]
 abbrev pub recheck_command : Shape
@@ -66,12 +70,20 @@ abbrev pub proof_names : List Row → Names
 proof_names rows =
     record (design_names rows) { proof = Some (text_of_required (codes "PROOF") rows) }
 
+-- where texts of the answer are saved: the first of them under the name of this option
+abbrev pub saves_at : List ℕ → List Row → SaveNames
+saves_at text rows = record {
+  text = first_of text rows;
+  wave = first_of (codes "vcd") rows;
+  object = first_of (codes "json") rows;
+}
+
 abbrev pub check_question : List Row → Check
 check_question rows = record {
   names = design_names rows;
   mode = mode_at (codes "diverse") rows;
   budget = number_of (codes "budget") rows;
-  case = first_of (codes "case") rows;
+  saves = saves_at (codes "case") rows;
 }
 
 abbrev pub bounded_question : ℕ → List Row → BoundedCheck
@@ -80,7 +92,7 @@ bounded_question cycles rows = record {
   cycles = min cycles most_cycles;
   mode = mode_at (codes "diverse") rows;
   budget = number_of (codes "budget") rows;
-  trail = first_of (codes "case") rows;
+  saves = saves_at (codes "case") rows;
 }
 
 -- a start and a number of cycles stand together, and not with an invariant
@@ -99,7 +111,7 @@ abbrev pub show_question : List Row → Show
 show_question rows = record {
   names = record (case_names rows) { comp = first_of (codes "comp") rows };
   whole = flag_at (codes "whole") rows;
-  page = first_of (codes "html") rows;
+  saves = saves_at (codes "html") rows;
 }
 
 abbrev pub why_question : List Row → Explain
@@ -107,6 +119,13 @@ why_question rows = record {
   names = case_names rows;
   whole = flag_at (codes "whole") rows;
   value = first_of (codes "of") rows;
+  object = first_of (codes "json") rows;
+}
+
+abbrev pub about_question : List Row → Describe
+about_question rows = record {
+  names = design_names rows;
+  object = first_of (codes "json") rows;
 }
 
 abbrev pub recheck_question : List Row → Recheck
@@ -126,7 +145,7 @@ question_of name rows =
     else (if bytes_eq name (codes "show") then Some (show (show_question rows))
     else (if bytes_eq name (codes "shrink") then Some (shrink (case_names rows))
     else (if bytes_eq name (codes "why") then Some (explain (why_question rows))
-    else (if bytes_eq name (codes "about") then Some (about (design_names rows))
+    else (if bytes_eq name (codes "about") then Some (about (about_question rows))
     else (if bytes_eq name (codes "recheck") then Some (recheck (recheck_question rows))
     else None)))))
 

@@ -1,4 +1,4 @@
--- The files that a question reads, and the one that it saves to.
+-- The files that a question reads, and those that it saves to.
 use Rattle.std.specs.Prelude.{◌≡◌, ◌⊎◌, ◌==◌, ◌||◌, ◌&&◌, ℕ, Bool, false, not, List, [], ◌∷◌, ◌++◌, codes, Option, Some, None, Result, Ok, Err, if◌then◌else◌}
 use Rattle.std.specs.List.{starts_with}
 use Rattle.bd_files.specs.Devices.{Blame, Held}
@@ -19,6 +19,7 @@ use Rattle.bd_typer.specs.declared.fault.Text.TheVariants as text
 use Rattle.bd_app.specs.Words.{Name, given}
 use Rattle.bd_app.specs.Files.{File, HoldsShort, one_if}
 use Rattle.bd_app.specs.Sources.{HoldsShortIf}
+use Rattle.bd_show.specs.Saves.{IsSaveName, SaveNames}
 use Rattle.bd_show.specs.declared.load.FileNames.{FileNames}
 
 -- the names of the files of a design, of a case of it, of a proof that it is right, of an invariant, and of a completion
@@ -67,9 +68,10 @@ pub record HoldTexts (held : Held) (names : Names) (texts : Texts) : Type 0 wher
   pub inv : HoldsShortIf held text.Inv names.inv texts.inv
   pub comp : HoldsShortIf held text.Comp names.comp texts.comp
 
--- the last call that failed was the save of the page
-abbrev pub BlamesSave : Option Blame → Option Name → Type 0
-BlamesSave blame page = (name : Name) × (page ≡ Some name) × (blame ≡ Some (call.Save, name))
+-- the last call that failed was the save of one of these
+abbrev pub BlamesSave : Option Blame → SaveNames → Type 0
+BlamesSave blame names =
+    (name : Name) × IsSaveName names name × (blame ≡ Some (call.Save, name))
 
 -- ---- what texts are
 

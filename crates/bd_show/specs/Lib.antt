@@ -1,11 +1,14 @@
 pub mod Open
 pub mod Place
+pub mod Saves
 pub mod Files
 pub mod LetNames
 pub mod Trails
 pub mod Claims
 pub mod Next
 pub mod Answer
+pub mod Waves
+pub mod Objects
 pub mod Commands
 pub mod Meaning
 pub mod Program

@@ -1,5 +1,5 @@
 -- What the answers to a question say of its texts, and what is left of the files.
-use Rattle.std.specs.Prelude.{◌≡◌, ◌↔◌, ◌⊎◌, ◌≤◌, ◌+◌, ◌++◌, ℕ, Bool, true, false, IsTrue, List, [], ◌∷◌, codes, Option, None, Some, IfSome, MatchOption, is_some, Ok}
+use Rattle.std.specs.Prelude.{◌≡◌, ◌↔◌, ◌⊎◌, ◌≤◌, ◌+◌, ◌++◌, ℕ, Bool, true, false, IsTrue, List, [], ◌∷◌, codes, Option, None, Some, IfSome, is_some, Ok}
 use Rattle.bd_model.specs.DesignView.{DesignView}
 use Rattle.bd_model.specs.Fits.{Fits}
 use Rattle.bd_cnf.specs.Problem.{Problem}
@@ -37,7 +37,15 @@ use Rattle.bd_about.specs.declared.asking.Findings.{Findings}
 use Rattle.bd_about.specs.declared.counting.Applications.{Applications}
 use Rattle.bd_about.specs.declared.unread.Unread.{Unread as AllUnread}
 use Rattle.bd_about.specs.declared.unread_lines.LetNames.{LetNames}
-use Rattle.bd_files.specs.Devices.{Held, Holds as IsHeld, Rose, saving}
+use Rattle.bd_files.specs.Devices.{Held, Rose}
+use Rattle.bd_files.specs.declared.devices.SaveError.{SaveError}
+use Rattle.bd_files.specs.declared.devices.SaveError.TheVariants.{Failed}
+use Rattle.bd_saves.specs.Saves.{IsStopped, SaveView, SavesEach}
+use Rattle.bd_json.specs.Findings.{design_json, findings_json}
+use Rattle.bd_json.specs.Found.{found_json}
+use Rattle.bd_picture.specs.declared.picture.Outcome.TheVariants as outcome
+use Rattle.bd_picture.specs.declared.picture.Outcome.TheVariants.{Flushed}
+use Rattle.bd_picture.specs.declared.picture.Picture.{Picture}
 use Rattle.bd_picture.specs.Page.{IsPage}
 use Rattle.bd_picture.specs.Sentence.{compared_sentence, completed_sentence, sentence}
 use Rattle.bd_bounded.specs.Answer.{HasWorkIn, Says as SaysOfRuns}
@@ -58,9 +66,13 @@ use Rattle.bd_text.specs.declared.code.Code.{Code}
 use Rattle.bd_typer.specs.Joined.{JoinedView}
 use Rattle.bd_typer.specs.declared.fault.Text.{Text}
 use Rattle.bd_show.specs.Files.{AreCase, AreDesign, AreJoined, AreJoinedCase, AreStarted, AreTrail, BlamesLoad, BlamesSave, HoldTexts, IsJoinedFault, IsStartedFault, IsTextFault, Names, Texts, bytes_in, files_of, has_trail, name_in, or_none}
-use Rattle.bd_show.specs.Trails.{cycle_case, cycles_text, unstarted}
+use Rattle.bd_show.specs.Trails.{cycles_text, unstarted}
+use Rattle.bd_trail.specs.Cycles.{cycle_case}
 use Rattle.bd_goal.specs.Bounded.{IsTrailOver}
 use Rattle.bd_show.specs.Next.{goes_on}
+use Rattle.bd_show.specs.Objects.{IsPictureIf, IsPictureObject, IsReasonsObject, run_finding, run_found, verdict_found}
+use Rattle.bd_show.specs.Saves.{IsSaveIf, IsSaveName, SaveNames, SaveTexts, no_names, no_texts, saves_of}
+use Rattle.bd_show.specs.Waves.{IsBreakingWave, IsTrailWave, IsWave}
 use Rattle.bd_show.specs.Claims.{claim_in, claim_note, compared_note, completed_note}
 use Rattle.bd_show.specs.declared.claim.Claim.TheVariants.{Differ}
 use Rattle.bd_show.specs.LetNames.{AreLetNames}
@@ -68,32 +80,36 @@ use Rattle.bd_show.specs.declared.answer.Ended.{Ended}
 use Rattle.bd_show.specs.declared.answer.Ended.TheVariants.{Checked, Shown, Completed, Compared, Traced, Shrunk, Explained, Unknown, Unbroken, Described, Proved, BadProof, Refused, TooLong, Unread, Unsaved, Memory}
 
 -- what is asked: whether a design is right, in a mode and with a budget, or so for a number of cycles from a start, which
--- stands in the place of an invariant; what a case shows, all of it or what is left
--- of it, maybe with a page; what is left of a case; why a value of a case, all of it or what is left of it, is what it
--- is; what can be said of a design without a case; or whether a text over the formula that is kept in a mode proves a
--- design right
+-- stands in the place of an invariant; what a case shows, all of it or what is left of it; what is left of a case; why
+-- a value of a case, all of it or what is left of it, is what it is; what can be said of a design without a case; or
+-- whether a text over the formula that is kept in a mode proves a design right. With it, what is saved of the answer
 pub record Check : Type 0 where
   pub names : Names
   pub mode : Mode
   pub budget : ℕ
-  pub case : Option Name
+  pub saves : SaveNames
 
 pub record BoundedCheck : Type 0 where
   pub names : Names
   pub cycles : ℕ
   pub mode : Mode
   pub budget : ℕ
-  pub trail : Option Name
+  pub saves : SaveNames
 
 pub record Show : Type 0 where
   pub names : Names
   pub whole : Bool
-  pub page : Option Name
+  pub saves : SaveNames
 
 pub record Explain : Type 0 where
   pub names : Names
   pub whole : Bool
   pub value : Option Name
+  pub object : Option Name
+
+pub record Describe : Type 0 where
+  pub names : Names
+  pub object : Option Name
 
 pub record Recheck : Type 0 where
   pub names : Names
@@ -105,7 +121,7 @@ pub data Question : Type 0 where
   show : Show → Question
   shrink : Names → Question
   explain : Explain → Question
-  about : Names → Question
+  about : Describe → Question
   recheck : Recheck → Question
 
 abbrev pub asked_names : Question → Names
@@ -114,18 +130,18 @@ asked_names (bounded q) = q.names
 asked_names (show q) = q.names
 asked_names (shrink names) = names
 asked_names (explain q) = q.names
-asked_names (about names) = names
+asked_names (about q) = q.names
 asked_names (recheck q) = q.names
 
--- the file that is saved to, where one is asked for: a page, or the case or the trail that breaks
-abbrev pub asked_save : Question → Option Name
-asked_save (check q) = q.case
-asked_save (bounded q) = q.trail
-asked_save (show q) = q.page
-asked_save (shrink names) = None
-asked_save (explain q) = None
-asked_save (about names) = None
-asked_save (recheck q) = None
+-- the names under which texts of the answer are saved
+abbrev pub asked_saves : Question → SaveNames
+asked_saves (check q) = q.saves
+asked_saves (bounded q) = q.saves
+asked_saves (show q) = q.saves
+asked_saves (shrink names) = no_names
+asked_saves (explain q) = record no_names { object = q.object }
+asked_saves (about q) = record no_names { object = q.object }
+asked_saves (recheck q) = no_names
 
 -- ---- what an answer says of texts
 
@@ -218,13 +234,7 @@ pub record IsChecked (q : Check) (d : DesignView) (found : Finding) (text : List
   pub shown : List ℕ
   pub is_shown : IsShownOf d verdict shown
   pub lines : text ≡ ((verdict_words q.budget verdict ++ 10 ∷ []) ++ shown)
-      ++ goes_on (codes "why") q.names q.case found
-
--- what was found over so many cycles, without its trail and its work
-abbrev pub run_finding : Bounded → Finding
-run_finding (run.Kept work) = finding.Right
-run_finding (run.Broken cycle t work) = finding.Wrong Commute
-run_finding (run.Undecided work) = finding.Undecided
+      ++ goes_on (codes "why") q.names q.saves.text found
 
 -- what is shown of the trail that breaks, of a design without its start; nothing of another answer
 abbrev pub IsRunShown : DesignView → Bounded → List ℕ → Type 0
@@ -242,7 +252,7 @@ pub record IsBoundedChecked (q : BoundedCheck) (d : DesignView) (found : Finding
   pub shown : List ℕ
   pub is_shown : IsRunShown (unstarted d) answer shown
   pub lines : text ≡ ((bounded_words q.cycles q.budget answer ++ 10 ∷ []) ++ shown)
-      ++ goes_on (codes "show") q.names q.trail found
+      ++ goes_on (codes "show") q.names q.saves.text found
 
 -- the bytes are the text of a case that breaks the condition, and read back as that case
 pub record IsCaseText (d : DesignView) (k : Condition) (bytes : List ℕ) : Type 0 where
@@ -347,7 +357,7 @@ IsAskedFault (check q) texts file offset code = IsTextFault texts file offset co
 IsAskedFault (bounded q) texts file offset code = IsStartedFault texts file offset code
 IsAskedFault (shrink names) texts file offset code = IsTextFault texts file offset code
 IsAskedFault (explain q) texts file offset code = IsTextFault texts file offset code
-IsAskedFault (about names) texts file offset code = IsTextFault texts file offset code
+IsAskedFault (about q) texts file offset code = IsTextFault texts file offset code
 IsAskedFault (recheck q) texts file offset code = IsTextFault texts file offset code
 
 -- the text begins with the place and the name of a fault
@@ -380,7 +390,7 @@ Says (explain q) texts (Explained j) text = OfCase texts (λ d c. IsShown q.whol
 Says (explain q) texts (Unbroken j) text =
     (q.value ≡ None) × OfCase texts (λ d c. IsUnbroken nothing_to_explain d c j text)
 Says (explain q) texts Unknown text = (is_some q.value ≡ true) × OfCase texts (λ d c. Unit {0})
-Says (about names) texts (Described found) text =
+Says (about q) texts (Described found) text =
     OfDesign texts (λ d. IsDescribed texts d found text)
 Says (recheck q) texts Proved text =
     OfDesign texts (λ d. IsProved q.mode d (or_none texts.proof) text)
@@ -397,13 +407,17 @@ pub record SaysHeld (q : Question) (held : Held) (e : Ended) (text : List ℕ) :
   pub held_texts : HoldTexts held (asked_names q) texts
   pub says : Says q texts e text
 
+abbrev pub unsaved_line : Name → List ℕ
+unsaved_line name = codes "cannot save " ++ name ++ codes "\n"
+
 abbrev pub Means : Question → Option Held → Ended → List ℕ → Type 0
 Means q held (TooLong file) text =
     IfSome held (λ h. IsFirstLong h (files_of (asked_names q)) file)
     × (text ≡ name_in (asked_names q) file ++ codes ": E00 file too long\n")
 Means q held (Unread file) text =
     text ≡ codes "cannot read " ++ name_in (asked_names q) file ++ codes "\n"
-Means q held Unsaved text = text ≡ codes "cannot save " ++ or_none (asked_save q) ++ codes "\n"
+Means q held Unsaved text =
+    (name : Name) × IsSaveName (asked_saves q) name × (text ≡ unsaved_line name)
 Means q held Memory text = text ≡ codes "out of memory\n"
 Means q held e text = IfSome held (λ h. SaysHeld q h e text)
 
@@ -413,43 +427,22 @@ abbrev pub Blames : Question → FilesSeen → FilesSeen → Ended → Type 0
 Blames q before after (Unread file) =
     Rose before.faults after.faults × BlamesLoad after.blame (asked_names q) file
 Blames q before after Unsaved =
-    Rose before.faults after.faults × BlamesSave after.blame (asked_save q)
+    Rose before.faults after.faults × BlamesSave after.blame (asked_saves q)
 Blames q before after Memory = Unit {0}
 Blames q before after e = after.blame ≡ before.blame
 
--- the texts are this design, with a completion function
+-- ---- what is saved of it
+
+-- what the texts are read as: a design, with a start in the place of an invariant, or with a completion function
 abbrev pub AreJoinedDesign : Texts → DesignView → Type 0
 AreJoinedDesign texts d = (j : JoinedView) × AreJoined texts (Ok j) × (d ≡ j.design)
 
--- this is said of the bytes and of a design as which the texts are read
-pub record IsOnDesign (AreRead : Texts → DesignView → Type 0) (names : Names) (held : Option Held)
-    (IsText : DesignView → List ℕ → Type 0) (bytes : List ℕ) : Type 0 where
-  pub design : DesignView
-  pub is_design : IfSome held (λ h. (texts : Texts) × HoldTexts h names texts
-      × AreRead texts design)
-  pub text : IsText design bytes
-
--- these bytes are the page of what is shown
-abbrev pub IsPageOf : Names → Option Held → Ended → List ℕ → Type 0
-IsPageOf names held (Shown j) bytes =
-    IsOnDesign (λ t d. AreDesign t (Ok d)) names held (λ d. IsPage (sentence d j)) bytes
-IsPageOf names held (Completed j) bytes =
-    IsOnDesign AreJoinedDesign names held (λ d. IsPage (completed_sentence d j)) bytes
-IsPageOf names held (Compared same) bytes =
-    IsOnDesign AreJoinedDesign names held (λ d. IsPage (compared_sentence same)) bytes
-IsPageOf names held (Traced (trail.Broken cycle)) bytes =
-    IsOnDesign (λ t d. AreStarted t (Ok d)) names held
-    (λ d. IsPage (sentence d (Broken Commute))) bytes
-IsPageOf names held e bytes = ⊥
-
--- these bytes are what is saved of an answer: the page of what is shown, or the text of the case or the trail that breaks
-abbrev pub IsSaveOf : Question → Option Held → Ended → List ℕ → Type 0
-IsSaveOf (check q) held (Checked (finding.Wrong k)) bytes =
-    IsOnDesign (λ t d. AreDesign t (Ok d)) q.names held (λ d. IsCaseText d k) bytes
-IsSaveOf (bounded q) held (Checked (finding.Wrong k)) bytes =
-    IsOnDesign (λ t d. AreStarted t (Ok d)) q.names held (λ d. IsTrailText d q.cycles) bytes
-IsSaveOf (show q) held e bytes = IsPageOf q.names held e bytes
-IsSaveOf q held e bytes = ⊥
+abbrev pub AreReadAs : Question → Ended → Texts → DesignView → Type 0
+AreReadAs (bounded q) e texts d = AreStarted texts (Ok d)
+AreReadAs (show q) (Traced j) texts d = AreStarted texts (Ok d)
+AreReadAs (show q) (Completed j) texts d = AreJoinedDesign texts d
+AreReadAs (show q) (Compared same) texts d = AreJoinedDesign texts d
+AreReadAs q e texts d = AreDesign texts (Ok d)
 
 -- an answer with a page: a case is shown, by flushing or by a completion function, or a trail with the cycle that breaks
 abbrev pub HasPage : Ended → Type 0
@@ -459,40 +452,125 @@ HasPage (Compared same) = Unit {0}
 HasPage (Traced (trail.Broken cycle)) = Unit {0}
 HasPage e = ⊥
 
--- an answer of which something is saved
-abbrev pub HasSave : Question → Ended → Type 0
-HasSave (check q) (Checked (finding.Wrong k)) = Unit {0}
-HasSave (bounded q) (Checked (finding.Wrong k)) = Unit {0}
-HasSave (show q) e = HasPage e
-HasSave q e = ⊥
+-- these bytes are the page of what is shown
+abbrev pub IsPageOf : Ended → DesignView → List ℕ → Type 0
+IsPageOf (Shown j) d bytes = IsPage (sentence d j) bytes
+IsPageOf (Completed j) d bytes = IsPage (completed_sentence d j) bytes
+IsPageOf (Compared same) d bytes = IsPage (compared_sentence same) bytes
+IsPageOf (Traced (trail.Broken cycle)) d bytes = IsPage (sentence d (Broken Commute)) bytes
+IsPageOf e d bytes = ⊥
 
--- the files stand as they were, or there was something to be saved
-abbrev pub MayHaveSaved : Question → FilesSeen → FilesSeen → Type 0
-MayHaveSaved q before after =
-    (after.held ≡ before.held)
-    ⊎ ((e : Ended) × (text : List ℕ) × HasSave q e × Means q before.held e text)
+-- an answer of which a text is saved: its page, or the case or the trail that breaks
+abbrev pub HasText : Question → Ended → Type 0
+HasText (check q) (Checked (finding.Wrong k)) = Unit {0}
+HasText (bounded q) (Checked (finding.Wrong k)) = Unit {0}
+HasText (show q) e = HasPage e
+HasText q e = ⊥
 
--- what is saved of an answer is held under its name, where one is asked for
-abbrev pub HoldsSave : Question → FilesSeen → FilesSeen → Ended → Type 0
-HoldsSave q before after e =
-    (name : Name) → asked_save q ≡ Some name →
-    (bytes : List ℕ) × IsSaveOf q before.held e bytes × IsHeld after.held name bytes
+abbrev pub IsTextOfAnswer : Question → Ended → DesignView → List ℕ → Type 0
+IsTextOfAnswer (check q) (Checked (finding.Wrong k)) d bytes = IsCaseText d k bytes
+IsTextOfAnswer (bounded q) (Checked (finding.Wrong k)) d bytes = IsTrailText d q.cycles bytes
+IsTextOfAnswer (show q) e d bytes = IsPageOf e d bytes
+IsTextOfAnswer q e d bytes = ⊥
 
--- an answer of which something is saved has it held, and before another the files stand
-pub record SavesIts (q : Question) (before after : FilesSeen) (e : Ended) : Type 0 where
-  pub held : HasSave q e → HoldsSave q before after e
-  pub stands : ¬ HasSave q e → after.held ≡ before.held
+-- an answer of which a waveform is saved: of the case or the trail that is shown, or that breaks
+abbrev pub HasWave : Question → Ended → Type 0
+HasWave (check q) (Checked (finding.Wrong k)) = Unit {0}
+HasWave (bounded q) (Checked (finding.Wrong k)) = Unit {0}
+HasWave (show q) (Shown j) = Unit {0}
+HasWave (show q) (Completed j) = Unit {0}
+HasWave (show q) (Compared same) = Unit {0}
+HasWave (show q) (Traced j) = Unit {0}
+HasWave q e = ⊥
 
--- what is saved: the page of what is shown, or the case or trail that breaks, where a name is given; nothing before
--- another answer, unless the save failed or wanted memory
-abbrev pub Saves : Question → FilesSeen → FilesSeen → Ended → Type 0
-Saves q before after (TooLong file) = after.held ≡ before.held
-Saves q before after (Unread file) = after.held ≡ before.held
-Saves q before after Unsaved = MayHaveSaved q before after
-Saves q before after Memory = MayHaveSaved q before after
-Saves q before after e = SavesIts q before after e
+abbrev pub IsWaveOfAnswer : Question → Ended → DesignView → List ℕ → Type 0
+IsWaveOfAnswer (check q) (Checked (finding.Wrong k)) d bytes = IsWave d (Flushed (Broken k)) bytes
+IsWaveOfAnswer (bounded q) (Checked (finding.Wrong k)) d bytes = IsBreakingWave d bytes
+IsWaveOfAnswer (show q) (Shown j) d bytes = IsWave d (Flushed j) bytes
+IsWaveOfAnswer (show q) (Completed j) d bytes = IsWave d (outcome.Completed j) bytes
+IsWaveOfAnswer (show q) (Compared same) d bytes = IsWave d (outcome.Compared same) bytes
+IsWaveOfAnswer (show q) (Traced j) d bytes = IsTrailWave d j bytes
+IsWaveOfAnswer q e d bytes = ⊥
 
--- ---- the calls on the files
+-- an answer of which an object is saved: a verdict, what is shown, reasons, or what is said of a design
+abbrev pub HasObject : Question → Ended → Type 0
+HasObject (check q) (Checked found) = Unit {0}
+HasObject (bounded q) (Checked found) = Unit {0}
+HasObject (show q) e = HasPage e
+HasObject (explain q) (Explained j) = Unit {0}
+HasObject (about q) (Described found) = Unit {0}
+HasObject q e = ⊥
+
+abbrev pub IsShownObject : Ended → DesignView → List ℕ → Type 0
+IsShownObject (Shown j) d bytes = IsPictureObject d (Flushed j) bytes
+IsShownObject (Completed j) d bytes = IsPictureObject d (outcome.Completed j) bytes
+IsShownObject (Compared same) d bytes = IsPictureObject d (outcome.Compared same) bytes
+IsShownObject (Traced (trail.Broken cycle)) d bytes =
+    IsPictureObject (unstarted d) (Flushed (Broken Commute)) bytes
+IsShownObject e d bytes = ⊥
+
+-- the verdict may come and is true of the design; where it is wrong the picture is that of a case that breaks so
+pub record IsVerdictObject (q : Check) (d : DesignView) (found : Finding) (bytes : List ℕ) :
+    Type 0 where
+  pub verdict : Verdict
+  pub is_verdict : IsVerdict d (asked_of q) verdict
+  pub finding : found ≡ finding_of verdict
+  pub picture : Option Picture
+  pub is_picture : IsPictureIf d found picture
+  pub object : bytes ≡ found_json (verdict_found q.budget verdict) picture ++ codes "\n"
+
+-- the same of so many cycles from the start
+pub record IsRunObject (q : BoundedCheck) (d : DesignView) (found : Finding) (bytes : List ℕ) :
+    Type 0 where
+  pub answer : Bounded
+  pub says : SaysOfRuns d q.cycles answer
+  pub finding : found ≡ run_finding answer
+  pub picture : Option Picture
+  pub is_picture : IsPictureIf (unstarted d) found picture
+  pub object : bytes ≡ found_json (run_found q.cycles q.budget answer) picture ++ codes "\n"
+
+-- what is said of the design, as the text says it
+pub record IsFindingsObject (texts : Texts) (d : DesignView) (found : Findings)
+    (bytes : List ℕ) : Type 0 where
+  pub findings : AreFindings d (is_some texts.inv) found
+  pub without : List Finding
+  pub are_without : AreConjuncts d (is_some texts.inv) found.own without
+  pub applied : Applications
+  pub are_applied : AreApplications d applied
+  pub unread : AllUnread
+  pub is_unread : IsUnread d unread
+  pub names : LetNames
+  pub named : AreLetNames texts names
+  pub object : bytes ≡ findings_json (design_json d names) applied unread found without ++ codes "\n"
+
+abbrev pub IsObjectOfAnswer : Question → Texts → Ended → DesignView → List ℕ → Type 0
+IsObjectOfAnswer (check q) texts (Checked found) d bytes = IsVerdictObject q d found bytes
+IsObjectOfAnswer (bounded q) texts (Checked found) d bytes = IsRunObject q d found bytes
+IsObjectOfAnswer (show q) texts e d bytes = IsShownObject e d bytes
+IsObjectOfAnswer (explain q) texts (Explained j) d bytes = IsReasonsObject (sentence d j) j bytes
+IsObjectOfAnswer (about q) texts (Described found) d bytes = IsFindingsObject texts d found bytes
+IsObjectOfAnswer q texts e d bytes = ⊥
+
+-- each text that is saved of the answer is one of the design
+pub record AreSavesOn (q : Question) (texts : Texts) (e : Ended) (d : DesignView)
+    (saves : SaveTexts) : Type 0 where
+  pub text : IsSaveIf (asked_saves q).text (HasText q e) (IsTextOfAnswer q e d) saves.text
+  pub wave : IsSaveIf (asked_saves q).wave (HasWave q e) (IsWaveOfAnswer q e d) saves.wave
+  pub object : IsSaveIf (asked_saves q).object (HasObject q e) (IsObjectOfAnswer q texts e d) saves.object
+
+-- or nothing is saved of an answer that has nothing to save
+pub record AreNoSaves (q : Question) (e : Ended) (saves : SaveTexts) : Type 0 where
+  pub none : saves ≡ no_texts
+  pub no_text : ¬ HasText q e
+  pub no_wave : ¬ HasWave q e
+  pub no_object : ¬ HasObject q e
+
+abbrev pub AreSavesIn : Question → Texts → Ended → SaveTexts → Type 0
+AreSavesIn q texts e saves =
+    ((d : DesignView) × AreReadAs q e texts d × AreSavesOn q texts e d saves)
+    ⊎ AreNoSaves q e saves
+
+-- ---- the calls on the files, and what they leave
 
 -- each file was loaded once, in the order of the words
 abbrev pub AreLoaded : Names → FilesSeen → FilesSeen → Type 0
@@ -503,41 +581,78 @@ abbrev pub AreLoadedUpTo : Names → FilesSeen → FilesSeen → Text → Type 0
 AreLoadedUpTo names before after file =
     LoadedUpTo before after (files_of names) (file, name_in names file)
 
--- each file was loaded once, and then what is saved of an answer was saved once, where a name is given
-abbrev pub IsCalledWithSave : Question → FilesSeen → FilesSeen → Ended → Type 0
-IsCalledWithSave q before after e =
-    MatchOption (asked_save q) (AreLoaded (asked_names q) before after) (λ name. (bytes : List ℕ)
-    × IsSaveOf q before.held e bytes
-    × Called before after (loads (files_of (asked_names q)) ++ saving name bytes ∷ []))
+-- all files were loaded, and stand as they were
+pub record AreAllLoaded (names : Names) (before after : FilesSeen) : Type 0 where
+  pub called : AreLoaded names before after
+  pub held : after.held ≡ before.held
+  pub blame : after.blame ≡ before.blame
+  pub never_falls : before.faults ≤ after.faults
 
--- there was an answer of which something is saved, and these are its calls
-abbrev pub IsCalledForSave : Question → FilesSeen → FilesSeen → Type 0
-IsCalledForSave q before after =
-    (e : Ended) × (text : List ℕ) × HasSave q e × Means q before.held e text
-    × IsCalledWithSave q before after e
+-- the texts of an answer that are to be saved, once all files were loaded
+pub record HasSaves (q : Question) (before : FilesSeen) (e : Ended) (saves : SaveTexts)
+    (loaded : FilesSeen) : Type 0 where
+  pub texts : Texts
+  pub held : IfSome before.held (λ h. HoldTexts h (asked_names q) texts)
+  pub are : AreSavesIn q texts e saves
+  pub loads : AreAllLoaded (asked_names q) before loaded
 
--- the calls before an answer: with what is saved of it, or the loads alone
-pub record CallsIts (q : Question) (before after : FilesSeen) (e : Ended) : Type 0 where
-  pub saved : HasSave q e → IsCalledWithSave q before after e
-  pub loaded : ¬ HasSave q e → AreLoaded (asked_names q) before after
+abbrev pub SavesAll : FilesSeen → FilesSeen → List SaveView → Type 0
+SavesAll before after saves =
+    SavesEach (λ (f : FilesSeen). f.held) (λ f. f.faults) (λ f. f.blame) (λ f. f.calls)
+    before after saves
 
--- the calls before an answer: the loads, all of them or up to the file that gives no bytes, and then the save
-abbrev pub IsCalled : Question → FilesSeen → FilesSeen → Ended → Type 0
-IsCalled q before after (TooLong file) = AreLoadedUpTo (asked_names q) before after file
-IsCalled q before after (Unread file) = AreLoadedUpTo (asked_names q) before after file
-IsCalled q before after Unsaved = IsCalledForSave q before after
-IsCalled q before after Memory =
-    CalledFirst before after (loads (files_of (asked_names q))) ⊎ IsCalledForSave q before after
-IsCalled q before after e = CallsIts q before after e
+abbrev pub StopsAt : FilesSeen → FilesSeen → List SaveView → Name → SaveError → Type 0
+StopsAt before after saves name why =
+    IsStopped (λ (f : FilesSeen). f.held) (λ f. f.faults) (λ f. f.blame) (λ f. f.calls)
+    before after saves name why
+
+-- an answer's texts were saved, each once
+pub record Saves (q : Question) (before after : FilesSeen) (e : Ended) : Type 0 where
+  pub saves : SaveTexts
+  pub loaded : FilesSeen
+  pub has : HasSaves q before e saves loaded
+  pub all : SavesAll loaded after (saves_of (asked_saves q) saves)
+
+-- the texts of some answer were saved up to one that wasn't
+pub record SavesUpTo (q : Question) (before after : FilesSeen) (name : Name) (why : SaveError) :
+    Type 0 where
+  pub ended : Ended
+  pub text : List ℕ
+  pub means : Means q before.held ended text
+  pub saves : SaveTexts
+  pub loaded : FilesSeen
+  pub has : HasSaves q before ended saves loaded
+  pub stops : StopsAt loaded after (saves_of (asked_saves q) saves) name why
+
+-- files that gave no bytes stand
+pub record LoadsUpTo (q : Question) (before after : FilesSeen) (file : Text) : Type 0 where
+  pub called : AreLoadedUpTo (asked_names q) before after file
+  pub held : after.held ≡ before.held
+
+-- memory ran out while files were loaded or after that
+pub record LoadsSome (q : Question) (before after : FilesSeen) : Type 0 where
+  pub called : CalledFirst before after (loads (files_of (asked_names q)))
+  pub held : after.held ≡ before.held
+
+-- what is left of the files: an answer's texts are saved after the loads, and before another answer nothing is, unless
+-- a save fails or memory runs out for one
+abbrev pub Leaves : Question → FilesSeen → FilesSeen → Ended → List ℕ → Type 0
+Leaves q before after (TooLong file) text = LoadsUpTo q before after file
+Leaves q before after (Unread file) text = LoadsUpTo q before after file
+Leaves q before after Unsaved text =
+    (name : Name) × SavesUpTo q before after name Failed × (text ≡ unsaved_line name)
+Leaves q before after Memory text =
+    LoadsSome q before after
+    ⊎ ((name : Name) × (why : SaveError) × SavesUpTo q before after name why)
+Leaves q before after e text = Saves q before after e
 
 -- the answer to a question, with its text
 pub record IsAnswered (q : Question) (before after : FilesSeen) (e : Ended) (text : List ℕ) :
     Type 0 where
   pub means : Means q before.held e text
   pub blames : Blames q before after e
-  pub saves : Saves q before after e
-  -- nothing is saved under another name than the one given
-  pub others : KeepsAllBut before.held after.held (λ name. asked_save q ≡ Some name)
-  -- each file is loaded once, and then at most one is saved, once
-  pub called : IsCalled q before after e
+  -- each file is loaded once, and then each text that is asked for is saved once
+  pub leaves : Leaves q before after e text
+  -- nothing is saved under another name than those given
+  pub others : KeepsAllBut before.held after.held (IsSaveName (asked_saves q))
   pub never_falls : before.faults ≤ after.faults

@@ -2,21 +2,13 @@
 use Rattle.std.specs.Prelude.{ℕ, ◌+◌, List, [], ◌∷◌, ◌++◌, true, codes}
 use Rattle.std.specs.Fmt.{decimal}
 use Rattle.bd_case.specs.Text.{scalar_text}
-use Rattle.bd_model.specs.Cycle.{inputs_at, state_after}
 use Rattle.bd_model.specs.DesignView.{DesignView, PortView}
 use Rattle.bd_model.specs.ExprView.{Truth}
-use Rattle.bd_model.specs.declared.case.Case.{Case}
-use Rattle.bd_model.specs.declared.case.Trail.{Trail}
 use Rattle.bd_model.specs.declared.table.Scalar.{Scalar}
 
 -- the design without its start, which counts in a trail's first state alone
 abbrev pub unstarted : DesignView → DesignView
 unstarted d = record d { inv_locals = []; inv = Truth true }
-
--- a cycle of a trail as a case, by its place from 0
-abbrev pub cycle_case : DesignView → Trail → ℕ → Case
-cycle_case d t n =
-    record { interp = t.interp; state = state_after d t n; inputs = inputs_at t n }
 
 -- ` NAME=VALUE`
 abbrev pub input_text : PortView → Scalar → List ℕ

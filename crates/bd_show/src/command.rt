@@ -7,14 +7,17 @@ ghost use Rattle.clap.specs.declared.builder.command.Command.TheViews.{out-Comma
 ghost use Rattle.bd_app.specs.Words.{in_range, option, texts_of};
 ghost use Rattle.bd_model.specs.Limits.{most_cycles};
 ghost use Rattle.bd_show.specs.Files.{names_of};
-ghost use Rattle.bd_show.specs.Commands.{about_command, bounded_question, case_names, check_asked, check_command, check_question, command_line, design_names, proof_names, question_of, recheck_command, show_command, shrink_command, taken, why_command};
+ghost use Rattle.bd_show.specs.Commands.{about_command, bounded_question, case_names, check_asked, check_command, check_question, command_line, design_names, proof_names, question_of, recheck_command, saves_at, show_command, shrink_command, taken, why_command};
 ghost use Rattle.bd_show.specs.Meaning.{bounded, check};
+ghost use Rattle.bd_show.specs.Saves.{save_names};
 ghost use Rattle.bd_show.specs.inner.Asked.{IsParsed, IsToldBy, IsWellAsked, IsWordsFault, asked, first_commands};
 
+use crate::about::AboutOptions;
 use crate::bounding::BoundedOptions;
 use crate::checking::CheckOptions;
 use crate::load::FileNames;
 use crate::rechecking::RecheckOptions;
+use crate::saving::SaveNames;
 use crate::show::ShowOptions;
 use crate::why::WhyOptions;
 use bd_app::words::{
@@ -39,7 +42,7 @@ pub enum Command<'a> {
     /// Why a value of a case is what it is.
     Why(WhyOptions<'a>),
     /// What can be said of a design without a case.
-    About(FileNames<'a>),
+    About(AboutOptions<'a>),
     /// Whether a text proves that a design is right.
     Recheck(RecheckOptions<'a>),
 }
@@ -102,6 +105,8 @@ fn check_command<'a>(alloc: Global) -> Result<clap::Command<'a>, AllocError>
     let command = with(command, described(option(alloc, "start"), START))?;
     let command = with(command, described(cycles(alloc), CYCLE_COUNT))?;
     let command = with(command, described(option(alloc, "case"), CASE))?;
+    let command = with(command, described(option(alloc, "vcd"), VCD))?;
+    let command = with(command, described(option(alloc, "json"), JSON))?;
     Ok(explained(command, LEGEND))
 }
 
@@ -114,6 +119,8 @@ fn show_command<'a>(alloc: Global) -> Result<clap::Command<'a>, AllocError>
     let command = with(command, described(flag(alloc, "whole"), WHOLE))?;
     let command = with(command, described(option(alloc, "comp"), COMP))?;
     let command = with(command, described(option(alloc, "html"), HTML))?;
+    let command = with(command, described(option(alloc, "vcd"), VCD))?;
+    let command = with(command, described(option(alloc, "json"), JSON))?;
     Ok(explained(command, LEGEND))
 }
 
@@ -132,7 +139,8 @@ fn why_command<'a>(alloc: Global) -> Result<clap::Command<'a>, AllocError>
 {
     let command = text_command(alloc, "why", "CASE")?;
     let command = with(command, described(option(alloc, "of"), VALUE))?;
-    with(command, described(flag(alloc, "whole"), WHOLE))
+    let command = with(command, described(flag(alloc, "whole"), WHOLE))?;
+    with(command, described(option(alloc, "json"), JSON))
 }
 
 /// The words of `about`.
@@ -141,7 +149,8 @@ fn about_command<'a>(alloc: Global) -> Result<clap::Command<'a>, AllocError>
     ensures local { IfOk result (λ c. (fields_of c).has_globals ≡ false) }
 {
     let command = machines_command(alloc, "about")?;
-    with(command, Arg::new(alloc, "INV"))
+    let command = with(command, Arg::new(alloc, "INV"))?;
+    with(command, described(option(alloc, "json"), JSON))
 }
 
 /// The words of `recheck`.
@@ -216,6 +225,10 @@ const COMP: &str = "By this completion function, in place of flushing; after `di
 
 const HTML: &str = "Saves the same as a page with a drawing";
 
+const VCD: &str = "Saves the same as a value change dump, which viewers of waveforms read";
+
+const JSON: &str = "Saves the answer as an object of JSON (docs/answer.schema.json)";
+
 const VALUE: &str = "A latch or MEMORY[ADDRESS], then @before, @after or @step, then .N";
 
 /// What the signs of the tables mean.
@@ -269,6 +282,17 @@ fn proof_names<'a>(matches: &ArgMatches<'a>) -> FileNames<'a>
     }
 }
 
+/// Where texts of the answer are saved: the first of them under the name of this option.
+fn saves_at<'a>(matches: &ArgMatches<'a>, text: &str) -> SaveNames<'a>
+    ensures { save_names result ≡ saves_at text.now (rows_of (found_of matches.now)) }
+{
+    SaveNames {
+        text: word_at(matches, text),
+        wave: word_at(matches, "vcd"),
+        object: word_at(matches, "json"),
+    }
+}
+
 /// What `check` asks of each state.
 fn whole_question<'a>(matches: &ArgMatches<'a>) -> Command<'a>
     ensures asked { asked result ≡ check (check_question (rows_of (found_of matches.now))) }
@@ -278,7 +302,7 @@ fn whole_question<'a>(matches: &ArgMatches<'a>) -> Command<'a>
         names: design_names(matches),
         mode: mode_at(matches, "diverse"),
         budget: required_number(matches, "budget"),
-        case: word_at(matches, "case"),
+        saves: saves_at(matches, "case"),
     })
 }
 
@@ -296,7 +320,7 @@ fn run_question<'a>(matches: &ArgMatches<'a>, cycles: u32) -> Command<'a>
         cycles: cycles.min(MOST_CYCLES),
         mode: mode_at(matches, "diverse"),
         budget: required_number(matches, "budget"),
-        trail: word_at(matches, "case"),
+        saves: saves_at(matches, "case"),
     })
 }
 
@@ -339,7 +363,7 @@ fn question<'a>(name: &str, matches: &ArgMatches<'a>) -> Option<Command<'a>>
                 ..case_names(matches)
             },
             whole: flag_at(matches, "whole"),
-            page: word_at(matches, "html"),
+            saves: saves_at(matches, "html"),
         }))
     } else if name == "shrink" {
         Some(Command::Shrink(case_names(matches)))
@@ -348,9 +372,13 @@ fn question<'a>(name: &str, matches: &ArgMatches<'a>) -> Option<Command<'a>>
             names: case_names(matches),
             whole: flag_at(matches, "whole"),
             value: word_at(matches, "of"),
+            object: word_at(matches, "json"),
         }))
     } else if name == "about" {
-        Some(Command::About(design_names(matches)))
+        Some(Command::About(AboutOptions {
+            names: design_names(matches),
+            object: word_at(matches, "json"),
+        }))
     } else if name == "recheck" {
         Some(Command::Recheck(RecheckOptions {
             names: proof_names(matches),

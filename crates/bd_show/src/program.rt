@@ -23,7 +23,7 @@ fn answer_of<F: Files>(alloc: Global, words: &[String], files: &mut F) -> Result
         Ok(Command::Show(options)) => show::answer(alloc, files, options),
         Ok(Command::Shrink(names)) => shrinking::answer(alloc, files, names),
         Ok(Command::Why(options)) => why::answer(alloc, files, options),
-        Ok(Command::About(names)) => about::answer(alloc, files, names),
+        Ok(Command::About(options)) => about::answer(alloc, files, options),
         Ok(Command::Recheck(options)) => rechecking::answer(alloc, files, options),
         Err(WordsFault::Told(text)) => Ok(Answer {
             ended: Ended::Told,

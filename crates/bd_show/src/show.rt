@@ -1,53 +1,51 @@
 //! `show`: what a case or a trail shows, as tables, and as a page.
-ghost use Rattle.std.specs.Prelude.{◌≡◌, ◌++◌, false, is_some, true, Ok, IfOk, MatchOption, None};
+ghost use Rattle.std.specs.Prelude.{◌≡◌, ◌++◌, false, is_some, true, Ok, IfOk, None};
 ghost use Rattle.bd_model.specs.Conditions.{IsJudged};
 ghost use Rattle.bd_model.specs.DesignView.{design_view};
 ghost use Rattle.bd_model.specs.Fits.{Fits};
 ghost use Rattle.bd_model.specs.Lawful.{IsLawful};
-ghost use Rattle.bd_files.specs.Devices.{Makes};
 ghost use Rattle.bd_app.specs.Loading.{bytes_of};
 ghost use Rattle.bd_app.specs.Meaning.{files_seen};
 ghost use Rattle.bd_app.specs.Words.{given};
-ghost use Rattle.bd_picture.specs.Page.{IsPage};
+ghost use Rattle.bd_picture.specs.declared.picture.Outcome.TheVariants.{Flushed};
 ghost use Rattle.bd_picture.specs.Sentence.{sentence};
 ghost use Rattle.bd_show.specs.Files.{AreDesign, has_trail, names_of};
 ghost use Rattle.bd_show.specs.LetNames.{AreReadable};
 ghost use Rattle.bd_show.specs.Claims.{claim_in, claim_note};
-ghost use Rattle.bd_show.specs.Meaning.{IsLeft, IsShown, IsShownOfText, Question};
-ghost use Rattle.bd_show.specs.inner.Answered.{HasAnswer, HasDrawn, IsDoneOn, IsSaved, drawn_saves, show_of};
+ghost use Rattle.bd_show.specs.Meaning.{IsLeft, IsShown, IsShownOfText, Question, show};
+ghost use Rattle.bd_show.specs.Objects.{IsPictured};
+ghost use Rattle.bd_show.specs.Saves.{IsSaveIf, no_texts, save_names};
+ghost use Rattle.bd_show.specs.Waves.{IsWave};
+ghost use Rattle.bd_show.specs.inner.Answered.{IsDoneOn, IsShowing, IsShownFlushed, show_of};
 ghost use Rattle.bd_show.specs.inner.Loaded.{AreFew, texts_view};
+ghost use Rattle.bd_show.specs.inner.Saved.{texts_of};
 
 use crate::answer::{Answer, Ended};
 use crate::claim::push_note;
 use crate::claim_names::claim_names;
 use crate::completed::on_joined;
-use crate::fault::{joined, refused, unloaded};
+use crate::drawn::{Drawn, draw, drawn_texts};
+use crate::fault::{refused, unloaded};
 use crate::load::{FileNames, Texts, load_texts};
 use crate::names::machine_lets;
 use crate::read::{case, design, has_trail};
+use crate::saving::{SaveNames, SaveTexts, Showing, saved};
 use crate::trail::on_trail;
 use bd_diagram::diagram_of;
-use bd_files::{Files, SaveError};
+use bd_files::Files;
 use bd_model::{Case, Design, Judged};
-use bd_picture::{Outcome, Picture, ShownCase, ShownNames, page_of, picture_of, text_of};
+use bd_picture::{Outcome, ShownCase, ShownNames, text_of};
 use bd_shrink::shrink;
 use bd_sim::judge;
 use bd_syntax::Kind;
 use std::alloc::{AllocError, Global};
 
-/// Its options: the files, whether all of the case is shown, and where a page is saved.
+/// Its options: the files, whether all of the case is shown, and where its page, its waveform and its object are saved.
 #[derive(Clone, Copy)]
 pub struct ShowOptions<'a> {
     pub names: FileNames<'a>,
     pub whole: bool,
-    pub page: Option<&'a str>,
-}
-
-/// An answer, and its page where one is shown.
-#[derive(Drop)]
-pub struct Showing {
-    pub answer: Answer,
-    pub page: Option<Vec<u8>>,
+    pub saves: SaveNames<'a>,
 }
 
 /// What is shown of a case: all of it, or where it breaks a condition what is left of it.
@@ -70,7 +68,7 @@ pub fn left(
     }
 }
 
-/// What is printed of a case: all of its values, or only those that what is broken rests on.
+/// What is drawn of a case: all of its values, or only those that what is broken rests on.
 pub fn drawn(
     alloc: Global,
     design: &Design,
@@ -78,10 +76,14 @@ pub fn drawn(
     judged: Judged,
     whole: bool,
     names: ShownNames<'_>,
-) -> Result<Picture, AllocError>
+    wave: Option<&str>,
+) -> Result<Drawn, AllocError>
     requires lawful { IsLawful (design_view design.now) }
     requires judged { IsJudged (design_view design.now) case.now judged }
-    ensures { IfOk result (λ p. p.sentence.items ≡ sentence (design_view design.now) judged) }
+    ensures pictured { IfOk result (λ d.
+        IsPictured (design_view design.now) (Flushed judged) d.picture) }
+    ensures wave { IfOk result (λ d. IsSaveIf (given wave.entry) (Unit {0})
+        (IsWave (design_view design.now) (Flushed judged)) (bytes_of d.wave)) }
 {
     let diagram = diagram_of(alloc, design, case)?;
     let view = ShownCase {
@@ -91,11 +93,12 @@ pub fn drawn(
         diagram: &diagram,
         names,
         whole,
+        run: None,
     };
-    picture_of(alloc, &view)
+    draw(alloc, &view, wave)
 }
 
-/// The picture of a case that is judged so, or of what is left of it.
+/// What is drawn of a case that is judged so, or of what is left of it.
 pub fn pictured(
     alloc: Global,
     design: &Design,
@@ -103,36 +106,21 @@ pub fn pictured(
     judged: Judged,
     whole: bool,
     names: ShownNames<'_>,
-) -> Result<Picture, AllocError>
+    wave: Option<&str>,
+) -> Result<Drawn, AllocError>
     requires lawful { IsLawful (design_view design.now) }
     requires fits { Fits (design_view design.now) case.now }
     requires judged { IsJudged (design_view design.now) case.now judged }
-    ensures left { IfOk result (λ p. (s : Case)
+    ensures left { IfOk result (λ d. (s : Case)
         × IsLeft whole (design_view design.now) case.now judged s
         × IsJudged (design_view design.now) s judged) }
-    ensures sentence { IfOk result (λ p.
-        p.sentence.items ≡ sentence (design_view design.now) judged) }
+    ensures pictured { IfOk result (λ d.
+        IsPictured (design_view design.now) (Flushed judged) d.picture) }
+    ensures wave { IfOk result (λ d. IsSaveIf (given wave.entry) (Unit {0})
+        (IsWave (design_view design.now) (Flushed judged)) (bytes_of d.wave)) }
 {
     let left = left(alloc, design, case, judged, whole)?;
-    drawn(alloc, design, &left, judged, whole, names)
-}
-
-/// The text of the picture of what is left of a case that is judged so.
-pub fn pictured_text(
-    alloc: Global,
-    design: &Design,
-    case: &Case,
-    judged: Judged,
-    names: ShownNames<'_>,
-) -> Result<Vec<u8>, AllocError>
-    requires lawful { IsLawful (design_view design.now) }
-    requires fits { Fits (design_view design.now) case.now }
-    requires judged { IsJudged (design_view design.now) case.now judged }
-    ensures { IfOk result (λ text.
-        IsShown false (design_view design.now) case.now judged text.items) }
-{
-    let picture = pictured(alloc, design, case, judged, false, names)?;
-    text_of(alloc, &picture)
+    drawn(alloc, design, &left, judged, whole, names, wave)
 }
 
 /// The answer on a case that is judged so.
@@ -141,26 +129,28 @@ fn on_judged(
     design: &Design,
     case: &Case,
     judged: Judged,
-    whole: bool,
+    options: ShowOptions<'_>,
     names: ShownNames<'_>,
 ) -> Result<Showing, AllocError>
     requires lawful { IsLawful (design_view design.now) }
     requires fits { Fits (design_view design.now) case.now }
     requires judged { IsJudged (design_view design.now) case.now judged }
+    ensures shown { IfOk result (λ r. IsShown options.entry.whole (design_view design.now)
+        case.now judged r.answer.text.items) }
     ensures ended { IfOk result (λ r. r.answer.ended ≡ Ended.Shown judged) }
-    ensures shown { IfOk result (λ r.
-        IsShown whole (design_view design.now) case.now judged r.answer.text.items) }
-    ensures drawn { IfOk result (λ r.
-        MatchOption (bytes_of r.page) ⊥ (IsPage (sentence (design_view design.now) judged))) }
+    ensures saves { IfOk result (λ r. IsShownFlushed (save_names options.entry.saves)
+        (design_view design.now) judged (texts_of r.saves)) }
 {
-    let picture = pictured(alloc, design, case, judged, whole, names)?;
-    let answer = Answer {
-        ended: Ended::Shown(judged),
-        text: text_of(alloc, &picture)?,
-    };
+    let SaveNames { wave, .. } = options.saves;
+    let drawn = pictured(alloc, design, case, judged, options.whole, names, wave)?;
+    let text = text_of(alloc, &drawn.picture)?;
+    let saves = drawn_texts(alloc, drawn, options.saves)?;
     Ok(Showing {
-        answer,
-        page: Some(page_of(alloc, &picture)?),
+        answer: Answer {
+            ended: Ended::Shown(judged),
+            text,
+        },
+        saves,
     })
 }
 
@@ -169,7 +159,7 @@ fn noted(showing: Showing, text: &Option<Vec<u8>>, judged: Judged) -> Result<Sho
     ensures ended { IfOk result (λ r. r.answer.ended ≡ showing.answer.ended) }
     ensures text { IfOk result (λ r. r.answer.text.items
         ≡ showing.answer.text.items ++ claim_note (claim_in (bytes_of text.now)) judged) }
-    ensures page { IfOk result (λ r. r.page ≡ showing.page) }
+    ensures saves { IfOk result (λ r. r.saves ≡ showing.saves) }
 {
     let mut showing = showing;
     push_note(&mut showing.answer.text, text, judged)?;
@@ -182,29 +172,30 @@ fn on_case(
     design: &Design,
     case: &Case,
     text: &Option<Vec<u8>>,
-    whole: bool,
+    options: ShowOptions<'_>,
     names: ShownNames<'_>,
 ) -> Result<Showing, AllocError>
     requires lawful { IsLawful (design_view design.now) }
     requires fits { Fits (design_view design.now) case.now }
     ensures { IfOk result (λ r. (judged : Judged) × (r.answer.ended ≡ Ended.Shown judged)
-        × IsShownOfText (bytes_of text.now) whole (design_view design.now) case.now judged
-        r.answer.text.items
-        × MatchOption (bytes_of r.page) ⊥ (IsPage (sentence (design_view design.now) judged))) }
+        × IsShownOfText (bytes_of text.now) options.entry.whole (design_view design.now) case.now
+        judged r.answer.text.items
+        × IsShownFlushed (save_names options.entry.saves) (design_view design.now) judged
+        (texts_of r.saves)) }
 {
     let judged = judge(alloc, design, case)?;
-    let showing = on_judged(alloc, design, case, judged, whole, names)?;
+    let showing = on_judged(alloc, design, case, judged, options, names)?;
     noted(showing, text, judged)
 }
 
-/// The answer that texts are refused, without a page.
+/// The answer that texts are refused: nothing of it is saved.
 pub fn unseen(answer: Result<Answer, AllocError>) -> Result<Showing, AllocError>
     ensures answer { IfOk result (λ r. answer ≡ Ok r.answer) }
-    ensures page { IfOk result (λ r. r.page ≡ None) }
+    ensures saves { IfOk result (λ r. texts_of r.saves ≡ no_texts) }
 {
     Ok(Showing {
         answer: answer?,
-        page: None,
+        saves: SaveTexts::none(),
     })
 }
 
@@ -221,8 +212,8 @@ fn on_design(
     requires text { is_some (texts_view texts.now).case ≡ true }
     requires case { has_trail (texts_view texts.now) ≡ false }
     requires readable { AreReadable (texts_view texts.now) }
-    ensures says { IfOk result (HasAnswer options.entry (texts_view texts.now)) }
-    ensures drawn { IfOk result (HasDrawn (texts_view texts.now)) }
+    ensures { IfOk result
+        (IsShowing (show (show_of options.entry)) (texts_view texts.now)) }
 {
     let lets = machine_lets(alloc, texts.pipe.as_slice(), Kind::Pipeline)?;
     let steps = machine_lets(alloc, texts.spec.as_slice(), Kind::Specification)?;
@@ -234,7 +225,7 @@ fn on_design(
                 steps: steps.as_slice(),
                 claims: claims.as_slice(),
             };
-            on_case(alloc, design, &case, &texts.case, options.whole, names)
+            on_case(alloc, design, &case, &texts.case, options, names)
         }
         Err(fault) => unseen(refused(alloc, options.names, texts, fault)),
     }
@@ -250,8 +241,8 @@ fn on_no_trail(
     requires alone { (texts_view texts.now).comp ≡ None }
     requires text { is_some (texts_view texts.now).case ≡ true }
     requires case { has_trail (texts_view texts.now) ≡ false }
-    ensures says { IfOk result (HasAnswer options.entry (texts_view texts.now)) }
-    ensures drawn { IfOk result (HasDrawn (texts_view texts.now)) }
+    ensures { IfOk result
+        (IsShowing (show (show_of options.entry)) (texts_view texts.now)) }
 {
     match design(alloc, texts) {
         Ok(design) => on_design(alloc, options, texts, &design),
@@ -264,8 +255,8 @@ fn on_alone(alloc: Global, options: ShowOptions<'_>, texts: &Texts) -> Result<Sh
     requires few { AreFew (texts_view texts.now) }
     requires alone { (texts_view texts.now).comp ≡ None }
     requires text { is_some (texts_view texts.now).case ≡ true }
-    ensures says { IfOk result (HasAnswer options.entry (texts_view texts.now)) }
-    ensures drawn { IfOk result (HasDrawn (texts_view texts.now)) }
+    ensures { IfOk result
+        (IsShowing (show (show_of options.entry)) (texts_view texts.now)) }
 {
     if has_trail(alloc, texts)? {
         on_trail(alloc, options, texts)
@@ -278,8 +269,8 @@ fn on_alone(alloc: Global, options: ShowOptions<'_>, texts: &Texts) -> Result<Sh
 fn on_texts(alloc: Global, options: ShowOptions<'_>, texts: &Texts) -> Result<Showing, AllocError>
     requires few { AreFew (texts_view texts.now) }
     requires text { is_some (texts_view texts.now).case ≡ true }
-    ensures says { IfOk result (HasAnswer options.entry (texts_view texts.now)) }
-    ensures drawn { IfOk result (HasDrawn (texts_view texts.now)) }
+    ensures { IfOk result
+        (IsShowing (show (show_of options.entry)) (texts_view texts.now)) }
 {
     match &texts.comp {
         Some(comp) => on_joined(alloc, options, texts, comp.as_slice()),
@@ -287,41 +278,7 @@ fn on_texts(alloc: Global, options: ShowOptions<'_>, texts: &Texts) -> Result<Sh
     }
 }
 
-/// Saves the page of an answer, or another text with it, where a name is given.
-pub fn saved<F: Files>(
-    alloc: Global,
-    files: &mut F,
-    page: Option<&str>,
-    drawn: Showing,
-) -> Result<Answer, AllocError>
-    ensures saved { IsSaved (given page.entry) (bytes_of drawn.page)
-        drawn.answer.ended drawn.answer.text.items
-        (files_seen F.held F.faults F.blame F.calls files.old)
-        (files_seen F.held F.faults F.blame F.calls files.new) result }
-    ensures called { Makes (F.calls files.old) (F.calls files.new)
-        (drawn_saves (given page.entry) (bytes_of drawn.page)) }
-{
-    let Showing {
-        answer,
-        page: bytes,
-    } = drawn;
-    let Some(bytes) = bytes else {
-        return Ok(answer);
-    };
-    let Some(name) = page else {
-        return Ok(answer);
-    };
-    match files.save(name, bytes.as_slice()) {
-        Ok(()) => Ok(answer),
-        Err(SaveError::Failed) => Ok(Answer {
-            ended: Ended::Unsaved,
-            text: joined(alloc, "cannot save ", name, "\n")?,
-        }),
-        Err(SaveError::Memory) => Err(AllocError),
-    }
-}
-
-/// The answer of `show` on the files of these names, with its page saved where one is asked for.
+/// The answer of `show` on the files of these names, with what is saved of it under the names that are given.
 pub fn answer<F: Files>(
     alloc: Global,
     files: &mut F,
@@ -337,5 +294,5 @@ pub fn answer<F: Files>(
         Err(fault) => return unloaded(alloc, options.names, fault),
     };
     let drawn = on_texts(alloc, options, &texts)?;
-    saved(alloc, files, options.page, drawn)
+    saved(alloc, files, options.saves, drawn)
 }

@@ -1,36 +1,43 @@
 //! `show` of a trail: each cycle with its inputs, and the first that breaks with its diagram.
-ghost use Rattle.std.specs.Prelude.{◌≡◌, ◌≢◌, ◌≤◌, ◌<◌, ◌++◌, ◌∷◌, ℕ, length, map, true, None, Ok, OnOk, IfOk, IfErr};
+ghost use Rattle.std.specs.Prelude.{◌≡◌, ◌≢◌, ◌≤◌, ◌++◌, ◌∷◌, ℕ, length, map, true, None, Ok, OnOk, IfOk, IfErr};
+ghost use Rattle.bd_app.specs.Loading.{bytes_of};
 ghost use Rattle.bd_app.specs.Retrace.{retraced_words};
-ghost use Rattle.bd_model.specs.Cycle.{state_after};
+ghost use Rattle.bd_app.specs.Words.{given};
 ghost use Rattle.bd_model.specs.DesignView.{design_view, port_view};
 ghost use Rattle.bd_model.specs.Lawful.{IsLawful};
 ghost use Rattle.bd_model.specs.Limits.{most_cycles};
 ghost use Rattle.bd_model.specs.TrailJudged.{IsTrailJudged};
-ghost use Rattle.bd_picture.specs.Sentence.{sentence};
+ghost use Rattle.bd_picture.specs.declared.picture.Outcome.TheVariants.{Flushed};
 ghost use Rattle.bd_syntax.specs.declared.ast.Kind.TheVariants.{Pipeline, Specification};
+ghost use Rattle.bd_wave.specs.Waves.{trail_dump};
 ghost use Rattle.bd_show.specs.Files.{AreStarted, AreTrail, IsStartedFault, has_trail};
 ghost use Rattle.bd_show.specs.LetNames.{IsMachineText};
-ghost use Rattle.bd_show.specs.Meaning.{IsTrailShown};
-ghost use Rattle.bd_show.specs.Trails.{cycle_case, cycle_text, cycles_text, input_text, inputs_text, unstarted};
-ghost use Rattle.bd_show.specs.inner.Answered.{HasAnswer, HasDrawn, IsBreaking, IsBreakingIf, IsTrailSeen};
-ghost use Rattle.bd_app.specs.Loading.{bytes_of};
+ghost use Rattle.bd_show.specs.Meaning.{IsTrailShown, show};
+ghost use Rattle.bd_show.specs.Objects.{IsPictured};
+ghost use Rattle.bd_show.specs.Saves.{IsSaveIf, save_names};
+ghost use Rattle.bd_show.specs.Trails.{cycle_text, cycles_text, input_text, inputs_text, unstarted};
+ghost use Rattle.bd_show.specs.Waves.{IsTrailDump, IsWholeDump};
+ghost use Rattle.bd_show.specs.inner.Answered.{IsBreaking, IsBreakingIf, IsShowing, IsTrailSeen, show_of};
 ghost use Rattle.bd_show.specs.inner.Loaded.{AreFew, texts_view};
 ghost use Rattle.bd_show.specs.inner.Read.{IsRefusedBy};
 
 use crate::answer::{Answer, Ended};
+use crate::drawn::{Drawn, drawn_texts};
 use crate::fault::refused_trail;
 use crate::load::Texts;
 use crate::names::machine_lets;
 use crate::read::{started, trail};
-use crate::show::{ShowOptions, Showing, drawn, unseen};
+use crate::saving::{SaveTexts, Showing};
+use crate::show::{ShowOptions, unseen};
 use bd_app::retraced_line;
-use bd_model::{
-    Case, Condition, Design, Expr, Inputs, Judged, Locals, Port, Scalar, State, Trail, TrailJudged,
-};
-use bd_picture::{Picture, ShownNames, page_of, text_of};
-use bd_sim::{judge_trail, step};
+use bd_diagram::diagram_of;
+use bd_model::{Condition, Design, Expr, Inputs, Judged, Locals, Port, Scalar, Trail, TrailJudged};
+use bd_picture::{Outcome, ShownCase, ShownNames, ShownRun, picture_of, text_of};
+use bd_sim::judge_trail;
 use bd_syntax::Kind;
+use bd_trail::{cycle_case, states_between};
 use bd_typer::DesignFault;
+use bd_wave::{DrawnCycle, WaveNames, trail_wave};
 use itoa::Buffer;
 use std::alloc::{AllocError, Global};
 
@@ -115,53 +122,112 @@ fn lines(
     Ok(text)
 }
 
-/// The state after the first cycles of a trail.
-fn state_after(
+/// A trail, the number of its cycle that breaks, whether all values are drawn, and a name for a waveform.
+#[derive(Clone, Copy)]
+pub struct BrokenTrail<'a> {
+    pub trail: &'a Trail,
+    pub cycle: u32,
+    pub whole: bool,
+    pub wave: Option<&'a str>,
+}
+
+/// What is drawn of a trail, and its text.
+#[derive(Drop)]
+pub struct DrawnTrail {
+    pub text: Vec<u8>,
+    pub drawn: Drawn,
+}
+
+/// The waveform of a trail with this diagram of a cycle of it, where a name is given for it.
+fn wave_if(
     alloc: Global,
     design: &Design,
     trail: &Trail,
-    count: usize,
-) -> Result<State, AllocError>
+    drawn: Option<DrawnCycle<'_>>,
+    names: WaveNames<'_>,
+    name: Option<&str>,
+) -> Result<Option<Vec<u8>>, AllocError>
     requires lawful { IsLawful (design_view design.now) }
-    requires within { count ≤ length trail.now.inputs }
-    ensures { IfOk result (λ s. s ≡ state_after (design_view design.now) trail.now count) }
+    ensures { IfOk result (λ wave. IsSaveIf (given name.entry) (Unit {0})
+        (λ bytes. bytes ≡ trail_dump (design_view design.now) names.entry trail.now drawn.entry)
+        (bytes_of wave)) }
 {
-    let mut state = trail.state.clone()?;
-    for inputs in &trail.inputs.as_slice()[..count] {
-        state = step(alloc, design, &trail.interp, &state, inputs)?;
+    match name {
+        Some(_) => Ok(Some(trail_wave(alloc, design, trail, drawn, names)?)),
+        None => Ok(None),
     }
-    Ok(state)
 }
 
-/// A cycle of a trail as a case, by its place from 0.
-fn cycle_case(alloc: Global, design: &Design, trail: &Trail, place: u32) -> Result<Case, AllocError>
+/// The picture and the waveform of the cycle that breaks, with the cycles before it.
+fn drawn_cycle(
+    alloc: Global,
+    design: &Design,
+    broken: BrokenTrail<'_>,
+    names: ShownNames<'_>,
+) -> Result<Drawn, AllocError>
     requires lawful { IsLawful (design_view design.now) }
-    requires within { place < length trail.now.inputs }
-    ensures { IfOk result (λ c. c ≡ cycle_case (design_view design.now) trail.now place) }
+    requires breaking { IsBreaking (design_view design.now) broken.trail.now broken.cycle }
+    ensures pictured { IfOk result (λ d. IsPictured (design_view design.now)
+        (Flushed (Judged.Broken Condition.Commute)) d.picture) }
+    ensures wave { IfOk result (λ d. IsSaveIf (given broken.entry.wave) (Unit {0})
+        (IsTrailDump (design_view design.now) broken.entry.trail.now
+        (TrailJudged.Broken broken.entry.cycle)) (bytes_of d.wave)) }
 {
-    let state = state_after(alloc, design, trail, place as usize)?;
-    Ok(Case {
-        interp: trail.interp.clone()?,
-        state,
-        inputs: trail.inputs.get(place).clone()?,
-    })
+    let BrokenTrail {
+        trail,
+        cycle,
+        whole,
+        wave,
+    } = broken;
+    let place = cycle - 1;
+    let case = cycle_case(alloc, design, trail, place)?;
+    let states = states_between(alloc, design, trail, place)?;
+    let diagram = diagram_of(alloc, design, &case)?;
+    let view = ShownCase {
+        design,
+        case: &case,
+        outcome: Outcome::Flushed(Judged::Broken(Condition::Commute)),
+        diagram: &diagram,
+        names,
+        whole,
+        run: Some(ShownRun {
+            trail,
+            place,
+            states: &states,
+        }),
+    };
+    let picture = picture_of(alloc, &view)?;
+    let drawn = DrawnCycle {
+        place,
+        diagram: &diagram,
+    };
+    let names = WaveNames {
+        lets: names.lets,
+        steps: names.steps,
+    };
+    let wave = wave_if(alloc, design, trail, Some(drawn), names, wave)?;
+    Ok(Drawn { picture, wave })
 }
 
-/// The picture of the cycle of this number, which breaks.
-fn picture(
+/// What is drawn of a trail of which the cycle of this number breaks first, of a design without its start.
+pub fn drawn_trail(
     alloc: Global,
     texts: &Texts,
     design: &Design,
-    trail: &Trail,
-    cycle: u32,
-    whole: bool,
-) -> Result<Picture, AllocError>
+    broken: BrokenTrail<'_>,
+) -> Result<DrawnTrail, AllocError>
+    requires lawful { IsLawful (design_view design.now) }
+    requires few { length broken.trail.now.inputs ≤ most_cycles }
     requires readable { IsMachineText Pipeline (texts_view texts.now).pipe }
     requires spec_readable { IsMachineText Specification (texts_view texts.now).spec }
-    requires lawful { IsLawful (design_view design.now) }
-    requires breaking { IsBreaking (design_view design.now) trail.now cycle }
-    ensures { IfOk result (λ p. p.sentence.items
-        ≡ sentence (design_view design.now) (Judged.Broken Condition.Commute)) }
+    requires breaking { IsBreaking (design_view design.now) broken.trail.now broken.cycle }
+    ensures text { IfOk result (λ d. IsTrailShown (design_view design.now)
+        broken.entry.trail.now (TrailJudged.Broken broken.entry.cycle) d.text.items) }
+    ensures pictured { IfOk result (λ d. IsPictured (design_view design.now)
+        (Flushed (Judged.Broken Condition.Commute)) d.drawn.picture) }
+    ensures wave { IfOk result (λ d. IsSaveIf (given broken.entry.wave) (Unit {0})
+        (IsTrailDump (design_view design.now) broken.entry.trail.now
+        (TrailJudged.Broken broken.entry.cycle)) (bytes_of d.drawn.wave)) }
 {
     let lets = machine_lets(alloc, texts.pipe.as_slice(), Kind::Pipeline)?;
     let steps = machine_lets(alloc, texts.spec.as_slice(), Kind::Specification)?;
@@ -170,34 +236,14 @@ fn picture(
         steps: steps.as_slice(),
         claims: &[],
     };
-    let case = cycle_case(alloc, design, trail, cycle - 1)?;
-    let judged = Judged::Broken(Condition::Commute);
-    drawn(alloc, design, &case, judged, whole, names)
-}
-
-/// The text of a trail of which the cycle of this number breaks first, of a design without its start.
-pub fn broken_text(
-    alloc: Global,
-    texts: &Texts,
-    design: &Design,
-    trail: &Trail,
-    cycle: u32,
-) -> Result<Vec<u8>, AllocError>
-    requires lawful { IsLawful (design_view design.now) }
-    requires few { length trail.now.inputs ≤ most_cycles }
-    requires readable { IsMachineText Pipeline (texts_view texts.now).pipe }
-    requires spec_readable { IsMachineText Specification (texts_view texts.now).spec }
-    requires breaking { IsBreaking (design_view design.now) trail.now cycle }
-    ensures { IfOk result (λ text. IsTrailShown (design_view design.now) trail.now
-        (TrailJudged.Broken cycle) text.items) }
-{
-    let picture = picture(alloc, texts, design, trail, cycle, false)?;
-    let shown = text_of(alloc, &picture)?;
+    let drawn = drawn_cycle(alloc, design, broken, names)?;
+    let shown = text_of(alloc, &drawn.picture)?;
     let tables = shown.as_slice();
-    let mut text = lines(alloc, design, trail, TrailJudged::Broken(cycle))?;
+    let judged = TrailJudged::Broken(broken.cycle);
+    let mut text = lines(alloc, design, broken.trail, judged)?;
     text.push(b'\n')?;
     text.extend_from_slice(tables)?;
-    Ok(text)
+    Ok(DrawnTrail { text, drawn })
 }
 
 /// The answer on a trail of which the cycle of this number breaks.
@@ -215,36 +261,69 @@ fn on_break(
     requires spec_readable { IsMachineText Specification (texts_view texts.now).spec }
     requires broken { judging.now.judged ≡ TrailJudged.Broken cycle }
     requires breaking { IsBreaking (design_view design.now) judging.now.trail cycle }
-    ensures { IfOk result (λ r. IsTrailSeen (design_view design.now) judging.now.trail
-        judging.now.judged r.answer.ended r.answer.text.items (bytes_of r.page)) }
+    ensures { IfOk result (IsTrailSeen (save_names options.entry.saves) (design_view design.now)
+        judging.now.trail judging.now.judged) }
 {
-    let picture = picture(alloc, texts, design, &judging.trail, cycle, options.whole)?;
-    let shown = text_of(alloc, &picture)?;
-    let tables = shown.as_slice();
-    let page = page_of(alloc, &picture)?;
-    let mut text = lines(alloc, design, &judging.trail, judging.judged)?;
-    text.push(b'\n')?;
-    text.extend_from_slice(tables)?;
+    let broken = BrokenTrail {
+        trail: &judging.trail,
+        cycle,
+        whole: options.whole,
+        wave: options.saves.wave,
+    };
+    let DrawnTrail { text, drawn } = drawn_trail(alloc, texts, design, broken)?;
+    let saves = drawn_texts(alloc, drawn, options.saves)?;
     let ended = Ended::Traced(judging.judged);
     Ok(Showing {
         answer: Answer { ended, text },
-        page: Some(page),
+        saves,
     })
 }
 
+/// The waveform of a trail in which no cycle breaks, where a name is given for it.
+fn whole_wave(
+    alloc: Global,
+    texts: &Texts,
+    design: &Design,
+    trail: &Trail,
+    name: Option<&str>,
+) -> Result<Option<Vec<u8>>, AllocError>
+    requires lawful { IsLawful (design_view design.now) }
+    requires readable { IsMachineText Pipeline (texts_view texts.now).pipe }
+    requires spec_readable { IsMachineText Specification (texts_view texts.now).spec }
+    ensures { IfOk result (λ wave. IsSaveIf (given name.entry) (Unit {0})
+        (IsWholeDump (design_view design.now) trail.now) (bytes_of wave)) }
+{
+    let lets = machine_lets(alloc, texts.pipe.as_slice(), Kind::Pipeline)?;
+    let steps = machine_lets(alloc, texts.spec.as_slice(), Kind::Specification)?;
+    let names = WaveNames {
+        lets: lets.as_slice(),
+        steps: steps.as_slice(),
+    };
+    wave_if(alloc, design, trail, None, names, name)
+}
+
 /// The answer on a trail in which no cycle breaks.
-#[tactic(auto, using(crate::proofs::Trails::lines_seen))]
-fn on_whole(alloc: Global, design: &Design, judging: &Judging) -> Result<Showing, AllocError>
+fn on_whole(
+    alloc: Global,
+    options: ShowOptions<'_>,
+    texts: &Texts,
+    design: &Design,
+    judging: &Judging,
+) -> Result<Showing, AllocError>
+    requires lawful { IsLawful (design_view design.now) }
     requires few { length judging.now.trail.inputs ≤ most_cycles }
+    requires readable { IsMachineText Pipeline (texts_view texts.now).pipe }
+    requires spec_readable { IsMachineText Specification (texts_view texts.now).spec }
     requires whole { (cycle : ℕ) → judging.now.judged ≢ TrailJudged.Broken cycle }
-    ensures { IfOk result (λ r. IsTrailSeen (design_view design.now) judging.now.trail
-        judging.now.judged r.answer.ended r.answer.text.items (bytes_of r.page)) }
+    ensures { IfOk result (IsTrailSeen (save_names options.entry.saves) (design_view design.now)
+        judging.now.trail judging.now.judged) }
 {
     let text = lines(alloc, design, &judging.trail, judging.judged)?;
+    let wave = whole_wave(alloc, texts, design, &judging.trail, options.saves.wave)?;
     let ended = Ended::Traced(judging.judged);
     Ok(Showing {
         answer: Answer { ended, text },
-        page: None,
+        saves: SaveTexts::of_wave(wave),
     })
 }
 
@@ -262,13 +341,13 @@ fn on_judged(
     requires spec_readable { IsMachineText Specification (texts_view texts.now).spec }
     requires breaking { IsBreakingIf (design_view design.now) judging.now.trail
         judging.now.judged }
-    ensures { IfOk result (λ r. IsTrailSeen (design_view design.now) judging.now.trail
-        judging.now.judged r.answer.ended r.answer.text.items (bytes_of r.page)) }
+    ensures { IfOk result (IsTrailSeen (save_names options.entry.saves) (design_view design.now)
+        judging.now.trail judging.now.judged) }
 {
     if let TrailJudged::Broken(cycle) = judging.judged {
         on_break(alloc, options, texts, design, judging, cycle)
     } else {
-        on_whole(alloc, design, judging)
+        on_whole(alloc, options, texts, design, judging)
     }
 }
 
@@ -301,7 +380,7 @@ fn judged_trail(alloc: Global, design: &Design, texts: &Texts) -> Result<Judging
 }
 
 /// The answer on texts, of which this is the design.
-#[tactic(auto, using(crate::proofs::Trails::breaking, crate::proofs::Trails::seen_says))]
+#[tactic(auto, using(crate::proofs::Trails::breaking))]
 fn on_design(
     alloc: Global,
     options: ShowOptions<'_>,
@@ -314,8 +393,8 @@ fn on_design(
     requires trail { has_trail (texts_view texts.now) ≡ true }
     requires readable { IsMachineText Pipeline (texts_view texts.now).pipe }
     requires spec_readable { IsMachineText Specification (texts_view texts.now).spec }
-    ensures says { IfOk result (HasAnswer options.entry (texts_view texts.now)) }
-    ensures drawn { IfOk result (HasDrawn (texts_view texts.now)) }
+    ensures { IfOk result
+        (IsShowing (show (show_of options.entry)) (texts_view texts.now)) }
 {
     match judged_trail(alloc, &design, texts) {
         Ok(judging) => {
@@ -335,8 +414,8 @@ pub fn on_trail(
     requires few { AreFew (texts_view texts.now) }
     requires alone { (texts_view texts.now).comp ≡ None }
     requires trail { has_trail (texts_view texts.now) ≡ true }
-    ensures says { IfOk result (HasAnswer options.entry (texts_view texts.now)) }
-    ensures drawn { IfOk result (HasDrawn (texts_view texts.now)) }
+    ensures { IfOk result
+        (IsShowing (show (show_of options.entry)) (texts_view texts.now)) }
 {
     match started(alloc, texts) {
         Ok(design) => on_design(alloc, options, texts, design),

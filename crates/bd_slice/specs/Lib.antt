@@ -3,4 +3,5 @@ pub mod Columns
 pub mod Run
 pub mod Reasons
 pub mod History
+pub mod Labels
 pub mod inner

@@ -7,6 +7,7 @@ mod expression;
 mod finding;
 mod graph;
 mod kept;
+mod label;
 mod line;
 mod moment;
 mod place;
@@ -16,6 +17,7 @@ mod slices;
 mod subject;
 mod whole;
 
+pub use label::{push_application, push_cycle, push_number, push_scalar, push_word_name};
 pub use moment::{History, Moment, Moments, history_of};
 pub use place::{CasePlace, CasePlaces, Column, Location, Want};
 pub use reason::{Reason, Reasons, reasons_of};

@@ -41,7 +41,9 @@ pub struct Reasons {
 
 impl Reasons {
     /// All reasons, in order.
-    pub fn as_slice(&self) -> &[Reason] {
+    pub fn as_slice(&self) -> &[Reason]
+        ensures { result.now ≡ self.now.items.items }
+    {
         self.items.as_slice()
     }
 

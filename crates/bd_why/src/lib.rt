@@ -2,7 +2,7 @@
 //!
 //! Each value comes from an item of a text: the next value of an entry, a let, the flush value of an input, or the
 //! invariant. From the value that is asked for these are told one by one, with the names that they rest on, down to the
-//! case; nothing is proved of them but that telling them is safe.
+//! case; nothing is proved of them but that telling them is safe, and that the text is what is told, in order.
 #![tactic(auto)]
 
 mod asked;
@@ -20,6 +20,7 @@ mod sides;
 mod source;
 mod target;
 mod telling;
+mod told_text;
 mod trial;
 mod view;
 mod why;
@@ -27,4 +28,5 @@ mod wish;
 mod words;
 
 pub use source::{Explanation, Source, Sources};
+pub use told_text::{LinePlace, ToldLine, ToldText};
 pub use why::why_of;

@@ -44,11 +44,10 @@ fn no_name(
     view: &ListedDesign<'_, '_>,
     asked: &[u8],
 ) -> Result<Vec<u8>, AllocError> {
-    let names = names_of(alloc, view)?;
     let mut text = Vec::from_slice(alloc, b"no such entry")?;
     let wanted = name_of(asked);
-    match nearest(alloc, wanted, names.as_slice())?.and_then(|place| names.get(place)) {
-        Some(name) if *name == wanted => {
+    match nearest_name(alloc, view, wanted)? {
+        Some(name) if name == wanted => {
             text.extend_from_slice(b" there; only the pipeline has ")?;
             text.extend_from_slice(name)?;
         }
@@ -64,6 +63,19 @@ fn no_name(
     }
     text.push(b'\n')?;
     Ok(text)
+}
+
+/// The name that is nearest to what is asked for, if one is near.
+fn nearest_name<'a>(
+    alloc: Global,
+    view: &'a ListedDesign<'_, '_>,
+    wanted: &[u8],
+) -> Result<Option<&'a [u8]>, AllocError> {
+    let names = names_of(alloc, view)?;
+    match nearest(alloc, wanted, names.as_slice())? {
+        Some(place) => Ok(names.get(place).copied()),
+        None => Ok(None),
+    }
 }
 
 /// The names of entries, inputs, lets and functions.

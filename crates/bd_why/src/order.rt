@@ -261,22 +261,24 @@ impl ToldLists {
         }
     }
 
-    /// What decides, and all else that is told, in order.
-    fn into_order(self) -> Result<ToldOrder, AllocError> {
+    /// Puts all that decides into one list, and all else that is told into another, in order.
+    fn join(&mut self) -> Result<(), AllocError> {
+        self.decisive.append(&mut self.shifts)?;
+        self.decisive.append(&mut self.partial)?;
+        self.fresh.append(&mut self.again)
+    }
+
+    /// The two lists that are joined.
+    fn into_order(self) -> ToldOrder {
         let ToldLists {
             decisive,
-            shifts,
-            partial,
             fresh,
-            again,
             ..
         } = self;
-        let (mut decisive, mut shifts, mut partial) = (decisive, shifts, partial);
-        decisive.append(&mut shifts)?;
-        decisive.append(&mut partial)?;
-        let (mut further, mut again) = (fresh, again);
-        further.append(&mut again)?;
-        Ok(ToldOrder { decisive, further })
+        ToldOrder {
+            decisive,
+            further: fresh,
+        }
     }
 
     /// Tells an item's value.
@@ -386,6 +388,33 @@ impl<'a> TellingOrder<'a> {
             lists: ToldLists::new(alloc),
             trials: 0,
         })
+    }
+
+    /// Tells what a value rests on, in order. `word` is what it should be, where that is known.
+    fn tell_all(
+        &mut self,
+        view: &ListedDesign<'_, '_>,
+        root: Subject,
+        word: Option<u64>,
+    ) -> Result<(), AllocError>
+        requires lawful { IsLawful (design_view view.now.design.now) }
+    {
+        if let Some(reason) = self.sides.reasons.of(root) {
+            let wish = Wish {
+                subject: root,
+                word,
+            };
+            let met = self.met(view, root, reason.value, Some(&wish))?;
+            self.search.add(met, 0)?;
+        }
+        self.visit_all(view)?;
+        self.lists.join()
+    }
+
+    /// What is told, once that is in order.
+    fn into_order(self) -> ToldOrder {
+        let TellingOrder { lists, .. } = self;
+        lists.into_order()
     }
 
     /// Goes on until no value is left.
@@ -579,15 +608,6 @@ pub fn order_of(
     requires lawful { IsLawful (design_view view.now.design.now) }
 {
     let mut order = TellingOrder::new(alloc, sides)?;
-    if let Some(reason) = sides.reasons.of(root) {
-        let wish = Wish {
-            subject: root,
-            word,
-        };
-        let met = order.met(view, root, reason.value, Some(&wish))?;
-        order.search.add(met, 0)?;
-    }
-    order.visit_all(view)?;
-    let TellingOrder { lists, .. } = order;
-    lists.into_order()
+    order.tell_all(view, root, word)?;
+    Ok(order.into_order())
 }

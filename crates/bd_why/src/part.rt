@@ -22,7 +22,7 @@ pub fn end_of(text: &[u8], tree: &Tree) -> usize {
 }
 
 /// Where the list that begins at an offset ends.
-fn list_end(text: &[u8], offset: usize) -> usize {
+pub fn list_end(text: &[u8], offset: usize) -> usize {
     let mut open = 0usize;
     let mut in_comment = false;
     for (at, byte) in text.iter().enumerate().skip(offset) {

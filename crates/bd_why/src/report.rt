@@ -1,15 +1,19 @@
 //! The lines of an explanation, at most a screen.
+ghost use Rattle.std.specs.Prelude.{IfOk};
+ghost use Rattle.bd_why.specs.Told.{IsTold};
 
 use crate::asked::end_of_cycle;
 use crate::coincidence::Coincidence;
 use crate::order::{Told, ToldOrder, WouldDo};
 use crate::room::ALONE;
 use crate::telling::{Telling, held, is_for_long, shown, told, told_coincidence, told_short};
+use crate::told_text::{LinePlace, ToldLine, ToldText, joined};
 use crate::view::{ItemPlace, ListedDesign};
 use crate::words::{push_column, push_name, symbol_name};
-use bd_label::{push_application, push_number, push_scalar};
 use bd_model::Scalar;
-use bd_slice::{Column, Cycle, Finding, Reason, Reasons, Subject};
+use bd_slice::{
+    Column, Cycle, Finding, Reason, Reasons, Subject, push_application, push_number, push_scalar,
+};
 use bd_text::outline::parts_of;
 use indexmap::IndexSet;
 use std::alloc::{AllocError, Global};
@@ -22,10 +26,10 @@ struct ToldItem {
     text: Vec<u8>,
 }
 
-/// The lines so far, the values that they tell, and the items.
+/// What is told so far, how many lines that is, the values that are told, and the items.
 #[derive(Drop)]
 pub struct ToldLines {
-    text: Vec<u8>,
+    told: Vec<ToldLine>,
     lines: usize,
     subjects: IndexSet<Subject>,
     items: Vec<ToldItem>,
@@ -49,24 +53,41 @@ impl ToldLines {
     /// The report of no line.
     pub fn new(alloc: Global) -> ToldLines {
         ToldLines {
-            text: Vec::new(alloc),
+            told: Vec::new(alloc),
             lines: 0,
             subjects: IndexSet::new(alloc),
             items: Vec::new(alloc),
         }
     }
 
-    /// The text of the lines.
-    pub fn into_text(self) -> Vec<u8> {
-        let ToldLines { text, .. } = self;
-        text
+    /// All that is told, as a text too.
+    pub fn into_text(self, alloc: Global) -> Result<ToldText, AllocError>
+        ensures { IfOk result IsTold }
+    {
+        let ToldLines { told, .. } = self;
+        let text = joined(alloc, told.as_slice())?;
+        Ok(ToldText { text, lines: told })
     }
 
-    /// Puts lines after those that the report has.
-    pub fn put(&mut self, text: &[u8]) -> Result<(), AllocError> {
-        self.text.extend_from_slice(text)?;
-        self.lines = self.lines.saturating_add(line_count(text));
+    /// Puts what is told after what was.
+    fn put(&mut self, told: ToldLine) -> Result<(), AllocError> {
+        self.lines = self.lines.saturating_add(line_count(told.text.as_slice()));
+        self.told.push(told)?;
         Ok(())
+    }
+
+    /// Puts lines that are told of no item.
+    fn put_text(&mut self, text: Vec<u8>) -> Result<(), AllocError> {
+        self.put(ToldLine {
+            place: None,
+            cycle: None,
+            text,
+        })
+    }
+
+    /// Says that nothing differs.
+    pub fn nothing(&mut self, alloc: Global) -> Result<(), AllocError> {
+        self.put_text(Vec::from_slice(alloc, b"nothing differs\n")?)
     }
 
     /// Says that the pipeline isn't empty where its flushing ends.
@@ -77,8 +98,11 @@ impl ToldLines {
     ) -> Result<(), AllocError> {
         match view.pipe.flush() {
             Some(item) => {
-                let text = told_short(alloc, view.pipe.source, &item)?;
-                self.put(text.as_slice())
+                let source = view.pipe.source;
+                let text = told_short(alloc, source, &item)?;
+                let place = Some(LinePlace::of(alloc, source, &item)?);
+                let cycle = None;
+                self.put(ToldLine { place, cycle, text })
             }
             None => Ok(()),
         }
@@ -92,7 +116,13 @@ impl ToldLines {
         coincidence: Coincidence,
     ) -> Result<(), AllocError> {
         let text = told_coincidence(alloc, view, coincidence)?;
-        self.put(text.as_slice())
+        let second = symbol_name(view.design, coincidence.second);
+        let place = match view.pipe.symbol_of(second) {
+            Some(item) => Some(LinePlace::of(alloc, view.pipe.source, &item)?),
+            None => None,
+        };
+        let cycle = None;
+        self.put(ToldLine { place, cycle, text })
     }
 
     /// Puts the line of a function's value at arguments.
@@ -107,7 +137,7 @@ impl ToldLines {
         let mut text = Vec::new(alloc);
         push_application(&mut text, symbol_name(view.design, symbol), words, value)?;
         text.push(b'\n')?;
-        self.put(text.as_slice())
+        self.put_text(text)
     }
 
     /// Tells the values whose items apply a function to arguments, as long as there is room.
@@ -143,7 +173,7 @@ impl ToldLines {
         room: Room,
     ) -> Result<(), AllocError> {
         let heading = heading(alloc, view, reasons, root)?;
-        self.put(heading.as_slice())?;
+        self.put_text(heading)?;
         let mut left = Left {
             count: 0,
             shown: room.shown,
@@ -165,7 +195,7 @@ impl ToldLines {
         let mut text = Vec::from_slice(alloc, b".. ")?;
         push_number(&mut text, left)?;
         text.extend_from_slice(b" more\n")?;
-        self.put(text.as_slice())
+        self.put_text(text)
     }
 
     /// Tells a value, if it isn't told and there is room.
@@ -205,8 +235,8 @@ impl ToldLines {
 
     /// Puts the lines of a value, if there is room.
     fn put_new(&mut self, subject: Subject, lines: Lines, most: usize) -> Result<Put, AllocError> {
-        let Lines { text, shows, item } = lines;
-        let count = line_count(text.as_slice());
+        let Lines { told, shows, item } = lines;
+        let count = line_count(told.text.as_slice());
         if self.lines.saturating_add(count).saturating_add(1) > most {
             return Ok(Put::NoRoom);
         }
@@ -214,7 +244,7 @@ impl ToldLines {
         if let Some(item) = item {
             self.items.push(item)?;
         }
-        self.put(text.as_slice())?;
+        self.put(told)?;
         Ok(if shows { Put::Shown } else { Put::Line })
     }
 
@@ -246,8 +276,13 @@ impl ToldLines {
             cycle,
             text: body,
         };
-        Ok(Lines {
+        let told = ToldLine {
+            place: place_of(alloc, view, subject)?,
+            cycle: Some(cycle),
             text,
+        };
+        Ok(Lines {
+            told,
             shows,
             item: Some(item),
         })
@@ -264,7 +299,7 @@ impl ToldLines {
 /// Lines that tell a value, whether the line of its text is one of them, and its item.
 #[derive(Drop)]
 struct Lines {
-    text: Vec<u8>,
+    told: ToldLine,
     shows: bool,
     item: Option<ToldItem>,
 }
@@ -273,7 +308,11 @@ impl Lines {
     /// No line.
     fn none(alloc: Global) -> Lines {
         Lines {
-            text: Vec::new(alloc),
+            told: ToldLine {
+                place: None,
+                cycle: None,
+                text: Vec::new(alloc),
+            },
             shows: false,
             item: None,
         }
@@ -313,6 +352,18 @@ enum Put {
     NoRoom,
 }
 
+/// Where the item of a value stands, if it is of one.
+fn place_of(
+    alloc: Global,
+    view: &ListedDesign<'_, '_>,
+    subject: Subject,
+) -> Result<Option<LinePlace>, AllocError> {
+    match (view.item(subject), view.source(subject)) {
+        (Some(item), Some(source)) => Ok(Some(LinePlace::of(alloc, source, &item)?)),
+        _ => Ok(None),
+    }
+}
+
 /// Puts the line of an item's text, if that says more than a name, and whether it does.
 fn push_shown(
     alloc: Global,
@@ -350,8 +401,13 @@ fn held_lines(
     let Some(reason) = reasons.of(last) else {
         return Ok(Lines::none(alloc));
     };
-    Ok(Lines {
+    let told = ToldLine {
+        place: place_of(alloc, view, last)?,
+        cycle: None,
         text: held(alloc, view, reason, first)?,
+    };
+    Ok(Lines {
+        told,
         shows: false,
         item: None,
     })

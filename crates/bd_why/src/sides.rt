@@ -116,11 +116,25 @@ pub fn add_both(
     requires lawful { IsLawful (design_view view.now.design.now) }
 {
     let sides = ordered_sides(alloc, view, run, parting)?;
+    add_ordered(alloc, report, view, run, &sides, is_asked)
+}
+
+/// The same of a value whose sides are in order.
+fn add_ordered(
+    alloc: Global,
+    report: &mut ToldLines,
+    view: &ListedDesign<'_, '_>,
+    run: Run<'_>,
+    sides: &OrderedSides,
+    is_asked: bool,
+) -> Result<(), AllocError>
+    requires lawful { IsLawful (design_view view.now.design.now) }
+{
     let is_poor = !sides.has_control();
     let second = second_parting(view.design, run.diagram, is_poor);
     match second.filter(|_| !is_asked) {
-        Some(second) => add_second(alloc, report, view, run, &sides, second),
-        None => add_sides(alloc, report, view, &sides, BOTH),
+        Some(second) => add_second(alloc, report, view, run, sides, second),
+        None => add_sides(alloc, report, view, sides, BOTH),
     }
 }
 
@@ -136,13 +150,24 @@ fn add_second(
     requires lawful { IsLawful (design_view view.now.design.now) }
 {
     let other = ordered_sides(alloc, view, run, second)?;
+    add_two(alloc, report, view, sides, &other)
+}
+
+/// Adds the lines of both sides of two values, or of the first alone where nothing is found that decides either.
+fn add_two(
+    alloc: Global,
+    report: &mut ToldLines,
+    view: &ListedDesign<'_, '_>,
+    sides: &OrderedSides,
+    other: &OrderedSides,
+) -> Result<(), AllocError> {
     let rooms = match (sides.has_control(), other.has_control()) {
         (true, _) => BEFORE,
         (false, true) => POOR,
         (false, false) => return add_sides(alloc, report, view, sides, BOTH),
     };
     add_sides(alloc, report, view, sides, rooms)?;
-    add_sides(alloc, report, view, &other, AFTER)
+    add_sides(alloc, report, view, other, AFTER)
 }
 
 impl OrderedSides {

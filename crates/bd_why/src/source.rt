@@ -1,5 +1,7 @@
 //! What is asked with, and what is found.
 
+use crate::told_text::ToldText;
+
 /// A text of a design, and the name under which its lines are told.
 #[derive(Clone, Copy)]
 pub struct Source<'a> {
@@ -19,7 +21,7 @@ pub struct Sources<'a> {
 #[derive(Drop)]
 pub enum Explanation {
     /// The lines that explain the value.
-    Explained(Vec<u8>),
+    Explained(ToldText),
     /// No entry, address or column of this name is there; the text says which there are.
     Unknown(Vec<u8>),
 }

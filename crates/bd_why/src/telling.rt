@@ -10,8 +10,10 @@ use crate::part::{end_of, part_at};
 use crate::source::Source;
 use crate::view::ListedDesign;
 use crate::words::{push_name, push_span, symbol_name};
-use bd_label::{push_application, push_cycle, push_number, push_scalar};
-use bd_slice::{Column, Cycle, Fact, Finding, Reason, Subject};
+use bd_slice::{
+    Column, Cycle, Fact, Finding, Reason, Subject, push_application, push_cycle, push_number,
+    push_scalar,
+};
 use bd_syntax::lists::offset_of;
 use bd_text::{Line, Tree};
 use std::alloc::{AllocError, Global};

@@ -2,6 +2,7 @@
 ghost use Rattle.std.specs.Prelude.{IfOk};
 ghost use Rattle.bd_model.specs.DesignView.{design_view};
 ghost use Rattle.bd_model.specs.Lawful.{IsLawful};
+ghost use Rattle.bd_why.specs.Told.{IsExplained, IsTold};
 
 use crate::asked::Answered;
 use crate::coincidence::coincidence_of;
@@ -15,6 +16,7 @@ use crate::room::ALONE;
 use crate::sides::{Run, add_both};
 use crate::source::{Explanation, Sources};
 use crate::target::{Target, asked_target};
+use crate::told_text::ToldText;
 use crate::trial::Goal;
 use crate::view::ListedDesign;
 use bd_diagram::{Diagram, diagram_of};
@@ -40,17 +42,47 @@ pub fn why_of(
     asked: Option<&str>,
 ) -> Result<Explanation, AllocError>
     requires lawful { IsLawful (design_view design.now) }
+    ensures told { IfOk result IsExplained }
 {
     let view = view_of(alloc, design, sources)?;
-    let diagram = diagram_of(alloc, design, case)?;
-    match target_of(alloc, &view, judged, &diagram, asked)? {
+    why_in(alloc, &view, case, judged, asked)
+}
+
+/// The same, of a design with the items of its texts.
+fn why_in(
+    alloc: Global,
+    view: &ListedDesign<'_, '_>,
+    case: &Case,
+    judged: Judged,
+    asked: Option<&str>,
+) -> Result<Explanation, AllocError>
+    requires lawful { IsLawful (design_view view.now.design.now) }
+    ensures told { IfOk result IsExplained }
+{
+    let diagram = diagram_of(alloc, view.design, case)?;
+    why_on(alloc, view, case, &diagram, judged, asked)
+}
+
+/// The same, with the case's diagram.
+fn why_on(
+    alloc: Global,
+    view: &ListedDesign<'_, '_>,
+    case: &Case,
+    diagram: &Diagram,
+    judged: Judged,
+    asked: Option<&str>,
+) -> Result<Explanation, AllocError>
+    requires lawful { IsLawful (design_view view.now.design.now) }
+    ensures told { IfOk result IsExplained }
+{
+    match target_of(alloc, view, judged, diagram, asked)? {
         Ok(target) => {
-            let text = explained(alloc, &view, case, &diagram, &target, asked.is_some())?;
-            Ok(Explanation::Explained(text))
+            let told = explained(alloc, view, case, diagram, &target, asked.is_some())?;
+            Ok(Explanation::Explained(told))
         }
         Err(missing) => {
             let text = asked.unwrap_or("").as_bytes();
-            Ok(Explanation::Unknown(missing_text(alloc, &view, missing, text)?))
+            Ok(Explanation::Unknown(missing_text(alloc, view, missing, text)?))
         }
     }
 }
@@ -111,8 +143,9 @@ fn explained(
     diagram: &Diagram,
     target: &Target,
     is_asked: bool,
-) -> Result<Vec<u8>, AllocError>
+) -> Result<ToldText, AllocError>
     requires lawful { IsLawful (design_view view.now.design.now) }
+    ensures { IfOk result IsTold }
 {
     let history = history_of(alloc, view.design, case)?;
     let run = Run {
@@ -120,19 +153,47 @@ fn explained(
         diagram,
         history: &history,
     };
+    told_of(alloc, view, run, target, is_asked)
+}
+
+/// The lines that explain a value, over all of the case's run.
+fn told_of(
+    alloc: Global,
+    view: &ListedDesign<'_, '_>,
+    run: Run<'_>,
+    target: &Target,
+    is_asked: bool,
+) -> Result<ToldText, AllocError>
+    requires lawful { IsLawful (design_view view.now.design.now) }
+    ensures { IfOk result IsTold }
+{
     let mut report = ToldLines::new(alloc);
+    add_target(alloc, &mut report, view, run, target, is_asked)?;
+    report.into_text(alloc)
+}
+
+/// Adds the lines that explain what is asked for, or what a case shows.
+fn add_target(
+    alloc: Global,
+    report: &mut ToldLines,
+    view: &ListedDesign<'_, '_>,
+    run: Run<'_>,
+    target: &Target,
+    is_asked: bool,
+) -> Result<(), AllocError>
+    requires lawful { IsLawful (design_view view.now.design.now) }
+{
     if !is_asked {
-        add_first(alloc, &mut report, view, run, target)?;
+        add_first(alloc, report, view, run, target)?;
     }
     match target {
-        Target::Nothing => report.put(b"nothing differs\n")?,
-        Target::One(subject) => add_one(alloc, &mut report, view, run, *subject)?,
-        Target::Both(parting) => add_both(alloc, &mut report, view, run, *parting, is_asked)?,
+        Target::Nothing => report.nothing(alloc),
+        Target::One(subject) => add_one(alloc, report, view, run, *subject),
+        Target::Both(parting) => add_both(alloc, report, view, run, *parting, is_asked),
         Target::Row(symbol, words) => {
-            add_row(alloc, &mut report, view, run, *symbol, words.as_slice())?
+            add_row(alloc, report, view, run, *symbol, words.as_slice())
         }
     }
-    Ok(report.into_text())
 }
 
 /// Adds what is said first: that one flush cycle more would do where both sides differ, or that constants are the same
@@ -177,8 +238,21 @@ fn add_one(
             _ => None,
         },
     };
+    add_alone(alloc, report, view, sides, subject)
+}
+
+/// Adds the lines that explain a value by itself, over what it rests on.
+fn add_alone(
+    alloc: Global,
+    report: &mut ToldLines,
+    view: &ListedDesign<'_, '_>,
+    sides: Sides<'_>,
+    subject: Subject,
+) -> Result<(), AllocError>
+    requires lawful { IsLawful (design_view view.now.design.now) }
+{
     let order = order_of(alloc, view, sides, subject, None)?;
-    report.side(alloc, view, &reasons, subject, &order, ALONE)
+    report.side(alloc, view, sides.reasons, subject, &order, ALONE)
 }
 
 /// Adds the lines of what applies a function to arguments, of what decides what differs.

@@ -1,9 +1,8 @@
 //! Names and values as they are printed.
 
 use crate::view::ListedDesign;
-use bd_label::{push_number, push_word_name};
 use bd_model::{Design, Machine};
-use bd_slice::{Column, Subject};
+use bd_slice::{Column, Subject, push_number, push_word_name};
 use std::alloc::AllocError;
 
 /// Puts a column as it is asked for: `before`, `after.2`, `step.1`.

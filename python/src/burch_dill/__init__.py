@@ -46,6 +46,7 @@ from .designs import Completion, Declarations, Invariant, Machine, Pipeline, Spe
 from .errors import BurchDillError, DesignError, Fault, NoAnswer, NoFile
 from .expressions import FALSE, TRUE, Bool, Expression, Function, Group, Memory, Predicate, Vector, Word, all_of, any_of
 from .expressions import conj, disj, equal, first_of, held, iff, implies, ite, xor
+from .objects import Picture, PictureCell, PictureColumn, PictureRow, PictureTable
 from .programs import File, Source, line_and_column
 from .trees import WIDTH, read_trees
 
@@ -58,7 +59,8 @@ shrink, about = _client.shrink, _client.about
 __all__ = [
     "About", "Bool", "Bounded", "BurchDillError", "Case", "Checked", "Client", "Completion", "Content", "Declarations",
     "DesignError", "Explained", "Expression", "FALSE", "Fault", "File", "Function", "Generated", "Group",
-    "Invariant", "Judgement", "Machine", "Memory", "NoAnswer", "NoFile", "Outcome", "Pipeline", "Predicate",
+    "Invariant", "Judgement", "Machine", "Memory", "NoAnswer", "NoFile", "Outcome", "Picture", "PictureCell",
+    "PictureColumn", "PictureRow", "PictureTable", "Pipeline", "Predicate",
     "Reason", "Retraced", "Row", "Shown", "Source", "Specification", "Start", "State", "TRUE", "Table", "Trail",
     "Value", "Vector", "Verdict", "WIDTH", "Word", "about", "all_of", "any_of", "bounded", "check",
     "check_and_show", "complete", "conj", "disj", "equal", "first_of", "gen", "grid", "held", "iff", "implies",

@@ -7,6 +7,7 @@ from enum import Enum
 from typing import NamedTuple
 
 from .cases import Case, Trail
+from .objects import Picture
 
 
 class Outcome(Enum):
@@ -82,10 +83,14 @@ class Generated(NamedTuple):
 
 @dataclass(frozen=True)
 class Shown:
-    """What `show` prints of a case or a trail: the judgement, and the tables as text, which printing gives."""
+    """What `show` prints of a case or a trail: the judgement, and the tables as text, which printing gives.
+
+    `picture` has the cells of the tables; of a trail there may be none.
+    """
 
     judgement: Judgement
     text: str
+    picture: Picture | None = None
 
     def __str__(self) -> str:
         return self.text
@@ -118,13 +123,17 @@ class Checked:
 class Reason(NamedTuple):
     """A line of an explanation: the item that it names, by file, line and column, and what it says of it.
 
-    `file` is `pipe`, `spec` or `inv`. `line` and `column` count from 1.
+    `file` is `pipe`, `spec` or `inv`. `line` and `column` count from 1; the item ends before `end_column` of
+    `end_line`. `cycle` is the cycle that is told of, by the columns that it leads from and to, if it is one.
     """
 
     file: str
     line: int
     column: int
     text: str
+    end_line: int
+    end_column: int
+    cycle: str | None
 
 
 @dataclass(frozen=True)
@@ -148,15 +157,18 @@ class About:
     """What `about` prints of a design.
 
     `compared` are the visible latches and memories, `not_compared` the pipeline's others, and `unread` what nothing
-    reads, as it is printed (`latch v2`). `findings` has a verdict in words for the design as it is, and for it with one
-    thing changed; with an invariant also whether reset meets it. `text` is all of it, which printing gives.
+    reads, as it is printed (`latch v2`). `findings` has a verdict for the design as it is, and for it with one thing
+    changed, by the words that are printed, and `without_conjuncts` those without each conjunct of the invariant.
+    `reset` says whether reset meets the invariant, if there is one. `text` is all that is printed, which printing gives.
     """
 
     compared: tuple[str, ...]
     not_compared: tuple[str, ...]
     unread: tuple[str, ...]
-    findings: Mapping[str, str]
+    findings: Mapping[str, Outcome]
     text: str
+    reset: bool | None = None
+    without_conjuncts: tuple[Outcome, ...] = ()
 
     def __str__(self) -> str:
         return self.text

@@ -10,19 +10,20 @@ from .answers import About, Bounded, Checked, Explained, Generated, Judgement, O
 from .answers import Verdict
 from .cases import Case, State, Trail, named_content
 from .errors import NoAnswer
+from .objects import Object, line_of, picture_of, unread_of
 from .programs import NOTHING_BROKEN, VERIFIER, VIEWER, File, Printed, Source, Sources, ask, name_of
 from .trees import read_trees
 
 Answer = TypeVar("Answer", Outcome, Judgement)
 
-REASON = re.compile(r":(\d+):(\d+): (.*)")
 BOUNDED = re.compile(r"(correct) to \d+|(wrong commute) (\d+)|(undecided) (\d+)")
 # the last line of a verdict whose case or trail is saved
 GOES_ON_FROM = re.compile(r"\nnext: bd_view .*\n\Z")
 # the second line of a reason whose first one is too narrow
 GOES_ON = re.compile(r"    (?:since|\(as in) ")
-FINDINGS = ("as it is", "one flush less", "one flush more", "one step more", "no invariant", "reset (all 0)",
-            "(exact 0 true)")
+# the findings of `about`, by the words that are printed
+FINDINGS = {"as it is": "as_it_is", "one flush less": "one_flush_less", "one flush more": "one_flush_more",
+            "one step more": "one_step_more", "no invariant": "no_invariant", "(exact 0 true)": "no_steps"}
 
 
 @dataclass(frozen=True)
@@ -123,14 +124,14 @@ class Client:
         """
         options = [*_value("--budget", budget), *_flag("--diverse", diverse), *_value("--cycles", cycles)]
         files = {"pipe": pipe, "spec": spec, "inv": inv, "start": start}
-        text = GOES_ON_FROM.sub("", self._shown("check", files, *options, *_saved("--case", case)).text)
-        line, _, tables = text.partition("\n")
-        shown = Shown(_judgement(tables), tables) if tables else None
-        if start is not None:
-            bounded = _bounded(line)
-            return Checked(bounded.outcome, shown, bounded.learned, False, text, bounded.broken)
-        verdict = _verdict(line)
-        return Checked(verdict.outcome, shown, verdict.learned, verdict.seeks_state, text)
+        printed = self._shown("check", files, *options, *_saved("--case", case))
+        found = _object(printed)
+        text = GOES_ON_FROM.sub("", printed.text)
+        tables = text.partition("\n")[2]
+        outcome = Outcome(found["outcome"])
+        shown = _tables(tables, found["picture"]) if tables else None
+        learned = found["budget"] if outcome is Outcome.UNDECIDED else None
+        return Checked(outcome, shown, learned, found["seeks_state"], text, found["broken"])
 
     def why(self, pipe: Source, spec: Source, case: Source, inv: Source | None = None, *, of: str | None = None,
             whole: bool = False) -> Explained | None:
@@ -142,7 +143,7 @@ class Client:
         """
         sources = {"pipe": pipe, "spec": spec, "case": case, "inv": inv}
         printed = self._shown("why", sources, *_value("--of", of), *_flag("--whole", whole))
-        return None if printed.status == NOTHING_BROKEN else _explained(printed, sources)
+        return None if printed.status == NOTHING_BROKEN else _explained(_object(printed), sources)
 
     def show(self, pipe: Source, spec: Source, case: Source, inv: Source | None = None, *, whole: bool = False,
              page: File | None = None) -> Shown:
@@ -152,8 +153,8 @@ class Client:
         as a page with a drawing.
         """
         files = {"pipe": pipe, "spec": spec, "case": case, "inv": inv}
-        text = self._shown("show", files, *_flag("--whole", whole), *_saved("--html", page)).text
-        return Shown(_judgement(text), text)
+        printed = self._shown("show", files, *_flag("--whole", whole), *_saved("--html", page))
+        return _tables(printed.text, printed.saved)
 
     def shrink(self, pipe: Source, spec: Source, case: Source, inv: Source | None = None) -> Case | None:
         """A small case that breaks the same condition, or None where the case breaks none."""
@@ -162,13 +163,14 @@ class Client:
 
     def about(self, pipe: Source, spec: Source, inv: Source | None = None) -> About:
         """What can be said of a design without a case."""
-        text = self._shown("about", {"pipe": pipe, "spec": spec, "inv": inv}).text
-        lines = [re.split(r"  +", line, maxsplit=1) for line in text.splitlines()]
-        pairs = [(line[0], line[1]) for line in lines if len(line) == 2]
-        said = dict(pairs)
-        findings = {head: said[head] for head in FINDINGS if head in said}
-        return About(_names(said.get("compared", "")), _names(said.get("not compared", "")),
-                     tuple(what for head, what in pairs if head == "read by nothing"), findings, text)
+        printed = self._shown("about", {"pipe": pipe, "spec": spec, "inv": inv})
+        found = _object(printed)
+        asked, visible = found["findings"], set(found["design"]["visible"])
+        entries = [(number in visible, entry["name"]) for number, entry in enumerate(found["design"]["entries"])]
+        findings = {words: Outcome(asked[key]) for words, key in FINDINGS.items() if asked[key] is not None}
+        return About(tuple(name for seen, name in entries if seen), tuple(name for seen, name in entries if not seen),
+                     unread_of(found), findings, printed.text, asked["reset"],
+                     tuple(map(Outcome, found["without_conjuncts"])))
 
     # ---- how they are asked
 
@@ -179,7 +181,7 @@ class Client:
     def _shown(self, command: str, sources: Sources, *options: str) -> Printed:
         """What `bd_view` prints of its answer."""
         return ask(VIEWER, self.view, command, sources, options, self.timeout, by_words=command == "why",
-                   by_option=("start",))
+                   by_option=("start",), as_object=command in ("check", "show", "why", "about"))
 
 
 # ---- the words that they take
@@ -239,25 +241,30 @@ def _unknown(printed: str) -> NoAnswer:
     return NoAnswer(0, f"this answer isn't known: {printed!r}")
 
 
-def _explained(printed: Printed, sources: Sources) -> Explained:
-    """The explanation that `bd_view` prints, with the files by the names that were given."""
-    reasons: list[Reason] = []
-    lines = []
-    is_open = False
-    for line in printed.text.split("\n"):
-        if is_open and GOES_ON.match(line):
-            reasons[-1] = reasons[-1]._replace(text=f"{reasons[-1].text} {line.strip()}")
-        is_open = False
-        for word, file in printed.files.items():
-            found = REASON.match(line, len(file)) if line.startswith(file) else None
-            if found:
-                reasons.append(Reason(word, int(found[1]), int(found[2]), found[3]))
-                line = name_of(word, sources[word]) + line[len(file):]
-                is_open = True
-                break
-        lines.append(line)
-    return Explained(_judgement(printed.text), tuple(reasons), "\n".join(lines))
+def _object(printed: Printed) -> Object:
+    """The object that an answer is saved as."""
+    if printed.saved is None:
+        raise NoAnswer(printed.status, "no object is saved: this bd_view is an older one")
+    return printed.saved
 
 
-def _names(listed: str) -> tuple[str, ...]:
-    return () if listed in ("", "nothing") else tuple(listed.split(", "))
+def _tables(text: str, saved: Object | None) -> Shown:
+    """What is shown of a case or a trail."""
+    picture = picture_of(saved)
+    return Shown(_judgement(text) if picture is None else Judgement(picture.judgement), text, picture)
+
+
+def _explained(found: Object, sources: Sources) -> Explained:
+    """The explanation that an object is, with the files by the names that were given."""
+    reasons, told = [], []
+    for line in map(line_of, found["lines"]):
+        text, place = line.text, line.place
+        if place is not None:
+            said = text[len(f"{place.file}:{place.line}:{place.column}: "):].split("\n")
+            goes_on = [f" {more.strip()}" for more in said[1:2] if GOES_ON.match(more)]
+            reasons.append(Reason(place.file, place.line, place.column, "".join([said[0], *goes_on]),
+                                  place.end_line, place.end_column, line.cycle))
+            text = name_of(place.file, sources[place.file]) + text[len(place.file):]
+        told.append(text)
+    sentence = f"{found['sentence']}\n\n"
+    return Explained(Judgement(found["judgement"]), tuple(reasons), sentence + "".join(told))

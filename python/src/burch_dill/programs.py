@@ -1,6 +1,7 @@
 """How the two programs are called: the files that they read, and what they print of answers and of faults."""
 from __future__ import annotations
 
+import json
 import os
 import re
 import shutil
@@ -13,6 +14,7 @@ from typing import NamedTuple, Union
 from .cases import Case, Trail
 from .designs import Machine, OfStates
 from .errors import Fault, NoAnswer, NoFile
+from .objects import Object
 from .trees import item_at
 
 Source = Union[str, bytes, "os.PathLike[str]", Machine, OfStates, Case, Trail]
@@ -45,19 +47,23 @@ VIEWER = Program("bd_view", "BD_VIEW", (*VERIFIER.answered, NOTHING_BROKEN))
 
 
 class Printed(NamedTuple):
-    """What a program printed: its exit status, its output, and the names of the files that it read, by their words."""
+    """What a program answered: its exit status, its output, the names of the files that it read, by their words, and
+    the object that it saved, if it was asked for one."""
 
     status: int
     text: str
     files: Mapping[str, str]
+    saved: Object | None = None
 
 
 def ask(program: Program, path: File | None, command: str, sources: Sources, options: Sequence[str],
-        timeout: float | None, *, by_words: bool = False, by_option: tuple[str, ...] = ()) -> Printed:
+        timeout: float | None, *, by_words: bool = False, by_option: tuple[str, ...] = (),
+        as_object: bool = False) -> Printed:
     """What a program prints of its answer. Raises `Fault` for the first fault of a file, else `NoAnswer`.
 
     With `by_words` it reads copies of the files that have their words as names, so no path takes room in its lines. A
-    file whose word is in `by_option` is given by the option of that name; the others stand one after another.
+    file whose word is in `by_option` is given by the option of that name; the others stand one after another. With
+    `as_object` the answer is asked for as an object too.
     """
     found = program.path(path)
     with tempfile.TemporaryDirectory() as folder:
@@ -65,11 +71,14 @@ def ask(program: Program, path: File | None, command: str, sources: Sources, opt
         names = {word: _copied(file, Path(folder, word)) for word, file in files.items()} if by_words else files
         words = [name for word, name in names.items() if word not in by_option]
         words += [part for word in by_option if word in names for part in (f"--{word}", names[word])]
-        done = subprocess.run([found, command, *words, *options], capture_output=True, encoding="ascii",
+        place = Path(folder, "answer.json")
+        saving = ["--json", str(place)] if as_object else []
+        done = subprocess.run([found, command, *words, *options, *saving], capture_output=True, encoding="ascii",
                               errors="replace", timeout=timeout, stdin=subprocess.DEVNULL, check=False,
                               cwd=folder if by_words else None)
         if done.returncode in program.answered:
-            return Printed(done.returncode, done.stdout, names)
+            saved = json.loads(place.read_bytes()) if place.exists() else None
+            return Printed(done.returncode, done.stdout, names, saved)
         told = next((files[word] + done.stderr[len(name):] for word, name in names.items()
                      if done.stderr.startswith(f"{name}:")), done.stderr)
         raise _fault(told, files, sources) or NoAnswer(done.returncode, done.stderr.rstrip("\n"))

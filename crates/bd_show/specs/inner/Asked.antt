@@ -8,7 +8,7 @@ use Rattle.clap.specs.declared.parser.matches.ArgMatches.{ArgMatches}
 use Rattle.bd_show.specs.Commands.{AreMisused, AskHelp, check_command, command_line, show_command, shrink_command, taken}
 use Rattle.bd_show.specs.Files.{names_of}
 use Rattle.bd_show.specs.Meaning.{Question, bounded, check, show, shrink, explain, about, recheck}
-use Rattle.bd_show.specs.inner.Answered.{HasFewCycles, bounded_of, check_of, recheck_of, show_of, why_of}
+use Rattle.bd_show.specs.inner.Answered.{HasFewCycles, about_of, bounded_of, check_of, recheck_of, show_of, why_of}
 use Rattle.bd_show.specs.declared.command.Command.{Command}
 use Rattle.bd_show.specs.declared.command.Command.TheVariants.{Bounded, Check, Show, Shrink, Why, About, Recheck}
 use Rattle.bd_show.specs.declared.command.WordsFault.{WordsFault}
@@ -21,7 +21,7 @@ asked (Bounded options) = bounded (bounded_of options)
 asked (Show options) = show (show_of options)
 asked (Shrink names) = shrink (names_of names)
 asked (Why options) = explain (why_of options)
-asked (About names) = about (names_of names)
+asked (About options) = about (about_of options)
 asked (Recheck options) = recheck (recheck_of options)
 
 -- a command on a case names its file, and one on cycles from a start asks of few

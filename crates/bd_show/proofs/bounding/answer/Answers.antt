@@ -1,5 +1,5 @@
-use Rattle.bd_show.specs.inner.Answered.{bounded_of}
 use Rattle.bd_show.specs.Meaning.{bounded}
+use Rattle.bd_show.specs.inner.Answered.{bounded_of}
 use Rattle.bd_show.specs.inner.Loaded.{texts_view}
 use Rattle.bd_show.proofs.Answers.{loaded_stands, saved_done, unloaded_done}
 use Rattle.bd_show.proofs.bounding.answer.Goals as goal
@@ -11,4 +11,4 @@ returns-in-Err g c =
 
 pub returns : goal.returns
 returns g c =
-    saved_done (bounded (bounded_of c.args.options)) _ _ _ (texts_view c.in-Ok.texts) _ _ _ c.saved.result (loaded_stands c.in-Ok.ensures.left) c.in-Ok.ensures.held c.in_ok-found.ensures.says c.in_ok-found.ensures.saved c.saved.ensures.saved c.saved.ensures.called
+    saved_done (bounded (bounded_of c.args.options)) _ _ _ (texts_view c.in-Ok.texts) c.in_ok-found.found c.saved.result (loaded_stands c.in-Ok.ensures.left) c.in-Ok.ensures.held c.in_ok-found.ensures c.saved.ensures

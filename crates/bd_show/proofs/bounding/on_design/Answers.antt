@@ -1,6 +1,7 @@
 use Rattle.bd_model.specs.DesignView.{design_view}
 use Rattle.bd_show.specs.inner.Answered.{bounded_of}
-use Rattle.bd_show.proofs.Runs.{run_breaks, run_checked, run_saved}
+use Rattle.bd_show.specs.inner.Loaded.{texts_view}
+use Rattle.bd_show.proofs.Runs.{run_breaks, run_shows}
 use Rattle.bd_show.proofs.Trails.{unstarted_lawful}
 use Rattle.bd_show.proofs.bounding.on_design.Goals as goal
 
@@ -11,10 +12,7 @@ pub answered-requires-clause-breaking : goal.answered-requires-clause-breaking
 answered-requires-clause-breaking c =
     run_breaks (design_view c.args.design) (design_view c.unstarted-design.result) c.args.options.cycles c.in-Ok.found.answer c.unstarted-design.ensures c.requires.few c.in-Ok.ensures.says
 
-pub returns-in-Ok-clause-says : goal.returns-in-Ok-clause-says
-returns-in-Ok-clause-says c =
-    run_checked (bounded_of c.args.options) (design_view c.args.design) (design_view c.unstarted-design.result) c.in-Ok.found.answer c.answered.result c.unstarted-design.ensures c.in-Ok.ensures.says c.in-Ok.ensures.work c.answered.ensures.ended c.answered.ensures.text
-
-pub returns-in-Ok-clause-saved : goal.returns-in-Ok-clause-saved
-returns-in-Ok-clause-saved c =
-    run_saved c.args.options.cycles (design_view c.args.design) c.in-Ok.found.answer c.in-Ok.found.trail c.answered.result c.in-Ok.ensures.trail c.answered.ensures.ended c.answered.ensures.trail
+pub returns-in-Ok : goal.returns-in-Ok
+returns-in-Ok c =
+    run_shows (bounded_of c.args.options) (texts_view c.args.texts.now) (design_view c.args.design) (design_view c.unstarted-design.result) c.in-Ok.found.answer c.in-Ok.found.trail c.answered.result c.requires.design c.unstarted-design.ensures
+    c.in-Ok.ensures.says c.in-Ok.ensures.work c.in-Ok.ensures.trail c.answered.ensures.trail c.answered.ensures.seen

@@ -1,12 +1,15 @@
+use Rattle.std.proofs.Common.{refl}
+use Rattle.std.proofs.lemmas.Result.{IfOk-weaker}
+use Rattle.bd_show.specs.Meaning.{show}
 use Rattle.bd_show.specs.inner.Answered.{show_of}
 use Rattle.bd_show.specs.inner.Loaded.{texts_view}
-use Rattle.bd_show.proofs.Joins.{case_drawn, case_says}
+use Rattle.bd_show.proofs.Joins.{case_shows}
+use Rattle.bd_show.proofs.Shown.{refused_shows}
 use Rattle.bd_show.proofs.completed.on_design.Goals as goal
 
-pub returns-in-Ok-clause-says : goal.returns-in-Ok-clause-says
-returns-in-Ok-clause-says c =
-    case_says (show_of c.args.options) (texts_view c.args.texts.now) c.args.joined.now c.in-Ok.case c.on_case.result c.in-Ok.ensures.read c.on_case.ensures
+pub returns-in-Ok : goal.returns-in-Ok
+returns-in-Ok c = case_shows (show_of c.args.options) (texts_view c.args.texts.now) c.args.joined.now c.in-Ok.case c.on_case.result c.in-Ok.ensures.read c.on_case.ensures
 
-pub returns-in-Ok-clause-drawn : goal.returns-in-Ok-clause-drawn
-returns-in-Ok-clause-drawn c =
-    case_drawn (texts_view c.args.texts.now) c.args.joined.now c.in-Ok.case c.on_case.result c.in-Ok.ensures.read c.on_case.ensures
+pub returns-in-Err : goal.returns-in-Err
+returns-in-Err c =
+    refused_shows (show (show_of c.args.options)) (texts_view c.args.texts.now) c.refused_joined.result c.unseen.result c.refused_joined.ensures.ended (IfOk-weaker c.refused_joined.result _ _ (λ x h. h (show_of c.args.options) refl) c.refused_joined.ensures.says) c.unseen.ensures.answer c.unseen.ensures.saves

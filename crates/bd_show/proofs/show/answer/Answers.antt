@@ -11,4 +11,4 @@ returns-in-Err g c =
 
 pub returns : goal.returns
 returns g c =
-    saved_done (show (show_of c.args.options)) _ _ _ (texts_view c.in-Ok.texts) _ _ _ c.saved.result (loaded_stands c.in-Ok.ensures.left) c.in-Ok.ensures.held c.in_ok-drawn.ensures.says c.in_ok-drawn.ensures.drawn c.saved.ensures.saved c.saved.ensures.called
+    saved_done (show (show_of c.args.options)) _ _ _ (texts_view c.in-Ok.texts) c.in_ok-drawn.drawn c.saved.result (loaded_stands c.in-Ok.ensures.left) c.in-Ok.ensures.held c.in_ok-drawn.ensures c.saved.ensures

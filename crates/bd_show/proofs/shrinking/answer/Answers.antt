@@ -7,7 +7,7 @@ use Rattle.bd_show.proofs.shrinking.answer.Goals as goal
 
 pub returns-in-Ok : goal.returns-in-Ok
 returns-in-Ok g c =
-    said_done (shrink (names_of c.args.names)) _ _ (texts_view c.in-Ok.texts) c.on_texts.result refl (loaded_stands c.in-Ok.ensures.left) c.in-Ok.ensures.held c.on_texts.ensures
+    said_done (shrink (names_of c.args.names)) _ _ (texts_view c.in-Ok.texts) c.on_texts.result refl (λ e. record { none = refl; no_text = λ has. has; no_wave = λ has. has; no_object = λ has. has }) (loaded_stands c.in-Ok.ensures.left) c.in-Ok.ensures.held c.on_texts.ensures
 
 pub returns-in-Err : goal.returns-in-Err
 returns-in-Err g c =
