@@ -109,7 +109,7 @@ async function copyLink() {
     await navigator.clipboard.writeText(link);
     note("the link is copied");
   } catch {
-    note("the link is in the address bar");
+    note("the link stands in the address");
   }
 }
 
