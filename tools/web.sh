@@ -3,10 +3,9 @@
 #
 #     tools/web.sh [MODULE.bc | --unproved]
 #
-# The kit proves crates/bd_web for x86-64, over the libraries that `rt ci` proved on this machine, and its LLVM module is
-# compiled once more, for WebAssembly with 64-bit memory, with the heap of web/heap.c; no proof covers that. With a
-# module handed in, only that is compiled. With --unproved the module is made without any proof, in some minutes: enough
-# to try the page.
+# The kit builds crates/bd_web for x86-64, proved, and its LLVM module is compiled once more, for WebAssembly with 64-bit
+# memory, with the heap of web/heap.c; no proof covers that. With a module handed in, only that is compiled. With
+# --unproved the module is made without any proof, in some minutes: enough to try the page.
 set -euo pipefail
 
 case ${1-} in
@@ -20,8 +19,8 @@ work=$(mktemp -d)
 trap 'rm -rf "$work"' EXIT
 mkdir -p "$build"
 
-# A kit whose compiler copies each module that it is given, and stops once it has the one with the call. The toolchain's
-# compiler gets modules as files and leaves nothing of them.
+# A kit whose compiler copies each module that it is given; once it has the one with the call, it does what the command
+# says. The toolchain's compiler gets modules as files and leaves nothing of them.
 shadow_kit() {
     local shadow=$work/kit
     mkdir -p "$shadow/bin" "$shadow/toolchain/bin"
@@ -34,10 +33,15 @@ shadow_kit() {
     cat > "$shadow/toolchain/bin/clang" << EOF
 #!/usr/bin/env bash
 for word in "\$@"; do case \$word in *.bc) cp "\$word" "$work/module.bc" ;; esac; done
-if grep -qsa bd_web_run "$work/module.bc"; then exit 1; fi
+if grep -qsa bd_web_run "$work/module.bc"; then $1; fi
 exec -a "\$0" "$clang" "\$@"
 EOF
     chmod +x "$shadow/toolchain/bin/clang"
+}
+
+module_of_crate() {
+    shadow_kit true
+    (cd "$top/crates/bd_web" && rm -f out/libbd_web.a && "$work/kit/bin/rt" lib)
 }
 
 # `rt try` compiles a crate's tests before any proof. So a copy of the crate gets a test that makes the call, and the
@@ -58,13 +62,13 @@ mod tests {
     }
 }
 EOF
-    shadow_kit
+    shadow_kit "exit 1"
     (cd "$work/copy/crates/bd_web" && "$work/kit/bin/rt" try --test) > "$work/try.log" 2>&1 || true
     [ -s "$work/module.bc" ] || { cat "$work/try.log"; exit 1; }
 }
 
 case ${1-} in
-"") python3 "$top/tools/proved_module.py" bd_web bd_web_run "$work/module.bc" ;;
+"") module_of_crate ;;
 --unproved) unproved_module ;;
 *) cp "$1" "$work/module.bc" ;;
 esac
